@@ -1,0 +1,4 @@
+pub mod Tree
+pub mod Tokens
+pub mod Grammar
+pub mod Form
