@@ -1,5 +1,5 @@
 -- The form of a source: one function of 64-bit numbers that returns an expression of its parameters.
-use Rattle.std.specs.Prelude.{ℕ, ◌≡◌, ◌≢◌, ◌≤◌, List, [], ◌∷◌, ◌++◌, length, Some, Contains, codes}
+use Rattle.std.specs.Prelude.{ℕ, ◌≡◌, ◌≢◌, ◌≤◌, List, [], ◌∷◌, ◌++◌, length, Some, slice_get, codes}
 use Rattle.tl_parse.specs.declared.token.Sign.TheVariants as signs
 use Rattle.tl_parse.specs.Tree.{SourceFunction, operators}
 use Rattle.tl_parse.specs.Tokens.{Token, Name, Reserved, Sign, tokens_of}
@@ -29,17 +29,16 @@ header_tokens name parameters =
     Reserved (codes "terra") ∷ Name name ∷ Sign signs.Open ∷ (parameter_tokens parameters
     ++ Sign signs.Close ∷ Sign signs.Colon ∷ int64 ∷ Reserved (codes "return") ∷ [])
 
--- no name is there twice
+-- no name stands at two positions
 abbrev pub AreDifferent : List (List ℕ) → Type 0
-AreDifferent [] = Unit {0}
-AreDifferent (name ∷ names) = (Contains names name → ⊥) × AreDifferent names
+AreDifferent names = (i j : ℕ) (name : List ℕ) → slice_get names i ≡ Some name → slice_get names j ≡ Some name → i ≡ j
 
 -- names that a function may have, with its parameters
 pub record AreNames (name : List ℕ) (parameters : List (List ℕ)) : Type 0 where
   pub few : length parameters ≤ 8
   pub different : AreDifferent parameters
   pub name_free : name ≢ codes "int64"
-  pub parameters_free : Contains parameters (codes "int64") → ⊥
+  pub parameters_free : (i : ℕ) → slice_get parameters i ≢ Some (codes "int64")
 
 -- the tokens are this function
 pub record ReadsTokens (tokens : List Token) (function : SourceFunction) : Type 0 where

@@ -1,25 +1,37 @@
 -- The grammar of an expression, over the whole list of its tokens: a case for each level of precedence.
-use Rattle.std.specs.Prelude.{ℕ, suc, ◌≡◌, ◌≢◌, ◌≤◌, List, [], ◌∷◌, ◌++◌, Some, slice_get, codes}
-use Rattle.std.specs.Str.Parse.{AllDigits, digits_value}
+use Rattle.std.specs.Prelude.{ℕ, suc, ◌+◌, ◌-◌, ◌*◌, ◌≡◌, ◌≤◌, Bool, true, false, not, ◌&&◌, ◌==◌, IsTrue, List, [], ◌∷◌, ◌++◌, Some, slice_get, codes}
 use Rattle.tl_parse.specs.declared.token.Sign.TheVariants as signs
 use Rattle.tl_parse.specs.declared.tree.Operator.TheVariants.{Add, Subtract, Multiply}
 use Rattle.tl_parse.specs.Tree.{Tree, Parameter, Literal, Binary}
-use Rattle.tl_parse.specs.Tokens.{Token, Name, Numeral, Sign}
+use Rattle.tl_parse.specs.Tokens.{Token, Name, Numeral, Sign, is_digit}
+
+-- ---- literals
+
+abbrev pub are_digits : List ℕ → Bool
+are_digits [] = true
+are_digits (digit ∷ digits) = is_digit digit && are_digits digits
 
 -- at least one digit, and the first is 0 only where it is alone
-abbrev pub HasNoLeadingZero : List ℕ → Type 0
-HasNoLeadingZero [] = ⊥
-HasNoLeadingZero (digit ∷ []) = Unit {0}
-HasNoLeadingZero (digit ∷ next ∷ digits) = digit ≢ 48
+abbrev pub has_no_leading_zero : List ℕ → Bool
+has_no_leading_zero [] = false
+has_no_leading_zero (digit ∷ []) = true
+has_no_leading_zero (digit ∷ next ∷ digits) = not (digit == 48)
+
+-- the number that these decimal digits write behind those of n
+abbrev pub number_after : ℕ → List ℕ → ℕ
+number_after n [] = n
+number_after n (digit ∷ digits) = number_after (n * 10 + (digit - 48)) digits
 
 -- the bytes are a decimal literal of this value, from `0LL` to `2047LL`
 pub record IsLiteral (bytes : List ℕ) (value : ℕ) : Type 0 where
   pub digits : List ℕ
   pub is_text : bytes ≡ digits ++ codes "LL"
-  pub is_decimal : AllDigits 10 digits
-  pub no_leading_zero : HasNoLeadingZero digits
-  pub is_value : digits_value 10 digits ≡ value
+  pub is_decimal : IsTrue (are_digits digits)
+  pub no_leading_zero : IsTrue (has_no_leading_zero digits)
+  pub is_value : number_after 0 digits ≡ value
   pub in_range : value ≤ 2047
+
+-- ---- expressions
 
 -- The tokens are an expression of this tree, over these parameters, whose brackets nest at most so many levels deep.
 mutual

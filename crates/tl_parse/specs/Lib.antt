@@ -2,3 +2,5 @@ pub mod Tree
 pub mod Tokens
 pub mod Grammar
 pub mod Form
+pub mod Scanning
+pub mod Reading

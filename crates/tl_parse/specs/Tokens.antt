@@ -1,5 +1,5 @@
 -- The tokens of a text: each is the longest that begins where it begins, and white space stands between tokens.
-use Rattle.std.specs.Prelude.{ℕ, zero, suc, Bool, false, List, [], ◌∷◌, length, take, drop, Option, Some, None, option_map, option_and_then, if◌then◌else◌, ◌==◌, ◌||◌, ◌&&◌, nat_le, codes}
+use Rattle.std.specs.Prelude.{ℕ, zero, suc, Bool, false, List, [], ◌∷◌, length, take, drop, Option, Some, None, option_map, option_and_then, if◌then◌else◌, ◌==◌, ◌||◌, ◌&&◌, nat_le, codes, slice_index}
 use Rattle.std.specs.List.{prefix_len}
 use Rattle.std.specs.Str.{bytes_eq}
 use Rattle.tl_parse.specs.declared.token.Sign.{Sign as SignKind}
@@ -62,34 +62,28 @@ is_reserved word = (is_value_word word || is_loop_word word) || (is_block_word w
 abbrev pub word_token : List ℕ → Option Token
 word_token word = if is_reserved word then Some (Reserved word) else (if nat_le (length word) 255 then Some (Name word) else None)
 
--- whether these bytes begin with this one
-abbrev pub begins : ℕ → List ℕ → Bool
-begins c [] = false
-begins c (b ∷ bytes) = b == c
-
--- the sign of this byte, with those behind it. `--` begins a comment, and `->` and `::` are longer signs: none is read here.
-abbrev pub sign_token : ℕ → List ℕ → Option Token
-sign_token c after =
+-- the sign of the byte c, where `next` is the byte behind it, or 0 at the end. `--` begins a comment, and `->` and `::` are longer
+-- signs: none of them is read here.
+abbrev pub sign_token : ℕ → ℕ → Option Token
+sign_token c next =
     if c == 40 then Some (Sign signs.Open)
     else (if c == 41 then Some (Sign signs.Close)
     else (if c == 44 then Some (Sign signs.Comma)
     else (if c == 43 then Some (Sign signs.Plus)
     else (if c == 42 then Some (Sign signs.Star)
-    else (if c == 58 then (if begins 58 after then None else Some (Sign signs.Colon))
-    else (if c == 45 then (if begins 45 after || begins 62 after then None else Some (Sign signs.Minus))
+    else (if c == 58 then (if next == 58 then None else Some (Sign signs.Colon))
+    else (if c == 45 then (if (next == 45) || (next == 62) then None else Some (Sign signs.Minus))
     else None))))))
 
--- how many bytes the longest token has that begins with the byte c, with those behind it
+-- how many bytes the longest token has that begins with the byte c, where these are all bytes from c on
 unfoldable pub token_len : ℕ → List ℕ → ℕ
-token_len c after =
-    if is_letter c then prefix_len is_word_byte (c ∷ after)
-    else (if is_digit c then prefix_len is_numeral_byte (c ∷ after) else 1)
+token_len c bytes = if is_letter c then prefix_len is_word_byte bytes else (if is_digit c then prefix_len is_numeral_byte bytes else 1)
 
--- what token that is, or none that is read here
+-- what token that is, or None where none is read here
 unfoldable pub token_at : ℕ → List ℕ → Option Token
-token_at c after =
-    if is_letter c then word_token (take (token_len c after) (c ∷ after))
-    else (if is_digit c then Some (Numeral (take (token_len c after) (c ∷ after))) else sign_token c after)
+token_at c bytes =
+    if is_letter c then word_token (take (token_len c bytes) bytes)
+    else (if is_digit c then Some (Numeral (take (token_len c bytes) bytes)) else sign_token c (slice_index bytes 1))
 
 -- ---- all tokens
 
@@ -97,14 +91,14 @@ token_at c after =
 abbrev pub in_front : Option Token → Option (List Token) → Option (List Token)
 in_front first others = option_and_then (λ token. option_map (λ tokens. token ∷ tokens) others) first
 
--- the tokens of the first n bytes and more
+-- the tokens of these bytes, of which there are at most n
 abbrev pub scan : ℕ → List ℕ → Option (List Token)
 scan zero bytes = Some []
 scan (suc n) [] = Some []
-scan (suc n) (c ∷ after) =
-    if is_space c then scan n after
-    else in_front (token_at c after) (scan n (drop (token_len c after) (c ∷ after)))
+scan (suc n) (c ∷ bytes) =
+    if is_space c then scan n bytes
+    else in_front (token_at c (c ∷ bytes)) (scan n (drop (token_len c (c ∷ bytes)) (c ∷ bytes)))
 
--- the tokens of a text, or None where it has bytes that begin no token that is read here
+-- the tokens of a text, or None where bytes of it begin no token that is read here
 abbrev pub tokens_of : List ℕ → Option (List Token)
 tokens_of text = scan (length text) text

@@ -3,6 +3,9 @@
 
 pub mod error;
 pub mod token;
+mod header;
+mod lexer;
+mod reader;
 pub mod tree;
 
 pub use error::ParseError;

@@ -1,0 +1,9 @@
+pub mod Failing
+pub mod Scans
+pub mod Chains
+pub mod Literals
+pub mod Positions
+pub mod Sound
+pub mod Complete
+pub mod Parameters
+pub mod Headers
