@@ -1,5 +1,5 @@
 -- What operators of one level read behind an operand, step by step.
-use Rattle.std.proofs.Common.{◌≡◌, ℕ, zero, suc, ◌+◌, ◌-◌, ◌<◌, ◌≤◌, List, [], ◌∷◌, ◌++◌, length, Option, Some, None, Result, Ok, Err, refl, sym, ap, subst, ◌∙◌, arith}
+use Rattle.std.proofs.Common.{◌≡◌, ℕ, zero, suc, ◌-◌, ◌<◌, ◌≤◌, List, [], ◌∷◌, length, Option, Some, None, Result, Ok, Err, refl, sym, ap, ◌∙◌, arith}
 use Rattle.tl_parse.specs.declared.tree.Operator.{Operator}
 use Rattle.std.specs.Prelude.{IfOk, IfErr}
 use Rattle.std.specs.Borrow.{Bor}
@@ -8,7 +8,7 @@ use Rattle.tl_parse.specs.declared.token.Token as code
 use Rattle.tl_parse.specs.declared.token.Sign.TheVariants as signs
 use Rattle.tl_parse.specs.declared.error.ParseError.{ParseError}
 use Rattle.tl_parse.specs.Tree.{Tree, Parameter, Literal, Binary}
-use Rattle.tl_parse.specs.Tokens.{Token, Name, Reserved, Numeral, Sign}
+use Rattle.tl_parse.specs.Tokens.{Token, Name, Numeral, Sign}
 use Rattle.tl_parse.specs.Scanning.{all_tokens_of}
 use Rattle.tl_parse.specs.Reading.{Reading, Took, Refused, ◌>>=◌, next_operator, after_operator, chain, chained, leaf, position_of, literal_of, factor_with, closed, inside_at, factor_at, product_at, sum_at, closing_at, product_operator, sum_operator, Fails, BeginsOperator, took}
 

@@ -1,10 +1,10 @@
 -- What the grammar has is read.
-use Rattle.std.proofs.Common.{◌≡◌, ℕ, zero, suc, List, [], ◌∷◌, ◌++◌, Option, Some, None, refl, sym, ap, ◌∙◌, append_assoc}
+use Rattle.std.proofs.Common.{◌≡◌, ℕ, suc, List, [], ◌∷◌, ◌++◌, Option, Some, None, refl, ap, ◌∙◌, append_assoc}
 use Rattle.tl_parse.specs.declared.token.Sign.TheVariants as signs
 use Rattle.tl_parse.specs.declared.tree.Operator.{Operator}
 use Rattle.tl_parse.specs.declared.tree.Operator.TheVariants.{Add, Subtract, Multiply}
 use Rattle.tl_parse.specs.Tree.{Tree, Parameter, Literal, Binary}
-use Rattle.tl_parse.specs.Tokens.{Token, Name, Numeral, Sign}
+use Rattle.tl_parse.specs.Tokens.{Token, Sign}
 use Rattle.tl_parse.specs.Grammar.{IsSum, IsProduct, IsFactor, product, plus, minus, factor, times, parameter, literal, brackets}
 use Rattle.tl_parse.specs.Form.{AreDifferent}
 use Rattle.tl_parse.specs.Reading.{Reading, Took, ◌>>=◌, leaf, next_operator, chained, product_operator, sum_operator, closed, factor_at, product_at, sum_at}

@@ -1,8 +1,8 @@
 -- Where the code refuses, what begins with it is refused.
-use Rattle.std.proofs.Common.{◌≡◌, List, refl, sym, ap, ◌∙◌}
+use Rattle.std.proofs.Common.{◌≡◌, List, ap, ◌∙◌}
 use Rattle.tl_parse.specs.Tree.{Tree}
 use Rattle.tl_parse.specs.Tokens.{Token}
-use Rattle.tl_parse.specs.Reading.{Reading, Took, Refused, ◌>>=◌, Fails}
+use Rattle.tl_parse.specs.Reading.{Reading, Took, ◌>>=◌, Fails}
 use Rattle.tl_parse.specs.declared.error.ParseError.{ParseError}
 
 pub fails_bind : (e : ParseError) (reading : Reading) (go : Tree → List Token → Reading) → Fails e reading → Fails e (reading >>= go)

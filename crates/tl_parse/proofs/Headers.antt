@@ -1,10 +1,9 @@
 -- The header of a function: what stands before its parameters, they, and what stands behind them.
-use Rattle.std.proofs.Common.{◌≡◌, ◌≢◌, ℕ, List, [], ◌∷◌, ◌++◌, length, refl, sym, ap, ◌∙◌, append_assoc}
-use Rattle.std.specs.Prelude.{codes}
+use Rattle.std.proofs.Common.{◌≡◌, ◌≢◌, ℕ, List, [], ◌∷◌, ◌++◌, refl, sym, ap, ◌∙◌, append_assoc}
 use Rattle.tl_parse.specs.declared.error.ParseError.{ParseError}
 use Rattle.tl_parse.specs.declared.token.Sign.TheVariants as signs
-use Rattle.tl_parse.specs.Tokens.{Token, Name, Reserved, Sign}
-use Rattle.tl_parse.specs.Form.{header_tokens, parameter_tokens, AreNames, more_parameters, typed}
+use Rattle.tl_parse.specs.Tokens.{Token, Sign}
+use Rattle.tl_parse.specs.Form.{header_tokens, parameter_tokens, AreNames, more_parameters}
 use Rattle.tl_parse.specs.Reading.{heading, closed_parameters, result_type, MayBe, HasParameters, LacksParameters, HasHeader, LacksHeader}
 
 -- the parts of a header

@@ -7,3 +7,6 @@ pub mod Sound
 pub mod Complete
 pub mod Parameters
 pub mod Headers
+pub mod Counts
+pub mod Within
+pub mod Whole

@@ -1,12 +1,10 @@
 -- Reading the parameters of a function.
-use Rattle.std.proofs.Common.{◌≡◌, ◌≢◌, ℕ, zero, suc, ◌+◌, ◌<◌, ◌≤◌, List, [], ◌∷◌, ◌++◌, length, Option, Some, None, refl, sym, ap, subst, ◌∙◌, arith, append_assoc, length-append, inl, inr, ◌⊎◌, Bor}
-use Rattle.std.specs.Prelude.{slice_get, codes, map}
-use Rattle.tl_parse.specs.declared.token.Token as code
+use Rattle.std.proofs.Common.{◌≡◌, ◌≢◌, ℕ, zero, suc, ◌<◌, List, [], ◌∷◌, ◌++◌, length, Option, Some, None, refl, sym, ap, subst, ◌∙◌, arith, append_assoc, length-append, inl, inr, ◌⊎◌, Bor}
+use Rattle.std.specs.Prelude.{slice_get, codes}
 use Rattle.tl_parse.specs.declared.token.Sign.TheVariants as signs
-use Rattle.tl_parse.specs.Tokens.{Token, Name, Sign}
-use Rattle.tl_parse.specs.Form.{int64, typed, more_parameters, parameter_tokens, AreDifferent}
-use Rattle.tl_parse.specs.Scanning.{all_tokens_of}
-use Rattle.tl_parse.specs.Reading.{names_of, position_of, MayFollow, MayBe, HasParameters, closed_parameters, BeginsParameter, Begins}
+use Rattle.tl_parse.specs.Tokens.{Token, Sign}
+use Rattle.tl_parse.specs.Form.{typed, more_parameters, parameter_tokens, AreDifferent}
+use Rattle.tl_parse.specs.Reading.{names_of, position_of, MayFollow, MayBe, HasParameters, closed_parameters}
 use Rattle.tl_parse.proofs.Positions.{position_none, position_found}
 
 -- ---- names

@@ -1,10 +1,10 @@
 -- The position of a name.
-use Rattle.std.proofs.Common.{◌≡◌, ◌≢◌, ℕ, zero, suc, ◌+◌, ◌<◌, Bool, true, false, cond, List, [], ◌∷◌, ◌++◌, length, Option, Some, None, refl, sym, ap, ◌∙◌, arith, Bor}
-use Rattle.std.specs.Prelude.{slice_get, map}
+use Rattle.std.proofs.Common.{◌≡◌, ◌≢◌, ℕ, zero, suc, ◌+◌, Bool, true, false, cond, List, [], ◌∷◌, Some, None, refl, ap, ◌∙◌, arith}
+use Rattle.std.specs.Prelude.{slice_get}
 use Rattle.std.specs.Str.{bytes_eq}
 use Rattle.std.proofs.lemmas.Slice.Eq.{bytes_eq-Decides}
 use Rattle.tl_parse.specs.Form.{AreDifferent}
-use Rattle.tl_parse.specs.Reading.{position_from, position_of, names_of}
+use Rattle.tl_parse.specs.Reading.{position_from, position_of}
 
 -- the name stands where it is found
 found_at : (n : ℕ) (name : List ℕ) (names : List (List ℕ)) (i : ℕ) → position_from n name names ≡ Some i → (k : ℕ) × (i ≡ n + k) × (slice_get names k ≡ Some name)

@@ -1,12 +1,12 @@
 -- What is read is what the grammar has.
-use Rattle.std.proofs.Common.{◌≡◌, ℕ, zero, suc, ◌+◌, List, [], ◌∷◌, ◌++◌, length, Option, Some, None, refl, sym, ap, subst, ◌∙◌, append_assoc}
+use Rattle.std.proofs.Common.{◌≡◌, ℕ, zero, suc, List, [], ◌∷◌, ◌++◌, length, Option, Some, None, refl, sym, ap, subst, ◌∙◌, append_assoc}
 use Rattle.tl_parse.specs.declared.token.Sign.TheVariants as signs
 use Rattle.tl_parse.specs.declared.tree.Operator.{Operator}
 use Rattle.tl_parse.specs.declared.tree.Operator.TheVariants.{Add, Subtract, Multiply}
 use Rattle.tl_parse.specs.Tree.{Tree, Parameter, Literal, Binary}
-use Rattle.tl_parse.specs.Tokens.{Token, Name, Reserved, Numeral, Sign}
+use Rattle.tl_parse.specs.Tokens.{Token, Name, Numeral, Sign}
 use Rattle.tl_parse.specs.Grammar.{IsSum, IsProduct, IsFactor, product, plus, minus, factor, times, parameter, literal, brackets}
-use Rattle.tl_parse.specs.Reading.{Reading, Took, Refused, ◌>>=◌, leaf, position_of, literal_of, after_operator, chain, chained, product_operator, sum_operator, factor_with, closed, inside_at, factor_at, product_at, sum_at}
+use Rattle.tl_parse.specs.Reading.{Reading, Took, Refused, ◌>>=◌, leaf, position_of, literal_of, after_operator, chain, chained, product_operator, sum_operator, closed, inside_at, factor_at, product_at, sum_at}
 use Rattle.tl_parse.proofs.Literals.{literal_sound}
 use Rattle.tl_parse.proofs.Positions.{position_found}
 

@@ -3,7 +3,6 @@
 use Rattle.std.specs.Prelude.{ℕ, zero, suc, ◌≡◌, ◌≢◌, ◌<◌, ◌≤◌, ◌-◌, ◌+◌, ◌*◌, Bool, true, false, List, [], ◌∷◌, ◌++◌, length, take, map, Option, Some, None, if◌then◌else◌, ◌&&◌, nat_le, slice_get, codes}
 use Rattle.std.specs.Borrow.{Bor}
 use Rattle.std.specs.Str.{bytes_eq}
-use Rattle.tl_parse.specs.declared.token.Sign.{Sign as SignKind}
 use Rattle.tl_parse.specs.declared.token.Sign.TheVariants as signs
 use Rattle.tl_parse.specs.declared.tree.Operator.{Operator}
 use Rattle.tl_parse.specs.declared.tree.Operator.TheVariants.{Add, Subtract, Multiply}
@@ -14,7 +13,7 @@ use Rattle.tl_parse.specs.declared.tree.Expression.{Expression}
 use Rattle.tl_parse.specs.Tree.{Tree, Parameter, Literal, Binary, tree_of}
 use Rattle.tl_parse.specs.Tokens.{Token, Name, Reserved, Numeral, Sign, is_digit}
 use Rattle.tl_parse.specs.Grammar.{has_no_leading_zero}
-use Rattle.tl_parse.specs.Form.{AreNames, AreDifferent, header_tokens, parameter_tokens, more_parameters, typed, int64}
+use Rattle.tl_parse.specs.Form.{AreNames, AreDifferent, header_tokens, parameter_tokens, typed, int64}
 use Rattle.tl_parse.specs.Scanning.{all_tokens_of}
 
 -- names without where they lie in memory

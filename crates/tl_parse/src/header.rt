@@ -34,13 +34,7 @@ fn behind_word<'t, 'a>(tokens: &'t [Token<'a>], word: &[u8]) -> Option<&'t [Toke
     ensures { Begins (all_tokens_of tokens.now) (ReservedToken word.now ∷ []) result }
 {
     match tokens.split_first() {
-        Some((Token::Reserved(first), rest)) => {
-            if *first == word {
-                Some(rest)
-            } else {
-                None
-            }
-        }
+        Some((Token::Reserved(first), rest)) => { if *first == word { Some(rest) } else { None } }
         _ => None,
     }
 }

@@ -2,11 +2,13 @@
 #![tactic(auto)]
 
 pub mod error;
-pub mod token;
 mod header;
 mod lexer;
+pub mod parser;
 mod reader;
+pub mod token;
 pub mod tree;
 
 pub use error::ParseError;
+pub use parser::{bounds, one_tree, parse};
 pub use tree::{Expression, Function, Operator};

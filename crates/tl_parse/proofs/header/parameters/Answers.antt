@@ -1,8 +1,6 @@
-use Rattle.std.proofs.Common.{rules, ◌≡◌, ◌≢◌, [], ◌∷◌, ◌++◌, ℕ, List, None, Some, sym, ap, subst, ◌∙◌, Bor}
-use Rattle.tl_parse.specs.declared.token.Sign.TheVariants as signs
-use Rattle.tl_parse.specs.Tokens.{Token, Sign}
+use Rattle.std.proofs.Common.{rules, ◌≡◌, [], ◌∷◌, ◌++◌, ℕ, List, None, Some, sym, ap, subst, ◌∙◌}
 use Rattle.tl_parse.specs.Scanning.{all_tokens_of}
-use Rattle.tl_parse.specs.Reading.{names_of, BeginsParameter, Begins, MayFollow}
+use Rattle.tl_parse.specs.Reading.{names_of, BeginsParameter}
 use Rattle.tl_parse.proofs.Parameters.{Listed, listed_first_fails, listed_more, listed_more_fails, listed_closed_fails, names_pushed}
 use Rattle.tl_parse.proofs.header.parameters.Goals as goal
 

@@ -1,4 +1,4 @@
-use Rattle.std.proofs.Common.{rules, ◌≡◌, ◌<◌, false, List, length, sym, subst, ◌∙◌, arith, ap}
+use Rattle.std.proofs.Common.{rules, ◌≡◌, ◌<◌, false, List, length, sym, subst}
 use Rattle.std.specs.Prelude.{slice_index}
 use Rattle.tl_parse.specs.Tokens.{is_space}
 use Rattle.tl_parse.specs.declared.token.Token as code

@@ -1,7 +1,7 @@
-use Rattle.std.proofs.Common.{◌≡◌, ◌+◌, ◌*◌, length}
+use Rattle.std.proofs.Common.{◌+◌, ◌*◌, length}
 use Rattle.tl_parse.specs.Tree.{tree_of}
 use Rattle.tl_parse.specs.Scanning.{all_tokens_of}
-use Rattle.tl_parse.specs.Reading.{names_of, chained, product_operator, sum_operator, factor_at, product_at, sum_at}
+use Rattle.tl_parse.specs.Reading.{names_of, product_operator, sum_operator, factor_at, product_at, sum_at}
 use Rattle.tl_parse.proofs.Chains.{SoFar}
 use Rattle.tl_parse.proofs.reader.+reader.Given as goal
 
