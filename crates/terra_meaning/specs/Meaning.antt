@@ -1,7 +1,7 @@
 -- What an expression means: a number of 64 bits, by recursion on its tree. A value is a word, a number below 2 ^ 64, and stands for
 -- an integer in two's complement; each operator wraps at 64 bits.
-use Rattle.std.specs.Prelude.{ℕ, ◌+◌, ◌-◌, ◌*◌, ◌%◌, ◌^◌, List, slice_index}
-use Rattle.tl_parse.specs.Tree.{Tree, Parameter, Literal, Binary}
+use Rattle.std.specs.Prelude.{ℕ, ◌+◌, ◌-◌, ◌*◌, ◌%◌, ◌^◌, ◌<◌, List, slice_index}
+use Rattle.tl_parse.specs.Tree.{Tree, Parameter, Literal, Binary, HasLiteralsUpTo}
 use Rattle.tl_parse.specs.declared.tree.Operator.{Operator}
 use Rattle.tl_parse.specs.declared.tree.Operator.TheVariants.{Add, Subtract, Multiply}
 
@@ -16,3 +16,8 @@ abbrev pub meaning : Tree → List ℕ → ℕ
 meaning (Parameter position) arguments = slice_index arguments position
 meaning (Literal value) arguments = value
 meaning (Binary operator left right) arguments = applied operator (meaning left arguments) (meaning right arguments)
+
+-- the value of an expression is a word, at arguments that are words
+abbrev pub IsAlwaysWord : Type 0
+IsAlwaysWord =
+    (tree : Tree) (arguments : List ℕ) → HasLiteralsUpTo 2047 tree → ((i : ℕ) → slice_index arguments i < 2 ^ 64) → meaning tree arguments < 2 ^ 64

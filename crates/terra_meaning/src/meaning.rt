@@ -1,6 +1,6 @@
 ghost use Rattle.std.specs.Prelude.{◌≡◌, length};
 ghost use Rattle.tl_parse.specs.Tree.{tree_of, HasParametersBelow};
-ghost use Rattle.terra_meaning.specs.Meaning.{applied, meaning};
+ghost use Rattle.terra_meaning.specs.Meaning.{applied, meaning, IsAlwaysWord};
 
 use tl_parse::{Expression, Operator};
 
@@ -32,3 +32,8 @@ pub fn evaluate(body: &Expression, arguments: &[u64]) -> u64
         }
     }
 }
+
+/// A law: where the arguments are words and the literals are at most 2047, the value of an expression is a word.
+pub fn words()
+    ensures { IsAlwaysWord }
+{}

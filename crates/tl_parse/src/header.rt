@@ -64,7 +64,7 @@ fn first_parameter<'t, 'a>(
 }
 
 // The parameters, up to the bracket that closes them.
-fn parameters<'t, 'a>(alloc: Global, tokens: &'t [Token<'a>]) -> Read<'t, 'a, Vec<&'a [u8]>>
+fn read_parameters<'t, 'a>(alloc: Global, tokens: &'t [Token<'a>]) -> Read<'t, 'a, Vec<&'a [u8]>>
     ensures ok { IfOk result (λ r. HasParameters (all_tokens_of tokens.now) (names_of r.0.items) (all_tokens_of r.1.now)) }
     ensures err { IfErr result (λ e. LacksParameters e (all_tokens_of tokens.now)) }
 {
@@ -126,10 +126,7 @@ pub fn read_header<'t, 'a>(alloc: Global, tokens: &'t [Token<'a>]) -> Read<'t, '
     let Some((name, rest)) = heading(tokens) else {
         return Err(ParseError::NotBuilt);
     };
-    let (parameters, rest) = match parameters(alloc, rest) {
-        Ok(read) => read,
-        Err(e) => return Err(e),
-    };
+    let (parameters, rest) = read!(read_parameters(alloc, rest));
     let Some(rest) = behind_result_type(rest) else {
         return Err(ParseError::NotBuilt);
     };

@@ -8,7 +8,7 @@ ghost use Rattle.tl_parse.specs.Reading.{is_operator, operator_count};
 use crate::error::ParseError;
 use crate::header::{is_end, read_header};
 use crate::lexer::tokenize;
-use crate::reader::sum;
+use crate::reader::read_sum;
 use crate::token::{Sign, Token};
 use crate::tree::Function;
 use std::alloc::Global;
@@ -55,14 +55,8 @@ fn read_function(alloc: Global, tokens: &[Token<'_>]) -> Result<Function, ParseE
     if operator_count(tokens) > MOST_OPERATORS {
         return Err(ParseError::NotBuilt);
     }
-    let (header, rest) = match read_header(alloc, tokens) {
-        Ok(read) => read,
-        Err(e) => return Err(e),
-    };
-    let (body, rest) = match sum(alloc, &header.parameters, MOST_LEVELS, rest) {
-        Ok(read) => read,
-        Err(e) => return Err(e),
-    };
+    let (header, rest) = read!(read_header(alloc, tokens));
+    let (body, rest) = read!(read_sum(alloc, &header.parameters, MOST_LEVELS, rest));
     if !is_end(rest) {
         return Err(ParseError::NotBuilt);
     }
@@ -92,10 +86,7 @@ pub fn parse(alloc: Global, text: &[u8]) -> Result<Function, ParseError>
     if text.len() > MOST_BYTES {
         return Err(ParseError::NotBuilt);
     }
-    let tokens = match tokenize(alloc, text) {
-        Ok(tokens) => tokens,
-        Err(e) => return Err(e),
-    };
+    let tokens = read!(tokenize(alloc, text));
     read_function(alloc, &tokens)
 }
 

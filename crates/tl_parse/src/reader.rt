@@ -11,16 +11,6 @@ use crate::token::{Sign, Token};
 use crate::tree::{Expression, Operator};
 use std::alloc::Global;
 
-// A value, or the end of the function with the error. (`?` does the same, and leaves a goal at each exit.)
-macro_rules! read {
-    ($e:expr) => {
-        match $e {
-            Ok(x) => x,
-            Err(e) => return Err(e),
-        }
-    };
-}
-
 /// The largest literal.
 const LARGEST: u64 = 2047;
 
@@ -40,17 +30,17 @@ pub fn position(names: &[&[u8]], name: &[u8]) -> Option<usize>
 fn small_number(digits: &[u8]) -> Option<u64>
     ensures { result ≡ small_number 0 digits.now }
 {
-    let mut value: u64 = 0;
+    let mut number: u64 = 0;
     for digit in digits {
         if !is_digit(*digit) {
             return None;
         }
-        value = value * 10 + u64::from(*digit - b'0');
-        if value > LARGEST {
+        number = number * 10 + u64::from(*digit - b'0');
+        if number > LARGEST {
             return None;
         }
     }
-    Some(value)
+    Some(number)
 }
 
 // Is there a digit, and is the first 0 only where it is alone?
@@ -146,7 +136,7 @@ pub type Read<'t, 'a, T> = Result<(T, &'t [Token<'a>]), ParseError>;
 // What stands behind an opening bracket, with the closing one.
 #[cycle(reader)]
 #[tactic(auto, using(crate::proofs::Failing::fails_bind, crate::proofs::Failing::fails_after))]
-fn inside<'t, 'a>(
+fn read_inside<'t, 'a>(
     alloc: Global,
     parameters: &[&[u8]],
     levels: u32,
@@ -155,7 +145,7 @@ fn inside<'t, 'a>(
     ensures ok { IfOk result (λ r. closing_at (names_of parameters.now) levels (all_tokens_of tokens.now) ≡ took r) }
     ensures err { IfErr result (λ e. Fails e (closing_at (names_of parameters.now) levels (all_tokens_of tokens.now))) }
 {
-    let (inside, rest) = read!(sum(alloc, parameters, levels, tokens));
+    let (inside, rest) = read!(read_sum(alloc, parameters, levels, tokens));
     match behind_sign(rest, Sign::Close) {
         Some(rest) => Ok((inside, rest)),
         None => Err(ParseError::NotBuilt),
@@ -165,7 +155,7 @@ fn inside<'t, 'a>(
 // A parameter, a literal, or a sum in brackets.
 #[cycle(reader)]
 #[tactic(auto, using(crate::proofs::Failing::fails_bind, crate::proofs::Failing::fails_after))]
-fn factor<'t, 'a>(
+fn read_factor<'t, 'a>(
     alloc: Global,
     parameters: &[&[u8]],
     levels: u32,
@@ -186,7 +176,7 @@ fn factor<'t, 'a>(
             Some(value) => Ok((Expression::Literal(value), rest)),
             None => Err(ParseError::NotBuilt),
         },
-        Token::Sign(Sign::Open) if levels > 0 => inside(alloc, parameters, levels - 1, rest),
+        Token::Sign(Sign::Open) if levels > 0 => read_inside(alloc, parameters, levels - 1, rest),
         _ => Err(ParseError::NotBuilt),
     }
 }
@@ -194,7 +184,7 @@ fn factor<'t, 'a>(
 // Factors that are multiplied.
 #[cycle(reader)]
 #[tactic(auto, using(crate::proofs::Failing::fails_bind, crate::proofs::Failing::fails_after))]
-fn product<'t, 'a>(
+fn read_product<'t, 'a>(
     alloc: Global,
     parameters: &[&[u8]],
     levels: u32,
@@ -203,19 +193,19 @@ fn product<'t, 'a>(
     ensures ok { IfOk result (λ r. product_at (names_of parameters.now) levels (all_tokens_of tokens.now) ≡ took r) }
     ensures err { IfErr result (λ e. Fails e (product_at (names_of parameters.now) levels (all_tokens_of tokens.now))) }
 {
-    let (mut product, mut rest) = read!(factor(alloc, parameters, levels, tokens));
+    let (mut tree, mut rest) = read!(read_factor(alloc, parameters, levels, tokens));
     'factors: while let Some((operator, after)) = first_product_operator(rest) {
-        let (right, behind) = read!(factor(alloc, parameters, levels, after));
-        product = read!(binary(alloc, operator, product, right));
+        let (right, behind) = read!(read_factor(alloc, parameters, levels, after));
+        tree = read!(binary(alloc, operator, tree, right));
         rest = behind;
     }
-    Ok((product, rest))
+    Ok((tree, rest))
 }
 
 // Products that are added and subtracted.
 #[cycle(reader)]
 #[tactic(auto, using(crate::proofs::Failing::fails_bind, crate::proofs::Failing::fails_after))]
-pub fn sum<'t, 'a>(
+pub fn read_sum<'t, 'a>(
     alloc: Global,
     parameters: &[&[u8]],
     levels: u32,
@@ -224,11 +214,11 @@ pub fn sum<'t, 'a>(
     ensures ok { IfOk result (λ r. sum_at (names_of parameters.now) levels (all_tokens_of tokens.now) ≡ took r) }
     ensures err { IfErr result (λ e. Fails e (sum_at (names_of parameters.now) levels (all_tokens_of tokens.now))) }
 {
-    let (mut sum, mut rest) = read!(product(alloc, parameters, levels, tokens));
+    let (mut tree, mut rest) = read!(read_product(alloc, parameters, levels, tokens));
     'products: while let Some((operator, after)) = first_sum_operator(rest) {
-        let (right, behind) = read!(product(alloc, parameters, levels, after));
-        sum = read!(binary(alloc, operator, sum, right));
+        let (right, behind) = read!(read_product(alloc, parameters, levels, after));
+        tree = read!(binary(alloc, operator, tree, right));
         rest = behind;
     }
-    Ok((sum, rest))
+    Ok((tree, rest))
 }

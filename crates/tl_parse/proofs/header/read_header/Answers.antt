@@ -9,4 +9,4 @@ returns-in-Err-clause-err c = header_fails (all_tokens_of c.args.tokens.now) (al
 
 pub returns-in_default-behind_result_type-clause-err : goal.returns-in_default-behind_result_type-clause-err
 returns-in_default-behind_result_type-clause-err c =
-    result_fails (all_tokens_of c.args.tokens.now) (all_tokens_of c.in-Some.rest.now) (all_tokens_of c.in-Ok.read.1.now) c.in-Some.name.now (names_of c.in-Ok.read.0.items) errors.NotBuilt c.in-Some.ensures.0 c.in-Ok.ensures.ok c.in_default-behind_result_type.ensures
+    result_fails (all_tokens_of c.args.tokens.now) (all_tokens_of c.in-Some.rest.now) (all_tokens_of c.in-Ok.x.1.now) c.in-Some.name.now (names_of c.in-Ok.x.0.items) errors.NotBuilt c.in-Some.ensures.0 c.in-Ok.ensures.ok c.in_default-behind_result_type.ensures

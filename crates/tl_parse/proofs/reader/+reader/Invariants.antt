@@ -5,28 +5,28 @@ use Rattle.tl_parse.specs.Reading.{names_of, product_operator, sum_operator, fac
 use Rattle.tl_parse.proofs.Chains.{SoFar}
 use Rattle.tl_parse.proofs.reader.+reader.Given as goal
 
-abbrev pub decreases-factor : goal.decreases-factor
-decreases-factor l = 4 * l.levels
+abbrev pub decreases-read_factor : goal.decreases-read_factor
+decreases-read_factor l = 4 * l.levels
 
-abbrev pub decreases-inside : goal.decreases-inside
-decreases-inside l = 4 * l.levels + 3
+abbrev pub decreases-read_inside : goal.decreases-read_inside
+decreases-read_inside l = 4 * l.levels + 3
 
-abbrev pub decreases-product : goal.decreases-product
-decreases-product l = 4 * l.levels + 1
+abbrev pub decreases-read_product : goal.decreases-read_product
+decreases-read_product l = 4 * l.levels + 1
 
-abbrev pub decreases-sum : goal.decreases-sum
-decreases-sum l = 4 * l.levels + 2
+abbrev pub decreases-read_sum : goal.decreases-read_sum
+decreases-read_sum l = 4 * l.levels + 2
 
-abbrev pub invariant-product-factors : goal.invariant-product-factors
-invariant-product-factors l =
-    SoFar product_operator (factor_at (names_of l.parameters) l.levels) (product_at (names_of l.parameters) l.levels (all_tokens_of l.fn.tokens)) (tree_of l.product) (all_tokens_of l.rest)
+abbrev pub invariant-read_product-factors : goal.invariant-read_product-factors
+invariant-read_product-factors l =
+    SoFar product_operator (factor_at (names_of l.parameters) l.levels) (product_at (names_of l.parameters) l.levels (all_tokens_of l.fn.tokens)) (tree_of l.tree) (all_tokens_of l.rest)
 
-abbrev pub decreases-product-factors : goal.decreases-product-factors
-decreases-product-factors l = length l.rest
+abbrev pub decreases-read_product-factors : goal.decreases-read_product-factors
+decreases-read_product-factors l = length l.rest
 
-abbrev pub invariant-sum-products : goal.invariant-sum-products
-invariant-sum-products l =
-    SoFar sum_operator (product_at (names_of l.parameters) l.levels) (sum_at (names_of l.parameters) l.levels (all_tokens_of l.fn.tokens)) (tree_of l.sum) (all_tokens_of l.rest)
+abbrev pub invariant-read_sum-products : goal.invariant-read_sum-products
+invariant-read_sum-products l =
+    SoFar sum_operator (product_at (names_of l.parameters) l.levels) (sum_at (names_of l.parameters) l.levels (all_tokens_of l.fn.tokens)) (tree_of l.tree) (all_tokens_of l.rest)
 
-abbrev pub decreases-sum-products : goal.decreases-sum-products
-decreases-sum-products l = length l.rest
+abbrev pub decreases-read_sum-products : goal.decreases-read_sum-products
+decreases-read_sum-products l = length l.rest

@@ -3,4 +3,4 @@ use Rattle.tl_parse.specs.Reading.{small_number}
 use Rattle.tl_parse.proofs.reader.small_number.Given as goal
 
 abbrev pub invariant-loop-digit : goal.invariant-loop-digit
-invariant-loop-digit l = (l.value ≤ 2047) × (small_number l.value (drop l.digit-index l.digits) ≡ small_number 0 l.digits)
+invariant-loop-digit l = (l.number ≤ 2047) × (small_number l.number (drop l.digit-index l.digits) ≡ small_number 0 l.digits)

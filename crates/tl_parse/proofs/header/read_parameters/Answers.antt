@@ -2,7 +2,7 @@ use Rattle.std.proofs.Common.{rules, ◌≡◌, [], ◌∷◌, ◌++◌, ℕ, Li
 use Rattle.tl_parse.specs.Scanning.{all_tokens_of}
 use Rattle.tl_parse.specs.Reading.{names_of, BeginsParameter}
 use Rattle.tl_parse.proofs.Parameters.{Listed, listed_first_fails, listed_more, listed_more_fails, listed_closed_fails, names_pushed}
-use Rattle.tl_parse.proofs.header.parameters.Goals as goal
+use Rattle.tl_parse.proofs.header.read_parameters.Goals as goal
 
 pub returns-in_default-first_parameter-clause-err : goal.returns-in_default-first_parameter-clause-err
 returns-in_default-first_parameter-clause-err c =
