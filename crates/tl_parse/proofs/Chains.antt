@@ -67,21 +67,9 @@ so_far_goes operator_of operand whole x rest found y new behind s h b e n =
           ∙ ap (λ (t : Tree). chained operator_of operand t behind) (sym n);
     }
 
-pub so_far_fails : (operator_of : Token → Option Operator) (operand : List Token → Reading) (whole : Reading) (x : Tree) (rest : List Token) (found : Operator × Bor (List code.Token)) (error : ParseError) → Shortens operand → SoFar operator_of operand whole x rest → BeginsOperator operator_of rest (Some found) → Fails error (operand (all_tokens_of found.1.now)) → Fails error whole
-so_far_fails operator_of operand whole x rest found error s h b f =
-    record {
-      refused = λ n.
-          h.same
-          ∙ ap (λ (ts : List Token). chained operator_of operand x ts) b.1
-          ∙ chained_goes operator_of operand x b.0 (all_tokens_of found.1.now) found.0 s b.2
-          ∙ ap (λ (r : Reading). r >>= λ z us. chained operator_of operand (Binary found.0 x z) us) (f.refused n);
-    }
-
-pub so_far_done : (operator_of : Token → Option Operator) (operand : List Token → Reading) (whole : Reading) (x : Tree) (rest : List Token) → SoFar operator_of operand whole x rest → BeginsOperator operator_of rest None → whole ≡ Took x rest
-so_far_done operator_of operand whole x rest h b = h.same ∙ chained_ends operator_of operand x rest b
-
 -- ---- what readings leave
 
+-- a leaf takes its token alone
 leaf_shorter : (tree : ℕ → Tree) (o : Option ℕ) (x : Tree) (tokens rest : List Token) → leaf tree o tokens ≡ Took x rest → rest ≡ tokens
 leaf_shorter tree None x tokens rest e = absurd cc
 leaf_shorter tree (Some n) x tokens rest e = cc
@@ -142,6 +130,7 @@ inside_some : (parameters : List (List ℕ)) (levels : ℕ) (tokens : List Token
 inside_some parameters zero tokens h = absurd (omega arith)
 inside_some parameters (suc levels) tokens h = let e : suc levels - 1 ≡ levels = omega arith in ap (λ (n : ℕ). closing_at parameters n tokens) (sym e)
 
+-- as many tokens as the code has
 length_tokens : (tokens : List code.Token) → length (all_tokens_of tokens) ≡ length tokens
 length_tokens [] = refl
 length_tokens (t ∷ tokens) = ap (λ (n : ℕ). suc n) (length_tokens tokens)
@@ -153,13 +142,16 @@ so_far_smaller operator_of operand rest found y behind s b e =
     let short = s.shorter (all_tokens_of found.1.now) y (all_tokens_of behind) e in
     omega (arith, length_tokens rest, length_tokens behind, length_tokens found.1.now)
 
+-- a factor in brackets
 opened : (parameters : List (List ℕ)) (levels : ℕ) (tokens rest : List Token) → 0 < levels → tokens ≡ Sign signs.Open ∷ rest → factor_at parameters levels tokens ≡ closing_at parameters (levels - 1) rest
 opened parameters levels tokens rest some is = ap (λ (ts : List Token). factor_at parameters levels ts) is ∙ inside_some parameters levels rest some
 
+-- what is read in brackets is the factor
 pub open_ok : (parameters : List (List ℕ)) (levels : ℕ) (tokens rest : List Token) (r : Result (Expression × Bor (List code.Token)) ParseError) → 0 < levels → tokens ≡ Sign signs.Open ∷ rest → IfOk r (λ x. closing_at parameters (levels - 1) rest ≡ took x) → IfOk r (λ x. factor_at parameters levels tokens ≡ took x)
 open_ok parameters levels tokens rest (Ok x) some is h = opened parameters levels tokens rest some is ∙ h
 open_ok parameters levels tokens rest (Err e) some is h = tt
 
+-- what is refused in brackets is refused
 pub open_err : (parameters : List (List ℕ)) (levels : ℕ) (tokens rest : List Token) (r : Result (Expression × Bor (List code.Token)) ParseError) → 0 < levels → tokens ≡ Sign signs.Open ∷ rest → IfErr r (λ e. Fails e (closing_at parameters (levels - 1) rest)) → IfErr r (λ e. Fails e (factor_at parameters levels tokens))
 open_err parameters levels tokens rest (Ok x) some is h = tt
 open_err parameters levels tokens rest (Err e) some is h = record { refused = λ n. opened parameters levels tokens rest some is ∙ h.refused n }

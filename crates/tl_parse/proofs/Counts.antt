@@ -7,10 +7,12 @@ use Rattle.tl_parse.specs.Grammar.{IsSum, IsProduct, IsFactor, product, plus, mi
 use Rattle.tl_parse.specs.Form.{parameter_tokens, more_parameters, header_tokens}
 use Rattle.tl_parse.specs.Reading.{is_operator, operator_count, result_type}
 
+-- the operators of two lists that are joined
 pub count-append : (front back : List Token) → operator_count (front ++ back) ≡ operator_count front + operator_count back
 count-append [] back = omega arith
 count-append (t ∷ front) back = let more = count-append front back in omega arith
 
+-- an operator counts as one
 count_operator : (t : Token) (back : List Token) → is_operator t ≡ true → operator_count (t ∷ back) ≡ 1 + operator_count back
 count_operator t back o = ap (λ (b : Bool). cond b 1 0 + operator_count back) o
 
@@ -22,6 +24,7 @@ between tokens left right t x y e o p q =
     let one = count_operator t right o in
     omega arith
 
+-- parameters have no operators
 count_more : (names : List (List ℕ)) → operator_count (more_parameters names) ≡ 0
 count_more [] = refl
 count_more (name ∷ names) = let more = count_more names in omega arith

@@ -5,6 +5,7 @@ use Rattle.tl_parse.specs.Tokens.{Token}
 use Rattle.tl_parse.specs.Reading.{Reading, Took, ◌>>=◌, Fails}
 use Rattle.tl_parse.specs.declared.error.ParseError.{ParseError}
 
+-- where the first part refuses
 pub fails_bind : (e : ParseError) (reading : Reading) (go : Tree → List Token → Reading) → Fails e reading → Fails e (reading >>= go)
 fails_bind e reading go h = record { refused = λ n. ap (λ (x : Reading). x >>= go) (h.refused n) }
 

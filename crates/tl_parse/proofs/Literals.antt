@@ -9,11 +9,13 @@ use Rattle.tl_parse.specs.Tokens.{is_digit}
 use Rattle.tl_parse.specs.Grammar.{has_no_leading_zero, are_digits, number_after, IsLiteral}
 use Rattle.tl_parse.specs.Reading.{small_number, literal_with, literal_of}
 
+-- the front of two lists that are joined
 take_all : (digits ends : List ℕ) → take (length digits) (digits ++ ends) ≡ digits
 take_all [] [] = refl
 take_all [] (c ∷ ends) = refl
 take_all (d ∷ digits) ends = ap (λ (r : List ℕ). d ∷ r) (take_all digits ends)
 
+-- the digits of a literal are what stands before its last two bytes
 digits_part : (digits : List ℕ) → take (length (digits ++ codes "LL") - 2) (digits ++ codes "LL") ≡ digits
 digits_part digits =
     let e : length (digits ++ codes "LL") - 2 ≡ length digits = omega (arith, length-append digits (codes "LL")) in
@@ -56,6 +58,7 @@ ends_some bytes suffix (Some x) digits b is h e z =
 
 -- ---- what the value is
 
+-- a choice that gives a value
 cond_is : (b : Bool) (o : Option ℕ) (v : ℕ) → cond b o None ≡ Some v → (b ≡ true) × (o ≡ Some v)
 cond_is true o v e = (refl, e)
 cond_is false o v e = absurd cc
@@ -68,6 +71,7 @@ and_both : (a b : Bool) → a ≡ true → b ≡ true → (a && b) ≡ true
 and_both true b p q = q
 and_both false b p q = absurd cc
 
+-- what a small number that is found says of its digits
 small_sound : (n : ℕ) (digits : List ℕ) (v : ℕ) → n ≤ 2047 → small_number n digits ≡ Some v → (are_digits digits ≡ true) × (number_after n digits ≡ v) × (v ≤ 2047)
 small_sound n [] v le e = let same : n ≡ v = cc in (refl, same, omega arith)
 small_sound n (d ∷ digits) v le e =
@@ -76,10 +80,12 @@ small_sound n (d ∷ digits) v le e =
     let rest = small_sound (n * 10 + (d - 48)) digits v (leb-true _ _ parts.1) both.1 in
     (and_both (is_digit d) (are_digits digits) parts.0 rest.0, rest.1, rest.2)
 
+-- more digits make no smaller number
 number_grows : (n : ℕ) (digits : List ℕ) → n ≤ number_after n digits
 number_grows n [] = omega arith
 number_grows n (d ∷ digits) = let more = number_grows (n * 10 + (d - 48)) digits in omega arith
 
+-- digits that write a small number are found
 small_complete : (n : ℕ) (digits : List ℕ) → are_digits digits ≡ true → number_after n digits ≤ 2047 → small_number n digits ≡ Some (number_after n digits)
 small_complete n [] p le = refl
 small_complete n (d ∷ digits) p le =
@@ -89,6 +95,7 @@ small_complete n (d ∷ digits) p le =
     ap (λ (b : Bool). cond b (small_number (n * 10 + (d - 48)) digits) None) (and_both (is_digit d) (nat_le (n * 10 + (d - 48)) 2047) parts.0 (le-leb _ _ small))
     ∙ small_complete (n * 10 + (d - 48)) digits parts.1 le
 
+-- the value that is found is the literal's
 pub literal_sound : (bytes : List ℕ) (v : ℕ) → literal_of bytes ≡ Some v → IsLiteral bytes v
 unfolding literal_of
 literal_sound bytes v e =
@@ -105,6 +112,7 @@ literal_sound bytes v e =
       in_range = number.2;
     }
 
+-- the value of a literal is found
 pub literal_complete : (bytes : List ℕ) (v : ℕ) → IsLiteral bytes v → literal_of bytes ≡ Some v
 literal_complete bytes v h =
     let le : number_after 0 h.digits ≤ 2047 = let same = h.is_value in let range = h.in_range in omega arith in

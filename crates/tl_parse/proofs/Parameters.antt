@@ -9,15 +9,18 @@ use Rattle.tl_parse.proofs.Positions.{position_none, position_found}
 
 -- ---- names
 
+-- a name before others stands where it stood
 get_before : (names others : List (List ℕ)) (i : ℕ) (name : List ℕ) → slice_get names i ≡ Some name → slice_get (names ++ others) i ≡ Some name
 get_before [] others i name e = absurd cc
 get_before (x ∷ names) others zero name e = e
 get_before (x ∷ names) others (suc i) name e = get_before names others i name e
 
+-- a name behind others stands at their number
 get_at : (names others : List (List ℕ)) (name : List ℕ) → slice_get (names ++ name ∷ others) (length names) ≡ Some name
 get_at [] others name = refl
 get_at (x ∷ names) others name = get_at names others name
 
+-- a name stands below the number of names
 get_below : (names : List (List ℕ)) (i : ℕ) (name : List ℕ) → slice_get names i ≡ Some name → i < length names
 get_below [] i name e = absurd cc
 get_below (x ∷ names) zero name e = omega arith
@@ -30,6 +33,7 @@ get_pushed [] last (suc i) name e = absurd cc
 get_pushed (x ∷ names) last zero name e = inl e
 get_pushed (x ∷ names) last (suc i) name e = elim (get_pushed names last i name e) [ inl h ↦ inl h | inr h ↦ inr (ap (λ (n : ℕ). suc n) h.0, h.1) ]
 
+-- different names with a new one are different
 different_pushed : (names : List (List ℕ)) (last : List ℕ) → AreDifferent names → ((k : ℕ) → slice_get names k ≢ Some last) → AreDifferent (names ++ last ∷ [])
 different_pushed names last different is_new i j name p q = by_cases (get_pushed names last i name p) (get_pushed names last j name q)
   where
@@ -39,6 +43,7 @@ different_pushed names last different is_new i j name p q = by_cases (get_pushed
     by_cases (inr a) (inl b) = absurd (is_new j (b ∙ ap (λ (x : List ℕ). Some x) (sym a.1)))
     by_cases (inr a) (inr b) = a.0 ∙ sym b.0
 
+-- parameters with one more that may follow them
 may_be_pushed : (names : List (List ℕ)) (last : List ℕ) → MayBe names → MayFollow names last → MayBe (names ++ last ∷ [])
 may_be_pushed names last h f =
     record {
@@ -47,6 +52,7 @@ may_be_pushed names last h f =
       free = λ i e. elim (get_pushed names last i (codes "int64") e) [ inl a ↦ h.free i a | inr b ↦ f.free b.1 ];
     }
 
+-- no value
 none_is : (o : Option ℕ) → ((i : ℕ) → o ≡ Some i → ⊥) → o ≡ None
 none_is None h = refl
 none_is (Some i) h = absurd (h i refl)
@@ -64,9 +70,6 @@ may_follow names others name h =
           omega arith);
     }
 
-may_be_none : MayBe []
-may_be_none = record { few = omega arith; different = λ i j name p q. absurd cc; free = λ i e. absurd cc }
-
 -- ---- tokens
 
 -- names with one more at their end
@@ -74,6 +77,7 @@ more_pushed : (names : List (List ℕ)) (last : List ℕ) → more_parameters (n
 more_pushed [] last = refl
 more_pushed (x ∷ names) last = ap (λ (ts : List Token). Sign signs.Comma ∷ (typed x ++ ts)) (more_pushed names last)
 
+-- parameters with one more at their end, before what follows
 parameters_pushed : (first : List ℕ) (names : List (List ℕ)) (last : List ℕ) (rest : List Token) → parameter_tokens ((first ∷ names) ++ last ∷ []) ++ rest ≡ parameter_tokens (first ∷ names) ++ Sign signs.Comma ∷ (typed last ++ rest)
 parameters_pushed first names last rest =
     ap (λ (ts : List Token). (typed first ++ ts) ++ rest) (more_pushed names last)
@@ -86,35 +90,15 @@ pub record Listed (tokens : List Token) (names : List (List ℕ)) (rest : List T
   pub may_be : MayBe names
   pub others : (all : List (List ℕ)) (behind : List Token) → HasParameters tokens all behind → (further : List (List ℕ)) × (all ≡ names ++ further) × (rest ≡ more_parameters further ++ Sign signs.Close ∷ behind)
 
+-- parameters and the bracket that closes them
 closed_is : (names : List (List ℕ)) (rest : List Token) → closed_parameters names ++ rest ≡ parameter_tokens names ++ Sign signs.Close ∷ rest
 closed_is names rest = append_assoc (parameter_tokens names) (Sign signs.Close ∷ []) rest
 
-more_is : (first : List ℕ) (names : List (List ℕ)) (rest : List Token) → parameter_tokens (first ∷ names) ++ rest ≡ typed first ++ (more_parameters names ++ rest)
-more_is first names rest = refl
-
+-- one parameter in two ways is one
 typed_front : (a b : List ℕ) (rest behind : List Token) → typed a ++ rest ≡ typed b ++ behind → (a ≡ b) × (rest ≡ behind)
 typed_front a b rest behind e = (cc, cc)
 
--- no parameters
-pub lists_none : (tokens rest : List Token) → tokens ≡ Sign signs.Close ∷ [] ++ rest → HasParameters tokens [] rest
-lists_none tokens rest e = record { are_first = e; may_be = may_be_none }
-
--- a first parameter
-pub listed_first : (tokens rest : List Token) (name : List ℕ) → ((behind : List Token) → tokens ≢ Sign signs.Close ∷ [] ++ behind) → tokens ≡ typed name ++ rest → MayFollow [] name → Listed tokens (name ∷ []) rest
-listed_first tokens rest name unclosed e follows =
-    record {
-      some = omega arith;
-      are_first = e;
-      may_be = may_be_pushed [] name may_be_none follows;
-      others = go;
-    }
-  where
-    go : (all : List (List ℕ)) (behind : List Token) → HasParameters tokens all behind → (further : List (List ℕ)) × (all ≡ name ∷ further) × (rest ≡ more_parameters further ++ Sign signs.Close ∷ behind)
-    go [] behind h = absurd (unclosed behind h.are_first)
-    go (other ∷ all) behind h =
-        let both = typed_front name other rest (more_parameters all ++ Sign signs.Close ∷ behind) (sym e ∙ h.are_first ∙ closed_is (other ∷ all) behind) in
-        (all, ap (λ (x : List ℕ). x ∷ all) (sym both.0), both.1)
-
+-- no first parameter
 pub listed_first_fails : (tokens : List Token) → ((behind : List Token) → tokens ≢ Sign signs.Close ∷ [] ++ behind) → ((name : List ℕ) (rest : List Token) → tokens ≡ typed name ++ rest → MayFollow [] name → ⊥) → (all : List (List ℕ)) (behind : List Token) → HasParameters tokens all behind → ⊥
 listed_first_fails tokens unclosed none [] behind h = unclosed behind h.are_first
 listed_first_fails tokens unclosed none (name ∷ all) behind h = none name (more_parameters all ++ Sign signs.Close ∷ behind) (h.are_first ∙ closed_is (name ∷ all) behind) (may_follow [] all name h.may_be)
@@ -137,6 +121,7 @@ listed_more tokens (first ∷ names) rest after behind name h comma e follows =
         let both = typed_front name other behind (more_parameters further ++ Sign signs.Close ∷ last) (let inner : typed name ++ behind ≡ typed other ++ (more_parameters further ++ Sign signs.Close ∷ last) = cc in inner) in
         (further, a ∙ ap (λ (x : List ℕ). (first ∷ names) ++ x ∷ further) (sym both.0) ∙ sym (append_assoc (first ∷ names) (name ∷ []) further), both.1)
 
+-- no parameter behind a comma
 pub listed_more_fails : (tokens : List Token) (names : List (List ℕ)) (rest after : List Token) → Listed tokens names rest → rest ≡ Sign signs.Comma ∷ [] ++ after → ((name : List ℕ) (behind : List Token) → after ≡ typed name ++ behind → MayFollow names name → ⊥) → (all : List (List ℕ)) (behind : List Token) → HasParameters tokens all behind → ⊥
 listed_more_fails tokens names rest after h comma none all behind p = let o = h.others all behind p in go o.0 o.1 (sym comma ∙ o.2)
   where
@@ -144,10 +129,7 @@ listed_more_fails tokens names rest after h comma none all behind p = let o = h.
     go [] a b = absurd cc
     go (other ∷ further) a b = none other (more_parameters further ++ Sign signs.Close ∷ behind) (let inner : after ≡ typed other ++ (more_parameters further ++ Sign signs.Close ∷ behind) = cc in inner) (may_follow names further other (subst MayBe a p.may_be))
 
--- the bracket that closes the list
-pub listed_closed : (tokens : List Token) (names : List (List ℕ)) (rest behind : List Token) → Listed tokens names rest → rest ≡ Sign signs.Close ∷ [] ++ behind → HasParameters tokens names behind
-listed_closed tokens names rest behind h e = record { are_first = h.are_first ∙ ap (λ (ts : List Token). parameter_tokens names ++ ts) e ∙ sym (closed_is names behind); may_be = h.may_be }
-
+-- neither a comma nor the bracket
 pub listed_closed_fails : (tokens : List Token) (names : List (List ℕ)) (rest : List Token) → Listed tokens names rest → ((after : List Token) → rest ≢ Sign signs.Comma ∷ [] ++ after) → ((behind : List Token) → rest ≢ Sign signs.Close ∷ [] ++ behind) → (all : List (List ℕ)) (behind : List Token) → HasParameters tokens all behind → ⊥
 listed_closed_fails tokens names rest h no_comma no_close all behind p = let o = h.others all behind p in go o.0 o.2
   where
@@ -155,6 +137,7 @@ listed_closed_fails tokens names rest h no_comma no_close all behind p = let o =
     go [] e = no_close behind e
     go (name ∷ further) e = no_comma (typed name ++ (more_parameters further ++ Sign signs.Close ∷ behind)) e
 
+-- the names of a list with one more
 pub names_pushed : (names : List (Bor (List ℕ))) (last : Bor (List ℕ)) → names_of (names ++ last ∷ []) ≡ names_of names ++ last.now ∷ []
 names_pushed [] last = refl
 names_pushed (x ∷ names) last = ap (λ (r : List (List ℕ)). x.now ∷ r) (names_pushed names last)

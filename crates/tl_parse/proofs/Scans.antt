@@ -15,10 +15,12 @@ before tokens others = option_map (λ more. tokens ++ more) others
 pub record Scanned (text : List ℕ) (tokens : List code.Token) (rest : List ℕ) : Type 0 where
   pub same : tokens_of text ≡ before (all_tokens_of tokens) (tokens_of rest)
 
+-- a choice of two numbers that are not 0
 choice : (b : Bool) (x y : ℕ) → (b ≡ true → 0 < x) → (b ≡ false → 0 < y) → 0 < cond b x y
 choice true x y p q = p refl
 choice false x y p q = q refl
 
+-- a front that passes has its first byte
 prefix_some : (p : ℕ → Bool) (c : ℕ) (bytes : List ℕ) → p c ≡ true → 0 < prefix_len p (c ∷ bytes)
 prefix_some p c bytes e = choice (p c) (1 + prefix_len p bytes) 0 (λ _. omega arith) (λ f. absurd (true_false (sym e ∙ f)))
   where
@@ -42,6 +44,7 @@ token_len_some c bytes =
     (λ f. choice (is_digit c) (prefix_len is_numeral_byte (c ∷ bytes)) 1
     (λ e. prefix_some is_numeral_byte c bytes (or_left (is_word_byte c) _ (or_right (is_letter c) (is_digit c) e))) (λ _. omega arith))
 
+-- without the first bytes a list is shorter
 drop_less : (n c : ℕ) (bytes : List ℕ) → 0 < n → length (drop n (c ∷ bytes)) ≤ length bytes
 drop_less n c bytes lt = omega (arith, length-drop n (c ∷ bytes))
 
@@ -60,10 +63,6 @@ scan_enough (suc n) (suc m) (c ∷ bytes) p q =
     ap (λ (x : Option (List Token)). cond (is_space c) x (in_front (token_at c (c ∷ bytes)) (scan n (drop (token_len c (c ∷ bytes)) (c ∷ bytes))))) space
     ∙ ap (λ (x : Option (List Token)). cond (is_space c) (scan m bytes) (in_front (token_at c (c ∷ bytes)) x)) next
 
--- what a text has that begins with white space, and one that begins with a token
-tokens_space : (c : ℕ) (bytes : List ℕ) → is_space c ≡ true → tokens_of (c ∷ bytes) ≡ tokens_of bytes
-tokens_space c bytes e = ap (λ (b : Bool). cond b (tokens_of bytes) (in_front (token_at c (c ∷ bytes)) (scan (length bytes) (drop (token_len c (c ∷ bytes)) (c ∷ bytes))))) e
-
 tokens_first : (c : ℕ) (bytes : List ℕ) → is_space c ≡ false → tokens_of (c ∷ bytes) ≡ in_front (token_at c (c ∷ bytes)) (tokens_of (drop (token_len c (c ∷ bytes)) (c ∷ bytes)))
 tokens_first c bytes e =
     let rest = drop (token_len c (c ∷ bytes)) (c ∷ bytes) in
@@ -71,26 +70,17 @@ tokens_first c bytes e =
     ap (λ (b : Bool). cond b (tokens_of bytes) (in_front (token_at c (c ∷ bytes)) (scan (length bytes) rest))) e
     ∙ ap (λ (x : Option (List Token)). in_front (token_at c (c ∷ bytes)) x) (scan_enough (length bytes) (length rest) rest short (omega arith))
 
+-- a token between those before it and the others
 before_append : (tokens : List Token) (t : Token) (others : Option (List Token)) → before tokens (in_front (Some t) others) ≡ before (tokens ++ t ∷ []) others
 before_append tokens t None = refl
 before_append tokens t (Some more) = ap (λ (x : List Token). Some x) (sym (append_assoc tokens (t ∷ []) more))
 
+-- the tokens of a list with one more
 tokens_push : (tokens : List code.Token) (t : code.Token) → all_tokens_of (tokens ++ t ∷ []) ≡ all_tokens_of tokens ++ token_of t ∷ []
 tokens_push [] t = refl
 tokens_push (x ∷ tokens) t = ap (λ (r : List Token). token_of x ∷ r) (tokens_push tokens t)
 
-before_nothing : (others : Option (List Token)) → others ≡ before [] others
-before_nothing None = refl
-before_nothing (Some more) = refl
-
 -- ---- the turns of the loop
-
-pub scanned_start : (text : List ℕ) → Scanned text [] text
-scanned_start text = record { same = before_nothing (tokens_of text) }
-
-pub scanned_space : (text : List ℕ) (tokens : List code.Token) (rest : List ℕ) → Scanned text tokens rest → 0 < length rest → is_space (slice_index rest 0) ≡ true → Scanned text tokens (drop 1 rest)
-scanned_space text tokens [] h some e = absurd (omega arith)
-scanned_space text tokens (c ∷ bytes) h some e = record { same = h.same ∙ ap (λ (x : Option (List Token)). before (all_tokens_of tokens) x) (tokens_space c bytes e) }
 
 pub scanned_token : (text : List ℕ) (tokens : List code.Token) (rest : List ℕ) (t : code.Token) (after : List ℕ) → Scanned text tokens rest → 0 < length rest → is_space (slice_index rest 0) ≡ false → IsFirst (slice_index rest 0) rest t after → Scanned text (tokens ++ t ∷ []) after
 scanned_token text tokens [] t after h some e first = absurd (omega arith)
@@ -105,18 +95,3 @@ scanned_token text tokens (c ∷ bytes) t after h some e first =
           ∙ before_append (all_tokens_of tokens) (token_of t) others
           ∙ ap (λ (x : List Token). before x others) (sym (tokens_push tokens t));
     }
-
-pub scanned_bad : (text : List ℕ) (tokens : List code.Token) (rest : List ℕ) → Scanned text tokens rest → 0 < length rest → is_space (slice_index rest 0) ≡ false → token_at (slice_index rest 0) rest ≡ None → tokens_of text ≡ None
-scanned_bad text tokens [] h some e bad = absurd (omega arith)
-scanned_bad text tokens (c ∷ bytes) h some e bad =
-    h.same
-    ∙ ap (λ (x : Option (List Token)). before (all_tokens_of tokens) x) (tokens_first c bytes e)
-    ∙ ap (λ (x : Option Token). before (all_tokens_of tokens) (in_front x (tokens_of (drop (token_len c (c ∷ bytes)) (c ∷ bytes))))) bad
-
-append_nothing : (xs : List Token) → xs ++ [] ≡ xs
-append_nothing [] = refl
-append_nothing (x ∷ xs) = ap (λ (r : List Token). x ∷ r) (append_nothing xs)
-
-pub scanned_end : (text : List ℕ) (tokens : List code.Token) (rest : List ℕ) → Scanned text tokens rest → length rest ≡ 0 → tokens_of text ≡ Some (all_tokens_of tokens)
-scanned_end text tokens [] h e = h.same ∙ ap (λ (x : List Token). Some x) (append_nothing (all_tokens_of tokens))
-scanned_end text tokens (c ∷ bytes) h e = absurd (omega arith)

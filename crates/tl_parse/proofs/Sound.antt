@@ -32,6 +32,7 @@ leaf_read : (tree : ℕ → Tree) (o : Option ℕ) (x : Tree) (tokens rest : Lis
 leaf_read tree None x tokens rest e = absurd cc
 leaf_read tree (Some n) x tokens rest e = record { number = n; is_number = refl; is_tree = cc; is_rest = cc }
 
+-- factors, where what stands in brackets is sound
 factor_sound : (parameters : List (List ℕ)) (levels : ℕ) → ((tokens : List Token) (x : Tree) (rest : List Token) → inside_at parameters levels tokens ≡ Took x rest → Front (λ front y. IsFactor parameters levels (Sign signs.Open ∷ front) y) tokens x rest) → Sound (λ front y. IsFactor parameters levels front y) (factor_at parameters levels)
 factor_sound parameters levels inside = record { finds = go }
   where
@@ -69,6 +70,7 @@ stays Left x z tokens rest before l e =
     let whole : before ++ [] ≡ before = append_nothing before in
     record { front = []; is_front = cc; reads = subst (λ (f : List Token). Left f z) (sym whole) (subst (λ (y : Tree). Left before y) same l) }
 
+-- operators of one level behind a left operand
 chain_sound : (Left Right : List Token → Tree → Type 0) (operator_of : Token → Option Operator) (operand : List Token → Reading) →
     ((t : Token) (operator : Operator) (left right : List Token) (x y : Tree) → operator_of t ≡ Some operator → Left left x → Right right y → Left (left ++ t ∷ right) (Binary operator x y)) →
     Sound Right operand → (n : ℕ) (x : Tree) (tokens : List Token) (z : Tree) (rest before : List Token) → Left before x → chain operator_of operand n x tokens ≡ Took z rest → Front (λ front y. Left (before ++ front) y) tokens z rest

@@ -50,9 +50,11 @@ too_many tokens f h r =
     let none = count_header f.name r.parameters in
     omega arith
 
+-- no expression behind the header
 pub no_sum : (tokens : List Token) (name : List ℕ) (parameters : List (List ℕ)) (rest : List Token) (f : SourceFunction) → HasHeader tokens name parameters rest → sum_at parameters 20 rest ≡ Refused → ReadsTokens tokens f → ⊥
 no_sum tokens name parameters rest f h e r = let b = behind_header tokens name parameters rest f h.is_first r in let reading = b.reading in absurd cc
 
+-- something else behind the expression than the end
 pub no_end : (tokens : List Token) (name : List ℕ) (parameters : List (List ℕ)) (rest : List Token) (tree : Tree) (behind : List Token) (f : SourceFunction) → HasHeader tokens name parameters rest → sum_at parameters 20 rest ≡ Took tree behind → behind ≢ end_token → ReadsTokens tokens f → ⊥
 no_end tokens name parameters rest tree behind f h e not_end r =
     let b = behind_header tokens name parameters rest f h.is_first r in
@@ -82,12 +84,14 @@ reads_tokens tokens name parameters rest tree behind f h e ends few same_name sa
 
 -- ---- one function
 
+-- functions are equal where their parts are
 same_function : (f g : SourceFunction) → f.name ≡ g.name → f.arity ≡ g.arity → f.body ≡ g.body → f ≡ g
 same_function f g n a b =
     ap (λ (x : List ℕ). let s : SourceFunction = record { name = x; arity = f.arity; body = f.body } in s) n
     ∙ ap (λ (x : ℕ). let s : SourceFunction = record { name = g.name; arity = x; body = f.body } in s) a
     ∙ ap (λ (x : Tree). let s : SourceFunction = record { name = g.name; arity = g.arity; body = x } in s) b
 
+-- a list of tokens is at most one function
 tokens_one : (tokens : List Token) (f g : SourceFunction) → ReadsTokens tokens f → ReadsTokens tokens g → f ≡ g
 tokens_one tokens f g r q =
     let mine = behind_header tokens f.name r.parameters (r.expression ++ end_token) f r.is_form r in
@@ -95,13 +99,16 @@ tokens_one tokens f g r q =
     let both : Took f.body end_token ≡ Took g.body end_token = sym mine.reading ∙ other.reading in
     same_function f g (sym other.same_name) (mine.same_arity ∙ sym other.same_arity) cc
 
+-- a text has one list of tokens
 same_tokens : (text : List ℕ) (a b : List Token) → tokens_of text ≡ Some a → tokens_of text ≡ Some b → a ≡ b
 same_tokens text a b e f = let both : Some a ≡ Some b = sym e ∙ f in cc
 
+-- a text is at most one function
 pub one_function : (text : List ℕ) (f g : SourceFunction) → Reads text f → Reads text g → f ≡ g
 one_function text f g r q =
     tokens_one r.tokens f g r.reads (subst (λ (ts : List Token). ReadsTokens ts g) (same_tokens text q.tokens r.tokens q.are_tokens r.are_tokens) q.reads)
 
+-- within the bounds
 pub always_within : (text : List ℕ) (f : SourceFunction) → Reads text f → IsWithin f
 always_within text f r =
     let q = r.reads in
@@ -125,10 +132,12 @@ pub parse_within : (text : List ℕ) (r : Result Function ParseError) → IfOk r
 parse_within text (Ok g) h = always_within text (shown g) h
 parse_within text (Err e) h = tt
 
+-- as many names as the code has
 pub length_names : (names : List (Bor (List ℕ))) → length (names_of names) ≡ length names
 length_names [] = refl
 length_names (x ∷ names) = ap (λ (n : ℕ). suc n) (length_names names)
 
+-- the function of a text's tokens is the text's
 pub parse_reads : (text : List ℕ) (tokens : List Token) (r : Result Function ParseError) → length text ≤ 65536 → tokens_of text ≡ Some tokens → IfOk r (λ g. ReadsTokens tokens (shown g)) → IfOk r (λ g. Reads text (shown g))
 parse_reads text tokens (Ok g) short e h = record { tokens = tokens; short = short; are_tokens = e; reads = h }
 parse_reads text tokens (Err x) short e h = tt

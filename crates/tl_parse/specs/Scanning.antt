@@ -1,4 +1,4 @@
--- What the code has of tokens.
+-- What the code has of tokens. The contracts inside this crate speak of it, and those of its public calls do not.
 use Rattle.std.specs.Prelude.{◌≡◌, ◌<◌, ℕ, List, Some, map, length, drop}
 use Rattle.tl_parse.specs.Tokens.{Token, Name, Reserved, Numeral, Sign, token_len, token_at}
 use Rattle.tl_parse.specs.declared.token.Token as code

@@ -35,6 +35,7 @@ is_numeral_byte c = is_word_byte c || (c == 46)
 
 -- ---- reserved words
 
+-- the word is one of these
 abbrev pub is_one_of : List (List ℕ) → List ℕ → Bool
 is_one_of [] word = false
 is_one_of (reserved ∷ others) word = bytes_eq word reserved || is_one_of others word
@@ -53,6 +54,7 @@ is_block_word word = is_one_of (codes "if" ∷ codes "then" ∷ codes "else" ∷
 abbrev pub is_terra_word : List ℕ → Bool
 is_terra_word word = is_one_of (codes "terra" ∷ codes "quote" ∷ codes "escape" ∷ codes "emit" ∷ codes "struct" ∷ codes "var" ∷ []) word
 
+-- a word that is no name
 abbrev pub is_reserved : List ℕ → Bool
 is_reserved word = (is_value_word word || is_loop_word word) || (is_block_word word || is_terra_word word)
 

@@ -1,3 +1,5 @@
+// What stands before the expression of a function, and behind it.
+
 ghost use Rattle.std.specs.Prelude.{◌≡◌, ◌≢◌, ◌+◌, ◌<◌, ◌≤◌, [], ◌∷◌, ◌++◌, length, IfOk, IfErr, Some, None, IsTrue, codes, map, ◌↔◌};
 ghost use Rattle.tl_parse.specs.Tokens.{Name as NameToken, Reserved as ReservedToken, Sign as SignToken};
 ghost use Rattle.tl_parse.specs.Form.{int64, typed};

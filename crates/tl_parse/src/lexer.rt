@@ -1,3 +1,5 @@
+// The tokens of a text, as slices of it: the first of the two passes.
+
 ghost use Rattle.std.specs.Prelude.{◌≡◌, ◌<◌, ◌≤◌, length, take, slice_index, Some, None, IfOk, MatchOption};
 ghost use Rattle.std.specs.List.{prefix_len};
 ghost use Rattle.tl_parse.specs.Tokens.{is_space, is_letter, is_digit, is_word_byte, is_numeral_byte, is_value_word, is_loop_word, is_block_word, is_terra_word, is_reserved, word_token, sign_token, token_len, token_at, tokens_of};
@@ -7,22 +9,26 @@ use crate::error::ParseError;
 use crate::token::{Sign, Token};
 use std::alloc::Global;
 
+/// How many bytes a name may have.
+const MOST_NAME_BYTES: usize = 255;
+
 fn is_space(c: u8) -> bool
     ensures { result ≡ is_space c }
 {
-    (9 <= c && c <= 13) || c == 32
+    matches!(c, 9..=13 | 32)
 }
 
 fn is_letter(c: u8) -> bool
     ensures { result ≡ is_letter c }
 {
-    (b'a' <= c && c <= b'z') || ((b'A' <= c && c <= b'Z') || c == b'_')
+    matches!(c, b'a'..=b'z' | b'A'..=b'Z' | b'_')
 }
 
+// Shared with the reader of literals.
 pub fn is_digit(c: u8) -> bool
     ensures { result ≡ is_digit c }
 {
-    b'0' <= c && c <= b'9'
+    c.is_ascii_digit()
 }
 
 fn is_word_byte(c: u8) -> bool
@@ -51,6 +57,7 @@ fn numeral_len(bytes: &[u8]) -> usize
     bytes.iter().take_while(|c| is_numeral_byte(**c)).count()
 }
 
+// Lua's reserved words for values and the operators on them.
 fn is_value_word(word: &[u8]) -> bool
     ensures { result ≡ is_value_word word.now }
 {
@@ -62,6 +69,7 @@ fn is_value_word(word: &[u8]) -> bool
         || word == b"false".as_slice()
 }
 
+// Lua's reserved words of loops.
 fn is_loop_word(word: &[u8]) -> bool
     ensures { result ≡ is_loop_word word.now }
 {
@@ -74,6 +82,7 @@ fn is_loop_word(word: &[u8]) -> bool
         || word == b"while".as_slice()
 }
 
+// The rest of Lua's reserved words: branches, blocks and functions.
 fn is_block_word(word: &[u8]) -> bool
     ensures { result ≡ is_block_word word.now }
 {
@@ -87,6 +96,7 @@ fn is_block_word(word: &[u8]) -> bool
         || word == b"return".as_slice()
 }
 
+// The reserved words that Terra adds.
 fn is_terra_word(word: &[u8]) -> bool
     ensures { result ≡ is_terra_word word.now }
 {
@@ -110,7 +120,7 @@ fn word_token(word: &[u8]) -> Option<Token<'_>>
 {
     if is_reserved(word) {
         Some(Token::Reserved(word))
-    } else if word.len() <= 255 {
+    } else if word.len() <= MOST_NAME_BYTES {
         Some(Token::Name(word))
     } else {
         None

@@ -1,3 +1,5 @@
+// A whole text.
+
 ghost use Rattle.std.specs.Prelude.{◌≡◌, ◌≢◌, ◌≤◌, length, IfOk, IsOk, OnErr, List, ℕ};
 ghost use Rattle.tl_parse.specs.Tree.{shown, SourceFunction, IsWithin};
 ghost use Rattle.tl_parse.specs.Form.{ReadsTokens, Reads};

@@ -1,3 +1,5 @@
+// Expressions, by recursive descent over the tokens: the second pass.
+
 ghost use Rattle.std.specs.Prelude.{◌≡◌, ◌≢◌, ◌+◌, ◌<◌, ◌≤◌, [], ◌∷◌, ◌++◌, List, length, IfOk, IfErr, Some, None, MatchOption, codes};
 ghost use Rattle.tl_parse.specs.Tree.{tree_of, Binary};
 ghost use Rattle.tl_parse.specs.Tokens.{Name as NameToken, Reserved as ReservedToken, Sign as SignToken};
