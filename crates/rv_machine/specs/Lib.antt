@@ -1,0 +1,5 @@
+pub mod Word
+pub mod Instructions
+pub mod Machine
+pub mod Shown
+pub mod Laws
