@@ -1,0 +1,12 @@
+pub mod ArgumentSteps
+pub mod Buffers
+pub mod CodeComputes
+pub mod CodeRuns
+pub mod CodeSizes
+pub mod CodeSteps
+pub mod Deliveries
+pub mod Exactly
+pub mod Numbers
+pub mod Pieces
+pub mod Telling
+pub mod WordSteps

@@ -1,0 +1,62 @@
+-- What the code of an expression does, and then its words.
+use Rattle.std.specs.Prelude.{◌≡◌, ℕ, ◌+◌, ◌*◌, ◌^◌, ◌<◌, ◌≤◌, max, List, [], ◌∷◌, ◌++◌, length, replicate, slice_index}
+use Rattle.tl_parse.specs.declared.tree.Operator.{Operator}
+use Rattle.tl_parse.specs.declared.tree.Operator.TheVariants.{Add, Subtract, Multiply}
+use Rattle.tl_parse.specs.Tree.{Tree, Parameter, Literal, Binary, HasParametersBelow}
+use Rattle.terra_meaning.specs.Meaning.{meaning}
+use Rattle.rv_machine.specs.declared.stops.Stop.TheVariants.{Returned}
+use Rattle.rv_machine.specs.Machine.{run_of, start_state}
+
+-- A text with so many bytes of private memory computes an expression: whatever the arguments, its run from its first
+-- word gives the expression's value, in at most as many steps as it has words.
+pub record Computes (words : List ℕ) (private : ℕ) (tree : Tree) : Type 0 where
+  pub returns :
+      (arguments : List ℕ) →
+      length arguments ≤ 8 →
+      HasParametersBelow (length arguments) tree →
+      ((k : ℕ) → slice_index arguments k < 2 ^ 64) →
+      (run_of words (start_state 0x10000 arguments (replicate private 0)) (length words)).stop ≡ Returned (meaning tree arguments)
+
+-- The words themselves. An expression leaves its value in x5. An operator keeps its left operand at the top of the stack,
+-- to which x2 points, while its right operand is computed.
+
+-- addi x5, x(10 + position), 0
+abbrev pub parameter_word : ℕ → ℕ
+parameter_word position = 0x00050293 + position * 2 ^ 15
+
+-- addi x5, x0, value
+abbrev pub literal_word : ℕ → ℕ
+literal_word value = 0x00000293 + value * 2 ^ 20
+
+-- add, sub or mul x5, x6, x5
+abbrev pub operator_word : Operator → ℕ
+operator_word Add = 0x005302b3
+operator_word Subtract = 0x405302b3
+operator_word Multiply = 0x025302b3
+
+-- addi x2, x2, -8; sd x5, 0(x2)
+abbrev pub push_words : List ℕ
+push_words = 0xff810113 ∷ 0x00513023 ∷ []
+
+-- ld x6, 0(x2); addi x2, x2, 8
+abbrev pub pop_words : List ℕ
+pop_words = 0x00013303 ∷ 0x00810113 ∷ []
+
+-- addi x10, x5, 0; jalr x0, 0(x1)
+abbrev pub return_words : List ℕ
+return_words = 0x00028513 ∷ 0x00008067 ∷ []
+
+abbrev pub expression_words : Tree → List ℕ
+expression_words (Parameter position) = parameter_word position ∷ []
+expression_words (Literal value) = literal_word value ∷ []
+expression_words (Binary operator left right) =
+    expression_words left ++ (push_words ++ (expression_words right ++ (pop_words ++ operator_word operator ∷ [])))
+
+abbrev pub function_words : Tree → List ℕ
+function_words tree = expression_words tree ++ return_words
+
+-- how many operands lie on the stack at most
+abbrev pub depth_of : Tree → ℕ
+depth_of (Parameter position) = 0
+depth_of (Literal value) = 0
+depth_of (Binary operator left right) = max (depth_of left) (depth_of right + 1)

@@ -1,0 +1,14 @@
+-- The codes with which the process ends.
+use Rattle.std.specs.Prelude.{ℕ}
+use Rattle.terrac.specs.declared.status.Status.{Status}
+use Rattle.terrac.specs.declared.status.Status.TheVariants.{Ok, Usage, NoEntry, BadArgument, ReadFault, WriteFault, NoMemory, NotBuilt}
+
+abbrev pub code_of : Status → ℕ
+code_of Ok = 0
+code_of Usage = 2
+code_of NoEntry = 6
+code_of (BadArgument number) = 7
+code_of ReadFault = 11
+code_of WriteFault = 12
+code_of NoMemory = 13
+code_of NotBuilt = 15

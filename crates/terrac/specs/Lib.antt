@@ -1,0 +1,10 @@
+pub mod Code
+pub mod Codes
+pub mod Words
+pub mod Arguments
+pub mod Due
+pub mod Answer
+pub mod Call
+pub mod JobView
+pub mod DueView
+pub mod Delivery
