@@ -1,0 +1,12 @@
+//! The instructions of RV64IM, and their words.
+#![tactic(auto)]
+
+pub mod instr;
+pub mod operand;
+pub mod operation;
+
+pub use instr::Instr;
+pub use operand::{
+    BranchOffset, FenceFields, Immediate, JumpOffset, Register, ShiftCount, UpperImmediate, WordShiftCount,
+};
+pub use operation::{BranchCondition, ImmediateOp, LoadOp, RegisterOp, RegisterWordOp, ShiftOp, StoreOp};

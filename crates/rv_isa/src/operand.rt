@@ -1,0 +1,163 @@
+// The operands of instructions. Each type has exactly the values that its field of an instruction can spell.
+
+ghost use Rattle.std.specs.Prelude.{pos, negsuc, ◌≡◌, ◌<◌, ◌≤◌, ◌≤ℤ◌, ◌%◌, ◌^◌, ◌↔◌, IsSome, IfSome, unsigned_abs};
+
+/// One of the registers x0 to x31.
+#[derive(Clone, Copy, PartialEq, Eq, Debug)]
+pub struct Register {
+    /// From 0 to 31.
+    pub number: u8,
+    pub ghost in_range: { number ≤ 31 },
+}
+
+impl Register {
+    /// x0, which reads as zero.
+    pub const ZERO: Register = Register { number: 0 };
+
+    /// The register of this number, or None where there is none.
+    pub fn new(number: u8) -> Option<Register>
+        ensures some { IsSome result ↔ (number ≤ 31) }
+        ensures value { IfSome result (λ register. register.number ≡ number) }
+    {
+        if number <= 31 { Some(Register { number }) } else { None }
+    }
+}
+
+/// A signed number of twelve bits: the immediate of ADDI and its like, and the offset in bytes of JALR, loads and stores.
+#[derive(Clone, Copy, PartialEq, Eq, Debug)]
+pub struct Immediate {
+    /// From -2048 to 2047.
+    pub value: i16,
+    pub ghost lowest: { negsuc 2047 ≤ℤ value },
+    pub ghost highest: { value ≤ℤ pos 2047 },
+}
+
+impl Immediate {
+    /// The immediate of this value, or None where twelve bits do not hold it.
+    pub fn new(value: i16) -> Option<Immediate>
+        ensures some { IsSome result ↔ (negsuc 2047 ≤ℤ value × value ≤ℤ pos 2047) }
+        ensures value { IfSome result (λ immediate. immediate.value ≡ value) }
+    {
+        if -2048 <= value && value <= 2047 { Some(Immediate { value }) } else { None }
+    }
+}
+
+/// The upper twenty bits that LUI and AUIPC put over twelve zeros. `lui x5, 74565` has the value 74565, and loads 0x12345000.
+#[derive(Clone, Copy, PartialEq, Eq, Debug)]
+pub struct UpperImmediate {
+    /// From 0 to 1048575.
+    pub value: u32,
+    pub ghost in_range: { value < 2 ^ 20 },
+}
+
+impl UpperImmediate {
+    /// The immediate of this value, or None where twenty bits do not hold it.
+    pub fn new(value: u32) -> Option<UpperImmediate>
+        ensures some { IsSome result ↔ (value < 2 ^ 20) }
+        ensures value { IfSome result (λ immediate. immediate.value ≡ value) }
+    {
+        if value < 1 << 20 { Some(UpperImmediate { value }) } else { None }
+    }
+}
+
+/// How far a branch goes, in bytes from its own address.
+#[derive(Clone, Copy, PartialEq, Eq, Debug)]
+pub struct BranchOffset {
+    /// An even number from -4096 to 4094.
+    pub bytes: i16,
+    pub ghost lowest: { negsuc 4095 ≤ℤ bytes },
+    pub ghost highest: { bytes ≤ℤ pos 4094 },
+    pub ghost even: { unsigned_abs bytes % 2 ≡ 0 },
+}
+
+impl BranchOffset {
+    /// The offset of this many bytes, or None where no branch goes so far, or where the number is odd.
+    pub fn new(bytes: i16) -> Option<BranchOffset>
+        ensures some { IsSome result ↔ (negsuc 4095 ≤ℤ bytes × bytes ≤ℤ pos 4094 × (unsigned_abs bytes % 2 ≡ 0)) }
+        ensures value { IfSome result (λ offset. offset.bytes ≡ bytes) }
+    {
+        if -4096 <= bytes && bytes <= 4094 && bytes.unsigned_abs() % 2 == 0 {
+            Some(BranchOffset { bytes })
+        } else {
+            None
+        }
+    }
+}
+
+/// How far JAL goes, in bytes from its own address.
+#[derive(Clone, Copy, PartialEq, Eq, Debug)]
+pub struct JumpOffset {
+    /// An even number from -1048576 to 1048574.
+    pub bytes: i32,
+    pub ghost lowest: { negsuc 1048575 ≤ℤ bytes },
+    pub ghost highest: { bytes ≤ℤ pos 1048574 },
+    pub ghost even: { unsigned_abs bytes % 2 ≡ 0 },
+}
+
+impl JumpOffset {
+    /// The offset of this many bytes, or None where JAL does not go so far, or where the number is odd.
+    pub fn new(bytes: i32) -> Option<JumpOffset>
+        ensures some { IsSome result ↔ (negsuc 1048575 ≤ℤ bytes × bytes ≤ℤ pos 1048574 × (unsigned_abs bytes % 2 ≡ 0)) }
+        ensures value { IfSome result (λ offset. offset.bytes ≡ bytes) }
+    {
+        if -1048576 <= bytes && bytes <= 1048574 && bytes.unsigned_abs() % 2 == 0 {
+            Some(JumpOffset { bytes })
+        } else {
+            None
+        }
+    }
+}
+
+/// How many bits SLLI, SRLI and SRAI shift by.
+#[derive(Clone, Copy, PartialEq, Eq, Debug)]
+pub struct ShiftCount {
+    /// From 0 to 63.
+    pub count: u8,
+    pub ghost in_range: { count ≤ 63 },
+}
+
+impl ShiftCount {
+    /// The count of this many bits, or None above 63.
+    pub fn new(count: u8) -> Option<ShiftCount>
+        ensures some { IsSome result ↔ (count ≤ 63) }
+        ensures value { IfSome result (λ shift. shift.count ≡ count) }
+    {
+        if count <= 63 { Some(ShiftCount { count }) } else { None }
+    }
+}
+
+/// How many bits SLLIW, SRLIW and SRAIW shift by.
+#[derive(Clone, Copy, PartialEq, Eq, Debug)]
+pub struct WordShiftCount {
+    /// From 0 to 31.
+    pub count: u8,
+    pub ghost in_range: { count ≤ 31 },
+}
+
+impl WordShiftCount {
+    /// The count of this many bits, or None above 31.
+    pub fn new(count: u8) -> Option<WordShiftCount>
+        ensures some { IsSome result ↔ (count ≤ 31) }
+        ensures value { IfSome result (λ shift. shift.count ≡ count) }
+    {
+        if count <= 31 { Some(WordShiftCount { count }) } else { None }
+    }
+}
+
+/// The upper twelve bits of FENCE: fm, then the predecessor set, then the successor set, four bits each.
+#[derive(Clone, Copy, PartialEq, Eq, Debug)]
+pub struct FenceFields {
+    /// From 0 to 4095.
+    pub bits: u16,
+    pub ghost in_range: { bits < 2 ^ 12 },
+}
+
+impl FenceFields {
+    /// The fields of these bits, or None where there are more than twelve.
+    pub fn new(bits: u16) -> Option<FenceFields>
+        ensures some { IsSome result ↔ (bits < 2 ^ 12) }
+        ensures value { IfSome result (λ fields. fields.bits ≡ bits) }
+    {
+        if bits < 1 << 12 { Some(FenceFields { bits }) } else { None }
+    }
+}
