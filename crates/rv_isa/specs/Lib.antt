@@ -1,3 +1,4 @@
+pub mod Finds
 pub mod Formats
 pub mod Rows
 pub mod Table

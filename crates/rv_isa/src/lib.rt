@@ -1,7 +1,9 @@
 //! The instructions of RV64IM, and their words.
 #![tactic(auto)]
 
+mod field;
 pub mod instr;
+mod opcode;
 pub mod operand;
 pub mod operation;
 

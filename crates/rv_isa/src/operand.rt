@@ -1,6 +1,7 @@
 // The operands of instructions. Each type has exactly the values that its field of an instruction can spell.
 
 ghost use Rattle.std.specs.Prelude.{pos, negsuc, ◌≡◌, ◌<◌, ◌≤◌, ◌≤ℤ◌, ◌%◌, ◌^◌, ◌↔◌, IsSome, IfSome, unsigned_abs};
+ghost use Rattle.rv_isa.specs.Formats.{twos_complement};
 
 /// One of the registers x0 to x31.
 #[derive(Clone, Copy, PartialEq, Eq, Debug)]
@@ -39,6 +40,24 @@ impl Immediate {
         ensures value { IfSome result (λ immediate. immediate.value ≡ value) }
     {
         if -2048 <= value && value <= 2047 { Some(Immediate { value }) } else { None }
+    }
+
+    /// The immediate with this two's complement in 12 bits.
+    pub(crate) fn from_bits(bits: u32) -> Immediate
+        requires { bits < 2 ^ 12 }
+        ensures { twos_complement 12 result.value ≡ bits }
+    {
+        let unsigned = bits as i16;
+        let value = if unsigned < 2048 { unsigned } else { unsigned - 4096 };
+        Immediate { value }
+    }
+
+    /// The two's complement in 12 bits.
+    pub(crate) fn bits(self) -> u32
+        ensures { result ≡ twos_complement 12 self.value }
+    {
+        let unsigned = if self.value < 0 { self.value + 4096 } else { self.value };
+        unsigned as u32
     }
 }
 
@@ -82,6 +101,25 @@ impl BranchOffset {
             None
         }
     }
+
+    /// The offset with this two's complement in 13 bits.
+    pub(crate) fn from_bits(bits: u32) -> BranchOffset
+        requires size { bits < 2 ^ 13 }
+        requires even { bits % 2 ≡ 0 }
+        ensures { twos_complement 13 result.bytes ≡ bits }
+    {
+        let unsigned = bits as i16;
+        let bytes = if unsigned < 4096 { unsigned } else { unsigned - 8192 };
+        BranchOffset { bytes }
+    }
+
+    /// The two's complement in 13 bits.
+    pub(crate) fn bits(self) -> u32
+        ensures { result ≡ twos_complement 13 self.bytes }
+    {
+        let unsigned = if self.bytes < 0 { self.bytes + 8192 } else { self.bytes };
+        unsigned as u32
+    }
 }
 
 /// How far JAL goes, in bytes from its own address.
@@ -105,6 +143,25 @@ impl JumpOffset {
         } else {
             None
         }
+    }
+
+    /// The offset with this two's complement in 21 bits.
+    pub(crate) fn from_bits(bits: u32) -> JumpOffset
+        requires size { bits < 2 ^ 21 }
+        requires even { bits % 2 ≡ 0 }
+        ensures { twos_complement 21 result.bytes ≡ bits }
+    {
+        let unsigned = bits as i32;
+        let bytes = if unsigned < 1048576 { unsigned } else { unsigned - 2097152 };
+        JumpOffset { bytes }
+    }
+
+    /// The two's complement in 21 bits.
+    pub(crate) fn bits(self) -> u32
+        ensures { result ≡ twos_complement 21 self.bytes }
+    {
+        let unsigned = if self.bytes < 0 { self.bytes + 2097152 } else { self.bytes };
+        unsigned as u32
     }
 }
 
