@@ -1,12 +1,14 @@
 //! The instructions of RV64IM, and their words.
 #![tactic(auto)]
 
+pub mod encoder;
 mod field;
 pub mod instr;
 mod opcode;
 pub mod operand;
 pub mod operation;
 
+pub use encoder::encode;
 pub use instr::Instr;
 pub use operand::{
     BranchOffset, FenceFields, Immediate, JumpOffset, Register, ShiftCount, UpperImmediate, WordShiftCount,
