@@ -1,2 +1,5 @@
 pub mod Operands
 pub mod Bits
+pub mod Parts
+pub mod RowsApart
+pub mod OneWord

@@ -4,12 +4,14 @@
 pub mod encoder;
 mod field;
 pub mod instr;
+pub mod law;
 mod opcode;
 pub mod operand;
 pub mod operation;
 
 pub use encoder::encode;
 pub use instr::Instr;
+pub use law::table_goes_both_ways;
 pub use operand::{
     BranchOffset, FenceFields, Immediate, JumpOffset, Register, ShiftCount, UpperImmediate, WordShiftCount,
 };
