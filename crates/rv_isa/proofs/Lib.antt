@@ -3,3 +3,4 @@ pub mod Bits
 pub mod Parts
 pub mod RowsApart
 pub mod OneWord
+pub mod Found

@@ -1,6 +1,7 @@
 //! The instructions of RV64IM, and their words.
 #![tactic(auto)]
 
+pub mod decoder;
 pub mod encoder;
 mod field;
 pub mod instr;
@@ -9,6 +10,7 @@ mod opcode;
 pub mod operand;
 pub mod operation;
 
+pub use decoder::decode;
 pub use encoder::encode;
 pub use instr::Instr;
 pub use law::table_goes_both_ways;

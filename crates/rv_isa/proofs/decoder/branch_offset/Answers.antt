@@ -1,0 +1,19 @@
+-- Each `|` joins a slice of the offset to those above it, as a sum.
+use Rattle.std.proofs.Common.{◌≡◌, ℕ, ◌+◌, ◌*◌, ◌%◌, ◌<◌, bit_or, arith}
+use Rattle.rv_isa.proofs.Bits.{or_joins}
+use Rattle.rv_isa.proofs.decoder.branch_offset.Goals as goal
+
+offset_joined : (sign bit middle low : ℕ) → sign < 2 → bit < 2 → middle < 64 → low < 16 → bit_or (bit_or (bit_or (sign * 4096 % 4294967296) (bit * 2048 % 4294967296)) (middle * 32 % 4294967296)) (low * 2 % 4294967296) ≡ sign * 4096 + bit * 2048 + middle * 32 + low * 2
+offset_joined sign bit middle low al bl cl ll =
+    let first = or_joins (sign * 4096 % 4294967296) (sign * 4096) 12 (bit * 2048 % 4294967296) (bit * 2048) (omega arith) (omega arith) (omega arith) (omega arith) in
+    let second = or_joins _ (sign * 4096 + bit * 2048) 11 (middle * 32 % 4294967296) (middle * 32) first (omega arith) (omega arith) (omega arith) in
+    or_joins _ (sign * 4096 + bit * 2048 + middle * 32) 5 (low * 2 % 4294967296) (low * 2) second (omega arith) (omega arith) (omega arith)
+
+pub from_bits-requires-clause-size : goal.from_bits-requires-clause-size
+from_bits-requires-clause-size c = omega (arith, offset_joined c.field.result c.field-2.result c.field-3.result c.field-4.result (omega arith) (omega arith) (omega arith) (omega arith))
+
+pub from_bits-requires-clause-even : goal.from_bits-requires-clause-even
+from_bits-requires-clause-even c = omega (arith, offset_joined c.field.result c.field-2.result c.field-3.result c.field-4.result (omega arith) (omega arith) (omega arith) (omega arith))
+
+pub returns : goal.returns
+returns c = omega (arith, offset_joined c.field.result c.field-2.result c.field-3.result c.field-4.result (omega arith) (omega arith) (omega arith) (omega arith))
