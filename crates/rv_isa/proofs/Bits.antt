@@ -1,5 +1,5 @@
 -- Laws of the bits of words.
-use Rattle.std.proofs.Common.{◌≡◌, ◌∙◌, ℕ, ◌+◌, ◌*◌, ◌/◌, ◌%◌, ◌^◌, ◌<◌, sym, ap, refl, subst, arith}
+use Rattle.std.proofs.Common.{◌≡◌, ◌∙◌, ℕ, ◌+◌, ◌*◌, ◌/◌, ◌%◌, ◌^◌, ◌<◌, sym, ap, arith}
 use Rattle.std.proofs.lemmas.Nat.{or_shifted, div-add-mod'}
 use Rattle.std.specs.Prelude.{bit_or}
 

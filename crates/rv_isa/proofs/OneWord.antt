@@ -1,12 +1,12 @@
 -- Instructions with one word are the same.
-use Rattle.std.proofs.Common.{◌≡◌, ℕ, ◌+◌, ◌*◌, ◌/◌, ◌%◌, ◌<◌, sym, refl, arith}
+use Rattle.std.proofs.Common.{◌≡◌, ℕ, ◌%◌, ◌<◌, sym, refl, arith}
 use Rattle.rv_isa.specs.Formats.{bits, twos_complement}
 use Rattle.rv_isa.specs.Rows.{immediate_funct3, shift_funct3}
 use Rattle.rv_isa.specs.declared.operation.ImmediateOp.{ImmediateOp}
 use Rattle.rv_isa.specs.declared.operation.ShiftOp.{ShiftOp}
 use Rattle.rv_isa.specs.Table.{word_of}
 use Rattle.rv_isa.specs.declared.instr.Instr.{Instr}
-use Rattle.rv_isa.specs.declared.instr.Instr.TheVariants.{Lui, Auipc, Jal, Jalr, Branch, Load, Store, RegisterImmediate, ShiftImmediate, Addiw, ShiftImmediateWord, RegisterRegister, RegisterRegisterWord, Fence, Ecall, Ebreak}
+use Rattle.rv_isa.specs.declared.instr.Instr.TheVariants.{Lui, Auipc, Jal, Jalr, Branch, Load, Store, RegisterImmediate, Shift, Addiw, ShiftWord, RegisterRegister, RegisterRegisterWord, Fence, Ecall, Ebreak}
 use Rattle.rv_isa.proofs.Operands.{register_same, immediate_same, upper_immediate_same, branch_offset_same, jump_offset_same, shift_count_same, word_shift_count_same, fence_fields_same}
 use Rattle.rv_isa.proofs.RowsApart.{branch_same, load_same, store_same, immediate_same as immediate_op_same, shift_same, shift_word_same, register_same as register_op_same, register_word_same}
 use Rattle.rv_isa.proofs.Parts.{Same, parts_of, parts_of-same, jump_bits, branch_upper, branch_lower, store_upper, immediate_below, branch_offset_below, jump_offset_below}
@@ -50,14 +50,14 @@ apart (Store op rs1 rs2 offset) (Store op' rs1' rs2' offset') s =
     let both = store_same_parts (twos_complement 12 offset.value) (twos_complement 12 offset'.value) rs2.number rs2'.number (immediate_below offset) (immediate_below offset') (omega arith) (omega arith) s.upper s.lower in
     cc (store_same op op' s.funct3, register_same rs1 rs1' s.rs1, register_same rs2 rs2' both.1, immediate_same offset offset' both.0)
 apart (RegisterImmediate op rd rs1 imm) (RegisterImmediate op' rd' rs1' imm') s = cc (immediate_op_same op op' s.funct3, register_same rd rd' s.lower, register_same rs1 rs1' s.rs1, immediate_same imm imm' s.upper)
-apart (RegisterImmediate op rd rs1 imm) (ShiftImmediate op' rd' rs1' count) s = absurd (immediate_no_shift op op' s.funct3)
-apart (ShiftImmediate op rd rs1 count) (RegisterImmediate op' rd' rs1' imm) s = absurd (immediate_no_shift op' op (sym s.funct3))
-apart (ShiftImmediate op rd rs1 count) (ShiftImmediate op' rd' rs1' count') s =
+apart (RegisterImmediate op rd rs1 imm) (Shift op' rd' rs1' count) s = absurd (immediate_no_shift op op' s.funct3)
+apart (Shift op rd rs1 count) (RegisterImmediate op' rd' rs1' imm) s = absurd (immediate_no_shift op' op (sym s.funct3))
+apart (Shift op rd rs1 count) (Shift op' rd' rs1' count') s =
     cc (shift_same op op' (omega (arith, s.upper)) s.funct3, register_same rd rd' s.lower, register_same rs1 rs1' s.rs1, shift_count_same count count' (omega (arith, s.upper)))
 apart (Addiw rd rs1 imm) (Addiw rd' rs1' imm') s = cc (register_same rd rd' s.lower, register_same rs1 rs1' s.rs1, immediate_same imm imm' s.upper)
-apart (Addiw rd rs1 imm) (ShiftImmediateWord op rd' rs1' count) s = absurd (no_shift_at_zero op (sym s.funct3))
-apart (ShiftImmediateWord op rd rs1 count) (Addiw rd' rs1' imm) s = absurd (no_shift_at_zero op s.funct3)
-apart (ShiftImmediateWord op rd rs1 count) (ShiftImmediateWord op' rd' rs1' count') s =
+apart (Addiw rd rs1 imm) (ShiftWord op rd' rs1' count) s = absurd (no_shift_at_zero op (sym s.funct3))
+apart (ShiftWord op rd rs1 count) (Addiw rd' rs1' imm) s = absurd (no_shift_at_zero op s.funct3)
+apart (ShiftWord op rd rs1 count) (ShiftWord op' rd' rs1' count') s =
     cc (shift_word_same op op' (omega (arith, s.upper)) s.funct3, register_same rd rd' s.lower, register_same rs1 rs1' s.rs1, word_shift_count_same count count' (omega (arith, s.upper)))
 apart (RegisterRegister op rd rs1 rs2) (RegisterRegister op' rd' rs1' rs2') s =
     cc (register_op_same op op' (omega (arith, s.upper)) s.funct3, register_same rd rd' s.lower, register_same rs1 rs1' s.rs1, register_same rs2 rs2' (omega (arith, s.upper)))

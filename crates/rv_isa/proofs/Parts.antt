@@ -1,6 +1,6 @@
 -- Every word is an upper part of twelve bits, rs1, funct3, a lower part of five bits and an opcode. The parts of an instruction
 -- are the parts of its word.
-use Rattle.std.proofs.Common.{◌≡◌, ◌∙◌, ℕ, ◌+◌, ◌-◌, ◌*◌, ◌/◌, ◌%◌, ◌^◌, ◌<◌, ◌≤◌, ◌≤ℤ◌, ℤ, pos, negsuc, suc, sym, refl, arith, rules}
+use Rattle.std.proofs.Common.{◌≡◌, ◌∙◌, ℕ, ◌+◌, ◌-◌, ◌*◌, ◌/◌, ◌%◌, ◌^◌, ◌<◌, ◌≤ℤ◌, ℤ, pos, negsuc, sym, refl, arith}
 use Rattle.std.proofs.lemmas.Int.{ints}
 use Rattle.std.specs.Prelude.{unsigned_abs}
 use Rattle.rv_isa.specs.Formats.{bits, twos_complement, i_type}
@@ -10,7 +10,7 @@ use Rattle.rv_isa.specs.declared.operand.Immediate.{Immediate}
 use Rattle.rv_isa.specs.declared.operand.BranchOffset.{BranchOffset}
 use Rattle.rv_isa.specs.declared.operand.JumpOffset.{JumpOffset}
 use Rattle.rv_isa.specs.declared.instr.Instr.{Instr}
-use Rattle.rv_isa.specs.declared.instr.Instr.TheVariants.{Lui, Auipc, Jal, Jalr, Branch, Load, Store, RegisterImmediate, ShiftImmediate, Addiw, ShiftImmediateWord, RegisterRegister, RegisterRegisterWord, Fence, Ecall, Ebreak}
+use Rattle.rv_isa.specs.declared.instr.Instr.TheVariants.{Lui, Auipc, Jal, Jalr, Branch, Load, Store, RegisterImmediate, Shift, Addiw, ShiftWord, RegisterRegister, RegisterRegisterWord, Fence, Ecall, Ebreak}
 use Rattle.rv_isa.specs.declared.operation.BranchCondition.{BranchCondition}
 use Rattle.rv_isa.specs.declared.operation.LoadOp.{LoadOp}
 use Rattle.rv_isa.specs.declared.operation.StoreOp.{StoreOp}
@@ -93,9 +93,9 @@ parts_of (Branch condition rs1 rs2 offset) = record { upper = branch_upper (twos
 parts_of (Load op rd rs1 offset) = record { upper = twos_complement 12 offset.value; rs1 = rs1.number; funct3 = load_funct3 op; lower = rd.number; opcode = 0b0000011 }
 parts_of (Store op rs1 rs2 offset) = record { upper = store_upper (twos_complement 12 offset.value) rs2.number; rs1 = rs1.number; funct3 = store_funct3 op; lower = bits 4 0 (twos_complement 12 offset.value); opcode = 0b0100011 }
 parts_of (RegisterImmediate op rd rs1 imm) = record { upper = twos_complement 12 imm.value; rs1 = rs1.number; funct3 = immediate_funct3 op; lower = rd.number; opcode = 0b0010011 }
-parts_of (ShiftImmediate op rd rs1 count) = record { upper = shift_funct6 op * 2 ^ 6 + count.count; rs1 = rs1.number; funct3 = shift_funct3 op; lower = rd.number; opcode = 0b0010011 }
+parts_of (Shift op rd rs1 count) = record { upper = shift_funct6 op * 2 ^ 6 + count.count; rs1 = rs1.number; funct3 = shift_funct3 op; lower = rd.number; opcode = 0b0010011 }
 parts_of (Addiw rd rs1 imm) = record { upper = twos_complement 12 imm.value; rs1 = rs1.number; funct3 = 0; lower = rd.number; opcode = 0b0011011 }
-parts_of (ShiftImmediateWord op rd rs1 count) = record { upper = shift_word_funct7 op * 2 ^ 5 + count.count; rs1 = rs1.number; funct3 = shift_funct3 op; lower = rd.number; opcode = 0b0011011 }
+parts_of (ShiftWord op rd rs1 count) = record { upper = shift_word_funct7 op * 2 ^ 5 + count.count; rs1 = rs1.number; funct3 = shift_funct3 op; lower = rd.number; opcode = 0b0011011 }
 parts_of (RegisterRegister op rd rs1 rs2) = record { upper = register_funct7 op * 2 ^ 5 + rs2.number; rs1 = rs1.number; funct3 = register_funct3 op; lower = rd.number; opcode = 0b0110011 }
 parts_of (RegisterRegisterWord op rd rs1 rs2) = record { upper = register_word_funct7 op * 2 ^ 5 + rs2.number; rs1 = rs1.number; funct3 = register_word_funct3 op; lower = rd.number; opcode = 0b0111011 }
 parts_of (Fence rd rs1 fields) = record { upper = fields.bits; rs1 = rs1.number; funct3 = 0; lower = rd.number; opcode = 0b0001111 }
@@ -159,9 +159,9 @@ parts_of-Fit (Branch condition rs1 rs2 offset) = record { upper = omega arith; r
 parts_of-Fit (Load op rd rs1 offset) = record { upper = immediate_below offset; rs1 = omega arith; funct3 = load_funct3_below op; lower = omega arith; opcode = omega arith }
 parts_of-Fit (Store op rs1 rs2 offset) = record { upper = omega arith; rs1 = omega arith; funct3 = store_funct3_below op; lower = omega arith; opcode = omega arith }
 parts_of-Fit (RegisterImmediate op rd rs1 imm) = record { upper = immediate_below imm; rs1 = omega arith; funct3 = immediate_funct3_below op; lower = omega arith; opcode = omega arith }
-parts_of-Fit (ShiftImmediate op rd rs1 count) = record { upper = omega (arith, (shift_below op).0); rs1 = omega arith; funct3 = (shift_below op).2; lower = omega arith; opcode = omega arith }
+parts_of-Fit (Shift op rd rs1 count) = record { upper = omega (arith, (shift_below op).0); rs1 = omega arith; funct3 = (shift_below op).2; lower = omega arith; opcode = omega arith }
 parts_of-Fit (Addiw rd rs1 imm) = record { upper = immediate_below imm; rs1 = omega arith; funct3 = omega arith; lower = omega arith; opcode = omega arith }
-parts_of-Fit (ShiftImmediateWord op rd rs1 count) = record { upper = omega (arith, (shift_below op).1); rs1 = omega arith; funct3 = (shift_below op).2; lower = omega arith; opcode = omega arith }
+parts_of-Fit (ShiftWord op rd rs1 count) = record { upper = omega (arith, (shift_below op).1); rs1 = omega arith; funct3 = (shift_below op).2; lower = omega arith; opcode = omega arith }
 parts_of-Fit (RegisterRegister op rd rs1 rs2) = record { upper = omega (arith, (register_below op).0); rs1 = omega arith; funct3 = (register_below op).1; lower = omega arith; opcode = omega arith }
 parts_of-Fit (RegisterRegisterWord op rd rs1 rs2) = record { upper = omega (arith, (register_word_below op).0); rs1 = omega arith; funct3 = (register_word_below op).1; lower = omega arith; opcode = omega arith }
 parts_of-Fit (Fence rd rs1 fields) = record { upper = omega arith; rs1 = omega arith; funct3 = omega arith; lower = omega arith; opcode = omega arith }

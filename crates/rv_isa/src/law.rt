@@ -8,5 +8,4 @@ ghost use Rattle.rv_isa.specs.declared.instr.Instr.{Instr};
 /// does nothing.
 pub fn table_goes_both_ways()
     ensures { (i j : Instr) → word_of i ≡ word_of j → i ≡ j }
-{
-}
+{}

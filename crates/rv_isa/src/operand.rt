@@ -20,7 +20,11 @@ impl Register {
         ensures some { IsSome result ↔ (number ≤ 31) }
         ensures value { IfSome result (λ register. register.number ≡ number) }
     {
-        if number <= 31 { Some(Register { number }) } else { None }
+        if number <= 31 {
+            Some(Register { number })
+        } else {
+            None
+        }
     }
 }
 
@@ -39,7 +43,11 @@ impl Immediate {
         ensures some { IsSome result ↔ (negsuc 2047 ≤ℤ value × value ≤ℤ pos 2047) }
         ensures value { IfSome result (λ immediate. immediate.value ≡ value) }
     {
-        if -2048 <= value && value <= 2047 { Some(Immediate { value }) } else { None }
+        if (-2048..=2047).contains(&value) {
+            Some(Immediate { value })
+        } else {
+            None
+        }
     }
 
     /// The immediate with this two's complement in 12 bits.
@@ -48,7 +56,11 @@ impl Immediate {
         ensures { twos_complement 12 result.value ≡ bits }
     {
         let unsigned = bits as i16;
-        let value = if unsigned < 2048 { unsigned } else { unsigned - 4096 };
+        let value = if unsigned < 2048 {
+            unsigned
+        } else {
+            unsigned - 4096
+        };
         Immediate { value }
     }
 
@@ -56,7 +68,11 @@ impl Immediate {
     pub(crate) fn bits(self) -> u32
         ensures { result ≡ twos_complement 12 self.value }
     {
-        let unsigned = if self.value < 0 { self.value + 4096 } else { self.value };
+        let unsigned = if self.value < 0 {
+            self.value + 4096
+        } else {
+            self.value
+        };
         unsigned as u32
     }
 }
@@ -75,7 +91,11 @@ impl UpperImmediate {
         ensures some { IsSome result ↔ (value < 2 ^ 20) }
         ensures value { IfSome result (λ immediate. immediate.value ≡ value) }
     {
-        if value < 1 << 20 { Some(UpperImmediate { value }) } else { None }
+        if value < 1 << 20 {
+            Some(UpperImmediate { value })
+        } else {
+            None
+        }
     }
 }
 
@@ -95,7 +115,7 @@ impl BranchOffset {
         ensures some { IsSome result ↔ (negsuc 4095 ≤ℤ bytes × bytes ≤ℤ pos 4094 × (unsigned_abs bytes % 2 ≡ 0)) }
         ensures value { IfSome result (λ offset. offset.bytes ≡ bytes) }
     {
-        if -4096 <= bytes && bytes <= 4094 && bytes.unsigned_abs() % 2 == 0 {
+        if (-4096..=4094).contains(&bytes) && bytes.unsigned_abs() % 2 == 0 {
             Some(BranchOffset { bytes })
         } else {
             None
@@ -109,7 +129,11 @@ impl BranchOffset {
         ensures { twos_complement 13 result.bytes ≡ bits }
     {
         let unsigned = bits as i16;
-        let bytes = if unsigned < 4096 { unsigned } else { unsigned - 8192 };
+        let bytes = if unsigned < 4096 {
+            unsigned
+        } else {
+            unsigned - 8192
+        };
         BranchOffset { bytes }
     }
 
@@ -117,7 +141,11 @@ impl BranchOffset {
     pub(crate) fn bits(self) -> u32
         ensures { result ≡ twos_complement 13 self.bytes }
     {
-        let unsigned = if self.bytes < 0 { self.bytes + 8192 } else { self.bytes };
+        let unsigned = if self.bytes < 0 {
+            self.bytes + 8192
+        } else {
+            self.bytes
+        };
         unsigned as u32
     }
 }
@@ -138,7 +166,7 @@ impl JumpOffset {
         ensures some { IsSome result ↔ (negsuc 1048575 ≤ℤ bytes × bytes ≤ℤ pos 1048574 × (unsigned_abs bytes % 2 ≡ 0)) }
         ensures value { IfSome result (λ offset. offset.bytes ≡ bytes) }
     {
-        if -1048576 <= bytes && bytes <= 1048574 && bytes.unsigned_abs() % 2 == 0 {
+        if (-1048576..=1048574).contains(&bytes) && bytes.unsigned_abs() % 2 == 0 {
             Some(JumpOffset { bytes })
         } else {
             None
@@ -152,7 +180,11 @@ impl JumpOffset {
         ensures { twos_complement 21 result.bytes ≡ bits }
     {
         let unsigned = bits as i32;
-        let bytes = if unsigned < 1048576 { unsigned } else { unsigned - 2097152 };
+        let bytes = if unsigned < 1048576 {
+            unsigned
+        } else {
+            unsigned - 2097152
+        };
         JumpOffset { bytes }
     }
 
@@ -160,7 +192,11 @@ impl JumpOffset {
     pub(crate) fn bits(self) -> u32
         ensures { result ≡ twos_complement 21 self.bytes }
     {
-        let unsigned = if self.bytes < 0 { self.bytes + 2097152 } else { self.bytes };
+        let unsigned = if self.bytes < 0 {
+            self.bytes + 2097152
+        } else {
+            self.bytes
+        };
         unsigned as u32
     }
 }
@@ -179,7 +215,11 @@ impl ShiftCount {
         ensures some { IsSome result ↔ (count ≤ 63) }
         ensures value { IfSome result (λ shift. shift.count ≡ count) }
     {
-        if count <= 63 { Some(ShiftCount { count }) } else { None }
+        if count <= 63 {
+            Some(ShiftCount { count })
+        } else {
+            None
+        }
     }
 }
 
@@ -197,7 +237,11 @@ impl WordShiftCount {
         ensures some { IsSome result ↔ (count ≤ 31) }
         ensures value { IfSome result (λ shift. shift.count ≡ count) }
     {
-        if count <= 31 { Some(WordShiftCount { count }) } else { None }
+        if count <= 31 {
+            Some(WordShiftCount { count })
+        } else {
+            None
+        }
     }
 }
 
@@ -215,6 +259,10 @@ impl FenceFields {
         ensures some { IsSome result ↔ (bits < 2 ^ 12) }
         ensures value { IfSome result (λ fields. fields.bits ≡ bits) }
     {
-        if bits < 1 << 12 { Some(FenceFields { bits }) } else { None }
+        if bits < 1 << 12 {
+            Some(FenceFields { bits })
+        } else {
+            None
+        }
     }
 }

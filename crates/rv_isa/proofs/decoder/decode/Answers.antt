@@ -1,9 +1,7 @@
 -- What each arm finds under the word is its instruction. In the first three arms the word of the operands that were read is the
 -- word itself.
-use Rattle.std.proofs.Common.{◌≡◌, ◌/◌, Some, arith}
-use Rattle.rv_isa.specs.Table.{word_of}
+use Rattle.std.proofs.Common.{Some, arith}
 use Rattle.rv_isa.specs.declared.instr.Instr.TheVariants.{Lui, Auipc, Jal}
-use Rattle.rv_isa.proofs.Parts.{joined-parts}
 use Rattle.rv_isa.proofs.Found.{found_some, found_none}
 use Rattle.rv_isa.proofs.decoder.decode.Goals as goal
 

@@ -1,5 +1,5 @@
 -- Each `|` joins a slice of the offset to those above it, as a sum.
-use Rattle.std.proofs.Common.{◌≡◌, ℕ, ◌+◌, ◌*◌, ◌%◌, ◌≤◌, ◌<◌, bit_or, refl, arith}
+use Rattle.std.proofs.Common.{◌≡◌, ℕ, ◌+◌, ◌*◌, ◌%◌, ◌<◌, bit_or, refl, arith}
 use Rattle.rv_isa.proofs.Bits.{or_joins}
 use Rattle.rv_isa.proofs.encoder.b_word.Goals as goal
 
