@@ -20,6 +20,9 @@ use crate::operation::{
 
 /// The instruction of a word, or None where the word is no instruction of RV64IM.
 pub fn decode(w: u32) -> Option<Instr>
+    ensures found { Finds word_of w result }
+
+    // The same with nothing left open: which words give this instruction, and which none.
     ensures some { (i : Instr) → (result ≡ Some i) ↔ (word_of i ≡ w) }
     ensures none { IsNone result ↔ ((i : Instr) → word_of i ≢ w) }
 {
@@ -237,7 +240,8 @@ fn store_offset(w: u32) -> Immediate
 }
 
 fn branch_offset(w: u32) -> BranchOffset
-    ensures { twos_complement 13 result.bytes ≡ bits 31 31 w * 2 ^ 12 + bits 7 7 w * 2 ^ 11 + bits 30 25 w * 2 ^ 5 + bits 11 8 w * 2 }
+    ensures { twos_complement 13 result.bytes
+        ≡ bits 31 31 w * 2 ^ 12 + bits 7 7 w * 2 ^ 11 + bits 30 25 w * 2 ^ 5 + bits 11 8 w * 2 }
 {
     let bits = field(w, 31, 31) << 12
         | field(w, 7, 7) << 11
@@ -255,7 +259,8 @@ fn upper_immediate(w: u32) -> UpperImmediate
 }
 
 fn jump_offset(w: u32) -> JumpOffset
-    ensures { twos_complement 21 result.bytes ≡ bits 31 31 w * 2 ^ 20 + bits 19 12 w * 2 ^ 12 + bits 20 20 w * 2 ^ 11 + bits 30 21 w * 2 }
+    ensures { twos_complement 21 result.bytes
+        ≡ bits 31 31 w * 2 ^ 20 + bits 19 12 w * 2 ^ 12 + bits 20 20 w * 2 ^ 11 + bits 30 21 w * 2 }
 {
     let bits = field(w, 31, 31) << 20
         | field(w, 19, 12) << 12

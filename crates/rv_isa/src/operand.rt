@@ -112,7 +112,8 @@ pub struct BranchOffset {
 impl BranchOffset {
     /// The offset of this many bytes, or None where no branch goes so far, or where the number is odd.
     pub fn new(bytes: i16) -> Option<BranchOffset>
-        ensures some { IsSome result ↔ (negsuc 4095 ≤ℤ bytes × bytes ≤ℤ pos 4094 × (unsigned_abs bytes % 2 ≡ 0)) }
+        ensures some { IsSome result
+            ↔ (negsuc 4095 ≤ℤ bytes × bytes ≤ℤ pos 4094 × (unsigned_abs bytes % 2 ≡ 0)) }
         ensures value { IfSome result (λ offset. offset.bytes ≡ bytes) }
     {
         if (-4096..=4094).contains(&bytes) && bytes.unsigned_abs() % 2 == 0 {
@@ -163,7 +164,8 @@ pub struct JumpOffset {
 impl JumpOffset {
     /// The offset of this many bytes, or None where JAL does not go so far, or where the number is odd.
     pub fn new(bytes: i32) -> Option<JumpOffset>
-        ensures some { IsSome result ↔ (negsuc 1048575 ≤ℤ bytes × bytes ≤ℤ pos 1048574 × (unsigned_abs bytes % 2 ≡ 0)) }
+        ensures some { IsSome result
+            ↔ (negsuc 1048575 ≤ℤ bytes × bytes ≤ℤ pos 1048574 × (unsigned_abs bytes % 2 ≡ 0)) }
         ensures value { IfSome result (λ offset. offset.bytes ≡ bytes) }
     {
         if (-1048576..=1048574).contains(&bytes) && bytes.unsigned_abs() % 2 == 0 {
