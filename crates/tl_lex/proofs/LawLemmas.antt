@@ -1,0 +1,88 @@
+-- The laws of the division of texts.
+use Rattle.std.proofs.Common.{◌≡◌, ℕ, zero, suc, ◌+◌, ◌<◌, true, List, [], ◌∷◌, ◌++◌, length, take, drop, Ok, refl, sym, ap, ◌∙◌, subst, arith}
+use Rattle.std.proofs.lemmas.List.{length-drop, length-take-le}
+use Rattle.tl_lex.specs.Fronts.{front_of}
+use Rattle.tl_lex.specs.Answers.{Token, Answer, token_at, place_behind, answers_at, answers_behind, first_line_len, answers_of}
+use Rattle.tl_lex.specs.Tokens.{is_token}
+use Rattle.tl_lex.specs.Laws.{Goes, Divides, HasOneDivision, IsToken, EndsOnce, IsLongestToken}
+use Rattle.tl_lex.specs.declared.TokenKind.{TokenKind}
+use Rattle.tl_lex.specs.declared.TokenKind.TheVariants as kinds
+use Rattle.tl_lex.specs.declared.front.Front.{Front}
+use Rattle.tl_lex.specs.declared.front.Front.TheVariants as fronts
+use Rattle.tl_lex.proofs.FrontLemmas.{Fine, front_fine, bytes_same}
+use Rattle.tl_lex.proofs.LexLemmas.{lexeme_fits}
+use Rattle.tl_lex.proofs.LongestLemmas.{token_no_longer}
+use Rattle.tl_lex.proofs.TokenLemmas.{token_spelt}
+
+-- some list of fronts divides the bytes
+divide : (n : ℕ) (bytes : List ℕ) → length bytes < n → (fs : List Front) × Divides fs bytes
+divide zero bytes lt = absurd (omega arith)
+divide (suc n) bytes lt = go (front_of bytes) refl (front_fine bytes) (divide n)
+  where
+    go : (f : Front) → front_of bytes ≡ f → Fine bytes f → ((b : List ℕ) → length b < n → (fs : List Front) × Divides fs b) → (fs : List Front) × Divides fs bytes
+    go fronts.End e fine ih = (fronts.End ∷ [], (e, refl))
+    go (fronts.Refusal w) e fine ih = (fronts.Refusal w ∷ [], (e, refl))
+    go (fronts.Blank k) e fine ih =
+        let more = ih (drop k bytes) (omega (arith, length-drop k bytes, fine.some, fine.within)) in
+        (fronts.Blank k ∷ more.0, (e, more.1))
+    go (fronts.Lexeme kind k) e fine ih =
+        let more = ih (drop k bytes) (omega (arith, length-drop k bytes, fine.0.some, fine.0.within)) in
+        (fronts.Lexeme kind k ∷ more.0, (e, more.1))
+
+-- and no other
+alone : (fs gs : List Front) (bytes : List ℕ) → Divides fs bytes → Divides gs bytes → gs ≡ fs
+alone [] gs bytes d h = absurd d
+alone (f ∷ fs) [] bytes d h = absurd h
+alone (f ∷ fs) (g ∷ gs) bytes d h = ap (λ k. k ∷ gs) same ∙ ap (λ l. f ∷ l) (go f d.1 (subst (λ (k : Front). Goes k gs bytes (Divides gs)) same h.1) (alone fs gs))
+  where
+    same : g ≡ f
+    same = sym h.0 ∙ d.0
+
+    go : (k : Front) → Goes k fs bytes (Divides fs) → Goes k gs bytes (Divides gs) → ((b : List ℕ) → Divides fs b → Divides gs b → gs ≡ fs) → gs ≡ fs
+    go fronts.End p q ih = q ∙ sym p
+    go (fronts.Refusal w) p q ih = q ∙ sym p
+    go (fronts.Blank n) p q ih = ih (drop n bytes) p q
+    go (fronts.Lexeme kind n) p q ih = ih (drop n bytes) p q
+
+pub one_division : (bytes : List ℕ) → HasOneDivision bytes
+one_division bytes =
+    let d = divide (length bytes + 1) bytes (omega arith) in
+    (d.0, d.1, λ gs h. alone d.0 gs bytes d.1 h)
+
+-- ---- the answers
+
+ends_cons : (a : Answer) (more : List Answer) → IsToken a → EndsOnce more → EndsOnce (a ∷ more)
+ends_cons a [] t h = absurd h
+ends_cons a (b ∷ more) t h = (t, h)
+
+no_end_token : (bytes : List ℕ) → is_token kinds.End bytes ≡ true → bytes ≡ []
+unfolding is_token
+no_end_token bytes e = bytes_same bytes [] e
+
+-- the end is no token of a text
+never_end_token : (bytes : List ℕ) (kind : TokenKind) (len : ℕ) → front_of bytes ≡ fronts.Lexeme kind len → kind ≡ kinds.End → ⊥
+never_end_token bytes kind len e k =
+    let f = lexeme_fits bytes kind len e in
+    let n = no_end_token (take len bytes) (ap (λ (x : TokenKind). is_token x (take len bytes)) (sym k) ∙ token_spelt bytes kind len e) in
+    let l : length (take len bytes) ≡ 0 = ap length n in
+    absurd (omega (arith, f.fits.some, length-take-le len bytes f.fits.within))
+
+ends_behind : (n : ℕ) (passed : List ℕ) (tokens : List Token) (bytes : List ℕ) → length bytes < n → EndsOnce (answers_behind n passed tokens bytes)
+ends_behind zero passed tokens bytes lt = absurd (omega arith)
+ends_behind (suc n) passed tokens bytes lt = go (front_of bytes) refl (front_fine bytes) (ends_behind n)
+  where
+    go : (f : Front) → front_of bytes ≡ f → Fine bytes f → ((p : List ℕ) (ts : List Token) (b : List ℕ) → length b < n → EndsOnce (answers_behind n p ts b)) → EndsOnce (answers_at f passed tokens bytes (answers_behind n))
+    go fronts.End e fine ih = refl
+    go (fronts.Refusal w) e fine ih = tt
+    go (fronts.Blank k) e fine ih = ih (passed ++ take k bytes) tokens (drop k bytes) (omega (arith, length-drop k bytes, fine.some, fine.within))
+    go (fronts.Lexeme kind k) e fine ih =
+        ends_cons (Ok (token_at kind (take k bytes) (place_behind passed tokens))) (answers_behind n (passed ++ take k bytes) (tokens ++ token_at kind (take k bytes) (place_behind passed tokens) ∷ []) (drop k bytes)) (never_end_token bytes kind k e)
+        (ih (passed ++ take k bytes) (tokens ++ token_at kind (take k bytes) (place_behind passed tokens) ∷ []) (drop k bytes) (omega (arith, length-drop k bytes, fine.0.some, fine.0.within)))
+
+pub ends_once : (text : List ℕ) → EndsOnce (answers_of text)
+unfolding answers_of
+ends_once text =
+    ends_behind (length text + 1) (take (first_line_len text) text) [] (drop (first_line_len text) text) (omega (arith, length-drop (first_line_len text) text))
+
+pub longest_token : (bytes : List ℕ) (kind : TokenKind) (len : ℕ) → front_of bytes ≡ fronts.Lexeme kind len → IsLongestToken bytes kind len
+longest_token bytes kind len e = record { token = token_spelt bytes kind len e; longest = token_no_longer bytes kind len e }

@@ -1,0 +1,17 @@
+pub mod Prefixes
+pub mod WordLemmas
+pub mod LineEndLemmas
+pub mod BracketLemmas
+pub mod QuotedLemmas
+pub mod LineLemmas
+pub mod FrontLemmas
+pub mod LexLemmas
+pub mod PlaceLemmas
+pub mod StartLemmas
+pub mod ValueLemmas
+pub mod LocalLemmas
+pub mod MunchLemmas
+pub mod LongestLemmas
+pub mod TokenLemmas
+pub mod LawLemmas
+pub mod RefusalLemmas

@@ -1,0 +1,13 @@
+pub mod Bytes
+pub mod LineEnds
+pub mod Words
+pub mod Numerals
+pub mod Signs
+pub mod Brackets
+pub mod Quoted
+pub mod Values
+pub mod Fronts
+pub mod Answers
+pub mod Lexing
+pub mod Tokens
+pub mod Laws

@@ -1,0 +1,101 @@
+// The lexer.
+ghost use Rattle.std.specs.Prelude.{◌+◌, ◌<◌, ◌^◌, length};
+
+use crate::front::{Front, front_of};
+use crate::line_ends::count_line_ends;
+use crate::places::{first_line_len, line_ends_in, moved};
+use crate::token::Token;
+use crate::{LONGEST_TEXT, LexError, TokenKind};
+use tl_base::Place;
+
+/// Gives the tokens of a text, one after the other.
+#[derive(Debug, Drop)]
+pub struct Lexer<'a> {
+    /// The text that is left.
+    rest: &'a str,
+    /// The place of a token that begins here.
+    place: Place,
+    ghost line_fits: { place.line + length rest.now < 2 ^ 32 },
+    ghost word_fits: { place.word + length rest.now < 2 ^ 32 },
+}
+
+impl<'a> Lexer<'a> {
+    ghost use Rattle.std.specs.Prelude.{◌≡◌, ◌≤◌, slice_get, Some, take, drop, IsCharBoundary};
+    ghost use Rattle.tl_lex.specs.LineEnds.{line_ends};
+    ghost use Rattle.tl_lex.specs.Fronts.{front_of};
+    ghost use Rattle.tl_lex.specs.Answers.{answers_of};
+    ghost use Rattle.tl_lex.specs.Lexing.{answers_left, answer_of, behind_first, moved, IsOther};
+
+    /// A lexer before the first token of a text. A first line that begins with `#` is passed over.
+    pub fn new(text: &'a str) -> Lexer<'a>
+        requires { length text.now ≤ LONGEST_TEXT }
+        ensures { answers_left result ≡ answers_of text.now }
+    {
+        Lexer {
+            rest: &text[first_line_len(text.as_bytes())..],
+            place: Place { line: 1, word: 1 },
+        }
+    }
+
+    /// Passes over so many bytes with so many line ends and words.
+    fn pass(&mut self, len: usize, lines: usize, words: u32) -> &'a str
+        requires cut { IsCharBoundary self.old.rest.now len }
+        requires some { 0 < len }
+        requires lines { lines ≡ line_ends (take len self.old.rest.now) }
+        requires words { words ≤ 1 }
+        ensures text { result.now ≡ take len self.old.rest.now }
+        ensures rest { self.new.rest.now ≡ drop len self.old.rest.now }
+        ensures place { self.new.place ≡ moved self.old.place lines words }
+    {
+        let (front, rest) = self.rest.split_at(len);
+        self.rest = rest;
+        self.place = moved(self.place, lines as u32, words);
+        front
+    }
+
+    /// Passes over white space and comments, up to another front.
+    fn pass_blanks(&mut self) -> Front
+        ensures front { result ≡ front_of self.new.rest.now }
+        ensures other { IsOther result }
+        ensures left { answers_left self.new ≡ answers_left self.old }
+    {
+        'blanks: loop {
+            let bytes = self.rest.as_bytes();
+            let front = front_of(bytes);
+            let Front::Blank(len) = front else {
+                return front;
+            };
+            let lines = count_line_ends(&bytes[..len]).line_ends;
+            self.pass(len, lines, 0);
+        }
+    }
+
+    /// The next token. The end token, and a refusal, come again and again. Takes no memory.
+    pub fn next_token(&mut self) -> Result<Token<'a>, LexError>
+        ensures first { slice_get (answers_left self.old) 0 ≡ Some (answer_of result) }
+        ensures rest { answers_left self.new ≡ behind_first (answers_left self.old) }
+    {
+        let front = self.pass_blanks();
+        let place = self.place;
+        match front {
+            Front::Lexeme(kind, len) => {
+                let lines = line_ends_in(kind, &self.rest.as_bytes()[..len]);
+                let text = self.pass(len, lines, 1);
+                Ok(Token {
+                    kind,
+                    text,
+                    place,
+                    first_on_line: place.word == 1,
+                })
+            }
+            Front::Refusal(kind) => Err(LexError { kind, place }),
+            Front::End => Ok(Token {
+                kind: TokenKind::End,
+                text: self.rest,
+                place,
+                first_on_line: place.word == 1,
+            }),
+            Front::Blank(_) => unreachable!(),
+        }
+    }
+}
