@@ -70,8 +70,9 @@ impl Region {
         ensures value { result ≡ load_of self.now address size }
         ensures fits { IfSome result (λ value. value < 2 ^ (8 * size)) }
     {
+        let bytes = &self.bytes;
         let at = self.offset_of(address, size)?;
-        Some(number_at(&self.bytes, at, size))
+        Some(number_at(bytes, at, size))
     }
 
     /// Writes the lowest `size` bytes of a number at an address, the lowest byte first, and answers true. Exactly where one of
