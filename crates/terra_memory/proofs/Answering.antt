@@ -30,10 +30,12 @@ range_of-outside r address zero some outside = absurd (some refl)
 range_of-outside r address (suc count) some outside = rw outside refl
 
 -- more bytes than there are
+pub outside-too_many : (r : Contents) (address count : ℕ) → length r.bytes < count → is_inside r address count ≡ false
+outside-too_many r address count many =
+    false_from_ne_true (is_inside r address count) (λ inside. omega (arith, inside_parts r address count inside))
+
 pub range_of-too_many : (r : Contents) (address count : ℕ) → count ≢ 0 → length r.bytes < count → range_of r address count ≡ None
-range_of-too_many r address count some many =
-    let outside = false_from_ne_true (is_inside r address count) (λ inside. omega (arith, inside_parts r address count inside)) in
-    range_of-outside r address count some outside
+range_of-too_many r address count some many = range_of-outside r address count some (outside-too_many r address count many)
 
 -- the slice that was taken at an offset
 pub range_of-read : (r : Contents) (address count at : ℕ) (bytes : List ℕ) → count ≢ 0 → is_inside r address count ≡ true → at ≡ address - first_address

@@ -1,9 +1,9 @@
 // Terra's memory: one region of bytes from a fixed address, with a heap that goes up.
 
-ghost use Rattle.std.specs.Prelude.{◌≡◌, ℕ, ◌-◌, ◌*◌, ◌/◌, ◌^◌, ◌<◌, ◌≤◌, true, false, length, Some, None, IsTrue, IfOk, IfSome, MatchOption};
+ghost use Rattle.std.specs.Prelude.{◌≡◌, ℕ, ◌+◌, ◌-◌, ◌*◌, ◌/◌, ◌^◌, ◌<◌, ◌≤◌, ◌<ℤ◌, ◌⊎◌, ◌↔◌, true, false, length, pos, nat_abs, Some, None, IsTrue, IsFalse, IsNone, IfOk, IfSome, MatchOption};
 ghost use Rattle.std.specs.Bool.{OnTrue, OnFalse};
 ghost use Rattle.terra_memory.specs.Numbers.{is_access_size};
-ghost use Rattle.terra_memory.specs.Region.{IsMemorySize, IsLawful, first_address, fresh, is_inside, load_of, store_of, range_of, alloc_of};
+ghost use Rattle.terra_memory.specs.Region.{IsMemorySize, IsLawful, first_address, heap_limit, aligned, fresh, is_inside, load_of, store_of, range_of, alloc_of};
 
 use crate::number::{number_at, put_number};
 use std::alloc::Global;
@@ -68,6 +68,7 @@ impl Region {
     pub fn load(&self, address: u64, size: u64) -> Option<u64>
         requires { IsTrue (is_access_size size) }
         ensures value { result ≡ load_of self.now address size }
+        ensures outside { IsNone result ↔ IsFalse (is_inside self.now address size) }
         ensures fits { IfSome result (λ value. value < 2 ^ (8 * size)) }
     {
         let bytes = &self.bytes;
@@ -96,7 +97,9 @@ impl Region {
     /// The `count` bytes at an address; none exactly where one of them isn't in the region. Of no bytes none is outside, at any
     /// address.
     pub fn bytes(&self, address: u64, count: u64) -> Option<&[u8]>
-        ensures { MatchOption result (range_of self.now address count ≡ None) (λ range. range_of self.now address count ≡ Some range.now) }
+        ensures value { MatchOption result (range_of self.now address count ≡ None)
+            (λ range. range_of self.now address count ≡ Some range.now) }
+        ensures outside { IsNone result ↔ ((0 < count) × IsFalse (is_inside self.now address count)) }
     {
         if count == 0 {
             return Some(&[]);
@@ -114,6 +117,8 @@ impl Region {
     pub fn alloc_bytes(&mut self, n: i64) -> u64
         ensures address { result ≡ (alloc_of self.old n).0 }
         ensures memory { self.new ≡ (alloc_of self.old n).1 }
+        ensures refused { (result ≡ 0)
+            ↔ ((n <ℤ pos 0) ⊎ (heap_limit self.old < aligned self.old.heap + nat_abs n)) }
     {
         if n < 0 {
             return 0;

@@ -11,4 +11,4 @@ returns-in_err-at-clause-value c =
 pub returns-clause-value : goal.returns-clause-value
 returns-clause-value c =
     sym (load_of-read c.args.self.now c.args.address c.args.size c.in_ok-at.at c.number_at.result c.deref.result.now c.in_ok-at.ensures.0 c.in_ok-at.ensures.1
-        (c.deref.ensures.value ∙ ap (λ (r : Contents). r.bytes) c.self.view_is) c.number_at.ensures.value)
+    (c.deref.ensures.value ∙ ap (λ (r : Contents). r.bytes) c.self.view_is) c.number_at.ensures.value)
