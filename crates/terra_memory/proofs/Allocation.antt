@@ -1,5 +1,5 @@
 -- The three answers to a request for memory.
-use Rattle.std.proofs.Common.{◌≡◌, ℕ, ◌+◌, ◌%◌, ◌<◌, ◌≤◌, true, false, ℤ, pos, negsuc, nat_abs, int_lt, refl, sym, ap, subst, ◌∙◌, List, arith}
+use Rattle.std.proofs.Common.{◌≡◌, ℕ, ◌+◌, ◌%◌, ◌<◌, ◌≤◌, true, false, ℤ, pos, negsuc, nat_abs, int_lt, refl, sym, subst, ◌∙◌, List, arith}
 use Rattle.std.proofs.lemmas.Bool.{ltb-true, le-leb, lt-leb, false≢true}
 use Rattle.terra_memory.specs.Region.{Contents, aligned, heap_limit, alloc_of}
 

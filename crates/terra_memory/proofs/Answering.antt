@@ -1,5 +1,5 @@
 -- What the calls find where a range is in the region, and where it isn't, as the definitions say it.
-use Rattle.std.proofs.Common.{◌≡◌, ◌≢◌, ℕ, zero, suc, ◌+◌, ◌-◌, ◌<◌, true, false, List, length, take, drop, Option, Some, None, refl, sym, ap, ◌∙◌, arith}
+use Rattle.std.proofs.Common.{◌≡◌, ◌≢◌, ℕ, zero, suc, ◌+◌, ◌-◌, ◌<◌, true, false, List, length, take, drop, Some, None, refl, ◌∙◌, arith}
 use Rattle.std.proofs.lemmas.Bool.{false_from_ne_true}
 use Rattle.terra_memory.specs.Numbers.{number_of, low_bytes, part, overwritten}
 use Rattle.terra_memory.specs.Region.{first_address, Contents, is_inside, load_of, store_of, range_of}

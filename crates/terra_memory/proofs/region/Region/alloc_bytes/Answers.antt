@@ -1,5 +1,5 @@
 -- The count as the code reads it is the count, and what it computes is what each of the three answers says.
-use Rattle.std.proofs.Common.{◌≡◌, ℕ, ◌+◌, ◌<◌, ◌≤◌, ℤ, nat_abs, to_z, of_z, w64, length, sym, ap, ◌∙◌, arith}
+use Rattle.std.proofs.Common.{◌≡◌, ℕ, ◌+◌, ◌<◌, ◌≤◌, nat_abs, to_z, of_z, w64, length, sym, ap, arith}
 use Rattle.std.proofs.Math.Facts.{to_z-of_z}
 use Rattle.terra_memory.specs.Region.{Contents, aligned, heap_limit, alloc_of}
 use Rattle.terra_memory.proofs.Allocation.{aligned-is, found_negative, found_refused, found_given}

@@ -1,4 +1,4 @@
-use Rattle.std.proofs.Common.{◌≡◌, ◌<◌, length, refl, sym, ap, ◌∙◌, arith}
+use Rattle.std.proofs.Common.{◌≡◌, ◌<◌, length, refl, ap, ◌∙◌, arith}
 use Rattle.terra_memory.specs.Region.{Contents, range_of}
 use Rattle.terra_memory.proofs.Answering.{range_of-outside, range_of-too_many, range_of-read, outside-too_many}
 use Rattle.terra_memory.proofs.region.Region.bytes.Goals as goal
