@@ -1,0 +1,6 @@
+use Rattle.std.proofs.Common.{◌∙◌}
+use Rattle.elf_image.proofs.Numbers.{number_at-rest}
+use Rattle.elf_image.proofs.fields.u32_at.Goals as goal
+
+pub returns : goal.returns
+returns c = c.read_u32.ensures ∙ number_at-rest 4 c.args.at c.args.bytes.now

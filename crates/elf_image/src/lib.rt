@@ -1,0 +1,12 @@
+//! The ELF-64 image of a linked program, written and read, exact both ways.
+#![tactic(auto)]
+
+mod error;
+mod fields;
+mod headers;
+mod image;
+mod layout;
+mod rule;
+
+pub use error::ImageError;
+pub use image::{Bytes, Image, Symbol, Symbols, Words};
