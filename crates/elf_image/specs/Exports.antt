@@ -33,11 +33,14 @@ param_rule = Between 1 10
 abbrev pub result_rule : Rule
 result_rule = Between 0 10
 
+-- the code `i` of so many parameters
+abbrev pub code_rule : ℕ → ℕ → Rule
+code_rule params i = if nat_lt i params then param_rule else Is 0
+
 -- the fields of n type codes from the code `i` on
 unfoldable pub code_fields : ℕ → ℕ → ℕ → List Field
 code_fields params i zero = []
-code_fields params i (suc n) =
-    field (8 + i) 1 (if nat_lt i params then param_rule else Is 0) ∷ code_fields params (i + 1) n
+code_fields params i (suc n) = field (8 + i) 1 (code_rule params i) ∷ code_fields params (i + 1) n
 
 abbrev pub record_fields : List Field
 record_fields = field 16 1 (Between 0 8) ∷ field 17 1 result_rule ∷ field 18 1 (Is 0) ∷ field 19 1 (Is 0) ∷ []

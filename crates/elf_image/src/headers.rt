@@ -1,6 +1,6 @@
 // The header, the program headers and the section headers of a file.
 
-ghost use Rattle.std.specs.Prelude.{◌≡◌, ◌+◌, ◌≤◌, length, nat_le, IfOk};
+ghost use Rattle.std.specs.Prelude.{◌≡◌, ◌+◌, ◌≤◌, length, IfOk};
 ghost use Rattle.elf_image.specs.Fields.{u64_at, bad_fields};
 ghost use Rattle.elf_image.specs.Layout.{layout_of, part_at, identification_fields, segment_fields};
 ghost use Rattle.elf_image.specs.Tests.{bad_header, bad_segments, bad_sections, verdict_headers};
@@ -9,6 +9,7 @@ ghost use Rattle.elf_image.specs.Answers.{Says, section_rows};
 use crate::error::ImageError;
 use crate::fields::{check_u8, check_u16, check_u32, check_u64, u32_at, u64_at};
 use crate::layout::{Layout, Part};
+use crate::parts::is_within;
 use crate::rule::Rule;
 
 // The four bytes 7F 45 4C 46.
@@ -20,7 +21,7 @@ const HEADERS_SIZE: usize = 232;
 const SECTIONS_SIZE: u64 = 384;
 
 const TEXT_ADDRESS: u64 = 0x1_0000;
-const REGION_ADDRESS: u64 = 0x4000_0000;
+pub const REGION_ADDRESS: u64 = 0x4000_0000;
 const PRIVATE_ADDRESS: u64 = 0x1_0000_0000;
 
 /// The fields of a section header that do not depend on the file.
@@ -261,14 +262,6 @@ fn layout_with(bytes: &[u8], table: usize) -> Layout
         symtab: part_at(bytes, table + 280, table + 288),
         strtab: part_at(bytes, table + 344, table + 352),
     }
-}
-
-/// Whether a file of that many bytes has all bytes of the part.
-pub fn is_within(part: Part, len: usize) -> bool
-    ensures { result ≡ nat_le (part.offset + part.size) len }
-{
-    let len = len as u64;
-    part.offset <= len && part.size <= len - part.offset
 }
 
 /// Tests the headers, and gives what they say.

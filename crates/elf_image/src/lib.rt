@@ -6,6 +6,8 @@ mod fields;
 mod headers;
 mod image;
 mod layout;
+mod parts;
+mod tables;
 mod rule;
 
 pub use error::ImageError;
