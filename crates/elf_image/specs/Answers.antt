@@ -1,6 +1,7 @@
 -- What the code's tests answer, beside the fault that the definitions give.
 use Rattle.std.specs.Prelude.{◌≡◌, ℕ, List, Option, Some, None, Result, Ok, Err}
 use Rattle.elf_image.specs.declared.error.ImageError.{ImageError}
+use Rattle.elf_image.specs.declared.error.ImageError.TheVariants.{Short, BadMagic, BadField, Overlap, BadSymbol, NoMemory}
 use Rattle.elf_image.specs.declared.rule.Rule.{Rule}
 use Rattle.elf_image.specs.declared.rule.Rule.TheVariants.{Any, Is}
 use Rattle.elf_image.specs.declared.layout.Part.{Part}
@@ -22,3 +23,13 @@ known number (Some part) = Is (number part)
 abbrev pub section_rows : Section → Option Part → List Field
 section_rows s place =
     section_fields s.name s.kind s.flags s.address (known (λ p. p.offset) place) (known (λ p. p.size) place) s.link s.info s.align s.entry_size
+
+-- The value, seen by view, where there is no fault, and the fault where there is one, but for want of memory.
+abbrev pub Gives : {X Y : Type 0} → (X → Y) → Result X ImageError → Option ImageError → Y → Type 0
+Gives view (Ok x) verdict value = (verdict ≡ None) × (view x ≡ value)
+Gives view (Err NoMemory) verdict value = Unit {0}
+Gives view (Err Short) verdict value = verdict ≡ Some Short
+Gives view (Err BadMagic) verdict value = verdict ≡ Some BadMagic
+Gives view (Err (BadField at)) verdict value = verdict ≡ Some (BadField at)
+Gives view (Err Overlap) verdict value = verdict ≡ Some Overlap
+Gives view (Err BadSymbol) verdict value = verdict ≡ Some BadSymbol

@@ -20,7 +20,7 @@ const HEADERS_SIZE: usize = 232;
 // Six section headers of 64 bytes.
 const SECTIONS_SIZE: u64 = 384;
 
-const TEXT_ADDRESS: u64 = 0x1_0000;
+pub const TEXT_ADDRESS: u64 = 0x1_0000;
 pub const REGION_ADDRESS: u64 = 0x4000_0000;
 const PRIVATE_ADDRESS: u64 = 0x1_0000_0000;
 

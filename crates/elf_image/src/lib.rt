@@ -2,6 +2,7 @@
 #![tactic(auto)]
 
 mod error;
+mod exports;
 mod fields;
 mod headers;
 mod image;

@@ -1,0 +1,175 @@
+// Reading the exports: their records, symbols and names.
+
+ghost use Rattle.std.specs.Prelude.{◌≡◌, ℕ, ◌+◌, ◌*◌, ◌≤◌, List, length, None};
+ghost use Rattle.std.specs.List.{list_any};
+ghost use Rattle.std.specs.Global.{Vec};
+ghost use Rattle.std.specs.Str.{bytes_eq};
+ghost use Rattle.elf_image.specs.declared.image.Symbol.{Symbol};
+ghost use Rattle.elf_image.specs.declared.error.ImageError.TheVariants.{BadSymbol};
+ghost use Rattle.elf_image.specs.Fields.{u8_at, bad_fields, unless};
+ghost use Rattle.elf_image.specs.Exports.{export_count, names_of, before_zero, bad_record, bad_records, symbol_at, symbols_at, symbol_fields, is_in_text, is_name_at, is_right, are_right, names_differ};
+ghost use Rattle.elf_image.specs.Tests.{bad_terra_records, bad_exports};
+ghost use Rattle.elf_image.specs.Answers.{Says, Gives};
+
+use crate::error::ImageError;
+use crate::fields::{check_u8, check_u16, check_u32, check_u64, u8_at, u32_at, u64_at};
+use crate::headers::TEXT_ADDRESS;
+use crate::image::{Bytes, Symbol};
+use crate::layout::Layout;
+use crate::rule::Rule;
+use std::alloc::Global;
+
+// The longest name, with the zero byte behind it.
+const NAME_LIMIT: usize = 256;
+
+/// Tests the symbol at `symbol` of a function at this address, whose name is at this offset.
+fn check_symbol(bytes: &[u8], symbol: usize, name: u32, address: u64) -> Result<(), ImageError>
+    requires { symbol + 24 ≤ length bytes.now }
+    ensures { Says result (bad_fields bytes.now symbol (symbol_fields name address)) }
+{
+    check_u32(bytes, symbol, 0, Rule::Is(u64::from(name)))?;
+    check_u8(bytes, symbol, 4, Rule::Is(0x12))?;
+    check_u8(bytes, symbol, 5, Rule::Is(0))?;
+    check_u16(bytes, symbol, 6, Rule::Is(1))?;
+    check_u64(bytes, symbol, 8, Rule::Is(address))?;
+    check_u64(bytes, symbol, 16, Rule::Is(0))
+}
+
+/// Whether a word of a text of that many bytes is at the address.
+pub fn is_in_text(text: u64, address: u64) -> bool
+    ensures { result ≡ is_in_text text address }
+{
+    address >= TEXT_ADDRESS && address - TEXT_ADDRESS < text && address.is_multiple_of(4)
+}
+
+// How many bytes stand before the first zero byte.
+fn length_before_zero(bytes: &[u8]) -> usize
+    ensures { result ≡ length (before_zero bytes.now) }
+{
+    for (i, byte) in bytes.iter().enumerate() {
+        if *byte == 0 {
+            return i;
+        }
+    }
+    bytes.len()
+}
+
+// The name that begins the bytes. No more than 256 of them are looked at, so that many long names take no longer.
+fn read_name(alloc: Global, names: &[u8]) -> Result<Bytes, ImageError>
+    ensures { Gives (λ (name : List ℕ). name) result (unless (is_name_at names.now) BadSymbol) (before_zero names.now) }
+{
+    let front = &names[..names.len().min(NAME_LIMIT)];
+    let len = length_before_zero(front);
+    if len == 0 || len == front.len() {
+        return Err(ImageError::BadSymbol);
+    }
+    Ok(Bytes::from(Vec::from_slice(alloc, &front[..len])?))
+}
+
+// The export whose record is at `entry` and whose symbol is at `symbol`.
+#[tactic(auto, unfolding(crate::specs::Exports::is_right, crate::specs::Exports::symbol_at))]
+fn read_export(
+    alloc: Global,
+    bytes: &[u8],
+    layout: &Layout,
+    names: &[u8],
+    entry: usize,
+    symbol: usize,
+) -> Result<Symbol, ImageError>
+    requires entry { entry + 24 ≤ length bytes.now }
+    requires symbol { symbol + 24 ≤ length bytes.now }
+    requires names { names.now ≡ names_of layout.now bytes.now }
+    requires params { u8_at bytes.now (entry + 16) ≤ 8 }
+    ensures { Gives (λ (s : Symbol). s) result (unless (is_right layout.now bytes.now entry symbol) BadSymbol) (symbol_at layout.now bytes.now entry) }
+{
+    let name = u32_at(bytes, entry + 20);
+    let address = u64_at(bytes, entry);
+    if check_symbol(bytes, symbol, name, address).is_err() {
+        return Err(ImageError::BadSymbol);
+    }
+    if !is_in_text(layout.text.size, address) {
+        return Err(ImageError::BadSymbol);
+    }
+    let begin = (name as usize).min(names.len());
+    let name = read_name(alloc, &names[begin..])?;
+    let params = entry + 8;
+    let count = u8_at(bytes, entry + 16) as usize;
+    Ok(Symbol {
+        name,
+        address,
+        params: Bytes::from(Vec::from_slice(alloc, &bytes[params..params + count])?),
+        result: u8_at(bytes, entry + 17),
+    })
+}
+
+// The exports whose records begin at `first` and whose symbols begin at `symbols`.
+#[tactic(auto, using(crate::proofs::Steps::symbols_at_step, crate::proofs::Steps::symbols_at_none, crate::proofs::Steps::are_right_step, crate::proofs::Steps::are_right_none))]
+fn read_each(
+    alloc: Global,
+    bytes: &[u8],
+    layout: &Layout,
+    names: &[u8],
+    count: u32,
+    first: usize,
+    symbols: usize,
+) -> Result<Vec<Symbol>, ImageError>
+    requires first { first + 24 * count ≤ length bytes.now }
+    requires symbols { symbols + 24 * count ≤ length bytes.now }
+    requires names { names.now ≡ names_of layout.now bytes.now }
+    requires params { bad_records count bytes.now first ≡ None }
+    ensures { Gives (λ (v : Vec Symbol). v.items) result (unless (are_right count layout.now bytes.now first symbols) BadSymbol) (symbols_at count layout.now bytes.now first) }
+{
+    let mut exports = Vec::new(alloc);
+    for i in 0..count as usize {
+        let entry = first + 24 * i;
+        let symbol = symbols + 24 * i;
+        let export = read_export(alloc, bytes, layout, names, entry, symbol)?;
+        exports.push(export)?;
+    }
+    Ok(exports)
+}
+
+fn has_name(symbols: &[Symbol], name: &[u8]) -> bool
+    ensures { result ≡ list_any (λ (t : Symbol). bytes_eq name.now t.name) symbols.now }
+{
+    symbols.iter().any(|symbol| name == symbol.name.as_slice())
+}
+
+// Whether no symbol has the name of another.
+fn names_differ(symbols: &[Symbol]) -> bool
+    ensures { result ≡ names_differ symbols.now }
+{
+    for (i, symbol) in symbols.iter().enumerate() {
+        if has_name(&symbols[i + 1..], symbol.name.as_slice()) {
+            return false;
+        }
+    }
+    true
+}
+
+/// The exports of a file whose records have passed their tests.
+#[tactic(auto, unfolding(crate::specs::Tests::bad_exports))]
+pub fn read_exports(
+    alloc: Global,
+    bytes: &[u8],
+    layout: &Layout,
+    count: u32,
+) -> Result<Vec<Symbol>, ImageError>
+    requires count { count ≡ export_count layout.now bytes.now }
+    requires records { layout.now.terra.offset + 32 + 24 * count ≤ length bytes.now }
+    requires symbols { layout.now.symtab.offset + 24 + 24 * count ≤ length bytes.now }
+    requires names { layout.now.strtab.offset + layout.now.strtab.size ≤ length bytes.now }
+    requires params { bad_terra_records layout.now bytes.now ≡ None }
+    ensures { Gives (λ (v : Vec Symbol). v.items) result (bad_exports layout.now bytes.now) (symbols_at count layout.now bytes.now (layout.now.terra.offset + 32)) }
+{
+    let begin = layout.strtab.offset as usize;
+    let names = &bytes[begin..begin + layout.strtab.size as usize];
+    let records = layout.terra.offset as usize + 32;
+    let symbols = layout.symtab.offset as usize + 24;
+    let exports = read_each(alloc, bytes, layout, names, count, records, symbols)?;
+    if names_differ(&exports) {
+        Ok(exports)
+    } else {
+        Err(ImageError::BadSymbol)
+    }
+}
