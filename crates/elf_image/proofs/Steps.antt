@@ -6,7 +6,8 @@ use Rattle.elf_image.specs.declared.error.ImageError.{ImageError}
 use Rattle.elf_image.specs.declared.error.ImageError.TheVariants.{BadField}
 use Rattle.elf_image.specs.declared.layout.Layout.{Layout}
 use Rattle.elf_image.specs.declared.rule.Rule.TheVariants.{Is, Between}
-use Rattle.elf_image.specs.Fields.{u8_at, field, allows, or_else, unless, bad_field, bad_fields}
+use Rattle.elf_image.specs.Fields.{u8_at, u32_at, field, allows, or_else, unless, bad_field, bad_fields}
+use Rattle.elf_image.specs.Loads.{words_at}
 use Rattle.elf_image.specs.Exports.{code_rule, result_rule, code_fields, record_fields, bad_record, bad_records, symbol_at, symbols_at, is_right, are_right}
 
 pub code_fields_step : (bytes : List ℕ) (entry params i n : ℕ) → i < n → bad_fields bytes entry (code_fields params i (n - i)) ≡ or_else (bad_field bytes entry (field (8 + i) 1 (code_rule params i))) (bad_fields bytes entry (code_fields params (i + 1) (n - (i + 1))))
@@ -101,3 +102,16 @@ push_end {X} xs whole total e1 e2 = sym (append-nil xs) ∙ ap (λ (s : List X).
 
 pub and_turn : (a rest whole total : Bool) → whole ≡ total → whole ≡ (a && rest) → a ≡ true → rest ≡ total
 and_turn a rest whole total e1 e2 e3 = ap (λ (v : Bool). v && rest) (sym e3) ∙ sym e2 ∙ e1
+
+pub words_at_step : (bytes : List ℕ) (first i n : ℕ) → i < n → words_at (n - i) bytes (first + 4 * i) ≡ u32_at bytes (first + 4 * i) ∷ words_at (n - (i + 1)) bytes (first + 4 * (i + 1))
+unfolding words_at
+words_at_step bytes first i n lt =
+    let e : n - i ≡ suc (n - (i + 1)) = omega arith in
+    let at : first + 4 * i + 4 ≡ first + 4 * (i + 1) = omega arith in
+    rw e (ap (λ (k : ℕ). u32_at bytes (first + 4 * i) ∷ words_at (n - (i + 1)) bytes k) at)
+
+pub words_at_none : (bytes : List ℕ) (at i n : ℕ) → n ≤ i → words_at (n - i) bytes at ≡ []
+unfolding words_at
+words_at_none bytes at i n le =
+    let e : n - i ≡ 0 = omega arith in
+    rw e refl

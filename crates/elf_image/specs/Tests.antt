@@ -108,20 +108,6 @@ bad_exports l bytes =
     unless (are_right n l bytes (l.terra.offset + 32) (l.symtab.offset + 24)
         && names_differ (symbols_at n l bytes (l.terra.offset + 32))) BadSymbol
 
--- the tests of what lies behind the headers
-unfoldable pub verdict_behind : Layout → List ℕ → Option ImageError
-verdict_behind l bytes = first_of (
-    short_parts l bytes
-    ∷ overlapping_parts l
-    ∷ short_tables l bytes
-    ∷ bad_terra l bytes
-    ∷ bad_counts l bytes
-    ∷ bad_terra_records l bytes
-    ∷ bad_first_symbol l bytes
-    ∷ bad_section_names l bytes
-    ∷ bad_exports l bytes
-    ∷ [])
-
 -- the tests of the headers
 unfoldable pub verdict_headers : List ℕ → Option ImageError
 verdict_headers bytes =
@@ -136,6 +122,21 @@ verdict_headers bytes =
     ∷ bad_sections l bytes
     ∷ [])
 
+-- the tests of what lies behind them, but for the last
+unfoldable pub verdict_tables : Layout → List ℕ → Option ImageError
+verdict_tables l bytes = first_of (
+    short_parts l bytes
+    ∷ overlapping_parts l
+    ∷ short_tables l bytes
+    ∷ bad_terra l bytes
+    ∷ bad_counts l bytes
+    ∷ bad_terra_records l bytes
+    ∷ bad_first_symbol l bytes
+    ∷ bad_section_names l bytes
+    ∷ [])
+
 -- the fault of the first test that fails, or none
 unfoldable pub verdict_of : List ℕ → Option ImageError
-verdict_of bytes = or_else (verdict_headers bytes) (verdict_behind (layout_of bytes) bytes)
+verdict_of bytes =
+    let l = layout_of bytes in
+    first_of (verdict_headers bytes ∷ verdict_tables l bytes ∷ bad_exports l bytes ∷ [])

@@ -8,6 +8,7 @@ mod headers;
 mod image;
 mod layout;
 mod parts;
+mod reading;
 mod tables;
 mod rule;
 
