@@ -5,6 +5,8 @@ use Rattle.elf_image.specs.declared.error.ImageError.TheVariants.{Short, BadMagi
 use Rattle.elf_image.specs.declared.rule.Rule.{Rule}
 use Rattle.elf_image.specs.declared.rule.Rule.TheVariants.{Any, Is}
 use Rattle.elf_image.specs.declared.layout.Part.{Part}
+use Rattle.elf_image.specs.declared.putting.Number.{Number}
+use Rattle.elf_image.specs.declared.putting.Number.TheVariants.{U8, U16, U32, U64}
 use Rattle.elf_image.specs.declared.headers.Section.{Section}
 use Rattle.elf_image.specs.Fields.{Field}
 use Rattle.elf_image.specs.Layout.{section_fields}
@@ -33,3 +35,10 @@ Gives view (Err BadMagic) verdict value = verdict ≡ Some BadMagic
 Gives view (Err (BadField at)) verdict value = verdict ≡ Some (BadField at)
 Gives view (Err Overlap) verdict value = verdict ≡ Some Overlap
 Gives view (Err BadSymbol) verdict value = verdict ≡ Some BadSymbol
+
+-- the bytes and the value of a number
+abbrev pub row_of : Number → ℕ × ℕ
+row_of (U8 n) = (1, n)
+row_of (U16 n) = (2, n)
+row_of (U32 n) = (4, n)
+row_of (U64 n) = (8, n)

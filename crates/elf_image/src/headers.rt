@@ -13,7 +13,7 @@ use crate::parts::is_within;
 use crate::rule::Rule;
 
 // The four bytes 7F 45 4C 46.
-const MAGIC: u32 = 0x464C_457F;
+pub const MAGIC: u32 = 0x464C_457F;
 const HEADER_SIZE: usize = 64;
 // Three program headers of 56 bytes stand right behind the header.
 const HEADERS_SIZE: usize = 232;
@@ -22,7 +22,7 @@ const SECTIONS_SIZE: u64 = 384;
 
 pub const TEXT_ADDRESS: u64 = 0x1_0000;
 pub const REGION_ADDRESS: u64 = 0x4000_0000;
-const PRIVATE_ADDRESS: u64 = 0x1_0000_0000;
+pub const PRIVATE_ADDRESS: u64 = 0x1_0000_0000;
 
 /// The fields of a section header that do not depend on the file.
 #[derive(Clone, Copy, Debug)]
@@ -158,7 +158,7 @@ fn check_section(
     check_u64(bytes, header, 56, Rule::Is(section.entry_size))
 }
 
-const NULL: Section = Section {
+pub const NULL: Section = Section {
     name: 0,
     kind: 0,
     flags: 0,
@@ -168,7 +168,7 @@ const NULL: Section = Section {
     align: 0,
     entry_size: 0,
 };
-const TEXT: Section = Section {
+pub const TEXT: Section = Section {
     name: 1,
     kind: 1,
     flags: 6,
@@ -178,7 +178,7 @@ const TEXT: Section = Section {
     align: 1,
     entry_size: 0,
 };
-const DATA: Section = Section {
+pub const DATA: Section = Section {
     name: 7,
     kind: 1,
     flags: 3,
@@ -188,7 +188,7 @@ const DATA: Section = Section {
     align: 1,
     entry_size: 0,
 };
-const TERRA: Section = Section {
+pub const TERRA: Section = Section {
     name: 13,
     kind: 1,
     flags: 0,
@@ -198,7 +198,7 @@ const TERRA: Section = Section {
     align: 1,
     entry_size: 0,
 };
-const SYMTAB: Section = Section {
+pub const SYMTAB: Section = Section {
     name: 20,
     kind: 2,
     flags: 0,
@@ -208,7 +208,7 @@ const SYMTAB: Section = Section {
     align: 1,
     entry_size: 24,
 };
-const STRTAB: Section = Section {
+pub const STRTAB: Section = Section {
     name: 28,
     kind: 3,
     flags: 0,

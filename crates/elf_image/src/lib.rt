@@ -8,9 +8,12 @@ mod headers;
 mod image;
 mod layout;
 mod parts;
+mod putting;
 mod reading;
 mod tables;
+mod writing;
 mod rule;
 
 pub use error::ImageError;
 pub use image::{Bytes, Image, Symbol, Symbols, Words};
+pub use writing::write;

@@ -1,0 +1,6 @@
+use Rattle.std.proofs.Common.{◌≡◌, ◌++◌, drop}
+use Rattle.elf_image.specs.Written.{words_bytes}
+use Rattle.elf_image.proofs.putting.put_words.Given as goal
+
+abbrev pub invariant-loop-word : goal.invariant-loop-word
+invariant-loop-word l = l.out.items ++ words_bytes (drop l.word-index l.words) ≡ l.fn.out.items ++ words_bytes l.words
