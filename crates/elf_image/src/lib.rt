@@ -16,4 +16,5 @@ mod rule;
 
 pub use error::ImageError;
 pub use image::{Bytes, Image, Symbol, Symbols, Words};
+pub use reading::read;
 pub use writing::write;

@@ -1,11 +1,14 @@
 // Reading an image.
 
-ghost use Rattle.std.specs.Prelude.{◌≡◌, ◌+◌, ◌*◌, ◌≤◌, length, slice_range, None, IfOk};
+ghost use Rattle.std.specs.Prelude.{◌≡◌, ◌+◌, ◌*◌, ◌≤◌, length, slice_range, None, ◌≢◌, ◌⊎◌, IfOk, IfErr, MatchResult};
 ghost use Rattle.elf_image.specs.declared.image.Image.{Image};
+ghost use Rattle.elf_image.specs.declared.error.ImageError.{ImageError};
+ghost use Rattle.elf_image.specs.declared.error.ImageError.TheVariants.{NoMemory};
 ghost use Rattle.elf_image.specs.Layout.{layout_of};
 ghost use Rattle.elf_image.specs.Exports.{export_count};
 ghost use Rattle.elf_image.specs.Tests.{verdict_headers, verdict_tables, verdict_of};
-ghost use Rattle.elf_image.specs.Loads.{words_at, image_at};
+ghost use Rattle.elf_image.specs.Loads.{words_at, image_at, Loads, BadBytes};
+ghost use Rattle.elf_image.specs.Lawful.{IsLawful};
 ghost use Rattle.elf_image.specs.Answers.{Says, Gives};
 
 use crate::error::ImageError;
@@ -84,4 +87,24 @@ fn read_image(alloc: Global, bytes: &[u8]) -> Result<Image, ImageError>
         private: layout.private,
         exports: Symbols::from(exports),
     })
+}
+
+/// Reads the image that a file is.
+///
+/// # Errors
+///
+/// The fault of the first test of the format that the file fails, exactly where it fails one. Beside these only
+/// [`ImageError::NoMemory`] is answered, which may come at any file.
+pub fn read(alloc: Global, bytes: &[u8]) -> Result<Image, ImageError>
+    requires { length bytes.now ≤ 268435456 }
+    // What is read is what the file says, and can be written.
+    ensures ok { IfOk result (λ image. Loads bytes.now image) }
+    ensures lawful { IfOk result (λ image. IsLawful image) }
+    // An error is the fault of the first test that fails.
+    ensures bad { IfErr result (λ error. error ≢ NoMemory → BadBytes bytes.now error) }
+    // A file that is an image is read as it, and one that is none gets its fault, unless memory runs out.
+    ensures loads { (image : Image) → Loads bytes.now image → MatchResult result (λ found. found ≡ image) (λ error. error ≡ NoMemory) }
+    ensures refuses { (fault : ImageError) → BadBytes bytes.now fault → MatchResult result (λ _. ⊥) (λ error. (error ≡ fault) ⊎ (error ≡ NoMemory)) }
+{
+    read_image(alloc, bytes)
 }
