@@ -18,9 +18,8 @@ abbrev pub is_lawful_symbol : ℕ → Symbol → Bool
 is_lawful_symbol text s =
     is_name s.name
     && (is_in_text text s.address
-    && (nat_le (length s.params) 8
-    && (list_all (allows param_rule) s.params
-    && allows result_rule s.result)))
+    && ((nat_le (length s.params) 8 && list_all (allows param_rule) s.params)
+    && allows result_rule s.result))
 
 -- the offsets of the names in `.strtab`, the first of which is `at`, fit their fields
 abbrev pub names_fit : ℕ → List Symbol → Bool

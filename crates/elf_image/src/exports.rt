@@ -135,8 +135,8 @@ fn has_name(symbols: &[Symbol], name: &[u8]) -> bool
     symbols.iter().any(|symbol| name == symbol.name.as_slice())
 }
 
-// Whether no symbol has the name of another.
-fn names_differ(symbols: &[Symbol]) -> bool
+/// Whether no symbol has the name of another.
+pub fn names_differ(symbols: &[Symbol]) -> bool
     ensures { result ≡ names_differ symbols.now }
 {
     for (i, symbol) in symbols.iter().enumerate() {

@@ -6,6 +6,7 @@ mod exports;
 mod fields;
 mod headers;
 mod image;
+mod lawful;
 mod layout;
 mod parts;
 mod putting;
@@ -16,5 +17,9 @@ mod rule;
 
 pub use error::ImageError;
 pub use image::{Bytes, Image, Symbol, Symbols, Words};
+pub use lawful::is_lawful;
 pub use reading::read;
 pub use writing::write;
+
+#[cfg(test)]
+mod tests;
