@@ -12,7 +12,7 @@ use Rattle.elf_image.specs.Written.{names_size, layout_for, file_size}
 use Rattle.elf_image.proofs.Steps.{and_true}
 
 -- the name of a lawful symbol has at most 255 bytes
-name_le : (text : ℕ) (s : Symbol) → is_lawful_symbol text s ≡ true → length s.name ≤ 255
+pub name_le : (text : ℕ) (s : Symbol) → is_lawful_symbol text s ≡ true → length s.name ≤ 255
 name_le text s e = leb-true _ _ (and_true _ _ (and_true _ _ (and_true _ _ e).0).0).1
 
 -- where the offsets of all names fit, the names end soon after
@@ -59,7 +59,7 @@ is_lawful_from i text words bytes memories symbols differ count names =
 abbrev exports_test : ℕ → List Symbol → Bool
 exports_test text ss = list_all (is_lawful_symbol text) ss && (names_differ ss && (ltb (length ss) (2 ^ 32) && names_fit 36 ss))
 
-and_intro : (a b : Bool) → a ≡ true → b ≡ true → (a && b) ≡ true
+pub and_intro : (a b : Bool) → a ≡ true → b ≡ true → (a && b) ≡ true
 and_intro a b ea eb = ap (λ (v : Bool). v && b) ea ∙ eb
 
 exports_from : (i : Image) → IsLawful i → exports_test (4 * length i.text) i.exports ≡ true
