@@ -1,5 +1,5 @@
 -- Which image a file is, and why one is none.
-use Rattle.std.specs.Prelude.{◌≡◌, ℕ, zero, suc, ◌+◌, ◌/◌, List, [], ◌∷◌, slice_range, Option, Some, None}
+use Rattle.std.specs.Prelude.{◌≡◌, ◌⊎◌, ℕ, zero, suc, ◌+◌, ◌/◌, List, [], ◌∷◌, slice_range, Option, Some, None}
 use Rattle.elf_image.specs.declared.error.ImageError.{ImageError}
 use Rattle.elf_image.specs.declared.layout.Layout.{Layout}
 use Rattle.elf_image.specs.declared.image.Image.{Image}
@@ -31,3 +31,9 @@ Loads bytes image = (verdict_of bytes ≡ None) × (image ≡ image_at (layout_o
 -- the file is no image, for this reason
 abbrev pub BadBytes : List ℕ → ImageError → Type 0
 BadBytes bytes error = verdict_of bytes ≡ Some error
+
+-- The file is one image and no other, and has no fault; or it has one fault and no other, and is no image.
+abbrev pub HasOneAnswer : List ℕ → Type 0
+HasOneAnswer bytes =
+    ((image : Image) × Loads bytes image × ((other : Image) → Loads bytes other → other ≡ image) × ((error : ImageError) → BadBytes bytes error → ⊥))
+    ⊎ ((error : ImageError) × BadBytes bytes error × ((other : ImageError) → BadBytes bytes other → other ≡ error) × ((image : Image) → Loads bytes image → ⊥))

@@ -7,6 +7,7 @@ mod fields;
 mod headers;
 mod image;
 mod lawful;
+mod laws;
 mod layout;
 mod parts;
 mod putting;
@@ -18,6 +19,7 @@ mod rule;
 pub use error::ImageError;
 pub use image::{Bytes, Image, Symbol, Symbols, Words};
 pub use lawful::is_lawful;
+pub use laws::{one_answer, written_is_tight, written_loads};
 pub use reading::read;
 pub use writing::write;
 
