@@ -45,6 +45,7 @@ is_lawful_from i text words bytes memories symbols differ count names =
     record {
       words = words;
       bytes = bytes;
+      addresses = omega arith;
       memory = a.0;
       statics = half;
       heap = eqb-true _ _ c.0;

@@ -199,6 +199,7 @@ image_lawful bytes h most e =
     record {
       words = λ k. words_at-lt (l.text.size / 4) l.text.offset k bytes h;
       bytes = IsBytes-range l.statics.offset (l.statics.offset + l.statics.size) bytes h;
+      addresses = omega arith;
       memory = hp.memory;
       statics = omega arith;
       heap = tp.heap ∙ ap heap_start (sym statics-len);

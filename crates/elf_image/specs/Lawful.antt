@@ -5,7 +5,7 @@ use Rattle.elf_image.specs.declared.image.Symbol.{Symbol}
 use Rattle.elf_image.specs.declared.image.Image.{Image}
 use Rattle.elf_image.specs.declared.rule.Rule.TheVariants.{Between}
 use Rattle.elf_image.specs.Fields.{allows}
-use Rattle.elf_image.specs.Layout.{heap_start, memory_rule, private_rule}
+use Rattle.elf_image.specs.Layout.{text_address, heap_start, memory_rule, private_rule}
 use Rattle.elf_image.specs.Exports.{is_in_text, names_differ, param_rule, result_rule}
 use Rattle.elf_image.specs.Written.{file_size}
 
@@ -31,6 +31,8 @@ pub record IsLawful (i : Image) : Type 0 where
   -- the words and the static bytes are what they are called
   pub words : (k : ℕ) → slice_index i.text k < 2 ^ 32
   pub bytes : (k : ℕ) → slice_index i.statics k < 2 ^ 8
+  -- the addresses of the text have 64 bits
+  pub addresses : text_address + 4 * length i.text ≤ 2 ^ 64
   -- the memories
   pub memory : IsTrue (allows memory_rule i.memory)
   pub statics : 2 * length i.statics ≤ i.memory

@@ -1,4 +1,5 @@
 use Rattle.elf_image.proofs.RoundHeaders.{headers_hold, layout_read, headers_round}
+use Rattle.elf_image.proofs.RoundExports.{exports_round}
 use Rattle.elf_image.proofs.laws.written_loads.Goals as goal
 
 pub returns : goal.returns
