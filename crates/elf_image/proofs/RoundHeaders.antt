@@ -114,7 +114,7 @@ pub record Bounded (i : Image) (l : Layout) : Type 0 where
   pub memory : l.memory < 2 ^ 64
   pub private : l.private < 2 ^ 64
 
-multiple_le : (step low high n : ℕ) → allows (Multiple step low high) n ≡ true → n ≤ high
+pub multiple_le : (step low high n : ℕ) → allows (Multiple step low high) n ≡ true → n ≤ high
 multiple_le step low high n e = leb-true n high (and_true _ _ (and_true _ _ e).1).1
 
 pub bounded : (i : Image) → IsLawful i → Bounded i (layout_for i)
