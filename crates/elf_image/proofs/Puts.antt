@@ -24,7 +24,7 @@ pub append_two : (out first second a b : List ℕ) → first ≡ out ++ a → se
 append_two out first second a b e1 e2 = e2 ∙ ap (λ (xs : List ℕ). xs ++ b) e1 ∙ append_assoc out a b
 
 -- a function of what is left of a list, at the item of a loop
-at_drop_item : {X : Type 0} {Y : Type 0} (F : List X → Y) (xs : List X) (i : ℕ) (x : X) → x ≡ get_or xs i x → i < length xs → F (drop i xs) ≡ F (x ∷ drop (i + 1) xs)
+pub at_drop_item : {X : Type 0} {Y : Type 0} (F : List X → Y) (xs : List X) (i : ℕ) (x : X) → x ≡ get_or xs i x → i < length xs → F (drop i xs) ≡ F (x ∷ drop (i + 1) xs)
 at_drop_item {X} F xs i x e lt = at_drop_more F xs i x lt ∙ ap (λ (y : X). F (y ∷ drop (i + 1) xs)) (sym e)
 
 pub append_end : (out whole total : List ℕ) → out ++ whole ≡ total → whole ≡ [] → out ≡ total

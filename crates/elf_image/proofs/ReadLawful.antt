@@ -22,7 +22,7 @@ use Rattle.elf_image.specs.Answers.{Gives}
 use Rattle.elf_image.specs.Lawful.{IsLawful, is_name, is_lawful_symbol, names_fit}
 use Rattle.elf_image.proofs.Steps.{or_else_none, unless_none, and_true, params_le}
 use Rattle.elf_image.proofs.Passed.{bad_fields_none, first_of_none, headers_passed, tables_passed}
-use Rattle.elf_image.proofs.Names.{length-before_zero}
+use Rattle.elf_image.proofs.NameBytes.{length-before_zero}
 use Rattle.elf_image.proofs.LawfulLemmas.{file_size_lt, and_intro, name_le}
 
 -- ---- bytes and words

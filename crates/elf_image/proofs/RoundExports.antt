@@ -16,7 +16,7 @@ use Rattle.elf_image.specs.Lawful.{is_name, is_lawful_symbol, names_fit}
 use Rattle.elf_image.specs.Written.{numbers, codes_bytes, record_bytes, records_bytes, symbol_bytes, symbols_bytes, names_bytes}
 use Rattle.elf_image.proofs.Steps.{and_true}
 use Rattle.elf_image.proofs.Passed.{none_bad_fields}
-use Rattle.elf_image.proofs.Names.{before_zero-append}
+use Rattle.elf_image.proofs.NameBytes.{before_zero-append}
 use Rattle.elf_image.proofs.LawfulLemmas.{and_intro}
 use Rattle.elf_image.proofs.ReadLawful.{number_at-1}
 use Rattle.elf_image.proofs.Has.{Has, Has-left, Has-right, Has-at, Has-next, Holds, holds, number-has, length-numbers, range-has, is_allowed, by_rule}

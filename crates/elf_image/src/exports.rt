@@ -1,13 +1,11 @@
 // Reading the exports: their records, symbols and names.
 
 ghost use Rattle.std.specs.Prelude.{◌≡◌, ℕ, ◌+◌, ◌*◌, ◌≤◌, List, length, None};
-ghost use Rattle.std.specs.List.{list_any};
 ghost use Rattle.std.specs.Global.{Vec};
-ghost use Rattle.std.specs.Str.{bytes_eq};
 ghost use Rattle.elf_image.specs.declared.image.Symbol.{Symbol};
 ghost use Rattle.elf_image.specs.declared.error.ImageError.TheVariants.{BadSymbol};
 ghost use Rattle.elf_image.specs.Fields.{u8_at, bad_fields, unless};
-ghost use Rattle.elf_image.specs.Exports.{export_count, names_of, before_zero, bad_record, bad_records, symbol_at, symbols_at, symbol_fields, is_in_text, is_name_at, is_right, are_right, names_differ};
+ghost use Rattle.elf_image.specs.Exports.{export_count, names_of, before_zero, bad_record, bad_records, symbol_at, symbols_at, symbol_fields, is_in_text, is_name_at, is_right, are_right};
 ghost use Rattle.elf_image.specs.Tests.{bad_terra_records, bad_exports};
 ghost use Rattle.elf_image.specs.Answers.{Says, Gives};
 
@@ -16,6 +14,7 @@ use crate::fields::{check_u8, check_u16, check_u32, check_u64, u8_at, u32_at, u6
 use crate::headers::TEXT_ADDRESS;
 use crate::image::{Bytes, Symbol};
 use crate::layout::Layout;
+use crate::names::names_differ;
 use crate::rule::Rule;
 use std::alloc::Global;
 
@@ -129,24 +128,6 @@ fn read_each(
     Ok(exports)
 }
 
-fn has_name(symbols: &[Symbol], name: &[u8]) -> bool
-    ensures { result ≡ list_any (λ (t : Symbol). bytes_eq name.now t.name) symbols.now }
-{
-    symbols.iter().any(|symbol| name == symbol.name.as_slice())
-}
-
-/// Whether no symbol has the name of another.
-pub fn names_differ(symbols: &[Symbol]) -> bool
-    ensures { result ≡ names_differ symbols.now }
-{
-    for (i, symbol) in symbols.iter().enumerate() {
-        if has_name(&symbols[i + 1..], symbol.name.as_slice()) {
-            return false;
-        }
-    }
-    true
-}
-
 /// The exports of a file whose records have passed their tests.
 #[tactic(auto, unfolding(crate::specs::Tests::bad_exports))]
 pub fn read_exports(
@@ -167,7 +148,7 @@ pub fn read_exports(
     let records = layout.terra.offset as usize + 32;
     let symbols = layout.symtab.offset as usize + 24;
     let exports = read_each(alloc, bytes, layout, names, count, records, symbols)?;
-    if names_differ(&exports) {
+    if names_differ(alloc, &exports)? {
         Ok(exports)
     } else {
         Err(ImageError::BadSymbol)

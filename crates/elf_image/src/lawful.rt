@@ -7,8 +7,9 @@ ghost use Rattle.elf_image.specs.Layout.{heap_start, memory_rule, private_rule};
 ghost use Rattle.elf_image.specs.Exports.{param_rule, names_differ};
 ghost use Rattle.elf_image.specs.Lawful.{IsLawful, is_name, is_lawful_symbol, names_fit};
 
-use crate::exports::{is_in_text, names_differ};
+use crate::exports::is_in_text;
 use crate::image::{Image, Symbol};
+use crate::names::have_own_names;
 use crate::rule::Rule;
 use crate::tables::heap_start;
 
@@ -89,7 +90,7 @@ fn has_lawful_exports(text: u64, symbols: &[Symbol]) -> bool
     ensures { result ≡ (list_all (is_lawful_symbol text) symbols.now && (names_differ symbols.now && (nat_lt (length symbols.now) (2 ^ 32) && names_fit 36 symbols.now))) }
 {
     are_lawful_symbols(text, symbols)
-        && names_differ(symbols)
+        && have_own_names(symbols)
         && (symbols.len() as u64) < LIMIT
         && names_fit(symbols)
 }

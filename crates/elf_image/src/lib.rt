@@ -9,6 +9,7 @@ mod image;
 mod lawful;
 mod laws;
 mod layout;
+mod names;
 mod parts;
 mod putting;
 mod reading;
