@@ -96,9 +96,10 @@ pub holds : (bytes : List ℕ) (base offset : ℕ) (rows : List (ℕ × ℕ)) �
 unfolding numbers
 holds bytes base offset [] h f = tt
 holds bytes base offset (row ∷ rows) h f =
-    let len : length (little_bytes row.0 row.1) ≡ row.0 = length-bytes_low_first 0 row.0 row.1 in
-    (number-has row.0 row.1 (base + offset) bytes (Has-left bytes (base + offset) (little_bytes row.0 row.1) (numbers rows) h) f.0
-    , holds bytes base (offset + row.0) rows (Has-next bytes (base + offset) (base + (offset + row.0)) (little_bytes row.0 row.1) (numbers rows) h (omega arith)) f.1)
+    let len : length (little_bytes row.0 row.1) ≡ row.0 = length-bytes_low_first 0 row.0 row.1 in (
+      number-has row.0 row.1 (base + offset) bytes (Has-left bytes (base + offset) (little_bytes row.0 row.1) (numbers rows) h) f.0,
+      holds bytes base (offset + row.0) rows (Has-next bytes (base + offset) (base + (offset + row.0)) (little_bytes row.0 row.1) (numbers rows) h (omega arith)) f.1,
+    )
 
 -- ---- runs of bytes
 

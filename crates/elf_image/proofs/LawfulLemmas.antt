@@ -80,10 +80,11 @@ is_lawful_iff i words statics exports text m e ew es ee et lt bw bs em tm te =
     let bytes : (k : ℕ) → get_or i.statics k 0 < 2 ^ 8 = λ k. subst (λ (xs : List ℕ). get_or xs k 0 < 2 ^ 8) es (bs k) in
     let M : List ℕ → Bool = λ xs. allows memory_rule i.memory && (leb (2 * length xs) i.memory && (eqb i.heap (heap_start (length xs)) && allows private_rule i.private)) in
     let memories : M i.statics ≡ true = ap M (sym es) ∙ sym em ∙ tm in
-    let same : e ≡ exports_test (4 * length i.text) i.exports = te ∙ ap (λ (n : ℕ). exports_test n exports) text-is ∙ ap (exports_test (4 * length i.text)) ee in
-    (λ (t : e ≡ true).
-        let a = and_true _ _ (sym same ∙ t) in
-        let b = and_true _ _ a.1 in
-        let d = and_true _ _ b.1 in
-        is_lawful_from i size bounds bytes memories a.0 b.0 (ltb-true _ _ d.0) d.1
-    , λ (h : IsLawful i). same ∙ exports_from i h)
+    let same : e ≡ exports_test (4 * length i.text) i.exports = te ∙ ap (λ (n : ℕ). exports_test n exports) text-is ∙ ap (exports_test (4 * length i.text)) ee in (
+      λ (t : e ≡ true).
+          let a = and_true _ _ (sym same ∙ t) in
+          let b = and_true _ _ a.1 in
+          let d = and_true _ _ b.1 in
+          is_lawful_from i size bounds bytes memories a.0 b.0 (ltb-true _ _ d.0) d.1,
+      λ (h : IsLawful i). same ∙ exports_from i h,
+    )

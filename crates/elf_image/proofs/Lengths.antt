@@ -28,10 +28,14 @@ length-segments l =
     let a = segment_bytes 5 l.text.offset text_address l.text.size l.text.size in
     let b = segment_bytes 6 l.statics.offset region_address l.statics.size l.memory in
     let c = segment_bytes 6 (l.statics.offset + l.statics.size) private_address 0 l.private in
-    omega (arith, length-append a (b ++ c), length-append b c
-    , length-segment 5 l.text.offset text_address l.text.size l.text.size
-    , length-segment 6 l.statics.offset region_address l.statics.size l.memory
-    , length-segment 6 (l.statics.offset + l.statics.size) private_address 0 l.private)
+    omega (
+      arith,
+      length-append a (b ++ c),
+      length-append b c,
+      length-segment 5 l.text.offset text_address l.text.size l.text.size,
+      length-segment 6 l.statics.offset region_address l.statics.size l.memory,
+      length-segment 6 (l.statics.offset + l.statics.size) private_address 0 l.private,
+    )
 
 pub length-words : (words : List ℕ) → length (words_bytes words) ≡ 4 * length words
 unfolding words_bytes
@@ -102,13 +106,20 @@ length-sections l =
     let d = section_bytes 13 1 0 0 l.terra.offset l.terra.size 0 0 1 0 in
     let e = section_bytes 20 2 0 0 l.symtab.offset l.symtab.size 5 1 1 24 in
     let f = section_bytes 28 3 0 0 l.strtab.offset l.strtab.size 0 0 1 0 in
-    omega (arith, length-append a (b ++ (c ++ (d ++ (e ++ f)))), length-append b (c ++ (d ++ (e ++ f))), length-append c (d ++ (e ++ f)), length-append d (e ++ f), length-append e f
-    , length-section 0 0 0 0 0 0 0 0 0 0
-    , length-section 1 1 6 text_address l.text.offset l.text.size 0 0 1 0
-    , length-section 7 1 3 region_address l.statics.offset l.statics.size 0 0 1 0
-    , length-section 13 1 0 0 l.terra.offset l.terra.size 0 0 1 0
-    , length-section 20 2 0 0 l.symtab.offset l.symtab.size 5 1 1 24
-    , length-section 28 3 0 0 l.strtab.offset l.strtab.size 0 0 1 0)
+    omega (
+      arith,
+      length-append a (b ++ (c ++ (d ++ (e ++ f)))),
+      length-append b (c ++ (d ++ (e ++ f))),
+      length-append c (d ++ (e ++ f)),
+      length-append d (e ++ f),
+      length-append e f,
+      length-section 0 0 0 0 0 0 0 0 0 0,
+      length-section 1 1 6 text_address l.text.offset l.text.size 0 0 1 0,
+      length-section 7 1 3 region_address l.statics.offset l.statics.size 0 0 1 0,
+      length-section 13 1 0 0 l.terra.offset l.terra.size 0 0 1 0,
+      length-section 20 2 0 0 l.symtab.offset l.symtab.size 5 1 1 24,
+      length-section 28 3 0 0 l.strtab.offset l.strtab.size 0 0 1 0,
+    )
 
 -- where the parts stand
 pub record Stands (i : Image) : Type 0 where
@@ -143,8 +154,23 @@ stands i h =
     let h5 : Has xs l.symtab.offset e = Has-next xs l.terra.offset l.symtab.offset (terra_bytes i) e h4 (omega (arith, terra-len)) in
     let h6 : Has xs l.strtab.offset f = Has-next xs l.symtab.offset l.strtab.offset (symtab_bytes i.exports) f h5 (omega (arith, length-symtab i.exports)) in
     let h7 : Has xs l.sections g = Has-next xs l.strtab.offset l.sections (strtab_bytes i.exports) g h6 (omega (arith, length-strtab i.exports)) in
-    let size : length xs ≡ l.sections + 384 = omega (arith, length-append (header_bytes l) a, length-append (segments_bytes l) b, length-append (words_bytes i.text) c, length-append i.statics d, length-append (terra_bytes i) e, length-append (symtab_bytes i.exports) f, length-append (strtab_bytes i.exports) g
-    , length-header l, length-segments l, length-words i.text, terra-len, length-symtab i.exports, length-strtab i.exports, length-sections l) in
+    let size : length xs ≡ l.sections + 384 = omega (
+      arith,
+      length-append (header_bytes l) a,
+      length-append (segments_bytes l) b,
+      length-append (words_bytes i.text) c,
+      length-append i.statics d,
+      length-append (terra_bytes i) e,
+      length-append (symtab_bytes i.exports) f,
+      length-append (strtab_bytes i.exports) g,
+      length-header l,
+      length-segments l,
+      length-words i.text,
+      terra-len,
+      length-symtab i.exports,
+      length-strtab i.exports,
+      length-sections l,
+    ) in
     record {
       header = Has-left xs 0 (header_bytes l) a h0;
       segments = Has-left xs 64 (segments_bytes l) b h1;

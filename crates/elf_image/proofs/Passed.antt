@@ -38,9 +38,10 @@ pub bad_fields_none : (bytes : List ℕ) (base : ℕ) (rows : List Field) → ba
 unfolding bad_field
 bad_fields_none bytes base [] e = tt
 bad_fields_none bytes base (row ∷ rows) e =
-    let h = or_else_none (bad_field bytes base row) (bad_fields bytes base rows) e in
-    (unless_none (allows row.rule (number_at row.size bytes (base + row.offset))) (BadField (base + row.offset)) h.0
-    , bad_fields_none bytes base rows h.1)
+    let h = or_else_none (bad_field bytes base row) (bad_fields bytes base rows) e in (
+      unless_none (allows row.rule (number_at row.size bytes (base + row.offset))) (BadField (base + row.offset)) h.0,
+      bad_fields_none bytes base rows h.1,
+    )
 
 pub none_bad_fields : (bytes : List ℕ) (base : ℕ) (rows : List Field) → AllAllowed bytes base rows → bad_fields bytes base rows ≡ None
 unfolding bad_field
@@ -69,10 +70,10 @@ headers_passed bytes l le e =
     let lo = layout_of bytes in
     let t = first_of_none (short_header bytes ∷ bad_magic bytes ∷ bad_header bytes ∷ short_segments bytes ∷ bad_segments bytes ∷ short_sections lo bytes ∷ bad_sections lo bytes ∷ []) e in
     let s = first_of_none (
-        bad_fields bytes 64 (segment_fields 5 text_address text_size_rule (Is (u64_at bytes 96)))
-        ∷ bad_fields bytes 120 (segment_fields 6 region_address (Between 0 (u64_at bytes 160 / 2)) memory_rule)
-        ∷ bad_fields bytes 176 (segment_fields 6 private_address (Is 0) private_rule)
-        ∷ []) t.1.1.1.1.0 in
+    bad_fields bytes 64 (segment_fields 5 text_address text_size_rule (Is (u64_at bytes 96)))
+    ∷ bad_fields bytes 120 (segment_fields 6 region_address (Between 0 (u64_at bytes 160 / 2)) memory_rule)
+    ∷ bad_fields bytes 176 (segment_fields 6 private_address (Is 0) private_rule)
+    ∷ []) t.1.1.1.1.0 in
     let text = bad_fields_none bytes 64 (segment_fields 5 text_address text_size_rule (Is (u64_at bytes 96))) s.0 in
     let region = bad_fields_none bytes 120 (segment_fields 6 region_address (Between 0 (u64_at bytes 160 / 2)) memory_rule) s.1.0 in
     let own = bad_fields_none bytes 176 (segment_fields 6 private_address (Is 0) private_rule) s.1.1.0 in
@@ -128,8 +129,8 @@ tables_sized bytes l le e =
     let lo = layout_of bytes in
     let P : Layout → Type 0 = λ k. short_tables k bytes ≡ None → (32 ≤ k.terra.size) × (36 ≤ k.strtab.size) in
     let f : P lo = λ (e : short_tables lo bytes ≡ None).
-        let h = bad_fields_none bytes lo.sections (field 224 8 (Between 32 (2 ^ 64 - 1)) ∷ field 352 8 (Between 36 (2 ^ 64 - 1)) ∷ []) e in
-        (leb-true _ _ (and_true _ _ h.0).0, leb-true _ _ (and_true _ _ h.1.0).0) in
+    let h = bad_fields_none bytes lo.sections (field 224 8 (Between 32 (2 ^ 64 - 1)) ∷ field 352 8 (Between 36 (2 ^ 64 - 1)) ∷ []) e in
+    (leb-true _ _ (and_true _ _ h.0).0, leb-true _ _ (and_true _ _ h.1.0).0) in
     subst P (sym le) f e
 
 pub tables_counted : (bytes : List ℕ) (l : Layout) → l ≡ layout_of bytes → bad_counts l bytes ≡ None → (l.terra.size ≡ 32 + 24 * export_count l bytes) × (l.symtab.size ≡ 24 + 24 * export_count l bytes)
@@ -138,9 +139,9 @@ tables_counted bytes l le e =
     let lo = layout_of bytes in
     let P : Layout → Type 0 = λ k. bad_counts k bytes ≡ None → (k.terra.size ≡ 32 + 24 * export_count k bytes) × (k.symtab.size ≡ 24 + 24 * export_count k bytes) in
     let f : P lo = λ (e : bad_counts lo bytes ≡ None).
-        let n = export_count lo bytes in
-        let h = bad_fields_none bytes lo.sections (field 224 8 (Is (32 + 24 * n)) ∷ field 288 8 (Is (24 + 24 * n)) ∷ []) e in
-        (eqb-true _ _ h.0, eqb-true _ _ h.1.0) in
+    let n = export_count lo bytes in
+    let h = bad_fields_none bytes lo.sections (field 224 8 (Is (32 + 24 * n)) ∷ field 288 8 (Is (24 + 24 * n)) ∷ []) e in
+    (eqb-true _ _ h.0, eqb-true _ _ h.1.0) in
     subst P (sym le) f e
 
 pub record TablesPassed (bytes : List ℕ) (l : Layout) : Type 0 where

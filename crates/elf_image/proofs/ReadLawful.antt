@@ -102,13 +102,13 @@ params_allowed bytes at le e =
     let h = or_else_none (bad_fields bytes at (code_fields n 0 8)) (bad_fields bytes at record_fields) e in
     let len = length-range (at + 8) n bytes (omega arith) in
     list_all-intro (allows param_rule) (slice_range bytes (at + 8) (at + 8 + n)) (λ k lt.
-        let kn : k < n = omega arith in
-        let x = number_at 1 bytes (at + (8 + (0 + k))) in
-        let g : allows (code_rule n (0 + k)) x ≡ true = code_at bytes at n 0 8 k h.0 (omega arith) in
-        let rule : code_rule n (0 + k) ≡ param_rule = ap (λ v. cond v param_rule (Is 0)) (lt-ltb (0 + k) n (omega arith)) in
-        let place : at + (8 + (0 + k)) ≡ at + 8 + k = omega arith in
-        let item : x ≡ get_or (slice_range bytes (at + 8) (at + 8 + n)) k 0 = number_at-1 (at + (8 + (0 + k))) bytes ∙ ap (λ (j : ℕ). get_or bytes j 0) place ∙ sym (range_at (at + 8) n k bytes kn) in
-        ap (allows param_rule) (sym item) ∙ ap (λ r. allows r x) (sym rule) ∙ g)
+    let kn : k < n = omega arith in
+    let x = number_at 1 bytes (at + (8 + (0 + k))) in
+    let g : allows (code_rule n (0 + k)) x ≡ true = code_at bytes at n 0 8 k h.0 (omega arith) in
+    let rule : code_rule n (0 + k) ≡ param_rule = ap (λ v. cond v param_rule (Is 0)) (lt-ltb (0 + k) n (omega arith)) in
+    let place : at + (8 + (0 + k)) ≡ at + 8 + k = omega arith in
+    let item : x ≡ get_or (slice_range bytes (at + 8) (at + 8 + n)) k 0 = number_at-1 (at + (8 + (0 + k))) bytes ∙ ap (λ (j : ℕ). get_or bytes j 0) place ∙ sym (range_at (at + 8) n k bytes kn) in
+    ap (allows param_rule) (sym item) ∙ ap (λ r. allows r x) (sym rule) ∙ g)
 
 result_allowed : (bytes : List ℕ) (at : ℕ) → bad_record bytes at ≡ None → allows result_rule (u8_at bytes (at + 17)) ≡ true
 unfolding bad_record

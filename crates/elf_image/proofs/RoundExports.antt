@@ -104,10 +104,13 @@ record_ok bytes text r name s h e =
     let c = and_true _ (allows result_rule s.result) b.1 in
     let d = and_true (leb (length s.params) 8) (list_all (allows param_rule) s.params) c.0 in
     let codes : bad_fields bytes r (code_fields (u8_at bytes (r + 16)) 0 8) ≡ None = ap (λ (n : ℕ). bad_fields bytes r (code_fields n 0 8)) h.tail.0 ∙ codes_none bytes s.params r 0 8 h.codes (length-codes s.params few) d.1 (omega arith) in
-    let rest = none_bad_fields bytes r record_fields
-        (by_rule (Between 0 8) _ _ h.tail.0 (and_intro (leb 0 (length s.params)) (leb (length s.params) 8) (le-leb _ _ (omega arith)) d.0)
-        , (by_rule result_rule _ _ h.tail.1.0 c.1
-        , (is_allowed _ _ h.tail.1.1.0, (is_allowed _ _ h.tail.1.1.1.0, tt)))) in
+    let rest = none_bad_fields bytes r record_fields (
+      by_rule (Between 0 8) _ _ h.tail.0 (and_intro (leb 0 (length s.params)) (leb (length s.params) 8) (le-leb _ _ (omega arith)) d.0),
+      (
+        by_rule result_rule _ _ h.tail.1.0 c.1,
+        (is_allowed _ _ h.tail.1.1.0, (is_allowed _ _ h.tail.1.1.1.0, tt)),
+      ),
+    ) in
     ap (λ (v : Option ImageError). or_else v (bad_fields bytes r record_fields)) codes ∙ rest
 
 -- ---- an entry of `.symtab`, and what the record says
@@ -149,7 +152,7 @@ symbol_right l bytes text r y name s rest h k e t d =
     let c = and_true (leb 1 (length s.name) && leb (length s.name) 255) _ a.0 in
     let n : u32_at bytes (r + 20) ≡ name = h.tail.1.1.1.1.0 in
     let rows = none_bad_fields bytes y (symbol_fields (u32_at bytes (r + 20)) (u64_at bytes r))
-        (is_allowed _ _ (k.0 ∙ sym n), (is_allowed _ _ k.1.0, (is_allowed _ _ k.1.1.0, (is_allowed _ _ k.1.1.1.0, (is_allowed _ _ (k.1.1.1.1.0 ∙ sym h.address), (is_allowed _ _ k.1.1.1.1.1.0, tt)))))) in
+    (is_allowed _ _ (k.0 ∙ sym n), (is_allowed _ _ k.1.0, (is_allowed _ _ k.1.1.0, (is_allowed _ _ k.1.1.1.0, (is_allowed _ _ (k.1.1.1.1.0 ∙ sym h.address), (is_allowed _ _ k.1.1.1.1.1.0, tt)))))) in
     let in_text : is_in_text l.text.size (u64_at bytes r) ≡ true = ap (λ (x : ℕ). is_in_text x (u64_at bytes r)) t ∙ ap (is_in_text text) h.address ∙ b.0 in
     let text_is : before_zero (s.name ++ 0 ∷ rest) ≡ s.name = before_zero-append s.name rest (before_zero_is s.name c.1) in
     let ended : ltb (length s.name) (length (s.name ++ 0 ∷ rest)) ≡ true = lt-ltb _ _ (omega (arith, length-append s.name (0 ∷ rest))) in

@@ -34,10 +34,67 @@ header_rows sections =
     ∷ (2, 64) ∷ (2, 56) ∷ (2, 3) ∷ (2, 64) ∷ (2, 6) ∷ (2, 5) ∷ []
 
 header_fit : (sections : ℕ) → sections < 2 ^ 64 → AllFit (header_rows sections)
-header_fit sections lt =
-    (small _ _ refl, (small _ _ refl, (small _ _ refl, (small _ _ refl, (small _ _ refl, (small _ _ refl, (small _ _ refl, (small _ _ refl, (small _ _ refl, (small _ _ refl, (small _ _ refl, (small _ _ refl, (small _ _ refl,
-    (small _ _ refl, (small _ _ refl, (small _ _ refl, (small _ _ refl, (small _ _ refl, (lt, (small _ _ refl,
-    (small _ _ refl, (small _ _ refl, (small _ _ refl, (small _ _ refl, (small _ _ refl, (small _ _ refl, tt))))))))))))))))))))))))))
+header_fit sections lt = (
+  small _ _ refl,
+  (
+    small _ _ refl,
+    (
+      small _ _ refl,
+      (
+        small _ _ refl,
+        (
+          small _ _ refl,
+          (
+            small _ _ refl,
+            (
+              small _ _ refl,
+              (
+                small _ _ refl,
+                (
+                  small _ _ refl,
+                  (
+                    small _ _ refl,
+                    (
+                      small _ _ refl,
+                      (
+                        small _ _ refl,
+                        (
+                          small _ _ refl,
+                          (
+                            small _ _ refl,
+                            (
+                              small _ _ refl,
+                              (
+                                small _ _ refl,
+                                (
+                                  small _ _ refl,
+                                  (
+                                    small _ _ refl,
+                                    (
+                                      lt,
+                                      (
+                                        small _ _ refl,
+                                        (small _ _ refl, (small _ _ refl, (small _ _ refl, (small _ _ refl, (small _ _ refl, (small _ _ refl, tt)))))),
+                                      ),
+                                    ),
+                                  ),
+                                ),
+                              ),
+                            ),
+                          ),
+                        ),
+                      ),
+                    ),
+                  ),
+                ),
+              ),
+            ),
+          ),
+        ),
+      ),
+    ),
+  ),
+)
 
 pub header_holds : (bytes : List ℕ) (l : Layout) → Has bytes 0 (header_bytes l) → l.sections < 2 ^ 64 → Holds bytes 0 0 (header_rows l.sections)
 unfolding header_bytes
@@ -48,12 +105,47 @@ unfolding bad_header
 header_ok bytes sections h =
     let i = h.1 in
     let a = i.1.1.1.1.1.1.1.1.1.1.1.1 in
-    let first = none_bad_fields bytes 0 identification_fields
-        (is_allowed _ _ i.0, (is_allowed _ _ i.1.0, (is_allowed _ _ i.1.1.0, (is_allowed _ _ i.1.1.1.0, (is_allowed _ _ i.1.1.1.1.0, (is_allowed _ _ i.1.1.1.1.1.0
-        , (is_allowed _ _ i.1.1.1.1.1.1.0, (is_allowed _ _ i.1.1.1.1.1.1.1.0, (is_allowed _ _ i.1.1.1.1.1.1.1.1.0, (is_allowed _ _ i.1.1.1.1.1.1.1.1.1.0, (is_allowed _ _ i.1.1.1.1.1.1.1.1.1.1.0, (is_allowed _ _ i.1.1.1.1.1.1.1.1.1.1.1.0, tt)))))))))))) in
-    let second = none_bad_fields bytes 0 header_fields
-        (is_allowed _ _ a.0, (is_allowed _ _ a.1.0, (is_allowed _ _ a.1.1.0, (is_allowed _ _ a.1.1.1.0, (is_allowed _ _ a.1.1.1.1.0, (refl, (is_allowed _ _ a.1.1.1.1.1.1.0
-        , (is_allowed _ _ a.1.1.1.1.1.1.1.0, (is_allowed _ _ a.1.1.1.1.1.1.1.1.0, (is_allowed _ _ a.1.1.1.1.1.1.1.1.1.0, (is_allowed _ _ a.1.1.1.1.1.1.1.1.1.1.0, (is_allowed _ _ a.1.1.1.1.1.1.1.1.1.1.1.0, (is_allowed _ _ a.1.1.1.1.1.1.1.1.1.1.1.1.0, tt))))))))))))) in
+    let first = none_bad_fields bytes 0 identification_fields (
+      is_allowed _ _ i.0,
+      (
+        is_allowed _ _ i.1.0,
+        (
+          is_allowed _ _ i.1.1.0,
+          (
+            is_allowed _ _ i.1.1.1.0,
+            (
+              is_allowed _ _ i.1.1.1.1.0,
+              (
+                is_allowed _ _ i.1.1.1.1.1.0,
+                (is_allowed _ _ i.1.1.1.1.1.1.0, (is_allowed _ _ i.1.1.1.1.1.1.1.0, (is_allowed _ _ i.1.1.1.1.1.1.1.1.0, (is_allowed _ _ i.1.1.1.1.1.1.1.1.1.0, (is_allowed _ _ i.1.1.1.1.1.1.1.1.1.1.0, (is_allowed _ _ i.1.1.1.1.1.1.1.1.1.1.1.0, tt)))))),
+              ),
+            ),
+          ),
+        ),
+      ),
+    ) in
+    let second = none_bad_fields bytes 0 header_fields (
+      is_allowed _ _ a.0,
+      (
+        is_allowed _ _ a.1.0,
+        (
+          is_allowed _ _ a.1.1.0,
+          (
+            is_allowed _ _ a.1.1.1.0,
+            (
+              is_allowed _ _ a.1.1.1.1.0,
+              (
+                refl,
+                (
+                  is_allowed _ _ a.1.1.1.1.1.1.0,
+                  (is_allowed _ _ a.1.1.1.1.1.1.1.0, (is_allowed _ _ a.1.1.1.1.1.1.1.1.0, (is_allowed _ _ a.1.1.1.1.1.1.1.1.1.0, (is_allowed _ _ a.1.1.1.1.1.1.1.1.1.1.0, (is_allowed _ _ a.1.1.1.1.1.1.1.1.1.1.1.0, (is_allowed _ _ a.1.1.1.1.1.1.1.1.1.1.1.1.0, tt)))))),
+                ),
+              ),
+            ),
+          ),
+        ),
+      ),
+    ) in
     ap (λ (v : Option ImageError). or_else v (bad_fields bytes 0 header_fields)) first ∙ second
 
 -- ---- program headers
@@ -71,9 +163,22 @@ segment_holds bytes base flags offset address in_file in_memory h f o a s m =
 pub segment_ok : (bytes : List ℕ) (base flags offset address in_file in_memory : ℕ) (file memory : Rule) → Holds bytes base 0 (segment_rows flags offset address in_file in_memory)
     → allows file in_file ≡ true → allows memory in_memory ≡ true → bad_fields bytes base (segment_fields flags address file memory) ≡ None
 segment_ok bytes base flags offset address in_file in_memory file memory h f m =
-    none_bad_fields bytes base (segment_fields flags address file memory)
-        (is_allowed _ _ h.0, (is_allowed _ _ h.1.0, (refl, (is_allowed _ _ h.1.1.1.0, (is_allowed _ _ h.1.1.1.1.0
-        , (by_rule file _ _ h.1.1.1.1.1.0 f, (by_rule memory _ _ h.1.1.1.1.1.1.0 m, (is_allowed _ _ h.1.1.1.1.1.1.1.0, tt))))))))
+    none_bad_fields bytes base (segment_fields flags address file memory) (
+      is_allowed _ _ h.0,
+      (
+        is_allowed _ _ h.1.0,
+        (
+          refl,
+          (
+            is_allowed _ _ h.1.1.1.0,
+            (
+              is_allowed _ _ h.1.1.1.1.0,
+              (by_rule file _ _ h.1.1.1.1.1.0 f, (by_rule memory _ _ h.1.1.1.1.1.1.0 m, (is_allowed _ _ h.1.1.1.1.1.1.1.0, tt))),
+            ),
+          ),
+        ),
+      ),
+    )
 
 -- ---- section headers
 
@@ -91,10 +196,25 @@ section_holds bytes base start name kind flags address offset size link info ali
 pub section_ok : (bytes : List ℕ) (base name kind flags address offset size link info align entry : ℕ) (place bytes_rule : Rule) → Holds bytes base 0 (section_rows name kind flags address offset size link info align entry)
     → allows place offset ≡ true → allows bytes_rule size ≡ true → bad_fields bytes base (section_fields name kind flags address place bytes_rule link info align entry) ≡ None
 section_ok bytes base name kind flags address offset size link info align entry place bytes_rule h p s =
-    none_bad_fields bytes base (section_fields name kind flags address place bytes_rule link info align entry)
-        (is_allowed _ _ h.0, (is_allowed _ _ h.1.0, (is_allowed _ _ h.1.1.0, (is_allowed _ _ h.1.1.1.0
-        , (by_rule place _ _ h.1.1.1.1.0 p, (by_rule bytes_rule _ _ h.1.1.1.1.1.0 s
-        , (is_allowed _ _ h.1.1.1.1.1.1.0, (is_allowed _ _ h.1.1.1.1.1.1.1.0, (is_allowed _ _ h.1.1.1.1.1.1.1.1.0, (is_allowed _ _ h.1.1.1.1.1.1.1.1.1.0, tt))))))))))
+    none_bad_fields bytes base (section_fields name kind flags address place bytes_rule link info align entry) (
+      is_allowed _ _ h.0,
+      (
+        is_allowed _ _ h.1.0,
+        (
+          is_allowed _ _ h.1.1.0,
+          (
+            is_allowed _ _ h.1.1.1.0,
+            (
+              by_rule place _ _ h.1.1.1.1.0 p,
+              (
+                by_rule bytes_rule _ _ h.1.1.1.1.1.0 s,
+                (is_allowed _ _ h.1.1.1.1.1.1.0, (is_allowed _ _ h.1.1.1.1.1.1.1.0, (is_allowed _ _ h.1.1.1.1.1.1.1.1.0, (is_allowed _ _ h.1.1.1.1.1.1.1.1.1.0, tt)))),
+              ),
+            ),
+          ),
+        ),
+      ),
+    )
 
 -- ---- the headers of an image
 
@@ -234,33 +354,58 @@ headers_round i h hh le =
     let half : 2 * length i.statics ≤ i.memory = h.statics in
     let statics-rule : allows (Between 0 (u64_at xs 160 / 2)) l.statics.size ≡ true = and_intro (leb 0 (length i.statics)) (leb (length i.statics) (u64_at xs 160 / 2)) (le-leb _ _ (omega arith)) (le-leb _ _ (omega arith)) in
     let V : Layout → Type 0 = λ k. first_of (short_header xs ∷ bad_magic xs ∷ bad_header xs ∷ short_segments xs ∷ bad_segments xs ∷ short_sections k xs ∷ bad_sections k xs ∷ []) ≡ None in
-    let at : V l = none_first_of (short_header xs ∷ bad_magic xs ∷ bad_header xs ∷ short_segments xs ∷ bad_segments xs ∷ short_sections l xs ∷ bad_sections l xs ∷ [])
-        (ap (λ (t : Bool). unless t Short) (le-leb 64 (length xs) (omega arith))
-        , (ap (λ (t : Bool). unless t BadMagic) (eq-eqb (u32_at xs 0) 0x464C457F hh.header.0)
-        , (header_ok xs l.sections hh.header
-        , (ap (λ (t : Bool). unless t Short) (le-leb 232 (length xs) long)
-        , (none_first_of (
-            bad_fields xs 64 (segment_fields 5 text_address text_size_rule (Is (u64_at xs 96)))
-            ∷ bad_fields xs 120 (segment_fields 6 region_address (Between 0 (u64_at xs 160 / 2)) memory_rule)
-            ∷ bad_fields xs 176 (segment_fields 6 private_address (Is 0) private_rule)
-            ∷ [])
-            (segment_ok xs 64 5 l.text.offset text_address l.text.size l.text.size text_size_rule (Is (u64_at xs 96)) hh.text text-rule (eq-eqb l.text.size (u64_at xs 96) (sym t1))
-            , (segment_ok xs 120 6 l.statics.offset region_address l.statics.size l.memory (Between 0 (u64_at xs 160 / 2)) memory_rule hh.region statics-rule h.memory
-            , (segment_ok xs 176 6 (l.statics.offset + l.statics.size) private_address 0 l.private (Is 0) private_rule hh.own refl h.private, tt)))
-        , (ap (λ (t : Bool). unless t Short) (le-leb (l.sections + 384) (length xs) (omega arith))
-        , (none_first_of (
-            bad_fields xs l.sections (section_fields 0 0 0 0 (Is 0) (Is 0) 0 0 0 0)
-            ∷ bad_fields xs (l.sections + 64) (section_fields 1 1 6 text_address (Is l.text.offset) (Is l.text.size) 0 0 1 0)
-            ∷ bad_fields xs (l.sections + 128) (section_fields 7 1 3 region_address (Is l.statics.offset) (Is l.statics.size) 0 0 1 0)
-            ∷ bad_fields xs (l.sections + 192) (section_fields 13 1 0 0 Any Any 0 0 1 0)
-            ∷ bad_fields xs (l.sections + 256) (section_fields 20 2 0 0 Any Any 5 1 1 24)
-            ∷ bad_fields xs (l.sections + 320) (section_fields 28 3 0 0 Any Any 0 0 1 0)
-            ∷ [])
-            (section_ok xs l.sections 0 0 0 0 0 0 0 0 0 0 (Is 0) (Is 0) hh.null_section refl refl
-            , (section_ok xs (l.sections + 64) 1 1 6 text_address l.text.offset l.text.size 0 0 1 0 (Is l.text.offset) (Is l.text.size) hh.text_section (eq-eqb l.text.offset l.text.offset refl) (eq-eqb l.text.size l.text.size refl)
-            , (section_ok xs (l.sections + 128) 7 1 3 region_address l.statics.offset l.statics.size 0 0 1 0 (Is l.statics.offset) (Is l.statics.size) hh.data_section (eq-eqb l.statics.offset l.statics.offset refl) (eq-eqb l.statics.size l.statics.size refl)
-            , (section_ok xs (l.sections + 192) 13 1 0 0 l.terra.offset l.terra.size 0 0 1 0 Any Any hh.terra_section refl refl
-            , (section_ok xs (l.sections + 256) 20 2 0 0 l.symtab.offset l.symtab.size 5 1 1 24 Any Any hh.symtab_section refl refl
-            , (section_ok xs (l.sections + 320) 28 3 0 0 l.strtab.offset l.strtab.size 0 0 1 0 Any Any hh.strtab_section refl refl, tt))))))
-        , tt))))))) in
+    let at : V l = none_first_of (short_header xs ∷ bad_magic xs ∷ bad_header xs ∷ short_segments xs ∷ bad_segments xs ∷ short_sections l xs ∷ bad_sections l xs ∷ []) (
+      ap (λ (t : Bool). unless t Short) (le-leb 64 (length xs) (omega arith)),
+      (
+        ap (λ (t : Bool). unless t BadMagic) (eq-eqb (u32_at xs 0) 0x464C457F hh.header.0),
+        (
+          header_ok xs l.sections hh.header,
+          (
+            ap (λ (t : Bool). unless t Short) (le-leb 232 (length xs) long),
+            (
+              none_first_of (
+                  bad_fields xs 64 (segment_fields 5 text_address text_size_rule (Is (u64_at xs 96)))
+                  ∷ bad_fields xs 120 (segment_fields 6 region_address (Between 0 (u64_at xs 160 / 2)) memory_rule)
+                  ∷ bad_fields xs 176 (segment_fields 6 private_address (Is 0) private_rule)
+                  ∷ []) (
+                    segment_ok xs 64 5 l.text.offset text_address l.text.size l.text.size text_size_rule (Is (u64_at xs 96)) hh.text text-rule (eq-eqb l.text.size (u64_at xs 96) (sym t1)),
+                    (
+                      segment_ok xs 120 6 l.statics.offset region_address l.statics.size l.memory (Between 0 (u64_at xs 160 / 2)) memory_rule hh.region statics-rule h.memory,
+                      (segment_ok xs 176 6 (l.statics.offset + l.statics.size) private_address 0 l.private (Is 0) private_rule hh.own refl h.private, tt),
+                    ),
+                  ),
+              (
+                ap (λ (t : Bool). unless t Short) (le-leb (l.sections + 384) (length xs) (omega arith)),
+                (
+                  none_first_of (
+                      bad_fields xs l.sections (section_fields 0 0 0 0 (Is 0) (Is 0) 0 0 0 0)
+                      ∷ bad_fields xs (l.sections + 64) (section_fields 1 1 6 text_address (Is l.text.offset) (Is l.text.size) 0 0 1 0)
+                      ∷ bad_fields xs (l.sections + 128) (section_fields 7 1 3 region_address (Is l.statics.offset) (Is l.statics.size) 0 0 1 0)
+                      ∷ bad_fields xs (l.sections + 192) (section_fields 13 1 0 0 Any Any 0 0 1 0)
+                      ∷ bad_fields xs (l.sections + 256) (section_fields 20 2 0 0 Any Any 5 1 1 24)
+                      ∷ bad_fields xs (l.sections + 320) (section_fields 28 3 0 0 Any Any 0 0 1 0)
+                      ∷ []) (
+                        section_ok xs l.sections 0 0 0 0 0 0 0 0 0 0 (Is 0) (Is 0) hh.null_section refl refl,
+                        (
+                          section_ok xs (l.sections + 64) 1 1 6 text_address l.text.offset l.text.size 0 0 1 0 (Is l.text.offset) (Is l.text.size) hh.text_section (eq-eqb l.text.offset l.text.offset refl) (eq-eqb l.text.size l.text.size refl),
+                          (
+                            section_ok xs (l.sections + 128) 7 1 3 region_address l.statics.offset l.statics.size 0 0 1 0 (Is l.statics.offset) (Is l.statics.size) hh.data_section (eq-eqb l.statics.offset l.statics.offset refl) (eq-eqb l.statics.size l.statics.size refl),
+                            (
+                              section_ok xs (l.sections + 192) 13 1 0 0 l.terra.offset l.terra.size 0 0 1 0 Any Any hh.terra_section refl refl,
+                              (
+                                section_ok xs (l.sections + 256) 20 2 0 0 l.symtab.offset l.symtab.size 5 1 1 24 Any Any hh.symtab_section refl refl,
+                                (section_ok xs (l.sections + 320) 28 3 0 0 l.strtab.offset l.strtab.size 0 0 1 0 Any Any hh.strtab_section refl refl, tt),
+                              ),
+                            ),
+                          ),
+                        ),
+                      ),
+                  tt,
+                ),
+              ),
+            ),
+          ),
+        ),
+      ),
+    ) in
     subst V (sym le) at

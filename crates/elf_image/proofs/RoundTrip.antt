@@ -87,20 +87,31 @@ names_stand bytes l rest h =
     let at = l.strtab.offset in
     let xs = section_names ++ rest in
     none_first_of (
-        bad_bytes bytes at 0 (0 ∷ [])
-        ∷ bad_bytes bytes at 1 (section_name (codes ".text"))
-        ∷ bad_bytes bytes at 7 (section_name (codes ".data"))
-        ∷ bad_bytes bytes at 13 (section_name (codes ".terra"))
-        ∷ bad_bytes bytes at 20 (section_name (codes ".symtab"))
-        ∷ bad_bytes bytes at 28 (section_name (codes ".strtab"))
-        ∷ [])
-        (bytes_stand bytes at 0 (0 ∷ []) (inner bytes at 0 xs [] (0 ∷ []) (drop 1 section_names ++ rest) h refl refl)
-        , (bytes_stand bytes at 1 (section_name (codes ".text")) (inner bytes at 1 xs (take 1 section_names) (section_name (codes ".text")) (drop 7 section_names ++ rest) h refl refl)
-        , (bytes_stand bytes at 7 (section_name (codes ".data")) (inner bytes at 7 xs (take 7 section_names) (section_name (codes ".data")) (drop 13 section_names ++ rest) h refl refl)
-        , (bytes_stand bytes at 13 (section_name (codes ".terra")) (inner bytes at 13 xs (take 13 section_names) (section_name (codes ".terra")) (drop 20 section_names ++ rest) h refl refl)
-        , (bytes_stand bytes at 20 (section_name (codes ".symtab")) (inner bytes at 20 xs (take 20 section_names) (section_name (codes ".symtab")) (drop 28 section_names ++ rest) h refl refl)
-        , (bytes_stand bytes at 28 (section_name (codes ".strtab")) (inner bytes at 28 xs (take 28 section_names) (section_name (codes ".strtab")) rest h refl refl)
-        , tt))))))
+    bad_bytes bytes at 0 (0 ∷ [])
+    ∷ bad_bytes bytes at 1 (section_name (codes ".text"))
+    ∷ bad_bytes bytes at 7 (section_name (codes ".data"))
+    ∷ bad_bytes bytes at 13 (section_name (codes ".terra"))
+    ∷ bad_bytes bytes at 20 (section_name (codes ".symtab"))
+    ∷ bad_bytes bytes at 28 (section_name (codes ".strtab"))
+    ∷ []) (
+      bytes_stand bytes at 0 (0 ∷ []) (inner bytes at 0 xs [] (0 ∷ []) (drop 1 section_names ++ rest) h refl refl),
+      (
+        bytes_stand bytes at 1 (section_name (codes ".text")) (inner bytes at 1 xs (take 1 section_names) (section_name (codes ".text")) (drop 7 section_names ++ rest) h refl refl),
+        (
+          bytes_stand bytes at 7 (section_name (codes ".data")) (inner bytes at 7 xs (take 7 section_names) (section_name (codes ".data")) (drop 13 section_names ++ rest) h refl refl),
+          (
+            bytes_stand bytes at 13 (section_name (codes ".terra")) (inner bytes at 13 xs (take 13 section_names) (section_name (codes ".terra")) (drop 20 section_names ++ rest) h refl refl),
+            (
+              bytes_stand bytes at 20 (section_name (codes ".symtab")) (inner bytes at 20 xs (take 20 section_names) (section_name (codes ".symtab")) (drop 28 section_names ++ rest) h refl refl),
+              (
+                bytes_stand bytes at 28 (section_name (codes ".strtab")) (inner bytes at 28 xs (take 28 section_names) (section_name (codes ".strtab")) rest h refl refl),
+                tt,
+              ),
+            ),
+          ),
+        ),
+      ),
+    )
 
 -- ---- the tests behind the headers
 
@@ -117,7 +128,7 @@ terra_holds i h =
     let half : 2 * length i.statics ≤ i.memory = h.statics in
     let heap : i.heap ≡ heap_start (length i.statics) = h.heap in
     holds xs at 0 (terra_rows i) (Has-start xs at _ (Has-left xs at (numbers (terra_rows i)) (records_bytes 36 i.exports) (stands i h).terra))
-        (small _ _ refl, (h.count, (omega arith, (omega arith, (omega arith, tt)))))
+    (small _ _ refl, (h.count, (omega arith, (omega arith, (omega arith, tt)))))
 
 exports_stand : (i : Image) → IsLawful i → ExportsRound (layout_for i) (bytes_of i) ((layout_for i).terra.offset + 32) ((layout_for i).symtab.offset + 24) i.exports
 unfolding terra_bytes symtab_bytes strtab_bytes layout_for
@@ -149,20 +160,36 @@ tables_round i h hh =
     let ends : AllEnd (length xs) (parts_of l) = (omega arith, (omega arith, (omega arith, (omega arith, (omega arith, (omega arith, (omega arith, tt))))))) in
     let ordered : InOrder 0 (parts_of l) = (omega arith, (omega arith, (omega arith, (omega arith, (omega arith, (omega arith, (omega arith, tt))))))) in
     let n = export_count l xs in
-    none_first_of (short_parts l xs ∷ overlapping_parts l ∷ short_tables l xs ∷ bad_terra l xs ∷ bad_counts l xs ∷ bad_terra_records l xs ∷ bad_first_symbol l xs ∷ bad_section_names l xs ∷ [])
-        (ap (λ (v : Bool). unless v Short) (all_end (length xs) (parts_of l) ends)
-        , (ap (λ (v : Bool). unless v Overlap) (apart_in_order 0 (parts_of l) ordered)
-        , (none_bad_fields xs l.sections (field 224 8 (Between 32 (2 ^ 64 - 1)) ∷ field 352 8 (Between 36 (2 ^ 64 - 1)) ∷ [])
-            (by_rule (Between 32 (2 ^ 64 - 1)) _ _ r1 (and_intro _ _ (le-leb 32 l.terra.size (omega arith)) (le-leb l.terra.size (2 ^ 64 - 1) (omega arith)))
-            , (by_rule (Between 36 (2 ^ 64 - 1)) _ _ n1 (and_intro _ _ (le-leb 36 l.strtab.size (omega arith)) (le-leb l.strtab.size (2 ^ 64 - 1) (omega arith))), tt))
-        , (none_bad_fields xs l.terra.offset (terra_fields l)
-            (is_allowed _ _ th.0, (refl, (is_allowed _ _ th.1.1.0, (is_allowed _ _ (th.1.1.1.0 ∙ h.heap), (is_allowed _ _ th.1.1.1.1.0, tt)))))
-        , (none_bad_fields xs l.sections (field 224 8 (Is (32 + 24 * n)) ∷ field 288 8 (Is (24 + 24 * n)) ∷ [])
-            (is_allowed _ _ (r1 ∙ ap (λ (k : ℕ). 32 + 24 * k) (sym count)), (is_allowed _ _ (y1 ∙ ap (λ (k : ℕ). 24 + 24 * k) (sym count)), tt))
-        , (ap (λ (k : ℕ). bad_records k xs (l.terra.offset + 32)) count ∙ (exports_stand i h).records
-        , (bytes_stand xs l.symtab.offset 0 (replicate 24 0) (Has-start xs l.symtab.offset (replicate 24 0) (Has-left xs l.symtab.offset (replicate 24 0) (symbols_bytes 36 i.exports) s.symtab))
-        , (names_stand xs l (names_bytes i.exports) s.strtab
-        , tt))))))))
+    none_first_of (short_parts l xs ∷ overlapping_parts l ∷ short_tables l xs ∷ bad_terra l xs ∷ bad_counts l xs ∷ bad_terra_records l xs ∷ bad_first_symbol l xs ∷ bad_section_names l xs ∷ []) (
+      ap (λ (v : Bool). unless v Short) (all_end (length xs) (parts_of l) ends),
+      (
+        ap (λ (v : Bool). unless v Overlap) (apart_in_order 0 (parts_of l) ordered),
+        (
+          none_bad_fields xs l.sections (field 224 8 (Between 32 (2 ^ 64 - 1)) ∷ field 352 8 (Between 36 (2 ^ 64 - 1)) ∷ []) (
+            by_rule (Between 32 (2 ^ 64 - 1)) _ _ r1 (and_intro _ _ (le-leb 32 l.terra.size (omega arith)) (le-leb l.terra.size (2 ^ 64 - 1) (omega arith))),
+            (by_rule (Between 36 (2 ^ 64 - 1)) _ _ n1 (and_intro _ _ (le-leb 36 l.strtab.size (omega arith)) (le-leb l.strtab.size (2 ^ 64 - 1) (omega arith))), tt),
+          ),
+          (
+            none_bad_fields xs l.terra.offset (terra_fields l)
+                (is_allowed _ _ th.0, (refl, (is_allowed _ _ th.1.1.0, (is_allowed _ _ (th.1.1.1.0 ∙ h.heap), (is_allowed _ _ th.1.1.1.1.0, tt))))),
+            (
+              none_bad_fields xs l.sections (field 224 8 (Is (32 + 24 * n)) ∷ field 288 8 (Is (24 + 24 * n)) ∷ [])
+                  (is_allowed _ _ (r1 ∙ ap (λ (k : ℕ). 32 + 24 * k) (sym count)), (is_allowed _ _ (y1 ∙ ap (λ (k : ℕ). 24 + 24 * k) (sym count)), tt)),
+              (
+                ap (λ (k : ℕ). bad_records k xs (l.terra.offset + 32)) count ∙ (exports_stand i h).records,
+                (
+                  bytes_stand xs l.symtab.offset 0 (replicate 24 0) (Has-start xs l.symtab.offset (replicate 24 0) (Has-left xs l.symtab.offset (replicate 24 0) (symbols_bytes 36 i.exports) s.symtab)),
+                  (
+                    names_stand xs l (names_bytes i.exports) s.strtab,
+                    tt,
+                  ),
+                ),
+              ),
+            ),
+          ),
+        ),
+      ),
+    )
 
 image_round : (i : Image) → IsLawful i → image_at (layout_for i) (bytes_of i) ≡ i
 unfolding image_at layout_for

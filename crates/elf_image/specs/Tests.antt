@@ -106,7 +106,7 @@ unfoldable pub bad_exports : Layout → List ℕ → Option ImageError
 bad_exports l bytes =
     let n = export_count l bytes in
     unless (are_right n l bytes (l.terra.offset + 32) (l.symtab.offset + 24)
-        && names_differ (symbols_at n l bytes (l.terra.offset + 32))) BadSymbol
+    && names_differ (symbols_at n l bytes (l.terra.offset + 32))) BadSymbol
 
 -- the tests of the headers
 unfoldable pub verdict_headers : List ℕ → Option ImageError

@@ -90,7 +90,12 @@ pub fn check_u64(bytes: &[u8], base: usize, offset: usize, rule: Rule) -> Result
 
 /// Tests the field of these bytes at `offset` in the table at `base`.
 #[tactic(auto, unfolding(crate::specs::Fields::bad_bytes))]
-pub fn check_bytes(bytes: &[u8], base: usize, offset: usize, wanted: &[u8]) -> Result<(), ImageError>
+pub fn check_bytes(
+    bytes: &[u8],
+    base: usize,
+    offset: usize,
+    wanted: &[u8],
+) -> Result<(), ImageError>
     requires { base + offset + length wanted.now ≤ length bytes.now }
     ensures { Says result (bad_bytes bytes.now base offset wanted.now) }
 {

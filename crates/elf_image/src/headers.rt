@@ -14,6 +14,7 @@ use crate::rule::Rule;
 
 // The four bytes 7F 45 4C 46.
 pub const MAGIC: u32 = 0x464C_457F;
+
 const HEADER_SIZE: usize = 64;
 // Three program headers of 56 bytes stand right behind the header.
 const HEADERS_SIZE: usize = 232;
@@ -21,7 +22,9 @@ const HEADERS_SIZE: usize = 232;
 const SECTIONS_SIZE: u64 = 384;
 
 pub const TEXT_ADDRESS: u64 = 0x1_0000;
+
 pub const REGION_ADDRESS: u64 = 0x4000_0000;
+
 pub const PRIVATE_ADDRESS: u64 = 0x1_0000_0000;
 
 /// The fields of a section header that do not depend on the file.
@@ -168,6 +171,7 @@ pub const NULL: Section = Section {
     align: 0,
     entry_size: 0,
 };
+
 pub const TEXT: Section = Section {
     name: 1,
     kind: 1,
@@ -178,6 +182,7 @@ pub const TEXT: Section = Section {
     align: 1,
     entry_size: 0,
 };
+
 pub const DATA: Section = Section {
     name: 7,
     kind: 1,
@@ -188,6 +193,7 @@ pub const DATA: Section = Section {
     align: 1,
     entry_size: 0,
 };
+
 pub const TERRA: Section = Section {
     name: 13,
     kind: 1,
@@ -198,6 +204,7 @@ pub const TERRA: Section = Section {
     align: 1,
     entry_size: 0,
 };
+
 pub const SYMTAB: Section = Section {
     name: 20,
     kind: 2,
@@ -208,6 +215,7 @@ pub const SYMTAB: Section = Section {
     align: 1,
     entry_size: 24,
 };
+
 pub const STRTAB: Section = Section {
     name: 28,
     kind: 3,

@@ -9,17 +9,14 @@ ghost use Rattle.elf_image.specs.Written.{bytes_of, file_size};
 /// Each list of bytes is exactly one image or has exactly one fault.
 pub fn one_answer()
     ensures { (bytes : List ℕ) → HasOneAnswer bytes }
-{
-}
+{}
 
 /// The file of a lawful image is this image.
 pub fn written_loads()
     ensures { (image : Image) → IsLawful image → Loads (bytes_of image) image }
-{
-}
+{}
 
 /// The file of a lawful image has the bytes of its parts, and no others.
 pub fn written_is_tight()
     ensures { (image : Image) → IsLawful image → length (bytes_of image) ≡ file_size image }
-{
-}
+{}

@@ -13,9 +13,9 @@ mod names;
 mod parts;
 mod putting;
 mod reading;
+mod rule;
 mod tables;
 mod writing;
-mod rule;
 
 pub use error::ImageError;
 pub use image::{Bytes, Image, Symbol, Symbols, Words};

@@ -50,10 +50,7 @@ fn ends_before(first: Part, second: Part) -> bool
 fn is_apart(first: Part, second: Part) -> bool
     ensures { result ≡ is_apart first second }
 {
-    first.size == 0
-        || second.size == 0
-        || ends_before(first, second)
-        || ends_before(second, first)
+    first.size == 0 || second.size == 0 || ends_before(first, second) || ends_before(second, first)
 }
 
 fn is_apart_from_each(part: Part, others: &[Part]) -> bool

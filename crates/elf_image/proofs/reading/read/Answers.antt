@@ -9,4 +9,4 @@ pub returns-clause-lawful : goal.returns-clause-lawful
 returns-clause-lawful c =
     let bytes = c.args.bytes.now in
     ok_lawful c.read_image.result (verdict_of bytes) (image_at (layout_of bytes) bytes) c.read_image.ensures
-        (image_lawful bytes (λ i. omega (arith, c.type_inv.bytes i)) c.requires)
+    (image_lawful bytes (λ i. omega (arith, c.type_inv.bytes i)) c.requires)

@@ -10,10 +10,11 @@ loop-symbol-preserved c =
     let x = c.symbol-item.result in
     let name = c.loop-symbol.name in
     let next = name + (length c.as_slice.result.now + 1) in
-    let n : next ≡ name + length x.name + 1 = omega (arith, ap length c.as_slice.ensures) in
-    (append_turn_by c.loop-symbol.out.items _ _ _ _ _ c.in_ok-put_record.ensures c.loop-symbol.invariant.0 (records_turn_by name next xs i x c.symbol-item.is c.loop-symbol-test.true n)
-    , fit_turn_by name next xs i x c.symbol-item.is c.loop-symbol-test.true n c.loop-symbol.invariant.1
-    , (lawful_turn (is_lawful_symbol c.args.text) xs i x c.symbol-item.is c.loop-symbol-test.true c.loop-symbol.invariant.2).1)
+    let n : next ≡ name + length x.name + 1 = omega (arith, ap length c.as_slice.ensures) in (
+      append_turn_by c.loop-symbol.out.items _ _ _ _ _ c.in_ok-put_record.ensures c.loop-symbol.invariant.0 (records_turn_by name next xs i x c.symbol-item.is c.loop-symbol-test.true n),
+      fit_turn_by name next xs i x c.symbol-item.is c.loop-symbol-test.true n c.loop-symbol.invariant.1,
+      (lawful_turn (is_lawful_symbol c.args.text) xs i x c.symbol-item.is c.loop-symbol-test.true c.loop-symbol.invariant.2).1,
+    )
 
 pub returns : goal.returns
 returns c = append_end _ _ _ c.loop-symbol.invariant.0 (records_end _ c.args.symbols.now _ c.loop-symbol-test.false)

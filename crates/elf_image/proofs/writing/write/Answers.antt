@@ -32,13 +32,13 @@ returns c =
     let le = c.layout_for-layout.ensures in
     let xe = c.as_slice-exports.ensures in
     eight c.in_ok-out.out.items c.put_header.new.out.items c.put_segments.new.out.items c.put_words.new.out.items c.extend_from_slice.new.self.items c.put_terra.new.out.items c.put_symtab.new.out.items c.put_strtab.new.out.items c.put_sections.new.out.items
-        (header_bytes l) (segments_bytes l) (words_bytes i.text) i.statics (terra_bytes i) (symtab_bytes i.exports) (strtab_bytes i.exports) (sections_bytes l)
-        c.in_ok-out.ensures.items
-        (c.in_ok-put_header.ensures ∙ ap (λ (k : Layout). c.in_ok-out.out.items ++ header_bytes k) le)
-        (c.in_ok-put_segments.ensures ∙ ap (λ (k : Layout). c.put_header.new.out.items ++ segments_bytes k) le)
-        (c.in_ok-put_words.ensures ∙ ap (λ (xs : List ℕ). c.put_segments.new.out.items ++ words_bytes xs) c.as_slice.ensures)
-        (c.in_ok-extend_from_slice.ensures.items ∙ ap (λ (xs : List ℕ). c.put_words.new.out.items ++ xs) c.as_slice-2.ensures)
-        c.in_ok-put_terra.ensures
-        (c.in_ok-put_symtab.ensures ∙ ap (λ (xs : List Symbol). c.put_terra.new.out.items ++ symtab_bytes xs) xe)
-        (c.in_ok-put_strtab.ensures ∙ ap (λ (xs : List Symbol). c.put_symtab.new.out.items ++ strtab_bytes xs) xe)
-        (c.in_ok-put_sections.ensures ∙ ap (λ (k : Layout). c.put_strtab.new.out.items ++ sections_bytes k) le)
+    (header_bytes l) (segments_bytes l) (words_bytes i.text) i.statics (terra_bytes i) (symtab_bytes i.exports) (strtab_bytes i.exports) (sections_bytes l)
+    c.in_ok-out.ensures.items
+    (c.in_ok-put_header.ensures ∙ ap (λ (k : Layout). c.in_ok-out.out.items ++ header_bytes k) le)
+    (c.in_ok-put_segments.ensures ∙ ap (λ (k : Layout). c.put_header.new.out.items ++ segments_bytes k) le)
+    (c.in_ok-put_words.ensures ∙ ap (λ (xs : List ℕ). c.put_segments.new.out.items ++ words_bytes xs) c.as_slice.ensures)
+    (c.in_ok-extend_from_slice.ensures.items ∙ ap (λ (xs : List ℕ). c.put_words.new.out.items ++ xs) c.as_slice-2.ensures)
+    c.in_ok-put_terra.ensures
+    (c.in_ok-put_symtab.ensures ∙ ap (λ (xs : List Symbol). c.put_terra.new.out.items ++ symtab_bytes xs) xe)
+    (c.in_ok-put_strtab.ensures ∙ ap (λ (xs : List Symbol). c.put_symtab.new.out.items ++ strtab_bytes xs) xe)
+    (c.in_ok-put_sections.ensures ∙ ap (λ (k : Layout). c.put_strtab.new.out.items ++ sections_bytes k) le)
