@@ -1,16 +1,15 @@
 -- Where the bytes of a file stand, and what is read of them.
-use Rattle.std.proofs.Common.{◌≡◌, ℕ, zero, suc, ◌+◌, ◌-◌, ◌*◌, ◌^◌, ◌<◌, ◌≤◌, Bool, true, false, ◌&&◌, eqb, leb, ltb, List, [], ◌∷◌, ◌++◌, length, get_or, take, drop, slice_range, Option, None, refl, sym, ap, subst, ◌∙◌, inl, inr, arith, add-zero}
+use Rattle.std.proofs.Common.{◌≡◌, ℕ, zero, suc, ◌+◌, ◌^◌, ◌<◌, ◌≤◌, Bool, true, List, [], ◌∷◌, ◌++◌, length, get_or, slice_range, None, refl, sym, ap, subst, ◌∙◌, arith, add-zero}
 use Rattle.std.specs.Str.{bytes_eq}
-use Rattle.std.proofs.lemmas.Bool.{eq-eqb, ltb-true, cases_lt}
-use Rattle.std.proofs.lemmas.List.{length-append, length-take, length-drop, get_or-take, get_or-drop, get_or_append_left, get_or-append-add, ext_get_or, append-nil}
+use Rattle.std.proofs.lemmas.Bool.{eq-eqb}
+use Rattle.std.proofs.lemmas.List.{length-append, get_or_append_left, get_or-append-add, ext_get_or, append-nil}
 use Rattle.std.proofs.lemmas.Slice.Eq.{bytes_eq-Decides}
 use Rattle.byteorder.specs.Endian.{little_from, little_bytes}
 use Rattle.byteorder.specs.Numbers.{little_number-reads_back, length-bytes_low_first}
-use Rattle.elf_image.specs.declared.error.ImageError.{ImageError}
 use Rattle.elf_image.specs.declared.error.ImageError.TheVariants.{BadField}
 use Rattle.elf_image.specs.declared.rule.Rule.{Rule}
 use Rattle.elf_image.specs.declared.rule.Rule.TheVariants.{Is}
-use Rattle.elf_image.specs.Fields.{number_at, Field, allows, unless, bad_bytes}
+use Rattle.elf_image.specs.Fields.{number_at, allows, unless, bad_bytes}
 use Rattle.elf_image.specs.Written.{numbers}
 use Rattle.elf_image.proofs.ReadLawful.{length-range, range_at}
 

@@ -1,5 +1,5 @@
 -- How many bytes each part of a file has, and where it stands.
-use Rattle.std.proofs.Common.{◌≡◌, ℕ, zero, suc, ◌+◌, ◌-◌, ◌*◌, ◌^◌, ◌<◌, ◌≤◌, Bool, true, false, ◌&&◌, leb, List, [], ◌∷◌, ◌++◌, length, replicate, refl, sym, ap, subst, ◌∙◌, arith}
+use Rattle.std.proofs.Common.{◌≡◌, ℕ, ◌+◌, ◌-◌, ◌*◌, ◌≤◌, true, List, [], ◌∷◌, ◌++◌, length, replicate, refl, arith}
 use Rattle.std.specs.List.{list_all}
 use Rattle.std.proofs.lemmas.Bool.{leb-true}
 use Rattle.std.proofs.lemmas.List.{length-append, length-replicate}
@@ -12,7 +12,7 @@ use Rattle.elf_image.specs.Layout.{text_address, region_address, private_address
 use Rattle.elf_image.specs.Lawful.{IsLawful, is_lawful_symbol}
 use Rattle.elf_image.specs.Written.{numbers, names_size, layout_for, file_size, header_bytes, segment_bytes, segments_bytes, words_bytes, codes_bytes, record_bytes, records_bytes, terra_bytes, symbol_bytes, symbols_bytes, names_bytes, section_names, symtab_bytes, strtab_bytes, section_bytes, sections_bytes, bytes_of}
 use Rattle.elf_image.proofs.Steps.{and_true}
-use Rattle.elf_image.proofs.Has.{Has, Has-all, Has-left, Has-right, Has-at, Has-next, length-numbers}
+use Rattle.elf_image.proofs.Has.{Has, Has-all, Has-left, Has-next, length-numbers}
 
 pub length-header : (l : Layout) → length (header_bytes l) ≡ 64
 unfolding header_bytes

@@ -1,5 +1,5 @@
 -- A file is one image or has one fault.
-use Rattle.std.proofs.Common.{◌≡◌, ◌⊎◌, ℕ, List, Option, None, Some, refl, sym, ap, ◌∙◌, inl, inr}
+use Rattle.std.proofs.Common.{◌≡◌, ◌⊎◌, ℕ, List, Option, None, Some, refl, inl, inr}
 use Rattle.elf_image.specs.declared.error.ImageError.{ImageError}
 use Rattle.elf_image.specs.declared.image.Image.{Image}
 use Rattle.elf_image.specs.Layout.{layout_of}

@@ -1,14 +1,14 @@
 -- One step of each list of bytes that a file is made of, as a loop takes it.
-use Rattle.std.proofs.Common.{◌≡◌, ℕ, zero, suc, ◌+◌, ◌^◌, ◌*◌, ◌<◌, ◌≤◌, Bool, true, false, ltb, leb, ◌&&◌, List, [], ◌∷◌, ◌++◌, length, get_or, drop, map, refl, sym, ap, ◌∙◌, append_assoc, arith}
+use Rattle.std.proofs.Common.{◌≡◌, ℕ, ◌+◌, ◌^◌, ◌<◌, ◌≤◌, Bool, true, ltb, ◌&&◌, List, [], ◌∷◌, ◌++◌, length, get_or, drop, map, sym, ap, ◌∙◌, append_assoc}
 use Rattle.std.specs.List.{list_all}
-use Rattle.std.proofs.lemmas.Bool.{leb-true, ltb-true}
+use Rattle.std.proofs.lemmas.Bool.{ltb-true}
 use Rattle.std.proofs.lemmas.List.{append-nil, at_drop_more, at_drop_all}
 use Rattle.byteorder.specs.Endian.{little_bytes}
 use Rattle.elf_image.specs.declared.putting.Number.{Number}
 use Rattle.elf_image.specs.declared.image.Symbol.{Symbol}
 use Rattle.elf_image.proofs.Steps.{and_true}
 use Rattle.elf_image.specs.Answers.{row_of}
-use Rattle.elf_image.specs.Lawful.{names_fit, is_lawful_symbol}
+use Rattle.elf_image.specs.Lawful.{names_fit}
 use Rattle.elf_image.specs.Written.{numbers, words_bytes, names_size, record_bytes, records_bytes, symbol_bytes, symbols_bytes, names_bytes}
 
 pub append_turn : (out part rest whole total : List ℕ) → out ++ whole ≡ total → whole ≡ part ++ rest → (out ++ part) ++ rest ≡ total

@@ -1,20 +1,19 @@
 -- What is read can be written.
-use Rattle.std.proofs.Common.{◌≡◌, ℕ, zero, suc, ◌+◌, ◌-◌, ◌*◌, ◌/◌, ◌%◌, ◌^◌, ◌<◌, ◌≤◌, Bool, true, false, ◌&&◌, cond, eqb, leb, ltb, List, [], ◌∷◌, length, get_or, take, drop, slice_range, Option, None, Some, Result, Ok, Err, min, refl, sym, ap, subst, ◌∙◌, inl, inr, arith}
+use Rattle.std.proofs.Common.{◌≡◌, ℕ, zero, suc, ◌+◌, ◌-◌, ◌*◌, ◌/◌, ◌%◌, ◌^◌, ◌<◌, ◌≤◌, Bool, true, false, cond, eqb, leb, ltb, List, [], ◌∷◌, length, get_or, take, drop, slice_range, Option, None, Result, Ok, Err, refl, sym, ap, subst, ◌∙◌, inl, inr, arith}
 use Rattle.std.specs.List.{list_all}
 use Rattle.std.specs.Option.{is_none}
 use Rattle.std.specs.Prelude.{IfOk}
-use Rattle.std.proofs.lemmas.Bool.{leb-true, le-leb, ltb-true, eqb-true, eqb-false, lt-ltb, cases_lt}
-use Rattle.std.proofs.lemmas.Bool.Decides.{nat_tests}
+use Rattle.std.proofs.lemmas.Bool.{le-leb, eqb-true, eqb-false, lt-ltb, cases_lt}
 use Rattle.std.proofs.lemmas.List.{length-take, length-drop, get_or-take, get_or-drop, get_or_past}
 use Rattle.byteorder.specs.Numbers.{little_from-lt}
 use Rattle.elf_image.specs.declared.error.ImageError.{ImageError}
 use Rattle.elf_image.specs.declared.error.ImageError.TheVariants.{BadSymbol}
-use Rattle.elf_image.specs.declared.rule.Rule.TheVariants.{Is, Between, Any}
+use Rattle.elf_image.specs.declared.rule.Rule.TheVariants.{Is, Between}
 use Rattle.elf_image.specs.declared.layout.Layout.{Layout}
 use Rattle.elf_image.specs.declared.image.Symbol.{Symbol}
 use Rattle.elf_image.specs.declared.image.Image.{Image}
-use Rattle.elf_image.specs.Fields.{u8_at, u32_at, u64_at, number_at, Field, field, allows, or_else, unless, first_of, bad_field, bad_fields}
-use Rattle.elf_image.specs.Layout.{layout_of, heap_start, memory_rule, private_rule, text_size_rule}
+use Rattle.elf_image.specs.Fields.{u8_at, u32_at, u64_at, number_at, field, allows, bad_field, bad_fields}
+use Rattle.elf_image.specs.Layout.{layout_of, heap_start}
 use Rattle.elf_image.specs.Exports.{export_count, names_of, before_zero, code_rule, param_rule, result_rule, code_fields, record_fields, bad_record, bad_records, symbol_at, symbols_at, symbol_fields, is_in_text, is_name_at, is_right, are_right, names_differ}
 use Rattle.elf_image.specs.Tests.{verdict_headers, verdict_tables, bad_terra_records, bad_exports, verdict_of}
 use Rattle.elf_image.specs.Loads.{words_at, image_at}
@@ -22,7 +21,6 @@ use Rattle.elf_image.specs.Answers.{Gives}
 use Rattle.elf_image.specs.Lawful.{IsLawful, is_name, is_lawful_symbol, names_fit}
 use Rattle.elf_image.proofs.Steps.{or_else_none, unless_none, and_true, params_le}
 use Rattle.elf_image.proofs.Passed.{bad_fields_none, first_of_none, headers_passed, tables_passed}
-use Rattle.elf_image.proofs.NameBytes.{length-before_zero}
 use Rattle.elf_image.proofs.LawfulLemmas.{file_size_lt, and_intro, name_le}
 
 -- ---- bytes and words

@@ -1,15 +1,15 @@
 -- The exports of a file that was written are read.
-use Rattle.std.proofs.Common.{◌≡◌, ℕ, zero, suc, ◌+◌, ◌-◌, ◌*◌, ◌%◌, ◌^◌, ◌<◌, ◌≤◌, Bool, true, false, ◌&&◌, cond, eqb, leb, ltb, List, [], ◌∷◌, ◌++◌, length, get_or, drop, replicate, slice_range, Option, None, refl, sym, ap, subst, ◌∙◌, inl, inr, arith, add-zero, append_assoc}
+use Rattle.std.proofs.Common.{◌≡◌, ℕ, zero, suc, ◌+◌, ◌-◌, ◌^◌, ◌<◌, ◌≤◌, Bool, true, false, ◌&&◌, cond, eqb, leb, ltb, List, [], ◌∷◌, ◌++◌, length, get_or, drop, replicate, slice_range, Option, None, refl, sym, ap, ◌∙◌, inl, inr, arith, add-zero, append_assoc}
 use Rattle.std.specs.List.{list_all}
 use Rattle.std.specs.Option.{is_none}
-use Rattle.std.proofs.lemmas.Bool.{leb-true, le-leb, eq-eqb, ne_eqb, lt-ltb, le-ltb, ltb-true, cases_lt}
-use Rattle.std.proofs.lemmas.List.{length-append, length-replicate, get_or_append_left, get_or-append_right, get_or-replicate, drop-drop, drop_at}
+use Rattle.std.proofs.lemmas.Bool.{leb-true, le-leb, ne_eqb, lt-ltb, le-ltb, ltb-true, cases_lt}
+use Rattle.std.proofs.lemmas.List.{length-append, get_or_append_left, get_or-append_right, get_or-replicate, drop-drop, drop_at}
 use Rattle.elf_image.specs.declared.error.ImageError.{ImageError}
-use Rattle.elf_image.specs.declared.error.ImageError.TheVariants.{BadField, BadSymbol}
+use Rattle.elf_image.specs.declared.error.ImageError.TheVariants.{BadField}
 use Rattle.elf_image.specs.declared.rule.Rule.TheVariants.{Is, Between}
 use Rattle.elf_image.specs.declared.image.Symbol.{Symbol}
 use Rattle.elf_image.specs.declared.layout.Layout.{Layout}
-use Rattle.elf_image.specs.Fields.{number_at, u8_at, u32_at, u64_at, field, allows, unless, or_else, bad_field, bad_fields}
+use Rattle.elf_image.specs.Fields.{number_at, u8_at, u32_at, u64_at, allows, unless, or_else, bad_field, bad_fields}
 use Rattle.elf_image.specs.Layout.{text_address}
 use Rattle.elf_image.specs.Exports.{names_of, before_zero, code_rule, param_rule, result_rule, code_fields, record_fields, bad_record, bad_records, symbol_at, symbols_at, symbol_fields, is_in_text, is_name_at, is_right, are_right}
 use Rattle.elf_image.specs.Lawful.{is_name, is_lawful_symbol, names_fit}
@@ -19,7 +19,7 @@ use Rattle.elf_image.proofs.Passed.{none_bad_fields}
 use Rattle.elf_image.proofs.NameBytes.{before_zero-append}
 use Rattle.elf_image.proofs.LawfulLemmas.{and_intro}
 use Rattle.elf_image.proofs.ReadLawful.{number_at-1}
-use Rattle.elf_image.proofs.Has.{Has, Has-left, Has-right, Has-at, Has-next, Holds, holds, number-has, length-numbers, range-has, is_allowed, by_rule}
+use Rattle.elf_image.proofs.Has.{Has, Has-left, Has-next, Holds, holds, length-numbers, range-has, is_allowed, by_rule}
 use Rattle.elf_image.proofs.Lengths.{length-codes, length-record, length-symbol, params_few}
 use Rattle.elf_image.proofs.RoundHeaders.{small, Has-start}
 

@@ -1,5 +1,5 @@
 -- The headers of a file that was written are read.
-use Rattle.std.proofs.Common.{◌≡◌, ℕ, zero, suc, ◌+◌, ◌-◌, ◌*◌, ◌/◌, ◌%◌, ◌^◌, ◌<◌, ◌≤◌, Bool, true, false, ◌&&◌, eqb, leb, ltb, List, [], ◌∷◌, ◌++◌, length, Option, None, refl, sym, ap, subst, ◌∙◌, arith, add-zero}
+use Rattle.std.proofs.Common.{◌≡◌, ℕ, ◌+◌, ◌-◌, ◌*◌, ◌/◌, ◌%◌, ◌^◌, ◌<◌, ◌≤◌, Bool, true, leb, ltb, List, [], ◌∷◌, ◌++◌, length, Option, None, refl, sym, ap, subst, ◌∙◌, arith, add-zero}
 use Rattle.std.proofs.lemmas.Bool.{leb-true, le-leb, eq-eqb, ltb-true}
 use Rattle.elf_image.specs.declared.error.ImageError.{ImageError}
 use Rattle.elf_image.specs.declared.error.ImageError.TheVariants.{Short, BadMagic}
@@ -7,16 +7,16 @@ use Rattle.elf_image.specs.declared.rule.Rule.{Rule}
 use Rattle.elf_image.specs.declared.rule.Rule.TheVariants.{Is, Any, Between, Multiple}
 use Rattle.elf_image.specs.declared.image.Image.{Image}
 use Rattle.elf_image.specs.declared.layout.Layout.{Layout}
-use Rattle.elf_image.specs.Fields.{number_at, u32_at, u64_at, field, allows, unless, or_else, first_of, bad_fields}
-use Rattle.elf_image.specs.Layout.{layout_of, part, identification_fields, header_fields, segment_fields, section_fields, text_size_rule, memory_rule, private_rule, text_address, region_address, private_address}
+use Rattle.elf_image.specs.Fields.{u32_at, u64_at, allows, unless, or_else, first_of, bad_fields}
+use Rattle.elf_image.specs.Layout.{layout_of, identification_fields, header_fields, segment_fields, section_fields, text_size_rule, memory_rule, private_rule, text_address, region_address, private_address}
 use Rattle.elf_image.specs.Tests.{short_header, bad_magic, bad_header, short_segments, bad_segments, short_sections, bad_sections, verdict_headers}
 use Rattle.elf_image.specs.Lawful.{IsLawful}
-use Rattle.elf_image.specs.Written.{numbers, layout_for, file_size, header_bytes, segment_bytes, segments_bytes, section_bytes, sections_bytes, bytes_of}
+use Rattle.elf_image.specs.Written.{layout_for, header_bytes, segment_bytes, segments_bytes, section_bytes, sections_bytes, bytes_of}
 use Rattle.elf_image.proofs.Steps.{and_true}
 use Rattle.elf_image.proofs.Passed.{none_first_of, none_bad_fields}
 use Rattle.elf_image.proofs.LawfulLemmas.{and_intro}
-use Rattle.elf_image.proofs.Has.{Has, Has-left, Has-right, Has-at, Has-next, Holds, holds, AllFit, is_allowed, by_rule}
-use Rattle.elf_image.proofs.Lengths.{Stands, stands, length-segment, length-section}
+use Rattle.elf_image.proofs.Has.{Has, Has-left, Has-at, Has-next, Holds, holds, AllFit, is_allowed, by_rule}
+use Rattle.elf_image.proofs.Lengths.{stands, length-segment, length-section}
 
 -- a number that is written out fits
 pub small : (n limit : ℕ) → ltb n limit ≡ true → n < limit

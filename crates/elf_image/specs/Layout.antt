@@ -3,7 +3,7 @@ use Rattle.std.specs.Prelude.{ℕ, ◌+◌, ◌-◌, ◌*◌, ◌/◌, ◌^◌, 
 use Rattle.elf_image.specs.declared.layout.Part.{Part}
 use Rattle.elf_image.specs.declared.layout.Layout.{Layout}
 use Rattle.elf_image.specs.declared.rule.Rule.{Rule}
-use Rattle.elf_image.specs.declared.rule.Rule.TheVariants.{Any, Is, Between, Multiple}
+use Rattle.elf_image.specs.declared.rule.Rule.TheVariants.{Any, Is, Multiple}
 use Rattle.elf_image.specs.Fields.{u64_at, Field, field}
 
 abbrev pub part : ℕ → ℕ → Part

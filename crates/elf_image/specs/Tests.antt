@@ -1,5 +1,5 @@
 -- The tests of a file, in order. Each gives its fault where it fails.
-use Rattle.std.specs.Prelude.{ℕ, ◌+◌, ◌-◌, ◌*◌, ◌/◌, ◌^◌, Bool, true, ◌&&◌, ◌||◌, ◌==◌, nat_le, List, [], ◌∷◌, ◌++◌, length, replicate, codes, Option}
+use Rattle.std.specs.Prelude.{ℕ, ◌<◌, ◌≤◌, ◌+◌, ◌-◌, ◌*◌, ◌/◌, ◌^◌, Bool, true, ◌&&◌, ◌||◌, ◌==◌, nat_le, List, [], ◌∷◌, ◌++◌, length, replicate, codes, Option}
 use Rattle.std.specs.List.{list_all}
 use Rattle.elf_image.specs.declared.error.ImageError.{ImageError}
 use Rattle.elf_image.specs.declared.error.ImageError.TheVariants.{Short, BadMagic, Overlap, BadSymbol}
@@ -50,6 +50,10 @@ bad_sections l bytes = first_of (
 -- 6. no part ends past the file's end
 unfoldable pub short_parts : Layout → List ℕ → Option ImageError
 short_parts l bytes = unless (list_all (λ (p : Part). nat_le (p.offset + p.size) (length bytes)) (parts_of l)) Short
+
+-- the byte at offset k is in the part
+abbrev pub IsIn : ℕ → Part → Type 0
+IsIn k p = (p.offset ≤ k) × (k < p.offset + p.size)
 
 -- 7. no byte is in two parts
 abbrev pub is_apart : Part → Part → Bool

@@ -1,4 +1,24 @@
 //! The ELF-64 image of a linked program, written and read, exact both ways.
+//!
+//! `write` gives the one file of an image that has no unused bytes. `read` takes any bytes: it gives the image that they are,
+//! or the fault of the first test of the format that they fail, and which of the two is a definition of its own. The file of
+//! an image that can be written is read as this image, and what was read can be written.
+//!
+//! The format is ELF-64 (the object file format, "File header", "Program header table", "Section header table" and "Symbol
+//! table") with fixed values in most fields; `docs/IMAGE.md` has each field and the tests in their order. The definitions:
+//!
+//! - `specs/Fields.antt`: numbers in a file, and rows of a table of fields with what each may hold
+//! - `specs/Layout.antt`: the tables of fields of the headers, and where they say that the parts lie
+//! - `specs/Exports.antt`: the records, symbols and names of the exports
+//! - `specs/Tests.antt`: the fourteen tests, and `verdict_of`, the fault of the first that fails
+//! - `specs/Loads.antt`: `Loads` and `BadBytes`, which image a file is and why it is none
+//! - `specs/Written.antt`: `bytes_of`, the file of an image
+//! - `specs/Lawful.antt`: `IsLawful`, which images have a file
+//!
+//! ```rust
+//! let bytes = write(alloc, &image)?;
+//! let found = read(alloc, &bytes)?;
+//! ```
 #![tactic(auto)]
 
 mod error;
@@ -20,7 +40,9 @@ mod writing;
 pub use error::ImageError;
 pub use image::{Bytes, Image, Symbol, Symbols, Words};
 pub use lawful::is_lawful;
-pub use laws::{one_answer, written_is_tight, written_loads};
+pub use laws::{
+    apart_shares_no_byte, memory_is_no_fault, one_answer, written_is_tight, written_loads,
+};
 pub use reading::read;
 pub use writing::write;
 

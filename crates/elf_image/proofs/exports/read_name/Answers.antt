@@ -1,8 +1,7 @@
-use Rattle.std.proofs.Common.{ℕ, ◌≡◌, false, true, ap, ◌∙◌, arith, length}
+use Rattle.std.proofs.Common.{ℕ, ap, ◌∙◌, arith}
 use Rattle.std.proofs.lemmas.List.{length-take}
 use Rattle.elf_image.specs.declared.error.ImageError.TheVariants.{BadSymbol}
 use Rattle.elf_image.specs.Fields.{unless}
-use Rattle.elf_image.specs.Exports.{before_zero, is_name_at}
 use Rattle.elf_image.proofs.NameBytes.{name_bad, name_good, length-before_zero}
 use Rattle.elf_image.proofs.exports.read_name.Goals as goal
 

@@ -1,4 +1,4 @@
-use Rattle.std.proofs.Common.{List, ℕ, ◌++◌, ◌∷◌, [], ap, ◌∙◌}
+use Rattle.std.proofs.Common.{List, ℕ, ◌++◌, ap, ◌∙◌}
 use Rattle.elf_image.proofs.Puts.{append_turn_by, append_two, append_end, names_turn, names_end}
 use Rattle.elf_image.proofs.writing.put_names.Goals as goal
 

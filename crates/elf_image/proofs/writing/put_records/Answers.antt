@@ -1,4 +1,4 @@
-use Rattle.std.proofs.Common.{ℕ, ◌≡◌, ◌+◌, length, ap, arith}
+use Rattle.std.proofs.Common.{◌≡◌, ◌+◌, length, ap, arith}
 use Rattle.elf_image.specs.Lawful.{is_lawful_symbol}
 use Rattle.elf_image.proofs.Puts.{append_turn_by, append_end, records_turn_by, records_end, fit_turn_by, lawful_turn}
 use Rattle.elf_image.proofs.writing.put_records.Goals as goal
