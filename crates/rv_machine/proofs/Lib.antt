@@ -1,2 +1,6 @@
-pub mod Runs
 pub mod Registers
+pub mod Taken
+pub mod Runs
+pub mod Programs
+pub mod Reaches
+pub mod Regions

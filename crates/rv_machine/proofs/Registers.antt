@@ -4,7 +4,7 @@ use Rattle.std.specs.Prelude.{slice_index}
 use mathlib.Core.Path.{fun_ext}
 use Rattle.rv_machine.specs.Machine.{start_registers}
 use Rattle.std.proofs.Common.{drop, replicate, ⊎_elim}
-use Rattle.std.specs.Prelude.{nat_lt, if◌then◌else◌}
+use Rattle.std.specs.Prelude.{nat_eq, nat_lt, if◌then◌else◌}
 use Rattle.std.proofs.lemmas.Bool.{cases_lt, le-ltb, ne_eqb}
 use Rattle.std.proofs.lemmas.List.{get_or-replicate, get_or_past, get_or-drop, length-replicate, get_or_append_left, get_or-append_right}
 
@@ -27,30 +27,32 @@ arguments_at arguments count k i =
     ∙ sym (get_or_past arguments i 0 ge))
     (cases_lt i (length arguments))
 
-start_registers-past : (end : ℕ) (arguments : List ℕ) (n m : ℕ) → n ≡ m + 10 → start_registers end arguments n ≡ slice_index arguments m
-start_registers-past end arguments n m e =
-    ap (λ b. if b then end else (if nat_lt n 10 then 0 else slice_index arguments (n - 10))) (ne_eqb n 2 (λ h. omega arith))
+start_registers-past : (end heap limit : ℕ) (arguments : List ℕ) (n m : ℕ) → n ≡ m + 10 → start_registers end heap limit arguments n ≡ slice_index arguments m
+start_registers-past end heap limit arguments n m e =
+    ap (λ b. if b then end else (if nat_eq n 3 then heap else (if nat_eq n 4 then limit else (if nat_lt n 10 then 0 else slice_index arguments (n - 10))))) (ne_eqb n 2 (λ h. omega arith))
+    ∙ ap (λ b. if b then heap else (if nat_eq n 4 then limit else (if nat_lt n 10 then 0 else slice_index arguments (n - 10)))) (ne_eqb n 3 (λ h. omega arith))
+    ∙ ap (λ b. if b then limit else (if nat_lt n 10 then 0 else slice_index arguments (n - 10))) (ne_eqb n 4 (λ h. omega arith))
     ∙ ap (λ b. if b then 0 else slice_index arguments (n - 10)) (le-ltb n 10 (omega arith))
     ∙ (let place : n - 10 ≡ m = omega arith in ap (slice_index arguments) place)
 
 -- x2, then zeros, then the arguments at x10 and after it
-registers_at : (end : ℕ) (arguments : List ℕ) (k n : ℕ) → slice_index (0 ∷ 0 ∷ end ∷ 0 ∷ 0 ∷ 0 ∷ 0 ∷ 0 ∷ 0 ∷ 0 ∷ (arguments ++ drop k (replicate 22 0))) n ≡ start_registers end arguments n
-registers_at end arguments k zero = refl
-registers_at end arguments k (suc zero) = refl
-registers_at end arguments k (suc (suc zero)) = refl
-registers_at end arguments k (suc (suc (suc zero))) = refl
-registers_at end arguments k (suc (suc (suc (suc zero)))) = refl
-registers_at end arguments k (suc (suc (suc (suc (suc zero))))) = refl
-registers_at end arguments k (suc (suc (suc (suc (suc (suc zero)))))) = refl
-registers_at end arguments k (suc (suc (suc (suc (suc (suc (suc zero))))))) = refl
-registers_at end arguments k (suc (suc (suc (suc (suc (suc (suc (suc zero)))))))) = refl
-registers_at end arguments k (suc (suc (suc (suc (suc (suc (suc (suc (suc zero))))))))) = refl
-registers_at end arguments k (suc (suc (suc (suc (suc (suc (suc (suc (suc (suc i)))))))))) =
+registers_at : (end heap limit : ℕ) (arguments : List ℕ) (k n : ℕ) → slice_index (0 ∷ 0 ∷ end ∷ heap ∷ limit ∷ 0 ∷ 0 ∷ 0 ∷ 0 ∷ 0 ∷ (arguments ++ drop k (replicate 22 0))) n ≡ start_registers end heap limit arguments n
+registers_at end heap limit arguments k zero = refl
+registers_at end heap limit arguments k (suc zero) = refl
+registers_at end heap limit arguments k (suc (suc zero)) = refl
+registers_at end heap limit arguments k (suc (suc (suc zero))) = refl
+registers_at end heap limit arguments k (suc (suc (suc (suc zero)))) = refl
+registers_at end heap limit arguments k (suc (suc (suc (suc (suc zero))))) = refl
+registers_at end heap limit arguments k (suc (suc (suc (suc (suc (suc zero)))))) = refl
+registers_at end heap limit arguments k (suc (suc (suc (suc (suc (suc (suc zero))))))) = refl
+registers_at end heap limit arguments k (suc (suc (suc (suc (suc (suc (suc (suc zero)))))))) = refl
+registers_at end heap limit arguments k (suc (suc (suc (suc (suc (suc (suc (suc (suc zero))))))))) = refl
+registers_at end heap limit arguments k (suc (suc (suc (suc (suc (suc (suc (suc (suc (suc i)))))))))) =
     arguments_at arguments 22 k i
-    ∙ sym (start_registers-past end arguments (suc (suc (suc (suc (suc (suc (suc (suc (suc (suc i)))))))))) i (omega arith))
+    ∙ sym (start_registers-past end heap limit arguments (suc (suc (suc (suc (suc (suc (suc (suc (suc (suc i)))))))))) i (omega arith))
 
-pub registers_for : (end : ℕ) (arguments : List ℕ) (k : ℕ) → slice_index (0 ∷ 0 ∷ end ∷ 0 ∷ 0 ∷ 0 ∷ 0 ∷ 0 ∷ 0 ∷ 0 ∷ (arguments ++ drop k (replicate 22 0))) ≡ start_registers end arguments
-registers_for end arguments k = fun_ext (registers_at end arguments k)
+pub registers_for : (end heap limit : ℕ) (arguments : List ℕ) (k : ℕ) → slice_index (0 ∷ 0 ∷ end ∷ heap ∷ limit ∷ 0 ∷ 0 ∷ 0 ∷ 0 ∷ 0 ∷ (arguments ++ drop k (replicate 22 0))) ≡ start_registers end heap limit arguments
+registers_for end heap limit arguments k = fun_ext (registers_at end heap limit arguments k)
 
 -- 32 zeros as a map
 pub zero_registers : ◌≡◌ {A = ℕ → ℕ} (slice_index (replicate 32 0)) (λ number. 0)

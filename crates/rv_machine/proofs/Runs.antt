@@ -1,71 +1,111 @@
 -- Runs: what each step adds to one, and how they go on.
-use Rattle.std.proofs.Common.{◌≡◌, ◌≢◌, ℕ, zero, suc, ◌+◌, List, refl, sym, ap, ◌∙◌, ⊎_elim, arith}
+use Rattle.std.proofs.Common.{◌≡◌, ◌≢◌, ℕ, zero, suc, ◌+◌, List, [], ◌++◌, Option, refl, sym, ap, ◌∙◌, ⊎_elim, append_assoc, append-nil, arith}
 use Rattle.std.specs.Prelude.{if◌then◌else◌}
 use Rattle.std.proofs.lemmas.Bool.{cases_eq, eq-eqb, ne_eqb}
+use Rattle.rv_isa.specs.declared.instr.Instr.{Instr}
 use Rattle.rv_machine.specs.declared.stops.MachineKind.{MachineKind}
-use Rattle.rv_machine.specs.declared.stops.Stop.TheVariants.{Returned, MachineFault, Unfinished}
-use Rattle.rv_machine.specs.Machine.{State, Moved, GoesOn, Faults, step, Ran, after_step, run_of}
+use Rattle.rv_machine.specs.declared.stops.Stop.{Stop}
+use Rattle.rv_machine.specs.declared.stops.Stop.TheVariants.{Returned, TerraFault, MachineFault, Unfinished}
+use Rattle.rv_machine.specs.Machine.{State, Moved, GoesOn, Writes, Faults, Throws, step, Ran, stands, after_output, after_step, run_of}
 
--- at address 0 the run is over, whatever steps are left
-pub run_of-at_zero : (text : List ℕ) (s : State) (steps : ℕ) → s.pc ≡ 0 → run_of text s steps ≡ record { stop = Returned (s.registers 10); state = s }
-run_of-at_zero text s zero e = ap (λ b. if b then record { stop = Returned (s.registers 10); state = s } else record { stop = Unfinished; state = s }) (eq-eqb s.pc 0 e)
-run_of-at_zero text s (suc steps) e = ap (λ b. if b then record { stop = Returned (s.registers 10); state = s } else after_step (step text s) s (λ next. run_of text next steps)) (eq-eqb s.pc 0 e)
+module _ (program : List (Option Instr)) where
+  -- at address 0 the run is over, whatever steps are left
+  pub run_of-at_zero : (s : State) (steps : ℕ) → s.pc ≡ 0 → run_of program s steps ≡ stands (Returned (s.registers 10)) s
+  run_of-at_zero s zero e = ap (λ b. if b then stands (Returned (s.registers 10)) s else stands Unfinished s) (eq-eqb s.pc 0 e)
+  run_of-at_zero s (suc steps) e = ap (λ b. if b then stands (Returned (s.registers 10)) s else after_step (step program s) s (λ next. run_of program next steps)) (eq-eqb s.pc 0 e)
 
--- elsewhere it stops where no steps are left
-pub run_of-used_up : (text : List ℕ) (s : State) (steps : ℕ) → (s.pc ≡ 0 → ⊥) → steps ≡ 0 → run_of text s steps ≡ record { stop = Unfinished; state = s }
-run_of-used_up text s zero e none = ap (λ b. if b then record { stop = Returned (s.registers 10); state = s } else record { stop = Unfinished; state = s }) (ne_eqb s.pc 0 e)
-run_of-used_up text s (suc steps) e none = cc
+  -- elsewhere it stops where no steps are left
+  pub run_of-used_up : (s : State) → (s.pc ≡ 0 → ⊥) → run_of program s 0 ≡ stands Unfinished s
+  run_of-used_up s e = ap (λ b. if b then stands (Returned (s.registers 10)) s else stands Unfinished s) (ne_eqb s.pc 0 e)
 
--- and else takes a step
-pub run_of-turn : (text : List ℕ) (s : State) (steps left : ℕ) → (s.pc ≡ 0 → ⊥) → steps ≡ suc left → run_of text s steps ≡ after_step (step text s) s (λ next. run_of text next left)
-run_of-turn text s steps left e more =
-    ap (run_of text s) more
-    ∙ ap (λ b. if b then record { stop = Returned (s.registers 10); state = s } else after_step (step text s) s (λ next. run_of text next left)) (ne_eqb s.pc 0 e)
+  -- and else takes a step
+  pub run_of-turn : (s : State) (left : ℕ) → (s.pc ≡ 0 → ⊥) → run_of program s (suc left) ≡ after_step (step program s) s (λ next. run_of program next left)
+  run_of-turn s left e =
+      ap (λ b. if b then stands (Returned (s.registers 10)) s else after_step (step program s) s (λ next. run_of program next left)) (ne_eqb s.pc 0 e)
 
-pub run_of-goes_on : (text : List ℕ) (s next : State) (steps left : ℕ) → (s.pc ≡ 0 → ⊥) → steps ≡ suc left → step text s ≡ GoesOn next → run_of text s steps ≡ run_of text next left
-run_of-goes_on text s next steps left e more moved = run_of-turn text s steps left e more ∙ ap (λ m. after_step m s (λ n. run_of text n left)) moved
+  pub run_of-moved : (s : State) (left : ℕ) (moved : Moved) → (s.pc ≡ 0 → ⊥) → step program s ≡ moved → run_of program s (suc left) ≡ after_step moved s (λ next. run_of program next left)
+  run_of-moved s left moved e by = run_of-turn s left e ∙ ap (λ m. after_step m s (λ next. run_of program next left)) by
 
-pub run_of-faults : (text : List ℕ) (s : State) (kind : MachineKind) (steps left : ℕ) → (s.pc ≡ 0 → ⊥) → steps ≡ suc left → step text s ≡ Faults kind → run_of text s steps ≡ record { stop = MachineFault kind s.pc; state = s }
-run_of-faults text s kind steps left e more moved = run_of-turn text s steps left e more ∙ ap (λ m. after_step m s (λ n. run_of text n left)) moved
+-- bytes before a run
+pub after_output-none : (r : Ran) → after_output [] r ≡ r
+after_output-none r = refl
 
--- a step of a run that is unfinished later
-goes_through : (text : List ℕ) (s middle : State) (first rest : ℕ) (m : Moved) → ((next : State) → run_of text next first ≡ record { stop = Unfinished; state = middle } → run_of text next (first + rest) ≡ run_of text middle rest) → after_step m s (λ next. run_of text next first) ≡ record { stop = Unfinished; state = middle } → after_step m s (λ next. run_of text next (first + rest)) ≡ run_of text middle rest
-goes_through text s middle first rest (GoesOn next) on e = on next e
-goes_through text s middle first rest (Faults kind) on e = absurd (ran_not_faulted kind s.pc s middle e)
-  where
-    ran_not_faulted : (kind : MachineKind) (pc : ℕ) (a b : State) → ◌≡◌ {A = Ran} (record { stop = MachineFault kind pc; state = a }) (record { stop = Unfinished; state = b }) → ⊥
-    ran_not_faulted kind pc a b e = let k = ap (λ (r : Ran). r.stop) e in cc
+pub after_output-both : (a b : List ℕ) (r : Ran) → after_output a (after_output b r) ≡ after_output (a ++ b) r
+after_output-both a b r = ap (λ output. record { stop = r.stop; state = r.state; output = output }) (sym (append_assoc a b r.output))
 
-not_returned : (v : ℕ) (a b : State) → ◌≡◌ {A = Ran} (record { stop = Returned v; state = a }) (record { stop = Unfinished; state = b }) → ⊥
-not_returned v a b e = let k = ap (λ (r : Ran). r.stop) e in cc
+not_returned : (v : ℕ) (r a : State) (output : List ℕ) → ◌≡◌ {A = Ran} (stands (Returned v) r) (record { stop = Unfinished; state = a; output = output }) → ⊥
+not_returned v r a output e = let k = ap (λ (r : Ran). r.stop) e in cc
 
--- a run that isn't over goes on from where it stands
-pub run_of-add : (text : List ℕ) (s middle : State) (first rest : ℕ) → run_of text s first ≡ record { stop = Unfinished; state = middle } → run_of text s (first + rest) ≡ run_of text middle rest
-run_of-add text s middle zero rest e =
-    ⊎_elim
-    (λ over. absurd (not_returned _ _ _ (sym (run_of-at_zero text s zero over) ∙ e)))
-    (λ on. let same = ap (λ (r : Ran). r.state) (sym (run_of-used_up text s zero on refl) ∙ e) in let sum : zero + rest ≡ rest = omega arith in ap (run_of text s) sum ∙ ap (λ t. run_of text t rest) same)
-    (cases_eq s.pc 0)
-run_of-add text s middle (suc first) rest e =
-    ⊎_elim
-    (λ over. absurd (not_returned _ _ _ (sym (run_of-at_zero text s (suc first) over) ∙ e)))
-    (λ on. run_of-turn text s (suc first + rest) (first + rest) on (omega arith) ∙ goes_through text s middle first rest (step text s) (λ next. run_of-add text next middle first rest) (sym (run_of-turn text s (suc first) first on refl) ∙ e))
-    (cases_eq s.pc 0)
+not_faulted : (kind : MachineKind) (pc : ℕ) (r a : State) (output : List ℕ) → ◌≡◌ {A = Ran} (stands (MachineFault kind pc) r) (record { stop = Unfinished; state = a; output = output }) → ⊥
+not_faulted kind pc r a output e = let k = ap (λ (r : Ran). r.stop) e in cc
 
--- a step of a run that is over later
-stays_over : (text : List ℕ) (s : State) (ran : Ran) (first more : ℕ) (m : Moved) → ((next : State) → run_of text next first ≡ ran → run_of text next (first + more) ≡ ran) → after_step m s (λ next. run_of text next first) ≡ ran → after_step m s (λ next. run_of text next (first + more)) ≡ ran
-stays_over text s ran first more (GoesOn next) on e = on next e
-stays_over text s ran first more (Faults kind) on e = e
+not_thrown : (kind place : ℕ) (r a : State) (output : List ℕ) → ◌≡◌ {A = Ran} (stands (TerraFault kind place) r) (record { stop = Unfinished; state = a; output = output }) → ⊥
+not_thrown kind place r a output e = let k = ap (λ (r : Ran). r.stop) e in cc
 
--- a run that is over stays over
-pub run_of-over : (text : List ℕ) (s : State) (ran : Ran) (first more : ℕ) → run_of text s first ≡ ran → ran.stop ≢ Unfinished → run_of text s (first + more) ≡ ran
-run_of-over text s ran zero more e over =
-    ⊎_elim
-    (λ at. run_of-at_zero text s (zero + more) at ∙ sym (run_of-at_zero text s zero at) ∙ e)
-    (λ on. absurd (over (ap (λ (r : Ran). r.stop) (sym e ∙ run_of-used_up text s zero on refl))))
-    (cases_eq s.pc 0)
-run_of-over text s ran (suc first) more e over =
-    ⊎_elim
-    (λ at. run_of-at_zero text s (suc first + more) at ∙ sym (run_of-at_zero text s (suc first) at) ∙ e)
-    (λ on. run_of-turn text s (suc first + more) (first + more) on (omega arith) ∙ stays_over text s ran first more (step text s) (λ next h. run_of-over text next ran first more h over) (sym (run_of-turn text s (suc first) first on refl) ∙ e))
-    (cases_eq s.pc 0)
+module _ (program : List (Option Instr)) where
+  abbrev paused : State → List ℕ → Ran
+  paused middle output = record { stop = Unfinished; state = middle; output = output }
+
+  -- a step of a run that is unfinished later
+  goes_through : (s middle : State) (output : List ℕ) (first rest : ℕ) (m : Moved) → ((next : State) (more : List ℕ) → run_of program next first ≡ paused middle more → run_of program next (first + rest) ≡ after_output more (run_of program middle rest)) → after_step m s (λ next. run_of program next first) ≡ paused middle output → after_step m s (λ next. run_of program next (first + rest)) ≡ after_output output (run_of program middle rest)
+  goes_through s middle output first rest (GoesOn next) on e = on next output e
+  goes_through s middle output first rest (Writes next bytes) on e =
+      let r = run_of program next first in
+      let wrote : bytes ++ r.output ≡ output = ap (λ (r : Ran). r.output) e in
+      let same : r ≡ paused middle r.output = (let stop = ap (λ (r : Ran). r.stop) e in let state = ap (λ (r : Ran). r.state) e in ap (λ (k : Stop). record { stop = k; state = r.state; output = r.output }) stop ∙ ap (λ (k : State). record { stop = Unfinished; state = k; output = r.output }) state) in
+      ap (after_output bytes) (on next r.output same)
+      ∙ after_output-both bytes r.output (run_of program middle rest)
+      ∙ ap (λ o. after_output o (run_of program middle rest)) wrote
+  goes_through s middle output first rest (Faults kind) on e = absurd (not_faulted kind s.pc s middle output e)
+  goes_through s middle output first rest (Throws kind place) on e = absurd (not_thrown kind place s middle output e)
+
+  -- a run that isn't over goes on from where it stands
+  pub run_of-add : (s middle : State) (output : List ℕ) (first rest : ℕ) → run_of program s first ≡ paused middle output → run_of program s (first + rest) ≡ after_output output (run_of program middle rest)
+  run_of-add s middle output zero rest e =
+      ⊎_elim
+      (λ over. absurd (not_returned _ _ _ _ (sym (run_of-at_zero program s zero over) ∙ e)))
+      (λ on.
+      let here = sym (run_of-used_up program s on) ∙ e in
+      let same = ap (λ (r : Ran). r.state) here in
+      let none = ap (λ (r : Ran). r.output) here in
+      let sum : zero + rest ≡ rest = omega arith in
+      ap (run_of program s) sum ∙ ap (λ t. run_of program t rest) same ∙ ap (λ o. after_output o (run_of program middle rest)) none)
+      (cases_eq s.pc 0)
+  run_of-add s middle output (suc first) rest e =
+      let sum : suc first + rest ≡ suc (first + rest) = omega arith in
+      ⊎_elim
+      (λ over. absurd (not_returned _ _ _ _ (sym (run_of-at_zero program s (suc first) over) ∙ e)))
+      (λ on.
+      ap (run_of program s) sum
+      ∙ run_of-turn program s (first + rest) on
+      ∙ goes_through s middle output first rest (step program s) (λ next more. run_of-add next middle more first rest) (sym (run_of-turn program s first on) ∙ e))
+      (cases_eq s.pc 0)
+
+  -- a step of a run that is over later
+  stays_over : (s : State) (first more : ℕ) (m : Moved) → ((next : State) → (run_of program next first).stop ≢ Unfinished → run_of program next (first + more) ≡ run_of program next first) → (after_step m s (λ next. run_of program next first)).stop ≢ Unfinished → after_step m s (λ next. run_of program next (first + more)) ≡ after_step m s (λ next. run_of program next first)
+  stays_over s first more (GoesOn next) on over = on next over
+  stays_over s first more (Writes next bytes) on over = ap (after_output bytes) (on next over)
+  stays_over s first more (Faults kind) on over = refl
+  stays_over s first more (Throws kind place) on over = refl
+
+  over_more : (s : State) (first more : ℕ) → (run_of program s first).stop ≢ Unfinished → run_of program s (first + more) ≡ run_of program s first
+  over_more s zero more over =
+      ⊎_elim
+      (λ at. run_of-at_zero program s (zero + more) at ∙ sym (run_of-at_zero program s zero at))
+      (λ on. absurd (over (ap (λ (r : Ran). r.stop) (run_of-used_up program s on))))
+      (cases_eq s.pc 0)
+  over_more s (suc first) more over =
+      let sum : suc first + more ≡ suc (first + more) = omega arith in
+      ⊎_elim
+      (λ at. run_of-at_zero program s (suc first + more) at ∙ sym (run_of-at_zero program s (suc first) at))
+      (λ on.
+      ap (run_of program s) sum
+      ∙ run_of-turn program s (first + more) on
+      ∙ stays_over s first more (step program s) (λ next. over_more next first more) (λ h. over (ap (λ (r : Ran). r.stop) (run_of-turn program s first on) ∙ h))
+      ∙ sym (run_of-turn program s first on))
+      (cases_eq s.pc 0)
+
+  -- a run that is over stays over
+  pub run_of-over : (s : State) (ran : Ran) (first more : ℕ) → run_of program s first ≡ ran → ran.stop ≢ Unfinished → run_of program s (first + more) ≡ ran
+  run_of-over s ran first more e over =
+      over_more s first more (λ h. over (sym (ap (λ (r : Ran). r.stop) e) ∙ h)) ∙ e

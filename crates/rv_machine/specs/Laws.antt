@@ -1,18 +1,27 @@
--- Laws of whole runs.
-use Rattle.std.specs.Prelude.{◌≡◌, ◌≢◌, ℕ, ◌+◌, List}
-use Rattle.rv_machine.specs.declared.stops.Stop.TheVariants.{Unfinished}
-use Rattle.rv_machine.specs.Machine.{State, Ran, run_of}
+-- What runs keep.
+use Rattle.std.specs.Prelude.{◌≡◌, ◌≢◌, ℕ, ◌+◌, ◌<◌, List, ◌++◌, length, take, Option}
+use Rattle.rv_isa.specs.declared.instr.Instr.{Instr}
+use Rattle.rv_machine.specs.declared.stops.Stop.{Stop}
+use Rattle.rv_machine.specs.declared.stops.Stop.TheVariants.{Returned, TerraFault, MachineFault, Unfinished, WriteFault}
+use Rattle.rv_machine.specs.Machine.{State, Writes, step, Ran, after_output, run_of}
+use Rattle.rv_machine.specs.Program.{IsProgram}
+use Rattle.tl_base.specs.Outside.{with_back, IsRisen}
 
 -- a run that isn't over after some steps goes on from where it stands: the run of `first + rest` steps is the run of
--- `rest` steps from there
+-- `rest` steps from there, and what it wrote before
 abbrev pub RunsGoOn : Type 0
 RunsGoOn =
-    (text : List ℕ) (s middle : State) (first rest : ℕ) →
-    run_of text s first ≡ record { stop = Unfinished; state = middle } →
-    run_of text s (first + rest) ≡ run_of text middle rest
+    (program : List (Option Instr)) (s middle : State) (output : List ℕ) (first rest : ℕ) →
+    run_of program s first ≡ record { stop = Unfinished; state = middle; output = output } →
+    run_of program s (first + rest) ≡ after_output output (run_of program middle rest)
 
 -- a run that is over stays over: more steps change nothing
 abbrev pub RunsStayOver : Type 0
 RunsStayOver =
-    (text : List ℕ) (s : State) (ran : Ran) (first more : ℕ) →
-    run_of text s first ≡ ran → ran.stop ≢ Unfinished → run_of text s (first + more) ≡ ran
+    (program : List (Option Instr)) (s : State) (ran : Ran) (first more : ℕ) →
+    run_of program s first ≡ ran → ran.stop ≢ Unfinished → run_of program s (first + more) ≡ ran
+
+-- words have one program
+abbrev pub OneProgram : Type 0
+OneProgram =
+    (words : List ℕ) (p q : List (Option Instr)) → IsProgram words p → IsProgram words q → p ≡ q

@@ -1,5 +1,10 @@
 pub mod Word
-pub mod Instructions
+pub mod Arithmetic
+pub mod Memory
 pub mod Machine
-pub mod Shown
+pub mod Program
+pub mod Output
+pub mod Steps
+pub mod Runs
 pub mod Laws
+pub mod Shown

@@ -1,132 +1,211 @@
--- What the machine does. Text lies at 0x10000 and is fetched only; private memory lies at 2 ^ 32, where it is read
--- and written, misaligned too. Addresses wrap at 2 ^ 64. The rows are those of the RISC-V Unprivileged ISA manual
--- (RV64I, and the extension M).
-use Rattle.std.specs.Prelude.{ℕ, zero, suc, ◌+◌, ◌-◌, ◌*◌, ◌/◌, ◌%◌, ◌^◌, nat_eq, nat_lt, nat_le, if◌then◌else◌, List, ◌++◌, length, take, drop, Option, Some, None, slice_get, slice_index, replicate}
-use Rattle.rv_machine.specs.declared.instruction.Register.{Register}
-use Rattle.rv_machine.specs.declared.instruction.Instruction.{Instruction}
-use Rattle.rv_machine.specs.declared.instruction.Instruction.TheVariants.{Addi, Add, Sub, Mul, Ld, Sd, Jalr}
+-- What the machine does: its state, each instruction, one step and a run. Addresses and the program counter wrap at 2 ^ 64. The
+-- rows are those of the RISC-V Unprivileged ISA manual, chapters "RV32I", "RV64I" and "M".
+use Rattle.std.specs.Prelude.{ℕ, zero, suc, ◌+◌, ◌-◌, ◌*◌, ◌/◌, ◌%◌, ◌^◌, Bool, ◌&&◌, nat_eq, nat_lt, nat_le, if◌then◌else◌, List, [], ◌++◌, length, take, drop, Option, Some, None, slice_get, slice_index, replicate}
+use Rattle.rv_isa.specs.declared.operand.Register.{Register}
+use Rattle.rv_isa.specs.declared.operand.UpperImmediate.{UpperImmediate}
+use Rattle.rv_isa.specs.declared.operand.BranchOffset.{BranchOffset}
+use Rattle.rv_isa.specs.declared.operation.LoadOp.{LoadOp}
+use Rattle.rv_isa.specs.declared.operation.StoreOp.{StoreOp}
+use Rattle.rv_isa.specs.declared.instr.Instr.{Instr}
+use Rattle.rv_isa.specs.declared.instr.Instr.TheVariants.{Lui, Auipc, Jal, Jalr, Branch, Load, Store, RegisterImmediate, Shift, Addiw, ShiftWord, RegisterRegister, RegisterRegisterWord, Fence, Ecall, Ebreak}
+use Rattle.rv_machine.specs.declared.memory.Place.{Place}
+use Rattle.rv_machine.specs.declared.memory.Place.TheVariants.{Region, Private}
 use Rattle.rv_machine.specs.declared.stops.MachineKind.{MachineKind}
-use Rattle.rv_machine.specs.declared.stops.MachineKind.TheVariants.{IllegalWord, BadFetch, BadAccess}
+use Rattle.rv_machine.specs.declared.stops.MachineKind.TheVariants.{IllegalWord, BadFetch, BadAccess, BadCall, Break}
 use Rattle.rv_machine.specs.declared.stops.Stop.{Stop}
-use Rattle.rv_machine.specs.declared.stops.Stop.TheVariants.{Returned, MachineFault, Unfinished}
-use Rattle.rv_machine.specs.Word.{low, difference, number_of, bytes_of}
-use Rattle.rv_machine.specs.Instructions.{decode}
+use Rattle.rv_machine.specs.declared.stops.Stop.TheVariants.{Returned, TerraFault, MachineFault, Unfinished}
+use Rattle.rv_machine.specs.Word.{low, word, extended_word, bytes_of}
+use Rattle.rv_machine.specs.Arithmetic.{register_value, register_word_value, immediate_value, shift_value, shift_word_value, is_taken}
+use Rattle.rv_machine.specs.Memory.{place_of, bytes_at, with_bytes, load_width, store_width, load_value}
 
--- the address of the next instruction, the registers by their numbers, and the bytes of private memory
+-- the address of the next instruction, the registers by their numbers, and the bytes of the region and of private memory
 pub record State : Type 0 where
   pub pc : ℕ
   pub registers : ℕ → ℕ
+  pub region : List ℕ
   pub private : List ℕ
 
--- what a step does: the machine goes on in a state, or stops by a fault
+-- what a step does: the machine goes on in a state; it goes on in a state, after it wrote bytes to the output; it stops by a
+-- fault of its own; or it stops by a fault of the program
 pub data Moved : Type 0 where
   GoesOn : (state : State) → Moved
+  Writes : (state : State) (bytes : List ℕ) → Moved
   Faults : (kind : MachineKind) → Moved
+  Throws : (kind place : ℕ) → Moved
 
 -- the value of a register. x0 reads zero
-abbrev pub value_at : (ℕ → ℕ) → Register → ℕ
-value_at registers a = if nat_eq a.0 0 then 0 else registers a.0
+abbrev pub value_at : State → Register → ℕ
+value_at s a = if nat_eq a.number 0 then 0 else s.registers a.number
 
 -- the registers after a write. A write to x0 is dropped
-abbrev pub written : (ℕ → ℕ) → Register → ℕ → ℕ → ℕ
+abbrev pub written : (ℕ → ℕ) → ℕ → ℕ → ℕ → ℕ
 written registers d value number =
-    if nat_eq d.0 0 then registers number else (if nat_eq number d.0 then value else registers number)
+    if nat_eq d 0 then registers number else (if nat_eq number d then value else registers number)
 
--- where bytes at an address lie in private memory of a size, if they lie wholly in it
-unfoldable pub place_of : ℕ → ℕ → ℕ → Option ℕ
-place_of size address width =
-    if nat_lt address (2 ^ 32) then None
-    else (if nat_le (address - 2 ^ 32 + width) size then Some (address - 2 ^ 32) else None)
-
--- memory with bytes put at a place
-abbrev pub with_bytes : List ℕ → ℕ → List ℕ → List ℕ
-with_bytes memory place bytes = take place memory ++ (bytes ++ drop (place + length bytes) memory)
+-- the state at another address, with a value written to a register
+abbrev pub at_with : State → ℕ → ℕ → ℕ → State
+at_with s pc d value =
+    record { pc = pc; registers = written s.registers d value; region = s.region; private = s.private }
 
 -- goes on at the next instruction, with a value written to a register
 abbrev pub writes : State → Register → ℕ → Moved
-writes s d value =
-    GoesOn (record { pc = low (s.pc + 4); registers = written s.registers d value; private = s.private })
+writes s d value = GoesOn (at_with s (low (s.pc + 4)) d.number value)
 
--- loads the eight bytes at an address to a register
-abbrev pub loads_from : State → Register → Option ℕ → Moved
-loads_from s d None = Faults BadAccess
-loads_from s d (Some place) = writes s d (number_of (take 8 (drop place s.private)))
-
-abbrev pub loads : State → Register → ℕ → Moved
-loads s d address = loads_from s d (place_of (length s.private) address 8)
-
--- stores the eight bytes of a value at an address
-abbrev pub stores_to : State → ℕ → Option ℕ → Moved
-stores_to s value None = Faults BadAccess
-stores_to s value (Some place) =
-    GoesOn (record { pc = low (s.pc + 4); registers = s.registers; private = with_bytes s.private place (bytes_of 8 value) })
-
-abbrev pub stores : State → ℕ → ℕ → Moved
-stores s address value = stores_to s value (place_of (length s.private) address 8)
-
--- goes on at an address, whose lowest bit is cleared, with the address of the next instruction written to a register
+-- goes on at an address, with the address of the next instruction written to a register
 abbrev pub jumps : State → Register → ℕ → Moved
-jumps s d target =
-    GoesOn (record { pc = target - target % 2; registers = written s.registers d (low (s.pc + 4)); private = s.private })
+jumps s d target = GoesOn (at_with s target d.number (low (s.pc + 4)))
+
+-- goes on at an address, and nothing else changes
+abbrev pub goes_to : State → ℕ → Moved
+goes_to s target =
+    GoesOn (record { pc = target; registers = s.registers; region = s.region; private = s.private })
+
+-- goes on at an offset from the instruction if a branch is taken, and else at the next one
+abbrev pub branches : State → Bool → BranchOffset → Moved
+branches s taken offset = goes_to s (if taken then low (s.pc + word offset.bytes) else low (s.pc + 4))
+
+-- loads from an address to a register
+abbrev pub loads_from : State → LoadOp → Register → Option Place → Moved
+loads_from s op d None = Faults BadAccess
+loads_from s op d (Some place) = writes s d (load_value op (bytes_at s.region s.private place (load_width op)))
+
+abbrev pub loads : State → LoadOp → Register → ℕ → Moved
+loads s op d address = loads_from s op d (place_of (length s.region) (length s.private) address (load_width op))
+
+-- stores bytes at an address
+abbrev pub stores_to : State → List ℕ → Option Place → Moved
+stores_to s bytes None = Faults BadAccess
+stores_to s bytes (Some (Region at)) =
+    GoesOn (record { pc = low (s.pc + 4); registers = s.registers; region = with_bytes s.region at bytes; private = s.private })
+stores_to s bytes (Some (Private at)) =
+    GoesOn (record { pc = low (s.pc + 4); registers = s.registers; region = s.region; private = with_bytes s.private at bytes })
+
+abbrev pub stores : State → StoreOp → ℕ → ℕ → Moved
+stores s op address value =
+    stores_to s (bytes_of (store_width op) value) (place_of (length s.region) (length s.private) address (store_width op))
+
+-- The call `write`: x10 names the output, which has the number 1, x11 is where the bytes lie and x12 how many they are. It
+-- puts their number into x10.
+abbrev pub returned : State → State
+returned s = at_with s (low (s.pc + 4)) 10 (s.registers 12)
+
+abbrev pub writes_from : State → Option Place → Moved
+writes_from s None = Faults BadCall
+writes_from s (Some place) = Writes (returned s) (bytes_at s.region s.private place (s.registers 12))
+
+-- no bytes lie nowhere, so every address will do for them
+abbrev pub write_call : State → Moved
+write_call s =
+    if nat_eq (s.registers 10) 1 then (if nat_eq (s.registers 12) 0 then GoesOn (returned s)
+    else writes_from s (place_of (length s.region) (length s.private) (s.registers 11) (s.registers 12)))
+    else Faults BadCall
+
+-- The call by which the program ends the run with a fault: x10 is its kind, from 1 to 5, and x11 its place in the source.
+abbrev pub throw_call : State → Moved
+throw_call s =
+    if nat_le 1 (s.registers 10) && nat_le (s.registers 10) 5 then Throws (s.registers 10) (s.registers 11)
+    else Faults BadCall
+
+-- ECALL: x17 says which of the two calls it is
+abbrev pub calls : State → Moved
+calls s =
+    if nat_eq (s.registers 17) 64 then write_call s
+    else (if nat_eq (s.registers 17) 1024 then throw_call s else Faults BadCall)
+
+-- the word of the upper immediate: twenty bits over twelve zeros, extended by their sign
+abbrev pub upper_word : UpperImmediate → ℕ
+upper_word imm = extended_word (imm.value * 2 ^ 12)
 
 -- what each instruction does
-abbrev pub act : Instruction → State → Moved
-act (Addi d a immediate) s = writes s d (low (value_at s.registers a + immediate))
-act (Add d a b) s = writes s d (low (value_at s.registers a + value_at s.registers b))
-act (Sub d a b) s = writes s d (difference (value_at s.registers a) (value_at s.registers b))
-act (Mul d a b) s = writes s d (low (value_at s.registers a * value_at s.registers b))
-act (Ld d a offset) s = loads s d (low (value_at s.registers a + offset))
-act (Sd a b offset) s = stores s (low (value_at s.registers a + offset)) (value_at s.registers b)
-act (Jalr d a offset) s = jumps s d (low (value_at s.registers a + offset))
+abbrev pub act : Instr → State → Moved
+act (Lui rd imm) s = writes s rd (upper_word imm)
+act (Auipc rd imm) s = writes s rd (low (s.pc + upper_word imm))
+act (Jal rd offset) s = jumps s rd (low (s.pc + word offset.bytes))
+-- JALR clears the lowest bit of its target
+act (Jalr rd rs1 offset) s =
+    let target = low (value_at s rs1 + word offset.value) in
+    jumps s rd (target - target % 2)
+act (Branch condition rs1 rs2 offset) s = branches s (is_taken condition (value_at s rs1) (value_at s rs2)) offset
+act (Load op rd rs1 offset) s = loads s op rd (low (value_at s rs1 + word offset.value))
+act (Store op rs1 rs2 offset) s = stores s op (low (value_at s rs1 + word offset.value)) (value_at s rs2)
+act (RegisterImmediate op rd rs1 imm) s = writes s rd (immediate_value op (value_at s rs1) (word imm.value))
+act (Shift op rd rs1 count) s = writes s rd (shift_value op (value_at s rs1) count.count)
+act (Addiw rd rs1 imm) s = writes s rd (extended_word (value_at s rs1 + word imm.value))
+act (ShiftWord op rd rs1 count) s = writes s rd (shift_word_value op (value_at s rs1) count.count)
+act (RegisterRegister op rd rs1 rs2) s = writes s rd (register_value op (value_at s rs1) (value_at s rs2))
+act (RegisterRegisterWord op rd rs1 rs2) s = writes s rd (register_word_value op (value_at s rs1) (value_at s rs2))
+act (Fence rd rs1 fields) s = goes_to s (low (s.pc + 4))
+act Ecall s = calls s
+act Ebreak s = Faults Break
 
--- the word of text at an address
-unfoldable pub fetch : List ℕ → ℕ → Option ℕ
-fetch text pc =
+-- the instruction of text at an address, if it is one of text: None where its word is no instruction
+unfoldable pub fetch : List (Option Instr) → ℕ → Option (Option Instr)
+fetch program pc =
     if nat_lt pc 0x10000 then None
-    else (if nat_eq (pc % 4) 0 then slice_get text ((pc - 0x10000) / 4) else None)
+    else (if nat_eq (pc % 4) 0 then slice_get program ((pc - 0x10000) / 4) else None)
 
-abbrev pub obeys : Option Instruction → State → Moved
-obeys None s = Faults IllegalWord
-obeys (Some i) s = act i s
+abbrev pub obeys : Option (Option Instr) → State → Moved
+obeys None s = Faults BadFetch
+obeys (Some None) s = Faults IllegalWord
+obeys (Some (Some i)) s = act i s
 
-abbrev pub step_at : Option ℕ → State → Moved
-step_at None s = Faults BadFetch
-step_at (Some word) s = obeys (decode word) s
+-- one step: fetch and act
+abbrev pub step : List (Option Instr) → State → Moved
+step program s = obeys (fetch program s.pc) s
 
--- one step: fetch, decode, act
-abbrev pub step : List ℕ → State → Moved
-step text s = step_at (fetch text s.pc) s
-
--- where a run stands: why it stopped, and the state in which it did
+-- where a run stands: why it stopped, the state in which it did, and what it wrote to the output
 pub record Ran : Type 0 where
   pub stop : Stop
   pub state : State
+  pub output : List ℕ
+
+abbrev pub stands : Stop → State → Ran
+stands stop s = record { stop = stop; state = s; output = [] }
+
+-- a run before which bytes were written
+abbrev pub after_output : List ℕ → Ran → Ran
+after_output bytes r = record { stop = r.stop; state = r.state; output = bytes ++ r.output }
 
 -- at address 0 the run is over and gives x10
 abbrev pub unless_returned : State → Ran → Ran
-unless_returned s other =
-    if nat_eq s.pc 0 then record { stop = Returned (s.registers 10); state = s } else other
+unless_returned s other = if nat_eq s.pc 0 then stands (Returned (s.registers 10)) s else other
 
--- goes on after a step, or stops with the address of the instruction at fault
+-- goes on after a step, or stops. An instruction that stops the run leaves the state as it was
 abbrev pub after_step : Moved → State → (State → Ran) → Ran
 after_step (GoesOn next) s go = go next
-after_step (Faults kind) s go = record { stop = MachineFault kind s.pc; state = s }
+after_step (Writes next bytes) s go = after_output bytes (go next)
+after_step (Faults kind) s go = stands (MachineFault kind s.pc) s
+after_step (Throws kind place) s go = stands (TerraFault kind place) s
 
 -- a run of at most that many steps. To see address 0 takes none
-abbrev pub run_of : List ℕ → State → ℕ → Ran
-run_of text s zero = unless_returned s (record { stop = Unfinished; state = s })
-run_of text s (suc steps) = unless_returned s (after_step (step text s) s (λ next. run_of text next steps))
+abbrev pub run_of : List (Option Instr) → State → ℕ → Ran
+run_of program s zero = unless_returned s (stands Unfinished s)
+run_of program s (suc steps) =
+    unless_returned s (after_step (step program s) s (λ next. run_of program next steps))
 
--- the registers at the start: x2 is the end of private memory, x10 and those after it the arguments
-abbrev pub start_registers : ℕ → List ℕ → ℕ → ℕ
-start_registers end arguments number =
-    if nat_eq number 2 then end else (if nat_lt number 10 then 0 else slice_index arguments (number - 10))
+-- the end of a region, which a machine without one has at 0
+abbrev pub region_end : List ℕ → ℕ
+region_end region = if nat_eq (length region) 0 then 0 else 0x40000000 + length region
+
+-- the registers at the start: x2 is the end of private memory, x3 where the heap begins, x4 the end of the region, x10 and
+-- those after it the arguments
+abbrev pub start_registers : (end heap limit : ℕ) → List ℕ → ℕ → ℕ
+start_registers end heap limit arguments number =
+    if nat_eq number 2 then end
+    else (if nat_eq number 3 then heap
+    else (if nat_eq number 4 then limit
+    else (if nat_lt number 10 then 0 else slice_index arguments (number - 10))))
 
 -- the start at an address, with at most eight arguments
-abbrev pub start_state : ℕ → List ℕ → List ℕ → State
-start_state address arguments private =
-    record { pc = address; registers = start_registers (2 ^ 32 + length private) arguments; private = private }
+abbrev pub start_state : (address heap : ℕ) → (arguments region private : List ℕ) → State
+start_state address heap arguments region private =
+    record {
+      pc = address;
+      registers = start_registers (2 ^ 32 + length private) heap (region_end region) arguments;
+      region = region;
+      private = private;
+    }
 
 -- a machine that was loaded and not yet started
-abbrev pub loaded_state : ℕ → State
-loaded_state size = record { pc = 0; registers = λ number. 0; private = replicate size 0 }
+abbrev pub loaded_state : (region private : List ℕ) → State
+loaded_state region private = record { pc = 0; registers = λ number. 0; region = region; private = private }

@@ -1,13 +1,28 @@
 -- What contracts see of a machine.
-use Rattle.std.specs.Prelude.{ℕ, List, slice_index}
-use Rattle.rv_machine.specs.declared.execution.Machine.{Machine}
+use Rattle.std.specs.Prelude.{ℕ, List, Option, slice_index}
+use Rattle.rv_isa.specs.declared.instr.Instr.{Instr}
+use Rattle.rv_machine.specs.declared.hart.Hart.{Hart}
+use Rattle.rv_machine.specs.declared.machine.Machine.{Machine}
 use Rattle.rv_machine.specs.Machine.{State}
 
--- the words of its text
-abbrev pub text_of : Machine → List ℕ
-text_of machine = machine.text.items
+-- the state of the hart
+abbrev pub hart_state : Hart → State
+hart_state hart =
+    record {
+      pc = hart.pc;
+      registers = slice_index hart.registers;
+      region = hart.region.items;
+      private = hart.private.items;
+    }
 
--- its state
+-- the instructions of its text
+abbrev pub program_of : Machine → List (Option Instr)
+program_of machine = machine.program.items
+
+-- where its heap begins
+abbrev pub heap_of : Machine → ℕ
+heap_of machine = machine.heap
+
+-- the state of its hart
 abbrev pub state_of : Machine → State
-state_of machine =
-    record { pc = machine.pc; registers = slice_index machine.registers; private = machine.private.items }
+state_of machine = hart_state machine.hart

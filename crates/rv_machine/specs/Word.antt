@@ -1,5 +1,6 @@
--- Words of 64 bits, and the bytes of a number.
-use Rattle.std.specs.Prelude.{ℕ, zero, suc, ◌+◌, ◌-◌, ◌*◌, ◌/◌, ◌%◌, ◌^◌, nat_lt, if◌then◌else◌, List, [], ◌∷◌}
+-- Words of 64 bits, their signed values, and the bytes of a number.
+use Rattle.std.specs.Prelude.{ℕ, zero, suc, ◌+◌, ◌-◌, ◌*◌, ◌/◌, ◌%◌, ◌^◌, ℤ, List, [], ◌∷◌}
+use Rattle.std.specs.Int.{w32, w64, cast_signed, cast_unsigned}
 
 -- the low 64 bits of a number: arithmetic and addresses wrap at 2 ^ 64
 unfoldable pub low : ℕ → ℕ
@@ -9,9 +10,21 @@ low x = x % 2 ^ 64
 unfoldable pub difference : ℕ → ℕ → ℕ
 difference x y = low (x + (2 ^ 64 - y))
 
--- a field of 12 bits, whose highest bit is its sign, as a word of 64 bits
-unfoldable pub sign_extended : ℕ → ℕ
-sign_extended x = if nat_lt x 2048 then x else x + (2 ^ 64 - 4096)
+-- the signed number that a word stands for, by two's complement
+abbrev pub signed : ℕ → ℤ
+signed x = cast_signed w64 x
+
+-- the signed number that the low 32 bits of a word stand for
+abbrev pub signed_word : ℕ → ℤ
+signed_word x = cast_signed w32 (x % 2 ^ 32)
+
+-- the word that stands for a signed number
+abbrev pub word : ℤ → ℕ
+word z = cast_unsigned w64 z
+
+-- the low 32 bits of a word, extended by their sign
+abbrev pub extended_word : ℕ → ℕ
+extended_word x = word (signed_word x)
 
 -- the number that bytes give, the lowest byte first
 abbrev pub number_of : List ℕ → ℕ

@@ -1,20 +1,28 @@
-//! A RISC-V machine of seven instructions of RV64IM: ADDI, ADD, SUB, MUL, LD, SD and JALR.
+//! A RISC-V machine that runs all of RV64IM.
 //!
-//! A machine has words of text at 0x10000, which are fetched only, and bytes of private memory at 2^32, which are read and
-//! written, misaligned too. [`Machine::load_words`] takes all the memory of a run; [`Machine::start`] sets the registers to those
-//! of the start, and [`Machine::run`] takes at most so many steps and says why it stopped.
+//! A machine has words of text at 0x10000, which are fetched only; a region at 0x40000000 and private memory at 2^32, which are
+//! read and written, misaligned too. [`Machine::load`] takes all the memory of a run of an image, and [`Machine::load_words`] that
+//! of words without a region. Both decode the text once. [`Machine::start`] sets the registers to those of the start, and
+//! [`Machine::run`] takes at most so many steps and says why it stopped.
 //!
-//! `specs/` has what this means: `Instructions` the instruction of a word by the fields of the RISC-V Unprivileged ISA manual,
-//! `Machine` the state, one row for each instruction, one step and a run, and `Shown` what contracts see of a [`Machine`]. The
-//! contract of `run` is that it is that run, stop and state; [`runs_go_on`] has the laws of runs.
+//! A program ends where the program counter is 0, with x10 as its result. It has two calls, by ECALL with their number in x17: 64
+//! writes x12 bytes from x11 to the output, which x10 names by the number 1; and 1024 ends the run by a fault of its own, with its
+//! kind from 1 to 5 in x10 and its place in x11.
 //!
-//! Nothing here writes to the sink that `run` takes, and no run ends by a fault of the program, an unknown call or a breakpoint.
+//! `specs/` has what this means. `Word` has words and their signed values; `Arithmetic` what each instruction that computes gives, and
+//! `Memory` loads and stores, in the terms of the RISC-V Unprivileged ISA manual; `Program` the instructions of a text, by the table
+//! of `rv_isa`; `Machine` the state, one row for each instruction, one step and a run, with its output; `Runs` what a call of `run`
+//! does by that run; `Shown` what contracts see of a [`Machine`]; and `Laws` the laws that [`runs_go_on`] states.
 #![tactic(auto)]
 
-pub mod execution;
-pub mod instruction;
+mod arithmetic;
+mod hart;
+pub mod machine;
+pub mod memory;
+mod output;
 pub mod stops;
+#[cfg(test)]
+mod tests;
 
-pub use execution::{Machine, TEXT, runs_go_on};
-pub use instruction::{Instruction, Register, decode_word};
+pub use machine::{Machine, TEXT, runs_go_on};
 pub use stops::{MachineKind, Stop};

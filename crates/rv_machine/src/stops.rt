@@ -7,11 +7,11 @@ pub enum MachineKind {
     IllegalWord,
     /// The program counter is no multiple of 4 within text.
     BadFetch,
-    /// A load or store does not lie wholly in private memory.
+    /// A load or store does not lie wholly in the region or in private memory.
     BadAccess,
-    /// A call of the environment that it does not know. No instruction of this machine makes one.
+    /// A call of the environment that it does not know, or bytes to write that do not lie wholly in the region or in private memory.
     BadCall,
-    /// A breakpoint. No instruction of this machine is one.
+    /// A breakpoint.
     Break,
 }
 
@@ -20,12 +20,12 @@ pub enum MachineKind {
 pub enum Stop {
     /// The program counter is 0: the run is over, with the value of x10.
     Returned(u64),
-    /// The program itself ended the run with a fault. No instruction of this machine does so.
+    /// The program itself ended the run with a fault: its kind, from 1 to 5, and its place in the source, as the program gave them.
     TerraFault { kind: u64, place: u64 },
     /// The machine refused the instruction at `pc`.
     MachineFault { kind: MachineKind, pc: u64 },
     /// The steps are used up.
     Unfinished,
-    /// The sink took nothing. No instruction of this machine writes.
+    /// The sink failed, or took nothing of some bytes.
     WriteFault,
 }

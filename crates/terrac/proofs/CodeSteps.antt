@@ -1,15 +1,25 @@
 -- Single steps of the machine, and the words of the code.
-use Rattle.std.proofs.Common.{◌≡◌, ℕ, zero, suc, ◌+◌, ◌-◌, ◌*◌, ◌/◌, ◌%◌, ◌^◌, ◌<◌, ◌≤◌, true, false, List, [], ◌∷◌, ◌++◌, length, Option, Some, None, refl, ap, ◌∙◌, subst, arith}
-use Rattle.std.specs.Prelude.{nat_eq, nat_lt, if◌then◌else◌, slice_get, ◌&&◌}
-use Rattle.std.proofs.lemmas.Bool.{eq-eqb, ne_eqb, le-ltb, lt-ltb}
+use Rattle.std.proofs.Common.{◌≡◌, ◌↔◌, ℕ, zero, suc, ◌+◌, ◌-◌, ◌*◌, ◌/◌, ◌%◌, ◌^◌, ◌<◌, ◌≤◌, ◌≤ℤ◌, ℤ, pos, negsuc, true, false, List, [], ◌∷◌, ◌++◌, length, Option, Some, None, refl, ap, ◌∙◌, subst, arith}
+use Rattle.std.specs.Prelude.{nat_eq, nat_lt, if◌then◌else◌, slice_get}
+use Rattle.std.proofs.lemmas.Bool.{eq-eqb, ne_eqb, le-ltb}
+use Rattle.std.proofs.lemmas.Int.{ints}
 use Rattle.std.proofs.lemmas.List.{append_assoc, length-append}
-use Rattle.rv_machine.specs.declared.instruction.Instruction.{Instruction}
-use Rattle.rv_machine.specs.declared.instruction.Instruction.TheVariants.{Addi, Add, Sub, Mul, Ld, Sd, Jalr}
+use Rattle.rv_isa.specs.Finds.{Finds}
+use Rattle.rv_isa.specs.Table.{word_of}
+use Rattle.rv_isa.specs.declared.instr.Instr.{Instr}
+use Rattle.rv_isa.specs.declared.instr.Instr.TheVariants.{Jalr, Load, Store, RegisterImmediate, RegisterRegister}
+use Rattle.rv_isa.specs.declared.operand.Register.{Register}
+use Rattle.rv_isa.specs.declared.operand.Immediate.{Immediate}
+use Rattle.rv_isa.specs.declared.operation.ImmediateOp.TheVariants.{Addi}
+use Rattle.rv_isa.specs.declared.operation.LoadOp.TheVariants.{Ld}
+use Rattle.rv_isa.specs.declared.operation.StoreOp.TheVariants.{Sd}
+use Rattle.rv_isa.specs.declared.operation.RegisterOp.TheVariants.{Add, Sub, Mul}
+use Rattle.rv_isa.proofs.Found.{found_some}
 use Rattle.rv_machine.specs.declared.stops.Stop.TheVariants.{Returned, Unfinished}
-use Rattle.rv_machine.specs.Word.{low, sign_extended}
-use Rattle.rv_machine.specs.Instructions.{field, x, rd, rs1, rs2, opcode, funct3, immediate_i, immediate_s, has_codes, decode_register, decode}
-use Rattle.terrac.specs.Code.{parameter_word, literal_word}
-use Rattle.rv_machine.specs.Machine.{State, GoesOn, act, fetch, obeys, step_at, step, Ran, after_step, run_of}
+use Rattle.rv_machine.specs.Word.{low}
+use Rattle.rv_machine.specs.Program.{IsProgram}
+use Rattle.terrac.specs.Code.{parameter_word, literal_word, Gives}
+use Rattle.rv_machine.specs.Machine.{State, GoesOn, act, fetch, obeys, step, Ran, stands, after_step, run_of}
 
 -- the address of a word of text
 unfoldable pub at : ℕ → ℕ
@@ -23,7 +33,7 @@ pub at-next : (w : ℕ) → w < 2 ^ 32 → low (at w + 4) ≡ at (w + 1)
 unfolding at low
 at-next w small = omega arith
 
-pub fetch-at : (text : List ℕ) (w : ℕ) → fetch text (at w) ≡ slice_get text w
+pub fetch-at : (text : List (Option Instr)) (w : ℕ) → fetch text (at w) ≡ slice_get text w
 unfolding at fetch
 fetch-at text w =
     let past : nat_lt (0x10000 + 4 * w) 0x10000 ≡ false = le-ltb (0x10000 + 4 * w) 0x10000 (omega arith) in
@@ -38,124 +48,138 @@ unfolding at
 at_not_zero w = ne_eqb (0x10000 + 4 * w) 0 (λ e. omega arith)
 
 -- in so many steps the machine goes from one state to another
-pub record Leads (text : List ℕ) (s : State) (steps : ℕ) (after : State) : Type 0 where
+pub record Leads (text : List (Option Instr)) (s : State) (steps : ℕ) (after : State) : Type 0 where
   pub by : (more all : ℕ) → all ≡ steps + more → run_of text s all ≡ run_of text after more
 
-pub leads_on : (text : List ℕ) (s middle after : State) (first rest steps : ℕ) → steps ≡ first + rest → Leads text s first middle → Leads text middle rest after → Leads text s steps after
+pub leads_on : (text : List (Option Instr)) (s middle after : State) (first rest steps : ℕ) → steps ≡ first + rest → Leads text s first middle → Leads text middle rest after → Leads text s steps after
 leads_on text s middle after first rest steps e a b =
     record { by = λ more all h. a.by (rest + more) all (omega arith) ∙ b.by more (rest + more) refl }
 
+-- what was decoded at a word of the text
+pub record At (text : List (Option Instr)) (w word : ℕ) : Type 0 where
+  pub found : Option Instr
+  pub there : slice_get text w ≡ Some found
+  pub means : Finds word_of word found
+
 -- one step, of an instruction that stands at the program counter
-pub steps_to : (text : List ℕ) (s after : State) (w word : ℕ) (i : Instruction) → s.pc ≡ at w → slice_get text w ≡ Some word → decode word ≡ Some i → act i s ≡ GoesOn after → Leads text s 1 after
-steps_to text s after w word i here stands means moves = record {
+pub steps_to : (text : List (Option Instr)) (s after : State) (w word : ℕ) (i : Instr) → s.pc ≡ at w → At text w word → word_of i ≡ word → act i s ≡ GoesOn after → Leads text s 1 after
+steps_to text s after w word i here stood means moves = record {
   by = λ more all h.
       let e : all ≡ suc more = omega arith in
+      let it : stood.found ≡ Some i = (found_some word stood.found stood.means i).1 means in
       ap (run_of text s) e
-      ∙ ap (λ b. if b then record { stop = Returned (s.registers 10); state = s } else after_step (step text s) s (λ next. run_of text next more)) (ap (λ n. nat_eq n 0) here ∙ at_not_zero w)
-      ∙ ap (λ o. after_step (step_at o s) s (λ next. run_of text next more)) (ap (fetch text) here ∙ fetch-at text w ∙ stands)
-      ∙ ap (λ o. after_step (obeys o s) s (λ next. run_of text next more)) means
+      ∙ ap (λ b. if b then stands (Returned (s.registers 10)) s else after_step (step text s) s (λ next. run_of text next more)) (ap (λ n. nat_eq n 0) here ∙ at_not_zero w)
+      ∙ ap (λ o. after_step (obeys o s) s (λ next. run_of text next more)) (ap (fetch text) here ∙ fetch-at text w ∙ stood.there ∙ ap Some it)
       ∙ ap (λ m. after_step m s (λ next. run_of text next more)) moves;
 }
 
 -- where the program counter is 0 the run is over
-run_of-at_zero : (text : List ℕ) (s : State) (steps : ℕ) → s.pc ≡ 0 → run_of text s steps ≡ record { stop = Returned (s.registers 10); state = s }
-run_of-at_zero text s zero e = ap (λ b. if b then record { stop = Returned (s.registers 10); state = s } else record { stop = Unfinished; state = s }) (eq-eqb s.pc 0 e)
-run_of-at_zero text s (suc steps) e = ap (λ b. if b then record { stop = Returned (s.registers 10); state = s } else after_step (step text s) s (λ next. run_of text next steps)) (eq-eqb s.pc 0 e)
+run_of-at_zero : (text : List (Option Instr)) (s : State) (steps : ℕ) → s.pc ≡ 0 → run_of text s steps ≡ stands (Returned (s.registers 10)) s
+run_of-at_zero text s zero e = ap (λ b. if b then stands (Returned (s.registers 10)) s else stands Unfinished s) (eq-eqb s.pc 0 e)
+run_of-at_zero text s (suc steps) e = ap (λ b. if b then stands (Returned (s.registers 10)) s else after_step (step text s) s (λ next. run_of text next steps)) (eq-eqb s.pc 0 e)
 
-pub returns_at_zero : (text : List ℕ) (s : State) (steps : ℕ) → s.pc ≡ 0 → (run_of text s steps).stop ≡ Returned (s.registers 10)
-returns_at_zero text s steps e = ap (λ (r : Ran). r.stop) (run_of-at_zero text s steps e)
+pub gives_at_zero : (text : List (Option Instr)) (s : State) (steps v : ℕ) (r : Ran) → r ≡ run_of text s steps → s.pc ≡ 0 → s.registers 10 ≡ v → Gives r v
+gives_at_zero text s steps v r same e value =
+    let over = same ∙ run_of-at_zero text s steps e in
+    record {
+      stops = ap (λ (r : Ran). r.stop) over ∙ ap (λ v. Returned v) value;
+      writes_nothing = ap (λ (r : Ran). r.output) over;
+    }
 
 -- the words stand in the text from a word on
-abbrev pub Stands : List ℕ → ℕ → List ℕ → Type 0
+abbrev pub Stands : List (Option Instr) → ℕ → List ℕ → Type 0
 Stands text w [] = Unit {0}
-Stands text w (word ∷ words) = (slice_get text w ≡ Some word) × Stands text (w + 1) words
+Stands text w (word ∷ words) = At text w word × Stands text (w + 1) words
 
-pub stands_front : (text : List ℕ) (w : ℕ) (a b : List ℕ) → Stands text w (a ++ b) → Stands text w a
+pub stands_front : (text : List (Option Instr)) (w : ℕ) (a b : List ℕ) → Stands text w (a ++ b) → Stands text w a
 stands_front text w [] b h = tt
 stands_front text w (word ∷ a) b h = (h.0, stands_front text (w + 1) a b h.1)
 
-pub stands_back : (text : List ℕ) (w : ℕ) (a b : List ℕ) → Stands text w (a ++ b) → Stands text (w + length a) b
+pub stands_back : (text : List (Option Instr)) (w : ℕ) (a b : List ℕ) → Stands text w (a ++ b) → Stands text (w + length a) b
 stands_back text w [] b h = let e : w ≡ w + 0 = omega arith in subst (λ n. Stands text n b) e h
 stands_back text w (word ∷ a) b h =
     let e : w + 1 + length a ≡ w + length (word ∷ a) = omega arith in
     subst (λ n. Stands text n b) e (stands_back text (w + 1) a b h.1)
 
-slice_get-past : (front : List ℕ) (word : ℕ) (rest : List ℕ) → slice_get (front ++ word ∷ rest) (length front) ≡ Some word
-slice_get-past [] word rest = refl
-slice_get-past (f ∷ front) word rest = slice_get-past front word rest
+slice_get-past : (front : List (Option Instr)) (found : Option Instr) (rest : List (Option Instr)) → slice_get (front ++ found ∷ rest) (length front) ≡ Some found
+slice_get-past [] found rest = refl
+slice_get-past (f ∷ front) found rest = slice_get-past front found rest
 
--- a text's own words stand in it
-pub stands_itself : (front words : List ℕ) → Stands (front ++ words) (length front) words
-stands_itself front [] = tt
-stands_itself front (word ∷ words) =
-    let e : (front ++ word ∷ []) ++ words ≡ front ++ word ∷ words = append_assoc front (word ∷ []) words in
-    let n : length (front ++ word ∷ []) ≡ length front + 1 = length-append front (word ∷ []) in (
-      slice_get-past front word words,
-      subst (λ k. Stands (front ++ word ∷ words) k words) n (subst (λ t. Stands t (length (front ++ word ∷ [])) words) e (stands_itself (front ++ word ∷ []) words)),
+-- a program's own words stand in it
+pub stands_itself : (front : List (Option Instr)) (words : List ℕ) (program : List (Option Instr)) → IsProgram words program → Stands (front ++ program) (length front) words
+stands_itself front [] program h = tt
+stands_itself front (word ∷ words) [] h = absurd h
+stands_itself front (word ∷ words) (found ∷ program) h =
+    let e : (front ++ found ∷ []) ++ program ≡ front ++ found ∷ program = append_assoc front (found ∷ []) program in
+    let n : length (front ++ found ∷ []) ≡ length front + 1 = length-append front (found ∷ []) in (
+      record { found = found; there = slice_get-past front found program; means = h.0 },
+      subst (λ k. Stands (front ++ found ∷ program) k words) n (subst (λ t. Stands t (length (front ++ found ∷ [])) words) e (stands_itself (front ++ found ∷ []) words program h.1)),
     )
 
--- the instructions of the words
-pub decode-down : decode 0xff810113 ≡ Some (Addi (x 2) (x 2) (2 ^ 64 - 8))
-unfolding decode field sign_extended
-decode-down = refl
+-- registers and immediates
+abbrev pub x0 : Register
+x0 = record { number = 0; in_range = omega arith }
 
-pub decode-push : decode 0x00513023 ≡ Some (Sd (x 2) (x 5) 0)
-unfolding decode field sign_extended
-decode-push = refl
+abbrev pub x1 : Register
+x1 = record { number = 1; in_range = omega arith }
 
-pub decode-pop : decode 0x00013303 ≡ Some (Ld (x 6) (x 2) 0)
-unfolding decode field sign_extended
-decode-pop = refl
+abbrev pub x2 : Register
+x2 = record { number = 2; in_range = omega arith }
 
-pub decode-up : decode 0x00810113 ≡ Some (Addi (x 2) (x 2) 8)
-unfolding decode field sign_extended
-decode-up = refl
+abbrev pub x5 : Register
+x5 = record { number = 5; in_range = omega arith }
 
-pub decode-add : decode 0x005302b3 ≡ Some (Add (x 5) (x 6) (x 5))
-unfolding decode field sign_extended
-decode-add = refl
+abbrev pub x6 : Register
+x6 = record { number = 6; in_range = omega arith }
 
-pub decode-sub : decode 0x405302b3 ≡ Some (Sub (x 5) (x 6) (x 5))
-unfolding decode field sign_extended
-decode-sub = refl
+abbrev pub x10 : Register
+x10 = record { number = 10; in_range = omega arith }
 
-pub decode-mul : decode 0x025302b3 ≡ Some (Mul (x 5) (x 6) (x 5))
-unfolding decode field sign_extended
-decode-mul = refl
+abbrev pub argument : (position : ℕ) → position < 8 → Register
+argument position small = record { number = 10 + position; in_range = omega arith }
 
-pub decode-result : decode 0x00028513 ≡ Some (Addi (x 10) (x 5) 0)
-unfolding decode field sign_extended
-decode-result = refl
+abbrev pub up_to : (n : ℕ) → n ≤ 2047 → Immediate
+up_to n small = record { value = pos n; lowest = omega (arith, ints); highest = omega (arith, ints) }
 
-pub decode-return : decode 0x00008067 ≡ Some (Jalr (x 0) (x 1) 0)
-unfolding decode field sign_extended
-decode-return = refl
+abbrev pub none : Immediate
+none = record { value = pos 0; lowest = omega (arith, ints); highest = omega (arith, ints) }
 
--- a word of the form I of ADDI, by its fields
-decode-addi : (word d a n : ℕ) → field word 0 7 ≡ 0b0010011 → field word 12 3 ≡ 0 → field word 7 5 ≡ d → field word 15 5 ≡ a → field word 20 12 ≡ n → n < 2048 → decode word ≡ Some (Addi (x d) (x a) n)
-unfolding decode sign_extended
-decode-addi word d a n code function to from immediate small =
-    ap (λ b. if b && nat_eq (funct3 word) 0 then Some (Addi (rd word) (rs1 word) (immediate_i word)) else rest) (eq-eqb (opcode word) 0b0010011 code)
-    ∙ ap (λ b. if b then Some (Addi (rd word) (rs1 word) (immediate_i word)) else rest) (eq-eqb (funct3 word) 0 function)
-    ∙ ap (λ k. Some (Addi (x k) (rs1 word) (immediate_i word))) to
-    ∙ ap (λ k. Some (Addi (x d) (x k) (immediate_i word))) from
-    ∙ ap (λ k. Some (Addi (x d) (x a) (if nat_lt k 2048 then k else k + (2 ^ 64 - 4096)))) immediate
-    ∙ ap (λ b. Some (Addi (x d) (x a) (if b then n else n + (2 ^ 64 - 4096)))) (lt-ltb n 2048 small)
-  where
-    rest : Option Instruction
-    rest =
-        if has_codes word 0b0110011 0b000 then decode_register word
-        else (if has_codes word 0b0000011 0b011 then Some (Ld (rd word) (rs1 word) (immediate_i word))
-        else (if has_codes word 0b0100011 0b011 then Some (Sd (rs1 word) (rs2 word) (immediate_s word))
-        else (if has_codes word 0b1100111 0b000 then Some (Jalr (rd word) (rs1 word) (immediate_i word))
-        else None)))
+abbrev pub eight : Immediate
+eight = record { value = pos 8; lowest = omega (arith, ints); highest = omega (arith, ints) }
 
-pub decode-parameter : (position : ℕ) → position < 8 → decode (parameter_word position) ≡ Some (Addi (x 5) (x (10 + position)) 0)
-unfolding field
-decode-parameter position small =
-    decode-addi (0x00050293 + position * 2 ^ 15) 5 (10 + position) 0 (omega arith) (omega arith) (omega arith) (omega arith) (omega arith) (omega arith)
+abbrev pub less_eight : Immediate
+less_eight = record { value = negsuc 7; lowest = omega (arith, ints); highest = omega (arith, ints) }
 
-pub decode-literal : (value : ℕ) → value ≤ 2047 → decode (literal_word value) ≡ Some (Addi (x 5) (x 0) value)
-unfolding field
-decode-literal value small =
-    decode-addi (0x00000293 + value * 2 ^ 20) 5 0 value (omega arith) (omega arith) (omega arith) (omega arith) (omega arith) (omega arith)
+-- the words of the instructions
+pub word-down : word_of (RegisterImmediate Addi x2 x2 less_eight) ≡ 0xff810113
+word-down = refl
+
+pub word-push : word_of (Store Sd x2 x5 none) ≡ 0x00513023
+word-push = refl
+
+pub word-pop : word_of (Load Ld x6 x2 none) ≡ 0x00013303
+word-pop = refl
+
+pub word-up : word_of (RegisterImmediate Addi x2 x2 eight) ≡ 0x00810113
+word-up = refl
+
+pub word-add : word_of (RegisterRegister Add x5 x6 x5) ≡ 0x005302b3
+word-add = refl
+
+pub word-sub : word_of (RegisterRegister Sub x5 x6 x5) ≡ 0x405302b3
+word-sub = refl
+
+pub word-mul : word_of (RegisterRegister Mul x5 x6 x5) ≡ 0x025302b3
+word-mul = refl
+
+pub word-result : word_of (RegisterImmediate Addi x10 x5 none) ≡ 0x00028513
+word-result = refl
+
+pub word-return : word_of (Jalr x0 x1 none) ≡ 0x00008067
+word-return = refl
+
+pub word-parameter : (position : ℕ) → (small : position < 8) → word_of (RegisterImmediate Addi x5 (argument position small) none) ≡ parameter_word position
+word-parameter position small = omega arith
+
+pub word-literal : (value : ℕ) → (small : value ≤ 2047) → word_of (RegisterImmediate Addi x5 x0 (up_to value small)) ≡ literal_word value
+word-literal value small = omega arith

@@ -1,8 +1,12 @@
 use Rattle.rv_machine.proofs.Runs.{run_of-add, run_of-over}
-use Rattle.rv_machine.proofs.execution.runs_go_on.Goals as goal
+use Rattle.rv_machine.proofs.Programs.{one_program}
+use Rattle.rv_machine.proofs.machine.runs_go_on.Goals as goal
 
 pub returns-clause-parts : goal.returns-clause-parts
 returns-clause-parts c = run_of-add
 
 pub returns-clause-over : goal.returns-clause-over
 returns-clause-over c = run_of-over
+
+pub returns-clause-program : goal.returns-clause-program
+returns-clause-program c = one_program

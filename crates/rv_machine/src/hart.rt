@@ -1,0 +1,424 @@
+// The hart: the program counter, the registers and the memory that they reach, and what each instruction does to them.
+
+ghost use Rattle.std.specs.Prelude.{◌≡◌, ◌≢◌, ◌+◌, ◌-◌, ◌*◌, ◌%◌, ◌^◌, ◌<◌, ◌≤◌, length, slice_index, Ok, IfErr, OnOk, OnErr};
+ghost use Rattle.rv_machine.specs.Word.{low, word};
+ghost use Rattle.rv_machine.specs.Machine.{upper_word, written, start_registers};
+
+use crate::arithmetic::{
+    add_word, extended_word, immediate_value, is_taken, register_value, register_word_value,
+    shift_value, shift_word_value,
+};
+use crate::memory::{
+    PRIVATE, Place, REGION, find_place, load_value, load_width, put_value, store_width,
+};
+use crate::output::write_all;
+use crate::stops::{MachineKind, Stop};
+use rv_isa::{
+    BranchOffset, Immediate, Instr, JumpOffset, LoadOp, Register, StoreOp, UpperImmediate,
+};
+use tl_base::Sink;
+
+/// The program counter, the registers, and the region and private memory.
+#[derive(Drop)]
+pub(crate) struct Hart {
+    pub pc: u64,
+    pub registers: [u64; 32],
+    pub region: Vec<u8>,
+    pub private: Vec<u8>,
+    ghost region_fits: { length region.items ≤ 67108864 },
+    ghost private_fits: { length private.items ≤ 603979776 },
+}
+
+impl Hart {
+    ghost use Rattle.std.specs.Prelude.{List, ℕ};
+    ghost use Rattle.rv_isa.specs.declared.instr.Instr.TheVariants.{Ecall};
+    ghost use Rattle.rv_machine.specs.Machine.{value_at, GoesOn, Faults, writes, jumps, goes_to, branches, loads, stores, act, calls, write_call, throw_call, at_with, start_state, loaded_state};
+    ghost use Rattle.rv_machine.specs.declared.stops.Stop.TheVariants.{MachineFault, WriteFault};
+    ghost use Rattle.rv_machine.specs.Memory.{FitsIn, bytes_at};
+    ghost use Rattle.rv_machine.specs.Steps.{WentOn, IsStop, StoppedAt, Counted};
+    ghost use Rattle.rv_machine.specs.Shown.{hart_state};
+
+    /// A hart with this memory, which stands at 0 with registers of zero.
+    pub(crate) fn new(region: Vec<u8>, private: Vec<u8>) -> Hart
+        requires region { length region.items ≤ 67108864 }
+        requires private { length private.items ≤ 603979776 }
+        ensures { hart_state result ≡ loaded_state region.items private.items }
+    {
+        Hart {
+            pc: 0,
+            registers: [0; 32],
+            region,
+            private,
+        }
+    }
+
+    /// Makes ready to run from an address. The memory stays as it is.
+    pub(crate) fn start(&mut self, address: u64, heap: u64, arguments: &[u64])
+        requires { length arguments.now ≤ 8 }
+        ensures { hart_state self.new ≡ start_state address heap arguments.now (hart_state self.old).region (hart_state self.old).private }
+    {
+        let limit = if self.region.is_empty() {
+            0
+        } else {
+            REGION + self.region.len() as u64
+        };
+        self.pc = address;
+        self.registers = registers_for(PRIVATE + self.private.len() as u64, heap, limit, arguments);
+    }
+
+    /// What an instruction does. One that stops the run leaves the hart as it was.
+    #[inline]
+    pub(crate) fn perform<K: Sink>(&mut self, instr: Instr, out: &mut K) -> Result<(), Stop>
+        ensures ok { OnOk result (WentOn (act instr (hart_state self.old)) (hart_state self.new) (K.taken out.old) (K.taken out.new) (out.new ≡ out.old)) }
+        ensures quiet { OnOk result (K.faults out.new ≡ K.faults out.old) }
+        ensures err { IfErr result (λ stop. StoppedAt stop (hart_state self.old).pc (act instr (hart_state self.old)) (K.taken out.old) (K.taken out.new)) }
+        ensures counted { IfErr result (λ stop. Counted stop (K.faults out.old) (K.faults out.new)) }
+        ensures untouched { IfErr result (λ stop. stop ≢ WriteFault → out.new ≡ out.old) }
+        ensures same { OnErr result (hart_state self.new ≡ hart_state self.old) }
+    {
+        if instr == Instr::Ecall {
+            return self.call(out);
+        }
+        match self.execute(instr) {
+            Ok(()) => Ok(()),
+            Err(kind) => Err(self.fault(kind)),
+        }
+    }
+
+    // What an instruction does that makes no call. One that faults leaves the hart as it was.
+    fn execute(&mut self, instr: Instr) -> Result<(), MachineKind>
+        requires { instr ≢ Ecall }
+        ensures ok { OnOk result (act instr (hart_state self.old) ≡ GoesOn (hart_state self.new)) }
+        ensures err { IfErr result (λ kind. act instr (hart_state self.old) ≡ Faults kind) }
+        ensures same { OnErr result (hart_state self.new ≡ hart_state self.old) }
+    {
+        match instr {
+            Instr::Lui { rd, imm } => self.write(rd, upper(imm)),
+            Instr::Auipc { rd, imm } => self.write(rd, self.ahead(upper(imm))),
+            Instr::Jal { rd, offset } => self.jump(rd, self.ahead(jump_word(offset))),
+            Instr::Jalr { rd, rs1, offset } => self.jump(rd, even(self.address(rs1, offset))),
+            Instr::Branch {
+                condition,
+                rs1,
+                rs2,
+                offset,
+            } => { self.branch(is_taken(condition, self.read(rs1), self.read(rs2)), offset) }
+            Instr::Load {
+                op,
+                rd,
+                rs1,
+                offset,
+            } => self.load(op, rd, self.address(rs1, offset)),
+            Instr::Store {
+                op,
+                rs1,
+                rs2,
+                offset,
+            } => { self.store(op, self.address(rs1, offset), self.read(rs2)) }
+            Instr::RegisterImmediate { op, rd, rs1, imm } => {
+                self.write(rd, immediate_value(op, self.read(rs1), immediate_word(imm)))
+            }
+            Instr::Shift { op, rd, rs1, count } => {
+                self.write(rd, shift_value(op, self.read(rs1), u32::from(count.count)))
+            }
+            Instr::Addiw { rd, rs1, imm } => {
+                self.write(rd, add_word(self.read(rs1), immediate_word(imm)))
+            }
+            Instr::ShiftWord { op, rd, rs1, count } => {
+                self.write(
+                    rd,
+                    shift_word_value(op, self.read(rs1), u32::from(count.count)),
+                )
+            }
+            Instr::RegisterRegister { op, rd, rs1, rs2 } => {
+                self.write(rd, register_value(op, self.read(rs1), self.read(rs2)))
+            }
+            Instr::RegisterRegisterWord { op, rd, rs1, rs2 } => {
+                self.write(rd, register_word_value(op, self.read(rs1), self.read(rs2)))
+            }
+            Instr::Fence { .. } => self.skip(),
+            Instr::Ebreak => Err(MachineKind::Break),
+            Instr::Ecall => unreachable!(),
+        }
+    }
+
+    /// What ECALL does. One that stops the run leaves the hart as it was.
+    pub(crate) fn call<K: Sink>(&mut self, out: &mut K) -> Result<(), Stop>
+        ensures ok { OnOk result (WentOn (calls (hart_state self.old)) (hart_state self.new) (K.taken out.old) (K.taken out.new) (out.new ≡ out.old)) }
+        ensures quiet { OnOk result (K.faults out.new ≡ K.faults out.old) }
+        ensures err { IfErr result (λ stop. StoppedAt stop (hart_state self.old).pc (calls (hart_state self.old)) (K.taken out.old) (K.taken out.new)) }
+        ensures counted { IfErr result (λ stop. Counted stop (K.faults out.old) (K.faults out.new)) }
+        ensures untouched { IfErr result (λ stop. stop ≢ WriteFault → out.new ≡ out.old) }
+        ensures same { OnErr result (hart_state self.new ≡ hart_state self.old) }
+    {
+        match self.registers[17] {
+            64 => self.write_call(out),
+            1024 => Err(self.throw_call()),
+            _ => Err(self.fault(MachineKind::BadCall)),
+        }
+    }
+
+    // The call that writes bytes to the output.
+    #[tactic(auto, unfolding(crate::specs::Word::low))]
+    fn write_call<K: Sink>(&mut self, out: &mut K) -> Result<(), Stop>
+        ensures ok { OnOk result (WentOn (write_call (hart_state self.old)) (hart_state self.new) (K.taken out.old) (K.taken out.new) (out.new ≡ out.old)) }
+        ensures quiet { OnOk result (K.faults out.new ≡ K.faults out.old) }
+        ensures err { IfErr result (λ stop. StoppedAt stop (hart_state self.old).pc (write_call (hart_state self.old)) (K.taken out.old) (K.taken out.new)) }
+        ensures counted { IfErr result (λ stop. Counted stop (K.faults out.old) (K.faults out.new)) }
+        ensures untouched { IfErr result (λ stop. stop ≢ WriteFault → out.new ≡ out.old) }
+        ensures same { OnErr result (hart_state self.new ≡ hart_state self.old) }
+    {
+        if self.registers[10] != 1 {
+            return Err(self.fault(MachineKind::BadCall));
+        }
+        let count = self.registers[12];
+        if count == 0 {
+            self.answer(count);
+            return Ok(());
+        }
+        let Some(place) = find_place(
+            self.region.len(),
+            self.private.len(),
+            self.registers[11],
+            count,
+        ) else {
+            return Err(self.fault(MachineKind::BadCall));
+        };
+        match write_all(out, self.bytes(place, count)) {
+            Ok(()) => {
+                self.answer(count);
+                Ok(())
+            }
+            Err(_) => Err(Stop::WriteFault),
+        }
+    }
+
+    // The bytes at a place.
+    fn bytes(&self, place: Place, count: u64) -> &[u8]
+        requires { FitsIn (length self.now.region.items) (length self.now.private.items) count place }
+        ensures bytes { result.now ≡ bytes_at (hart_state self.now).region (hart_state self.now).private place count }
+        ensures count { length result.now ≡ count }
+    {
+        match place {
+            Place::Region(at) => &self.region[at..at + count as usize],
+            Place::Private(at) => &self.private[at..at + count as usize],
+        }
+    }
+
+    // Puts the answer of a call into x10, and goes on at the next instruction.
+    #[tactic(auto, unfolding(crate::specs::Word::low))]
+    fn answer(&mut self, value: u64)
+        ensures { hart_state self.new ≡ at_with (hart_state self.old) (low ((hart_state self.old).pc + 4)) 10 value }
+    {
+        put(&mut self.registers, 10, value);
+        self.pc = self.pc.wrapping_add(4);
+    }
+
+    // How the run stops by the call that ends it.
+    fn throw_call(&self) -> Stop
+        ensures { IsStop result (hart_state self.now).pc (throw_call (hart_state self.now)) }
+    {
+        let kind = self.registers[10];
+        if 1 <= kind && kind <= 5 {
+            Stop::TerraFault {
+                kind,
+                place: self.registers[11],
+            }
+        } else {
+            self.fault(MachineKind::BadCall)
+        }
+    }
+
+    /// How the run stops at an instruction that the machine refuses.
+    pub(crate) fn fault(&self, kind: MachineKind) -> Stop
+        ensures { result ≡ MachineFault kind (hart_state self.now).pc }
+    {
+        Stop::MachineFault { kind, pc: self.pc }
+    }
+
+    /// The value of a register, of which x0 reads zero.
+    #[inline]
+    pub(crate) fn read(&self, register: Register) -> u64
+        ensures { result ≡ value_at (hart_state self.now) register }
+    {
+        if register.number == 0 {
+            0
+        } else {
+            self.registers[register.number as usize]
+        }
+    }
+
+    // The address so far from the program counter.
+    #[inline]
+    #[tactic(auto, unfolding(crate::specs::Word::low))]
+    fn ahead(&self, distance: u64) -> u64
+        ensures { result ≡ low ((hart_state self.now).pc + distance) }
+    {
+        self.pc.wrapping_add(distance)
+    }
+
+    // The address that a register and an offset give.
+    #[inline]
+    #[tactic(auto, unfolding(crate::specs::Word::low))]
+    fn address(&self, register: Register, offset: Immediate) -> u64
+        ensures { result ≡ low (value_at (hart_state self.now) register + word offset.value) }
+    {
+        self.read(register).wrapping_add(immediate_word(offset))
+    }
+
+    // Writes a register and goes on at the next instruction.
+    #[inline]
+    #[tactic(auto, unfolding(crate::specs::Word::low))]
+    fn write(&mut self, register: Register, value: u64) -> Result<(), MachineKind>
+        ensures ok { result ≡ Ok tt }
+        ensures state { writes (hart_state self.old) register value ≡ GoesOn (hart_state self.new) }
+    {
+        put(&mut self.registers, register.number, value);
+        self.pc = self.pc.wrapping_add(4);
+        Ok(())
+    }
+
+    // Goes on at an address, with the next address in a register.
+    #[tactic(auto, unfolding(crate::specs::Word::low))]
+    fn jump(&mut self, register: Register, target: u64) -> Result<(), MachineKind>
+        ensures ok { result ≡ Ok tt }
+        ensures state { jumps (hart_state self.old) register target ≡ GoesOn (hart_state self.new) }
+    {
+        let next = self.pc.wrapping_add(4);
+        put(&mut self.registers, register.number, next);
+        self.pc = target;
+        Ok(())
+    }
+
+    // Goes on at an offset from here if the branch is taken, and else at the next instruction.
+    #[inline]
+    #[tactic(auto, unfolding(crate::specs::Word::low))]
+    fn branch(&mut self, taken: bool, offset: BranchOffset) -> Result<(), MachineKind>
+        ensures ok { result ≡ Ok tt }
+        ensures state { branches (hart_state self.old) taken offset ≡ GoesOn (hart_state self.new) }
+    {
+        let distance = if taken { branch_word(offset) } else { 4 };
+        self.pc = self.pc.wrapping_add(distance);
+        Ok(())
+    }
+
+    // Goes on at the next instruction.
+    #[tactic(auto, unfolding(crate::specs::Word::low))]
+    fn skip(&mut self) -> Result<(), MachineKind>
+        ensures ok { result ≡ Ok tt }
+        ensures state { goes_to (hart_state self.old) (low ((hart_state self.old).pc + 4)) ≡ GoesOn (hart_state self.new) }
+    {
+        self.pc = self.pc.wrapping_add(4);
+        Ok(())
+    }
+
+    // Loads from an address to a register.
+    #[inline]
+    fn load(&mut self, op: LoadOp, register: Register, address: u64) -> Result<(), MachineKind>
+        ensures ok { OnOk result (loads (hart_state self.old) op register address ≡ GoesOn (hart_state self.new)) }
+        ensures err { IfErr result (λ kind. loads (hart_state self.old) op register address ≡ Faults kind) }
+        ensures same { OnErr result (hart_state self.new ≡ hart_state self.old) }
+    {
+        match find_place(
+            self.region.len(),
+            self.private.len(),
+            address,
+            load_width(op),
+        ) {
+            Some(Place::Region(at)) => {
+                let value = load_value(op, &self.region, at);
+                self.write(register, value)
+            }
+            Some(Place::Private(at)) => {
+                let value = load_value(op, &self.private, at);
+                self.write(register, value)
+            }
+            None => Err(MachineKind::BadAccess),
+        }
+    }
+
+    // Stores bytes of a value at an address.
+    #[inline]
+    #[tactic(auto, unfolding(crate::specs::Word::low))]
+    fn store(&mut self, op: StoreOp, address: u64, value: u64) -> Result<(), MachineKind>
+        ensures ok { OnOk result (stores (hart_state self.old) op address value ≡ GoesOn (hart_state self.new)) }
+        ensures err { IfErr result (λ kind. stores (hart_state self.old) op address value ≡ Faults kind) }
+        ensures same { OnErr result (hart_state self.new ≡ hart_state self.old) }
+    {
+        match find_place(
+            self.region.len(),
+            self.private.len(),
+            address,
+            store_width(op),
+        ) {
+            Some(Place::Region(at)) => {
+                put_value(op, &mut self.region, at, value);
+                self.pc = self.pc.wrapping_add(4);
+                Ok(())
+            }
+            Some(Place::Private(at)) => {
+                put_value(op, &mut self.private, at, value);
+                self.pc = self.pc.wrapping_add(4);
+                Ok(())
+            }
+            None => Err(MachineKind::BadAccess),
+        }
+    }
+}
+
+// A write to a register, which x0 ignores.
+#[inline]
+fn put(registers: &mut [u64; 32], number: u8, value: u64)
+    requires { number < 32 }
+    ensures { slice_index registers.new ≡ written (slice_index registers.old) number value }
+{
+    if number != 0 {
+        registers[number as usize] = value;
+    }
+}
+
+// The registers at the start of a run.
+fn registers_for(end: u64, heap: u64, limit: u64, arguments: &[u64]) -> [u64; 32]
+    requires { length arguments.now ≤ 8 }
+    ensures { slice_index result ≡ start_registers end heap limit arguments.now }
+{
+    let mut registers = [0; 32];
+    registers[2] = end;
+    registers[3] = heap;
+    registers[4] = limit;
+    registers[10..10 + arguments.len()].copy_from_slice(arguments);
+    registers
+}
+
+// The word of an upper immediate, over twelve zeros.
+fn upper(imm: UpperImmediate) -> u64
+    ensures { result ≡ upper_word imm }
+{
+    extended_word(u64::from(imm.value) << 12)
+}
+
+// The words of immediates and offsets.
+fn immediate_word(imm: Immediate) -> u64
+    ensures { result ≡ word imm.value }
+{
+    i64::from(imm.value).cast_unsigned()
+}
+
+fn branch_word(offset: BranchOffset) -> u64
+    ensures { result ≡ word offset.bytes }
+{
+    i64::from(offset.bytes).cast_unsigned()
+}
+
+fn jump_word(offset: JumpOffset) -> u64
+    ensures { result ≡ word offset.bytes }
+{
+    i64::from(offset.bytes).cast_unsigned()
+}
+
+// An address without its lowest bit.
+fn even(address: u64) -> u64
+    ensures { result ≡ address - address % 2 }
+{
+    address - address % 2
+}

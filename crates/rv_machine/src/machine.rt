@@ -1,0 +1,187 @@
+// The machine and its run.
+
+ghost use Rattle.std.specs.Prelude.{◌≡◌, ◌≢◌, ◌+◌, ◌-◌, ◌*◌, ◌/◌, ◌≤◌, ◌<◌, ◌^◌, ◌++◌, length, replicate, drop, IfOk, IfErr, OnOk, OnErr};
+ghost use Rattle.rv_machine.specs.Laws.{RunsGoOn, RunsStayOver, OneProgram};
+ghost use Rattle.rv_machine.specs.Program.{IsProgram};
+
+use crate::hart::Hart;
+use crate::stops::{MachineKind, Stop};
+use elf_image::Image;
+use rv_isa::{Instr, decode};
+use std::alloc::Global;
+use tl_base::{NoMemory, Sink};
+
+/// The address of the first word of text.
+pub const TEXT: u64 = 0x1_0000;
+
+/// The most bytes that private memory has.
+pub const PRIVATE_LIMIT: u64 = 603_979_776;
+
+/// A machine: the instructions of its text, where its heap begins, and its hart.
+#[derive(Drop)]
+pub struct Machine {
+    program: Vec<Option<Instr>>,
+    heap: u64,
+    hart: Hart,
+}
+
+impl Machine {
+    ghost use Rattle.std.specs.Prelude.{List, ℕ, []};
+    ghost use Rattle.elf_image.specs.Lawful.{IsLawful};
+    ghost use Rattle.rv_machine.specs.declared.stops.Stop.TheVariants.{WriteFault};
+    ghost use Rattle.rv_machine.specs.Machine.{fetch, step, run_of, start_state, loaded_state};
+    ghost use Rattle.rv_machine.specs.Runs.{Agrees, IsBeforeWrite};
+    ghost use Rattle.rv_machine.specs.Steps.{WentOn, StoppedAt, Counted};
+    ghost use Rattle.rv_machine.specs.Shown.{program_of, heap_of, state_of};
+    ghost use Rattle.tl_base.specs.Outside.{IsRisen};
+
+    /// The machine of an image: its text, its region, which begins with the static bytes, and private memory of zeros. This takes
+    /// all the memory of a run.
+    pub fn load(alloc: Global, image: &Image) -> Result<Machine, NoMemory>
+        requires lawful { IsLawful image.now }
+        ensures program { IfOk result (λ machine. IsProgram image.now.text (program_of machine)) }
+        ensures heap { IfOk result (λ machine. heap_of machine ≡ image.now.heap) }
+        ensures state { IfOk result (λ machine. state_of machine ≡ loaded_state (image.now.statics ++ replicate (image.now.memory - length image.now.statics) 0) (replicate image.now.private 0)) }
+    {
+        let program = decoded(alloc, image.text.as_slice())?;
+        let region = region_of(alloc, image.memory, image.statics.as_slice())?;
+        let private = zeros(alloc, image.private)?;
+        Ok(Machine {
+            program,
+            heap: image.heap,
+            hart: Hart::new(region, private),
+        })
+    }
+
+    /// A machine with this text and so many zero bytes of private memory, and without a region.
+    pub fn load_words(alloc: Global, text: &[u32], private: u64) -> Result<Machine, NoMemory>
+        requires small { private ≤ 603979776 }
+        ensures program { IfOk result (λ machine. IsProgram text.now (program_of machine)) }
+        ensures heap { IfOk result (λ machine. heap_of machine ≡ 0) }
+        ensures state { IfOk result (λ machine. state_of machine ≡ loaded_state [] (replicate private 0)) }
+    {
+        let program = decoded(alloc, text)?;
+        let bytes = zeros(alloc, private)?;
+        Ok(Machine {
+            program,
+            heap: 0,
+            hart: Hart::new(Vec::new(alloc), bytes),
+        })
+    }
+
+    /// Makes the machine ready to run from `address` with at most eight arguments. Its memory stays as it is.
+    pub fn start(&mut self, address: u64, arguments: &[u64])
+        requires { length arguments.now ≤ 8 }
+        ensures state { state_of self.new ≡ start_state address (heap_of self.old) arguments.now (state_of self.old).region (state_of self.old).private }
+        ensures program { program_of self.new ≡ program_of self.old }
+        ensures heap { heap_of self.new ≡ heap_of self.old }
+    {
+        self.hart.start(address, self.heap, arguments);
+    }
+
+    /// Runs at most `steps` instructions, and says why it stopped. To see the program counter at 0 takes no step; an
+    /// instruction that stops the run takes one, and leaves the state as it was. What the program writes goes to the sink.
+    ///
+    /// It answers `WriteFault` where the sink failed, or took nothing of some bytes. The machine then stands before the
+    /// instruction that wrote them. A run that writes nothing leaves the sink as it was.
+    pub fn run<K: Sink>(&mut self, steps: u64, out: &mut K) -> Stop
+        ensures run { result ≢ WriteFault → Agrees (run_of (program_of self.old) (state_of self.old) steps) result (state_of self.new) (K.taken out.old) (K.taken out.new) }
+        ensures fault { result ≡ WriteFault → IsBeforeWrite (program_of self.old) (state_of self.old) steps (state_of self.new) (K.taken out.old) (K.taken out.new) }
+        ensures counted { Counted result (K.faults out.old) (K.faults out.new) }
+        ensures unwritten { result ≢ WriteFault → (run_of (program_of self.old) (state_of self.old) steps).output ≡ [] → out.new ≡ out.old }
+        ensures program { program_of self.new ≡ program_of self.old }
+        ensures heap { heap_of self.new ≡ heap_of self.old }
+    {
+        for _ in 0..steps {
+            if self.hart.pc == 0 {
+                return Stop::Returned(self.hart.registers[10]);
+            }
+            if let Err(stop) = self.step(out) {
+                return stop;
+            }
+        }
+        if self.hart.pc == 0 {
+            Stop::Returned(self.hart.registers[10])
+        } else {
+            Stop::Unfinished
+        }
+    }
+
+    // One instruction. One that stops the run leaves the state as it was.
+    fn step<K: Sink>(&mut self, out: &mut K) -> Result<(), Stop>
+        ensures ok { OnOk result (WentOn (step (program_of self.old) (state_of self.old)) (state_of self.new) (K.taken out.old) (K.taken out.new) (out.new ≡ out.old)) }
+        ensures quiet { OnOk result (K.faults out.new ≡ K.faults out.old) }
+        ensures err { IfErr result (λ stop. StoppedAt stop (state_of self.old).pc (step (program_of self.old) (state_of self.old)) (K.taken out.old) (K.taken out.new)) }
+        ensures counted { IfErr result (λ stop. Counted stop (K.faults out.old) (K.faults out.new)) }
+        ensures untouched { IfErr result (λ stop. stop ≢ WriteFault → out.new ≡ out.old) }
+        ensures same { OnErr result (state_of self.new ≡ state_of self.old) }
+        ensures program { program_of self.new ≡ program_of self.old }
+        ensures heap { heap_of self.new ≡ heap_of self.old }
+    {
+        let Some(found) = self.fetch() else {
+            return Err(self.hart.fault(MachineKind::BadFetch));
+        };
+        let Some(instr) = found else {
+            return Err(self.hart.fault(MachineKind::IllegalWord));
+        };
+        self.hart.perform(instr, out)
+    }
+
+    // The instruction at the program counter, or None within where its word is none.
+    #[inline]
+    #[tactic(auto, unfolding(crate::specs::Machine::fetch))]
+    fn fetch(&self) -> Option<Option<Instr>>
+        ensures { result ≡ fetch (program_of self.now) (state_of self.now).pc }
+    {
+        let pc = self.hart.pc;
+        if pc < TEXT || pc % 4 != 0 {
+            return None;
+        }
+        self.program.get(((pc - TEXT) / 4) as usize).copied()
+    }
+}
+
+/// The laws of runs and of text. A run that isn't over goes on from where it stands, so a run may be made in parts; one that is
+/// over stays so, whatever more steps it may take; and words have one program.
+pub fn runs_go_on()
+    ensures parts { RunsGoOn }
+    ensures over { RunsStayOver }
+    ensures program { OneProgram }
+{}
+
+// The instructions of words.
+fn decoded(alloc: Global, text: &[u32]) -> Result<Vec<Option<Instr>>, NoMemory>
+    ensures { IfOk result (λ program. IsProgram text.now program.items) }
+{
+    let mut program = Vec::with_capacity(alloc, text.len())?;
+    for word in text {
+        program.push(decode(*word))?;
+    }
+    Ok(program)
+}
+
+// A region of so many bytes that begins with these.
+fn region_of(alloc: Global, size: u64, statics: &[u8]) -> Result<Vec<u8>, NoMemory>
+    requires { length statics.now ≤ size }
+    ensures { IfOk result (λ region. region.items ≡ statics.now ++ replicate (size - length statics.now) 0) }
+{
+    let mut region = zeros(alloc, size)?;
+    put_front(&mut region, statics);
+    Ok(region)
+}
+
+// Puts bytes at the begin of memory.
+fn put_front(memory: &mut [u8], front: &[u8])
+    requires { length front.now ≤ length memory.old }
+    ensures { memory.new ≡ front.now ++ drop (length front.now) memory.old }
+{
+    memory[..front.len()].copy_from_slice(front);
+}
+
+// So many bytes of zero.
+fn zeros(alloc: Global, size: u64) -> Result<Vec<u8>, NoMemory>
+    ensures { IfOk result (λ bytes. bytes.items ≡ replicate size 0) }
+{
+    let bytes = vec![in alloc; 0; size as usize]?;
+    Ok(bytes)
+}
