@@ -1,13 +1,13 @@
 -- Where a run stands after some turns of its loop, and what it then comes to.
-use Rattle.std.proofs.Common.{◌≡◌, ◌≢◌, ℕ, zero, suc, ◌+◌, ◌-◌, ◌<◌, List, [], ◌∷◌, ◌++◌, ◌⊎◌, inl, inr, length, take, Option, refl, sym, ap, ◌∙◌, append-nil, arith}
+use Rattle.std.proofs.Common.{◌≡◌, ◌≢◌, ℕ, suc, ◌+◌, ◌-◌, ◌<◌, List, [], ◌∷◌, ◌++◌, ◌⊎◌, inl, inr, length, take, Option, refl, sym, ap, ◌∙◌, append-nil, arith}
 use Rattle.rv_isa.specs.declared.instr.Instr.{Instr}
 use Rattle.rv_machine.specs.declared.stops.Stop.{Stop}
 use Rattle.rv_machine.specs.declared.stops.Stop.TheVariants.{Returned, TerraFault, MachineFault, Unfinished, WriteFault}
-use Rattle.rv_machine.specs.Machine.{State, Moved, GoesOn, Writes, Faults, Throws, step, Ran, stands, after_output, after_step, run_of}
+use Rattle.rv_machine.specs.Machine.{State, Moved, GoesOn, Writes, Faults, Throws, step, Ran, stands, after_output, run_of}
 use Rattle.rv_machine.specs.Runs.{Agrees, IsBeforeWrite}
 use Rattle.rv_machine.specs.Steps.{WentOn, StoppedAt, TookPart}
 use Rattle.rv_machine.proofs.Runs.{run_of-at_zero, run_of-used_up, run_of-moved, run_of-add, after_output-both}
-use Rattle.rv_machine.proofs.Taken.{with_back-none, with_back-both}
+use Rattle.rv_machine.proofs.Taken.{with_back-both}
 use Rattle.tl_base.specs.Outside.{with_back}
 
 -- the run from the start goes on as the run from here, after so many steps and this output

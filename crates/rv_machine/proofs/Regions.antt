@@ -1,5 +1,5 @@
 -- A region that begins with bytes.
-use Rattle.std.proofs.Common.{◌≡◌, ◌∙◌, ap, ◌+◌, ◌++◌, [], ◌≤◌, take, drop, replicate, length, ◌-◌, List, ℕ, length-append, append-nil, arith}
+use Rattle.std.proofs.Common.{◌≡◌, ◌∙◌, ap, ◌++◌, [], ◌≤◌, take, drop, replicate, length, ◌-◌, List, ℕ, length-append, append-nil, arith}
 use Rattle.std.proofs.lemmas.List.{drop-replicate, length-replicate, take_all, drop_all}
 
 pub region_front : (items given statics : List ℕ) (len size : ℕ) → items ≡ replicate size 0 → given ≡ statics ++ drop (length statics) items → length statics ≤ size → size ≤ len → take len (given ++ drop (length given) items) ≡ statics ++ replicate (size - length statics) 0

@@ -1,11 +1,9 @@
 -- What runs keep.
-use Rattle.std.specs.Prelude.{◌≡◌, ◌≢◌, ℕ, ◌+◌, ◌<◌, List, ◌++◌, length, take, Option}
+use Rattle.std.specs.Prelude.{◌≡◌, ◌≢◌, ℕ, ◌+◌, List, Option}
 use Rattle.rv_isa.specs.declared.instr.Instr.{Instr}
-use Rattle.rv_machine.specs.declared.stops.Stop.{Stop}
-use Rattle.rv_machine.specs.declared.stops.Stop.TheVariants.{Returned, TerraFault, MachineFault, Unfinished, WriteFault}
-use Rattle.rv_machine.specs.Machine.{State, Writes, step, Ran, after_output, run_of}
+use Rattle.rv_machine.specs.declared.stops.Stop.TheVariants.{Unfinished}
+use Rattle.rv_machine.specs.Machine.{State, Ran, after_output, run_of}
 use Rattle.rv_machine.specs.Program.{IsProgram}
-use Rattle.tl_base.specs.Outside.{with_back, IsRisen}
 
 -- a run that isn't over after some steps goes on from where it stands: the run of `first + rest` steps is the run of
 -- `rest` steps from there, and what it wrote before

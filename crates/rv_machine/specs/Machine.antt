@@ -1,6 +1,6 @@
 -- What the machine does: its state, each instruction, one step and a run. Addresses and the program counter wrap at 2 ^ 64. The
 -- rows are those of the RISC-V Unprivileged ISA manual, chapters "RV32I", "RV64I" and "M".
-use Rattle.std.specs.Prelude.{ℕ, zero, suc, ◌+◌, ◌-◌, ◌*◌, ◌/◌, ◌%◌, ◌^◌, Bool, ◌&&◌, nat_eq, nat_lt, nat_le, if◌then◌else◌, List, [], ◌++◌, length, take, drop, Option, Some, None, slice_get, slice_index, replicate}
+use Rattle.std.specs.Prelude.{ℕ, zero, suc, ◌+◌, ◌-◌, ◌*◌, ◌/◌, ◌%◌, ◌^◌, Bool, ◌&&◌, nat_eq, nat_lt, nat_le, if◌then◌else◌, List, [], ◌++◌, length, Option, Some, None, slice_get, slice_index}
 use Rattle.rv_isa.specs.declared.operand.Register.{Register}
 use Rattle.rv_isa.specs.declared.operand.UpperImmediate.{UpperImmediate}
 use Rattle.rv_isa.specs.declared.operand.BranchOffset.{BranchOffset}

@@ -1,5 +1,5 @@
 -- The instructions of text.
-use Rattle.std.specs.Prelude.{◌≡◌, ℕ, List, [], ◌∷◌, Option}
+use Rattle.std.specs.Prelude.{ℕ, List, [], ◌∷◌, Option}
 use Rattle.rv_isa.specs.declared.instr.Instr.{Instr}
 use Rattle.rv_isa.specs.Finds.{Finds}
 use Rattle.rv_isa.specs.Table.{word_of}

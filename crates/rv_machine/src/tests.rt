@@ -2,6 +2,7 @@
 
 use crate::machine::{Machine, TEXT};
 use crate::stops::{MachineKind, Stop};
+use elf_image::{Bytes, Image, Symbols, Words, is_lawful};
 use std::alloc::Global;
 use std::process::Abort;
 use std::test::Fail;
@@ -128,5 +129,58 @@ fn writes(rt: HostRuntime) -> Result<(), Fail> {
     machine.start(TEXT, &[1, 1 << 32, 2]);
     assert_eq!(rt; machine.run(9, &mut out), Stop::WriteFault);
     assert_eq!(rt; out.bytes().len(), 3);
+    Ok(())
+}
+
+// An image with the static number 21 in eight bytes, and 512 bytes of private memory.
+fn image_of(alloc: Global, text: &[u32]) -> Result<Image, Fail> {
+    let mut statics = Bytes::new(alloc);
+    for byte in [21, 0, 0, 0, 0, 0, 0, 0] {
+        statics.push(byte)?;
+    }
+    Ok(Image {
+        text: Words::from(text.to_vec(alloc)?),
+        statics,
+        memory: 65_536,
+        heap: 0x4000_0010,
+        private: 512,
+        exports: Symbols::new(alloc),
+    })
+}
+
+// lui x5, 0x40000; an access at an edge of the region or of private memory; ret. The words are those of an outside assembler.
+#[test]
+fn edges(rt: HostRuntime) -> Result<(), Fail> {
+    let alloc = rt.alloc();
+    let bad_access = Stop::MachineFault {
+        kind: MachineKind::BadAccess,
+        pc: 65540,
+    };
+    let cases = [
+        // ld x10, 0(x5); ld x10, -1(x5)
+        (0x0002b503, Stop::Returned(21)),
+        (0xfff2b503, bad_access),
+        // ld x10, -8(x4); ld x10, -7(x4); lbu x10, -1(x4)
+        (0xff823503, Stop::Returned(0)),
+        (0xff923503, bad_access),
+        (0xfff24503, Stop::Returned(0)),
+        // sd x10, -8(x4); sb x10, 0(x4)
+        (0xfea23c23, Stop::Returned(9)),
+        (0x00a20023, bad_access),
+        // sd x10, -8(x2); sd x10, -7(x2); lb x10, 0(x2)
+        (0xfea13c23, Stop::Returned(9)),
+        (0xfea13ca3, bad_access),
+        (0x00010503, bad_access),
+        // addi x10, x3, 0
+        (0x00018513, Stop::Returned(0x4000_0010)),
+    ];
+    for (word, want) in cases {
+        let image = image_of(alloc, &[0x400002b7, word, 0x00008067])?;
+        assert!(rt; is_lawful(&image));
+        let mut machine = Machine::load(alloc, &image)?;
+        let mut out = MemSink::new(alloc, 0, Vec::new(alloc))?;
+        machine.start(TEXT, &[9]);
+        assert_eq!(rt; machine.run(9, &mut out), want);
+    }
     Ok(())
 }

@@ -1,4 +1,4 @@
-use Rattle.std.proofs.Common.{◌≡◌, ◌+◌, ℕ, List, ◌∷◌, [], ◌++◌, take, sym, subst, get_or}
+use Rattle.std.proofs.Common.{◌+◌, ◌∷◌, [], ◌++◌, take, sym, subst, get_or}
 use Rattle.std.proofs.lemmas.List.{take_more}
 use Rattle.rv_machine.specs.Program.{IsProgram}
 use Rattle.rv_machine.proofs.Programs.{program_more}

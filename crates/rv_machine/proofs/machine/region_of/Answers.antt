@@ -1,4 +1,4 @@
-use Rattle.std.proofs.Common.{◌≡◌, ◌≤◌, ◌∙◌, ap, ◌++◌, drop, replicate, length, ℕ, arith}
+use Rattle.std.proofs.Common.{◌≤◌, ◌∙◌, ap, ◌++◌, drop, length, ℕ, arith}
 use Rattle.std.proofs.lemmas.List.{length-replicate}
 use Rattle.rv_machine.proofs.Regions.{region_front}
 use Rattle.rv_machine.proofs.machine.region_of.Goals as goal

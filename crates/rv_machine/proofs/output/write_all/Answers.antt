@@ -1,4 +1,4 @@
-use Rattle.std.proofs.Common.{◌≡◌, ◌+◌, ◌<◌, ◌≤◌, length, take, drop, length-drop, arith, ap, ◌∙◌}
+use Rattle.std.proofs.Common.{◌<◌, take, length-drop, arith, ap, ◌∙◌}
 use Rattle.std.proofs.lemmas.List.{take_rest}
 use Rattle.tl_base.specs.Outside.{with_back}
 use Rattle.rv_machine.proofs.Taken.{took_more}

@@ -1,5 +1,4 @@
 use Rattle.std.proofs.Common.{ℕ, ap}
-use Rattle.rv_machine.specs.Machine.{State}
 use Rattle.rv_machine.proofs.Registers.{zero_registers}
 use Rattle.rv_machine.proofs.hart.Hart.new.Goals as goal
 

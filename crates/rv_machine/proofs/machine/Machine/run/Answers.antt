@@ -1,7 +1,5 @@
-use Rattle.std.proofs.Common.{◌≡◌, ℕ, ◌+◌, ◌<◌, List, Option, inl, inr, refl, sym, ap, ◌∙◌, subst, arith}
-use Rattle.rv_isa.specs.declared.instr.Instr.{Instr}
+use Rattle.std.proofs.Common.{◌≡◌, inl, inr, refl, sym, ◌∙◌, subst, arith}
 use Rattle.rv_machine.specs.declared.stops.Stop.{Stop}
-use Rattle.rv_machine.specs.declared.stops.Stop.TheVariants.{WriteFault}
 use Rattle.rv_machine.specs.Machine.{State, step, run_of}
 use Rattle.rv_machine.specs.Runs.{Agrees, IsBeforeWrite}
 use Rattle.rv_machine.specs.Steps.{WentOn, StoppedAt}
