@@ -1,0 +1,5 @@
+pub mod Keys
+pub mod Pairs
+pub mod Texts
+pub mod Store
+pub mod Heap
