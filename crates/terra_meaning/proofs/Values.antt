@@ -1,9 +1,9 @@
 -- Values are words.
 use Rattle.std.proofs.Common.{ℕ, ◌^◌, ◌<◌, List, arith}
 use Rattle.std.specs.Prelude.{slice_index}
-use Rattle.tl_parse.specs.Tree.{Tree, Parameter, Literal, Binary, HasLiteralsUpTo}
-use Rattle.tl_parse.specs.declared.tree.Operator.{Operator}
-use Rattle.tl_parse.specs.declared.tree.Operator.TheVariants.{Add, Subtract, Multiply}
+use Rattle.first_form.specs.Tree.{Tree, Parameter, Literal, Binary, HasLiteralsUpTo}
+use Rattle.first_form.specs.declared.tree.Operator.{Operator}
+use Rattle.first_form.specs.declared.tree.Operator.TheVariants.{Add, Subtract, Multiply}
 use Rattle.terra_meaning.specs.Meaning.{applied, meaning}
 
 applied_word : (operator : Operator) (x y : ℕ) → applied operator x y < 2 ^ 64

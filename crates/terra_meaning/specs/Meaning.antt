@@ -1,9 +1,9 @@
 -- What an expression means: a number of 64 bits, by recursion on its tree. A value is a word, a number below 2 ^ 64, and stands for
 -- an integer in two's complement; each operator wraps at 64 bits.
 use Rattle.std.specs.Prelude.{ℕ, ◌+◌, ◌-◌, ◌*◌, ◌%◌, ◌^◌, ◌<◌, List, slice_index}
-use Rattle.tl_parse.specs.Tree.{Tree, Parameter, Literal, Binary, HasLiteralsUpTo}
-use Rattle.tl_parse.specs.declared.tree.Operator.{Operator}
-use Rattle.tl_parse.specs.declared.tree.Operator.TheVariants.{Add, Subtract, Multiply}
+use Rattle.first_form.specs.Tree.{Tree, Parameter, Literal, Binary, HasLiteralsUpTo}
+use Rattle.first_form.specs.declared.tree.Operator.{Operator}
+use Rattle.first_form.specs.declared.tree.Operator.TheVariants.{Add, Subtract, Multiply}
 
 -- what an operator gives of two words
 abbrev pub applied : Operator → ℕ → ℕ → ℕ

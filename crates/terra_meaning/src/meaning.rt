@@ -1,8 +1,8 @@
 ghost use Rattle.std.specs.Prelude.{◌≡◌, length};
-ghost use Rattle.tl_parse.specs.Tree.{tree_of, HasParametersBelow};
+ghost use Rattle.first_form.specs.Tree.{tree_of, HasParametersBelow};
 ghost use Rattle.terra_meaning.specs.Meaning.{applied, meaning, IsAlwaysWord};
 
-use tl_parse::{Expression, Operator};
+use first_form::{Expression, Operator};
 
 // What an operator gives. All of them wrap at 64 bits.
 fn apply(operator: Operator, left: u64, right: u64) -> u64

@@ -1,7 +1,7 @@
 use crate::evaluate;
 use std::alloc::Global;
 use std::test::Fail;
-use tl_parse::{ParseError, parse};
+use first_form::{ParseError, parse};
 
 // The value of a function's expression at these arguments.
 fn value(alloc: Global, text: &[u8], arguments: &[u64]) -> Result<u64, Fail> {

@@ -3,7 +3,7 @@ use Rattle.std.proofs.Common.{◌≡◌, ◌≢◌, ℕ, ◌+◌, ◌-◌, ◌*�
 use Rattle.std.specs.Prelude.{nat_eq, nat_lt, if◌then◌else◌, slice_index}
 use Rattle.std.proofs.lemmas.Bool.{ne_eqb, le-ltb}
 use Rattle.std.proofs.lemmas.List.{length-append, length-replicate}
-use Rattle.tl_parse.specs.Tree.{Tree, Parameter, Literal, Binary, HasParametersBelow, HasLiteralsUpTo, operators}
+use Rattle.first_form.specs.Tree.{Tree, Parameter, Literal, Binary, HasParametersBelow, HasLiteralsUpTo, operators}
 use Rattle.terra_meaning.specs.Meaning.{meaning}
 use Rattle.rv_isa.specs.declared.instr.Instr.{Instr}
 use Rattle.rv_isa.specs.declared.instr.Instr.TheVariants.{Jalr, RegisterImmediate}

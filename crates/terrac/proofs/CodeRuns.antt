@@ -4,9 +4,9 @@ use Rattle.std.specs.Prelude.{Option, nat_eq, nat_lt, nat_le, if◌then◌else�
 use Rattle.std.proofs.Math.Nat.{pow-suc}
 use Rattle.std.proofs.lemmas.Bool.{ne_eqb, le-ltb, le-leb, lt-leb}
 use Rattle.std.proofs.lemmas.List.{length-append, length-drop, length-take-le, drop_at, drop-drop}
-use Rattle.tl_parse.specs.declared.tree.Operator.{Operator}
-use Rattle.tl_parse.specs.declared.tree.Operator.TheVariants as operator
-use Rattle.tl_parse.specs.Tree.{Tree, Parameter, Literal, Binary, HasParametersBelow, HasLiteralsUpTo}
+use Rattle.first_form.specs.declared.tree.Operator.{Operator}
+use Rattle.first_form.specs.declared.tree.Operator.TheVariants as operator
+use Rattle.first_form.specs.Tree.{Tree, Parameter, Literal, Binary, HasParametersBelow, HasLiteralsUpTo}
 use Rattle.terra_meaning.specs.Meaning.{applied, meaning}
 use Rattle.rv_isa.specs.Table.{word_of}
 use Rattle.rv_isa.specs.declared.instr.Instr.{Instr}

@@ -1,6 +1,6 @@
 -- How long the code of an expression is, and how deep its stack.
 use Rattle.std.proofs.Common.{◌≡◌, ◌+◌, ◌*◌, ◌≤◌, length, refl, arith}
-use Rattle.tl_parse.specs.Tree.{Tree, Parameter, Literal, Binary, operators}
+use Rattle.first_form.specs.Tree.{Tree, Parameter, Literal, Binary, operators}
 use Rattle.terrac.specs.Code.{expression_words, operator_word, depth_of}
 use Rattle.terrac.proofs.CodeRuns.{length-binary}
 

@@ -1,8 +1,8 @@
 -- Where nothing fails, what is answered is what is due.
 use Rattle.std.proofs.Common.{◌≡◌, ℕ, List, Option, Some, None, ◌⊎◌, inl, inr, refl, sym, ap, subst, ◌∙◌}
 use Rattle.tl_base.specs.Outside.{with_back, IsRisen}
-use Rattle.tl_parse.specs.Tree.{SourceFunction}
-use Rattle.tl_parse.specs.Form.{Reads}
+use Rattle.first_form.specs.Tree.{SourceFunction}
+use Rattle.first_form.specs.Form.{Reads}
 use Rattle.terrac.specs.declared.status.Status.{Status}
 use Rattle.terrac.specs.declared.status.Status.TheVariants as statuses
 use Rattle.terrac.specs.Words.{job_of}

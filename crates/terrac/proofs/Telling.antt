@@ -1,8 +1,8 @@
 -- What was read tells how the whole source reads.
 use Rattle.std.proofs.Common.{◌≡◌, ℕ, List, ◌++◌, length, Option, Some, None, ◌⊎◌, inl, inr, sym, ap, subst, ◌∙◌, append-nil, arith, length-append}
 use Rattle.tl_base.specs.Outside.{with_front, IsAtEnd}
-use Rattle.tl_parse.specs.Tree.{SourceFunction}
-use Rattle.tl_parse.specs.Form.{Reads}
+use Rattle.first_form.specs.Tree.{SourceFunction}
+use Rattle.first_form.specs.Form.{Reads}
 use Rattle.terrac.specs.Due.{Due, IsReadAs, due_of, due_of_job}
 use Rattle.terrac.specs.Words.{Job}
 use Rattle.terrac.specs.Answer.{IsToldAs}

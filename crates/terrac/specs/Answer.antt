@@ -1,7 +1,7 @@
 -- What a call answers, whatever the source and the sinks do.
 use Rattle.std.specs.Prelude.{ℕ, ◌≡◌, ◌≤◌, List, ◌++◌, length, Option, Some, None, codes, ◌⊎◌, IsSome}
 use Rattle.tl_base.specs.Outside.{with_front, with_back}
-use Rattle.tl_parse.specs.Tree.{SourceFunction}
+use Rattle.first_form.specs.Tree.{SourceFunction}
 use Rattle.terrac.specs.declared.status.Status.{Status}
 use Rattle.terrac.specs.declared.status.Status.TheVariants as statuses
 use Rattle.terrac.specs.Words.{job_of}

@@ -1,6 +1,6 @@
 -- What the top call promises where nothing fails.
 use Rattle.std.specs.Prelude.{ℕ, ◌≡◌, ◌≢◌, List, Option, Some}
-use Rattle.tl_parse.specs.Tree.{SourceFunction}
+use Rattle.first_form.specs.Tree.{SourceFunction}
 use Rattle.terrac.specs.declared.status.Status.{Status}
 use Rattle.terrac.specs.declared.status.Status.TheVariants as statuses
 use Rattle.terrac.specs.Words.{job_of}

@@ -1,8 +1,8 @@
 -- What the code of an expression does, and then its words.
 use Rattle.std.specs.Prelude.{◌≡◌, ℕ, ◌+◌, ◌*◌, ◌^◌, ◌<◌, ◌≤◌, max, List, [], ◌∷◌, ◌++◌, length, replicate, slice_index, Option}
-use Rattle.tl_parse.specs.declared.tree.Operator.{Operator}
-use Rattle.tl_parse.specs.declared.tree.Operator.TheVariants.{Add, Subtract, Multiply}
-use Rattle.tl_parse.specs.Tree.{Tree, Parameter, Literal, Binary, HasParametersBelow}
+use Rattle.first_form.specs.declared.tree.Operator.{Operator}
+use Rattle.first_form.specs.declared.tree.Operator.TheVariants.{Add, Subtract, Multiply}
+use Rattle.first_form.specs.Tree.{Tree, Parameter, Literal, Binary, HasParametersBelow}
 use Rattle.terra_meaning.specs.Meaning.{meaning}
 use Rattle.rv_machine.specs.declared.stops.Stop.TheVariants.{Returned}
 use Rattle.rv_isa.specs.declared.instr.Instr.{Instr}

@@ -2,8 +2,8 @@
 use Rattle.std.specs.Prelude.{ℕ, ◌-◌, ◌^◌, List, [], ◌∷◌, ◌++◌, Option, Some, None, if◌then◌else◌, nat_lt, codes}
 use Rattle.std.specs.Str.{bytes_eq}
 use Rattle.std.specs.Fmt.{decimal}
-use Rattle.tl_parse.specs.Tree.{SourceFunction}
-use Rattle.tl_parse.specs.Form.{Reads}
+use Rattle.first_form.specs.Tree.{SourceFunction}
+use Rattle.first_form.specs.Form.{Reads}
 use Rattle.terra_meaning.specs.Meaning.{meaning}
 use Rattle.terrac.specs.declared.status.Status.{Status}
 use Rattle.terrac.specs.declared.status.Status.TheVariants as statuses

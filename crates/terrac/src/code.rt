@@ -1,14 +1,14 @@
 // The code of an expression: words for the machine, and their run.
 
 ghost use Rattle.std.specs.Prelude.{◌≡◌, ℕ, ◌+◌, ◌*◌, ◌≤◌, [], ◌∷◌, ◌++◌, length, IfOk, OnOk};
-ghost use Rattle.tl_parse.specs.Tree.{tree_of, operators, HasParametersBelow, HasLiteralsUpTo};
+ghost use Rattle.first_form.specs.Tree.{tree_of, operators, HasParametersBelow, HasLiteralsUpTo};
 ghost use Rattle.terra_meaning.specs.Meaning.{meaning};
 ghost use Rattle.terrac.specs.Code.{Computes, expression_words, operator_word, depth_of};
 
 use rv_machine::{Machine, Stop, TEXT};
 use std::alloc::Global;
 use tl_base::{NoMemory, Sink};
-use tl_parse::{Expression, Operator};
+use first_form::{Expression, Operator};
 
 // addi x5, x10, 0; the position of a parameter is added to the field of x10
 const PARAMETER: u32 = 0x0005_0293;

@@ -2,7 +2,7 @@
 
 ghost use Rattle.std.specs.Prelude.{◌≡◌, ◌≢◌, ◌<◌, ◌≤◌, ◌^◌, Some, None, Err, IfOk, IsSome, map, string_bytes};
 ghost use Rattle.tl_base.specs.Outside.{IsRisen};
-ghost use Rattle.tl_parse.specs.Tree.{shown, IsWithin};
+ghost use Rattle.first_form.specs.Tree.{shown, IsWithin};
 ghost use Rattle.terrac.specs.Words.{job_of};
 ghost use Rattle.terrac.specs.Due.{due_of_job};
 ghost use Rattle.terrac.specs.JobView.{shown_job};
@@ -22,7 +22,7 @@ use crate::reading::{ReadError, read_source};
 use crate::words::{Job, job_of};
 use std::alloc::Global;
 use tl_base::{NoMemory, Sink, Source};
-use tl_parse::{Function, ParseError, parse};
+use first_form::{Function, ParseError, parse};
 
 /// How many bytes of a source are read at most: one more than it may have, which tells that it has too many.
 const READ_LIMIT: usize = 65_537;

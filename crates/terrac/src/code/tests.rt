@@ -1,7 +1,7 @@
 // The code of an expression runs to its value.
 
 ghost use Rattle.std.specs.Prelude.{◌≡◌, IfOk};
-ghost use Rattle.tl_parse.specs.Tree.{tree_of, Binary};
+ghost use Rattle.first_form.specs.Tree.{tree_of, Binary};
 
 use super::*;
 use std::test::Fail;

@@ -1,5 +1,5 @@
 use Rattle.std.proofs.Common.{◌≡◌, ℕ, List, length, subst, arith}
-use Rattle.tl_parse.specs.Tree.{tree_of}
+use Rattle.first_form.specs.Tree.{tree_of}
 use Rattle.terra_meaning.specs.Meaning.{meaning}
 use Rattle.rv_machine.specs.Machine.{run_of}
 use Rattle.rv_machine.specs.Program.{IsProgram}

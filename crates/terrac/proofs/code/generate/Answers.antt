@@ -1,6 +1,6 @@
 use Rattle.std.proofs.Common.{◌≡◌, arith}
 use Rattle.std.proofs.lemmas.Grind.{common_steps}
-use Rattle.tl_parse.specs.Tree.{tree_of}
+use Rattle.first_form.specs.Tree.{tree_of}
 use Rattle.terrac.specs.Code.{function_words}
 use Rattle.terrac.proofs.CodeComputes.{generated, length-generated}
 use Rattle.terrac.proofs.code.generate.Goals as goal

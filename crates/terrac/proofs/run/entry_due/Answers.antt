@@ -1,5 +1,5 @@
 use Rattle.std.proofs.Common.{◌≡◌, ℕ, length, subst, sym, ap, ◌∙◌, arith}
-use Rattle.tl_parse.specs.Tree.{tree_of, HasParametersBelow}
+use Rattle.first_form.specs.Tree.{tree_of, HasParametersBelow}
 use Rattle.terrac.specs.JobView.{HasCount}
 use Rattle.terrac.proofs.run.entry_due.Goals as goal
 

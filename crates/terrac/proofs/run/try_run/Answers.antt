@@ -1,7 +1,7 @@
 use Rattle.std.proofs.Common.{◌≡◌, List, ℕ, None, Some, Err, subst, sym, ap, ◌∙◌}
 use Rattle.std.specs.Prelude.{map, option_map, string_bytes}
-use Rattle.tl_parse.specs.Tree.{SourceFunction, shown}
-use Rattle.tl_parse.specs.Form.{Reads}
+use Rattle.first_form.specs.Tree.{SourceFunction, shown}
+use Rattle.first_form.specs.Form.{Reads}
 use Rattle.terrac.specs.Words.{job_of}
 use Rattle.terrac.specs.JobView.{shown_job}
 use Rattle.terrac.specs.Answer.{Answered}

@@ -1,5 +1,5 @@
 use Rattle.std.proofs.Common.{ap}
-use Rattle.tl_parse.proofs.Whole.{one_function}
+use Rattle.first_form.proofs.Whole.{one_function}
 use Rattle.terrac.specs.DueView.{shown_due}
 use Rattle.terrac.proofs.Exactly.{HasOneReading, answers_exactly, delivered_from, rose_from}
 use Rattle.terrac.proofs.terrac.terrac.Goals as goal
