@@ -2,6 +2,8 @@
 use Rattle.std.specs.Prelude.{ℕ, ◌-◌, ◌^◌, List, [], ◌∷◌, ◌++◌, Option, Some, None, if◌then◌else◌, nat_lt, codes}
 use Rattle.std.specs.Str.{bytes_eq}
 use Rattle.std.specs.Fmt.{decimal}
+use Rattle.std.specs.declared.io.ErrorKind.{ErrorKind}
+use Rattle.std.specs.declared.io.ErrorKind.TheVariants.{OutOfMemory}
 use Rattle.first_form.specs.Tree.{SourceFunction}
 use Rattle.first_form.specs.Form.{Reads}
 use Rattle.terra_meaning.specs.Meaning.{meaning}
@@ -47,6 +49,11 @@ due_of_job job (Some function) =
 abbrev pub due_of : Option Job → Option SourceFunction → Due
 due_of None form = refused statuses.Usage (codes "usage")
 due_of (Some job) form = due_of_job job form
+
+-- for words that could not be collected: memory ran out, or a word is no UTF-8, which names nothing
+abbrev pub due_of_unread : ErrorKind → Due
+due_of_unread OutOfMemory = refused statuses.NoMemory (codes "no memory")
+due_of_unread _ = refused statuses.Usage (codes "usage")
 
 -- the text reads as this function, or as none
 abbrev pub IsReadAs : List ℕ → Option SourceFunction → Type 0

@@ -19,7 +19,9 @@ mod tests;
 mod words;
 mod writing;
 
-ghost use Rattle.std.specs.Prelude.{◌≢◌};
+ghost use Rattle.std.specs.Prelude.{◌≡◌, ◌≢◌};
+ghost use Rattle.terrac.specs.Due.{due_of_unread};
+ghost use Rattle.terrac.specs.DueView.{shown_due};
 ghost use Rattle.terrac.specs.declared.status.Status.TheVariants as statuses;
 
 use delivery::deliver;
@@ -36,7 +38,7 @@ fn main(rt: HostRuntime) -> ExitCode {
     let mut notes = StdSink::new(rt.stderr());
     let status = match collect_words(&rt) {
         Ok(words) => terrac::terrac(rt.alloc(), &words, &mut source, &mut out, &mut notes),
-        Err(error) => deliver(&unread_words_due(&error), &mut out, &mut notes),
+        Err(error) => deliver(&unread_words_due(error.kind()), &mut out, &mut notes),
     };
     ExitCode::from(status.code())
 }
@@ -50,13 +52,14 @@ fn collect_words(rt: &HostRuntime) -> io::Result<Vec<String>> {
     Ok(words)
 }
 
-/// What is due where the words could not be collected. A word that is no UTF-8 names nothing.
-fn unread_words_due(error: &io::Error) -> Due
-    ensures { result.status ≢ statuses.WriteFault }
+/// What is due where the words could not be collected, by the kind of the error: memory ran out, or a word is no UTF-8, which names
+/// nothing.
+fn unread_words_due(kind: ErrorKind) -> Due
+    ensures due { shown_due result ≡ due_of_unread kind }
+    ensures status { result.status ≢ statuses.WriteFault }
 {
-    if error.kind() == ErrorKind::OutOfMemory {
-        no_memory_due()
-    } else {
-        usage_due()
+    match kind {
+        ErrorKind::OutOfMemory => no_memory_due(),
+        _ => usage_due(),
     }
 }
