@@ -1,5 +1,7 @@
 -- One step of a machine.
-use Rattle.std.proofs.Common.{◌≡◌, ℕ, ◌+◌, ◌-◌, ◌*◌, ◌≤◌, ◌<◌, List, [], ◌∷◌, ◌++◌, length, refl, sym, ap, ◌∙◌, length-append}
+use Rattle.std.proofs.Common.{◌≡◌, ℕ, ◌+◌, ◌-◌, ◌≤◌, ◌<◌, List, [], ◌∷◌, ◌++◌, refl, ap, ◌∙◌}
+use Rattle.std.specs.Prelude.{sum_by}
+use Rattle.std.proofs.lemmas.List.Sums.{sum_by_push}
 use Rattle.tl_base.specs.Layer.{State, Given, state, Seen, SpentAt, Asks}
 use Rattle.tl_base.specs.Plan.{Run, Gives, Stops, then_do}
 use Rattle.tl_base.specs.declared.machine.Step.{Step}
@@ -18,10 +20,14 @@ then_do-give (Gives r s l) = refl
 then_do-give (Stops at) = refl
 
 -- for the steps of a machine
-pub ruleset pushes = (plug-push, then_do-give, length-append)
+pub ruleset pushes = (plug-push, then_do-give, sum_by_push)
 
 -- for the steps that pay
-pub ruleset payments = (plug-push, then_do-give, length-append, paid-enough, paid-short)
+pub ruleset payments = (plug-push, then_do-give, sum_by_push, paid-enough, paid-short)
+
+-- the frames without the last weigh so much less
+pub without_last : {F : Type 0} (weigh : F → ℕ) (fs fs1 : List F) (f : F) → fs ≡ fs1 ++ f ∷ [] → sum_by weigh fs ≡ sum_by weigh fs1 + weigh f
+without_last weigh fs fs1 f e = ap (sum_by weigh) e ∙ sum_by_push weigh fs1 f
 
 -- a run that stops does so through the frames
 pub plug-stops : {J W Q A R F : Type 0} (rules : Rules J W Q A R F) (fs : List F) (at : Seen W Q R) → plug rules fs (Stops at) ≡ Stops at

@@ -36,3 +36,7 @@ abbrev pub OnAsk : {Q E : Type 0} → Turn Q E → (Q → Type 0) → Type 0
 OnAsk (End e) P = Unit {0}
 OnAsk (Ask q) P = P q
 OnAsk Spent P = Unit {0}
+
+-- how much a unit of the budget counts in the measure by which each loop over machines ends
+abbrev pub unit_weight : ℕ
+unit_weight = 16

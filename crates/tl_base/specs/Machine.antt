@@ -1,10 +1,10 @@
 -- What remains to be done by a machine with frames.
-use Rattle.std.specs.Prelude.{◌≡◌, ℕ, ◌+◌, ◌*◌, ◌≤◌, Bool, not, List, [], ◌∷◌, length}
+use Rattle.std.specs.Prelude.{◌≡◌, ℕ, ◌+◌, ◌-◌, ◌*◌, ◌≤◌, Bool, not, List, [], ◌∷◌, sum_by}
 use Rattle.tl_base.specs.declared.machine.Step.{Step}
 use Rattle.tl_base.specs.declared.machine.Step.TheVariants.{Enter, Return, Stop, Spent}
 use Rattle.tl_base.specs.declared.machine.Waiting.{Waiting}
 use Rattle.tl_base.specs.declared.machine.Waiting.TheVariants.{Begin, Asked}
-use Rattle.tl_base.specs.Layer.{State, Given, Seen, SpentAt, state}
+use Rattle.tl_base.specs.Layer.{State, Given, Seen, SpentAt, state, unit_weight}
 use Rattle.tl_base.specs.Plan.{Plan, Give, AskFor, Run, Gives, Stops, Course, then_do, run, run_job, shown}
 
 -- a language: the plan of each job, how each frame goes on with the end of the job above it, and the end that the
@@ -44,19 +44,30 @@ abbrev pub GoesOnFree : {J W Q A R F : Type 0} → Rules J W Q A R F → List F 
 GoesOnFree rules fs plan w fs' step w' =
     (left : ℕ) → GoesOn rules fs plan (state w left) fs' step (state w' left)
 
--- how far a step is from the next payment. A frame counts 3 and a unit 4, so each step of the loop makes the whole smaller
+-- how far a step is from the next payment, in a measure in which a unit counts unit_weight, and a frame what the machine weighs it:
+-- each step of the loop makes the whole smaller
 abbrev pub step_weight : {J R Q : Type 0} → Step J R Q → ℕ
 step_weight (Enter job) = 0
 step_weight (Return r) = 1
 step_weight (Stop q) = 3
 step_weight Spent = 0
 
-abbrev pub weight_of : {J R Q F : Type 0} → List F → Step J R Q → ℕ
-weight_of fs step = 3 * length fs + step_weight step
+abbrev pub weight_of : {J R Q F : Type 0} → (F → ℕ) → List F → Step J R Q → ℕ
+weight_of weigh fs step = sum_by weigh fs + step_weight step
 
--- a step that pushed a frame, one, only where it enters a job
-abbrev pub IsLight : {J R Q F : Type 0} → List F → List F → Step J R Q → Type 0
-IsLight old new step = weight_of new step ≤ 3 * length old + 3
+-- what a job may do for the unit that is paid before it
+abbrev pub job_weight : ℕ
+job_weight = unit_weight - 1
+
+-- the frames, the step and the units that are left after it weigh no more than the frames and the units before it, and so much
+-- more: the weight of the job that began, or of the frame that went on
+abbrev pub IsLight : {J R Q F : Type 0} → (F → ℕ) → ℕ → List F → ℕ → List F → Step J R Q → ℕ → Type 0
+IsLight weigh more fs left fs' step left' =
+    unit_weight * left' + weight_of weigh fs' step ≤ unit_weight * left + (sum_by weigh fs + more)
+
+-- the same for a step that pays nothing
+abbrev pub IsLightFree : {J R Q F : Type 0} → (F → ℕ) → ℕ → List F → List F → Step J R Q → Type 0
+IsLightFree weigh more fs fs' step = weight_of weigh fs' step ≤ sum_by weigh fs + more
 
 -- the step with which a machine that waits goes on
 abbrev pub woken : {J W Q A R F : Type 0} → Rules J W Q A R F → Waiting J → A → Step J R Q

@@ -1,7 +1,7 @@
 // A machine that suspends itself with a question, and goes on with the answer.
 
 ghost use Rattle.std.specs.Prelude.{◌≡◌, List, [], ◌∷◌, IfOk, OnOk, ℕ, ◌+◌, ◌*◌, ◌≤◌};
-ghost use Rattle.tl_base.specs.Layer.{State, state, Given, given, Seen, seen, OnAsk};
+ghost use Rattle.tl_base.specs.Layer.{State, state, Given, given, Seen, seen, OnAsk, unit_weight};
 
 use crate::budget::Budget;
 use crate::memory::NoMemory;
@@ -69,5 +69,5 @@ pub trait Layer {
         ensures kept { OnOk result (keeps world.old world.new) }
         ensures paid { OnOk result (budget.new ≤ budget.old) }
         ensures falls { IfOk result (λ turn. OnAsk turn (λ _.
-            4 * budget.new + weight self.new + 2 ≤ 4 * budget.old + weight self.old)) };
+            unit_weight * budget.new + weight self.new + 2 ≤ unit_weight * budget.old + weight self.old)) };
 }

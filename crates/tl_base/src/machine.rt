@@ -5,10 +5,10 @@
 // steps; what is proved of them is that each does what the plan says. The loop, the payment before each job, questions and answers
 // are here, once for all layers. `sums.rt` is a small one.
 
-ghost use Rattle.std.specs.Prelude.{List, [], ◌∷◌, Bool, true, false, ◌≡◌, ◌+◌, ◌*◌, ◌≤◌, length, IfOk, OnOk};
-ghost use Rattle.tl_base.specs.Layer.{State, state, Given, seen, OnAsk};
+ghost use Rattle.std.specs.Prelude.{ℕ, List, [], ◌∷◌, Bool, true, false, ◌≡◌, ◌+◌, ◌*◌, ◌≤◌, sum_by, IfOk, OnOk};
+ghost use Rattle.tl_base.specs.Layer.{State, state, Given, seen, OnAsk, unit_weight};
 ghost use Rattle.tl_base.specs.Plan.{shown};
-ghost use Rattle.tl_base.specs.Machine.{Rules, GoesOn, IsLight, plug, meant, weight_of, woken};
+ghost use Rattle.tl_base.specs.Machine.{Rules, GoesOn, IsLight, job_weight, plug, meant, weight_of, woken};
 
 use crate::budget::Budget;
 use crate::layer::Layer;
@@ -39,8 +39,9 @@ pub enum Waiting<J> {
 
 /// The steps of a language: how its jobs begin, and how its frames go on.
 ///
-/// A step that pushes a frame pushes one, and enters a job then. It pays what its plan pays by [`Budget::pay`], and answers
-/// [`Step::Spent`] where that is false. The unit before each job is paid for it.
+/// A step pays what its plan pays by [`Budget::pay`], and answers [`Step::Spent`] where that is false. The unit before each job is
+/// paid for it. A step may push any number of frames, and ask at once, as long as it is light: each unit that it paid counts
+/// `unit_weight` (`specs/Layer.antt`), and each frame what the machine weighs it.
 pub trait Machine {
     /// What a step reads and changes beside the budget.
     type World;
@@ -69,10 +70,14 @@ pub trait Machine {
     /// Tells the answer that begins from those to questions.
     ghost is_go: { Self.Answer → Bool };
 
+    /// How much a frame can do without paying: no less than the frames that it goes on with and its step weigh, but for what is paid.
+    ghost weigh: { Self.Frame → ℕ };
+
     /// Begins a job, whose unit is paid.
     ///
     /// `means`: with every list of answers to come, the frames and the job's plan before the step do what the frames and the step
-    /// do after it. `weight`: a frame was pushed only where the step enters a job, and one then.
+    /// do after it. `weight`: the frames and the step weigh no more than the frames before, the job and what was paid; a step weighs
+    /// 0 to enter a job, 1 to return, and 3 to ask.
     fn begin(
         &self,
         frames: &mut Vec<Self::Frame>,
@@ -85,9 +90,11 @@ pub trait Machine {
             frames.new.items step (state world.new budget.new)) }
         ensures kept { OnOk result (keeps world.old world.new) }
         ensures paid { OnOk result (budget.new ≤ budget.old) }
-        ensures weight { IfOk result (λ step. IsLight frames.old.items frames.new.items step) };
+        ensures weight { IfOk result (λ step.
+            IsLight weigh job_weight frames.old.items budget.old frames.new.items step budget.new) };
 
-    /// Goes on with a frame, which is off the others, given the end that it waited for. Its clauses are those of `begin`.
+    /// Goes on with a frame, which is off the others, given the end that it waited for. Its clauses are those of `begin`, with the
+    /// frame's weight for the job's.
     fn go_on(
         &self,
         frames: &mut Vec<Self::Frame>,
@@ -101,7 +108,8 @@ pub trait Machine {
             frames.new.items step (state world.new budget.new)) }
         ensures kept { OnOk result (keeps world.old world.new) }
         ensures paid { OnOk result (budget.new ≤ budget.old) }
-        ensures weight { IfOk result (λ step. IsLight frames.old.items frames.new.items step) };
+        ensures weight { IfOk result (λ step.
+            IsLight weigh (weigh frame) frames.old.items budget.old frames.new.items step budget.new) };
 
     /// The end that the answer to a question gives.
     fn reply(&self, answer: Self::Answer) -> Self::End
@@ -114,8 +122,8 @@ pub trait Machine {
     ghost keeps_on: { (u v w : Self.World) → keeps u v → keeps v w → keeps u w };
 }
 
-// Goes on to where the machine stops next. Each turn of the loop pays for a job or drops a frame, and pushes one frame at most
-// after that; so it ends.
+// Goes on to where the machine stops next. Each turn of the loop pays for a job or drops a frame, and what it pushes after that
+// weighs less than what it paid and dropped; so it ends.
 fn drive<M: Machine>(
     machine: &M,
     frames: &mut Vec<M::Frame>,
@@ -136,7 +144,8 @@ fn drive<M: Machine>(
     ensures kept { OnOk result (M.keeps world.old world.new) }
     ensures paid { OnOk result (budget.new ≤ budget.old) }
     ensures falls { IfOk result (λ turn. OnAsk turn (λ _.
-        4 * budget.new + 3 * length frames.new.items + 3 ≤ 4 * budget.old + weight_of frames.old.items first)) }
+        unit_weight * budget.new + sum_by M.weigh frames.new.items + 3
+        ≤ unit_weight * budget.old + weight_of M.weigh frames.old.items first)) }
 {
     let mut step = first;
     loop {
@@ -220,7 +229,7 @@ impl<M: Machine> Layer for Suspended<M> {
 
     ghost keeps = { M.keeps };
 
-    ghost weight = { λ layer. 3 * length layer.frames.items + waiting_weight layer.waiting };
+    ghost weight = { λ layer. sum_by M.weigh layer.frames.items + waiting_weight layer.waiting };
 
     fn resume(
         &mut self,

@@ -9,9 +9,9 @@ use crate::memory::NoMemory;
 /// What is to be done.
 #[derive(Debug, Drop)]
 pub enum SumJob {
-    /// To ask for one number, which costs two units more.
+    /// To ask for one number, which costs two units more, and for another in place of a zero.
     One,
-    /// To ask for so many numbers, and to add them.
+    /// To ask for so many numbers other than zero, and to add them.
     Many(u64),
 }
 
@@ -22,6 +22,8 @@ pub enum SumFrame {
     First(u64),
     /// A sum that has this first number, and waits for the sum of its others.
     Others(u64),
+    /// The question for one number, which is asked again at a zero.
+    Again,
 }
 
 /// What begins a sum, and what answers its questions.
@@ -38,7 +40,7 @@ pub struct Sums;
 impl Machine for Sums {
     ghost use Rattle.std.specs.Prelude.{◌≤◌};
     ghost use Rattle.std.proofs.Math.Nat.{le_refl, le_trans};
-    ghost use Rattle.tl_base.specs.Sums.{sum_rules, is_go};
+    ghost use Rattle.tl_base.specs.Sums.{sum_rules, is_go, weigh};
 
     type World = u64;
 
@@ -59,6 +61,8 @@ impl Machine for Sums {
 
     ghost is_go = { is_go };
 
+    ghost weigh = { weigh };
+
     ghost keeps_self = { λ w. le_refl w };
 
     ghost keeps_on = { λ u v w first second. le_trans first second };
@@ -76,6 +80,7 @@ impl Machine for Sums {
                 if !budget.pay(2) {
                     return Ok(Step::Spent);
                 }
+                frames.push(SumFrame::Again)?;
                 Ok(Step::Stop(*count))
             }
             SumJob::Many(numbers) => {
@@ -104,6 +109,12 @@ impl Machine for Sums {
                 Ok(Step::Enter(SumJob::Many(others)))
             }
             SumFrame::Others(first) => Ok(Step::Return(first.saturating_add(end))),
+            SumFrame::Again => {
+                if end == 0 {
+                    return Ok(Step::Enter(SumJob::One));
+                }
+                Ok(Step::Return(end))
+            }
         }
     }
 
@@ -156,6 +167,36 @@ mod tests {
             assert_eq!(rt; end, sum);
             assert_eq!(rt; budget.left(), left);
             assert_eq!(rt; count, given);
+        }
+        Ok(())
+    }
+
+    // An answer of zero costs its job and its question, three units, and is then asked for again.
+    #[test]
+    fn zero_is_asked_again(rt: HostRuntime) -> Result<(), Fail> {
+        let rows = [
+            (6u64, Some(5u64), 0u64),
+            (7, Some(5), 1),
+            (5, None, 1),
+            (3, None, 0),
+        ];
+        for (units, number, left) in rows {
+            let mut count = 0;
+            let mut budget = Budget::new(units);
+            let mut machine = Suspended::start(rt.alloc(), Sums, SumJob::One);
+            let mut end = None;
+            let turn = machine.resume(&mut count, &mut budget, SumAnswer::Go)?;
+            if let Turn::Ask(_) = turn {
+                let turn = machine.resume(&mut count, &mut budget, SumAnswer::Number(0))?;
+                if let Turn::Ask(_) = turn {
+                    let turn = machine.resume(&mut count, &mut budget, SumAnswer::Number(5))?;
+                    if let Turn::End(value) = turn {
+                        end = Some(value);
+                    }
+                }
+            }
+            assert_eq!(rt; end, number);
+            assert_eq!(rt; budget.left(), left);
         }
         Ok(())
     }
