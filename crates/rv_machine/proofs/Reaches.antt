@@ -39,6 +39,12 @@ module _ (program : List (Option Instr)) (start now : State) (count : ℕ) (outp
   pub ends_at_zero : (steps : ℕ) → count < steps → now.pc ≡ 0 → Agrees (run_of program start steps) (Returned (now.registers 10)) now before here
   ends_at_zero steps more at = ends steps (steps - count) (Returned (now.registers 10)) (omega arith) (run_of-at_zero program now (steps - count) at)
 
+  -- it was over
+  pub over : (steps : ℕ) (stop : Stop) (after : Option (List ℕ)) → count < steps → now.pc ≡ 0 → (stop ≡ Returned (now.registers 10)) × (after ≡ here) → Agrees (run_of program start steps) stop now before after
+  over steps stop after more at h =
+      let a = ends_at_zero steps more at in
+      record { stops = a.stops ∙ sym h.0; stands = a.stands; took = h.1 ∙ a.took }
+
   pub ends_at_last : (steps : ℕ) → count ≡ steps → now.pc ≡ 0 → Agrees (run_of program start steps) (Returned (now.registers 10)) now before here
   ends_at_last steps last at = ends steps 0 (Returned (now.registers 10)) (omega arith) (run_of-at_zero program now 0 at)
 

@@ -3,6 +3,7 @@ pub mod Arithmetic
 pub mod Memory
 pub mod Machine
 pub mod Program
+pub mod Decoded
 pub mod Output
 pub mod Steps
 pub mod Runs

@@ -1,9 +1,10 @@
 -- What contracts see of a machine.
-use Rattle.std.specs.Prelude.{ℕ, List, Option, slice_index}
+use Rattle.std.specs.Prelude.{ℕ, List, Option, slice_index, map}
 use Rattle.rv_isa.specs.declared.instr.Instr.{Instr}
 use Rattle.rv_machine.specs.declared.hart.Hart.{Hart}
 use Rattle.rv_machine.specs.declared.machine.Machine.{Machine}
 use Rattle.rv_machine.specs.Machine.{State}
+use Rattle.rv_machine.specs.Decoded.{found_of}
 
 -- the state of the hart
 abbrev pub hart_state : Hart → State
@@ -17,7 +18,7 @@ hart_state hart =
 
 -- the instructions of its text
 abbrev pub program_of : Machine → List (Option Instr)
-program_of machine = machine.program.items
+program_of machine = map found_of machine.text.items
 
 -- where its heap begins
 abbrev pub heap_of : Machine → ℕ

@@ -1,5 +1,7 @@
 -- What a step of the machine does, by the step that is defined.
 use Rattle.std.specs.Prelude.{◌≡◌, ◌≢◌, ℕ, List, [], Option}
+use Rattle.rv_isa.specs.declared.instr.Instr.{Instr}
+use Rattle.rv_isa.specs.declared.instr.Instr.TheVariants.{Lui, Auipc, Jal, Jalr, Branch, Load, Store, RegisterImmediate, Shift, Addiw, ShiftWord, RegisterRegister, RegisterRegisterWord, Fence, Ecall, Ebreak}
 use Rattle.rv_machine.specs.declared.stops.Stop.{Stop}
 use Rattle.rv_machine.specs.declared.stops.Stop.TheVariants.{Returned, TerraFault, MachineFault, Unfinished, WriteFault}
 use Rattle.rv_machine.specs.Machine.{State, Moved, GoesOn, Writes, Faults, Throws}
@@ -43,3 +45,22 @@ IsStop (TerraFault kind place) at moved = moved ≡ Throws kind place
 IsStop WriteFault at moved = ⊥
 IsStop (Returned value) at moved = ⊥
 IsStop Unfinished at moved = ⊥
+
+-- an instruction that reaches neither memory nor the environment
+abbrev pub IsPlain : Instr → Type 0
+IsPlain (Lui rd imm) = Unit {0}
+IsPlain (Auipc rd imm) = Unit {0}
+IsPlain (Jal rd offset) = Unit {0}
+IsPlain (Jalr rd rs1 offset) = Unit {0}
+IsPlain (Branch condition rs1 rs2 offset) = Unit {0}
+IsPlain (Load op rd rs1 offset) = ⊥
+IsPlain (Store op rs1 rs2 offset) = ⊥
+IsPlain (RegisterImmediate op rd rs1 imm) = Unit {0}
+IsPlain (Shift op rd rs1 count) = Unit {0}
+IsPlain (Addiw rd rs1 imm) = Unit {0}
+IsPlain (ShiftWord op rd rs1 count) = Unit {0}
+IsPlain (RegisterRegister op rd rs1 rs2) = Unit {0}
+IsPlain (RegisterRegisterWord op rd rs1 rs2) = Unit {0}
+IsPlain (Fence rd rs1 fields) = Unit {0}
+IsPlain Ecall = ⊥
+IsPlain Ebreak = ⊥

@@ -1,6 +1,6 @@
 // The hart: the program counter, the registers and the memory that they reach, and what each instruction does to them.
 
-ghost use Rattle.std.specs.Prelude.{◌≡◌, ◌≢◌, ◌+◌, ◌-◌, ◌*◌, ◌%◌, ◌^◌, ◌<◌, ◌≤◌, length, slice_index, Ok, IfErr, OnOk, OnErr};
+ghost use Rattle.std.specs.Prelude.{◌≡◌, ◌≢◌, ◌+◌, ◌-◌, ◌*◌, ◌%◌, ◌^◌, ◌<◌, ◌≤◌, length, slice_index, IfErr, OnOk, OnErr};
 ghost use Rattle.rv_machine.specs.Word.{low, word};
 ghost use Rattle.rv_machine.specs.Machine.{upper_word, written, start_registers};
 
@@ -8,13 +8,15 @@ use crate::arithmetic::{
     add_word, extended_word, immediate_value, is_taken, register_value, register_word_value,
     shift_value, shift_word_value,
 };
+use crate::decoded::Decoded;
 use crate::memory::{
     PRIVATE, Place, REGION, find_place, load_value, load_width, put_value, store_width,
 };
 use crate::output::write_all;
 use crate::stops::{MachineKind, Stop};
 use rv_isa::{
-    BranchOffset, Immediate, Instr, JumpOffset, LoadOp, Register, StoreOp, UpperImmediate,
+    BranchOffset, Immediate, Instr, JumpOffset, LoadOp, Register, RegisterOp, StoreOp,
+    UpperImmediate,
 };
 use tl_base::Sink;
 
@@ -27,15 +29,17 @@ pub(crate) struct Hart {
     pub private: Vec<u8>,
     ghost region_fits: { length region.items ≤ 67108864 },
     ghost private_fits: { length private.items ≤ 603979776 },
+    ghost zero: { slice_index registers 0 ≡ 0 },
 }
 
 impl Hart {
-    ghost use Rattle.std.specs.Prelude.{List, ℕ};
-    ghost use Rattle.rv_isa.specs.declared.instr.Instr.TheVariants.{Ecall};
-    ghost use Rattle.rv_machine.specs.Machine.{value_at, GoesOn, Faults, writes, jumps, goes_to, branches, loads, stores, act, calls, write_call, throw_call, at_with, start_state, loaded_state};
+    ghost use Rattle.std.specs.Prelude.{List, ℕ, Some, IfSome};
+    ghost use Rattle.rv_machine.specs.Machine.{value_at, GoesOn, Faults, writes, jumps, goes_to, branches, loads, stores, act, obeys, calls, write_call, throw_call, at_with, start_state, loaded_state};
+    ghost use Rattle.rv_machine.specs.Decoded.{found_of};
+    ghost use Rattle.rv_machine.specs.declared.stops.MachineKind.TheVariants.{BadAccess};
     ghost use Rattle.rv_machine.specs.declared.stops.Stop.TheVariants.{MachineFault, WriteFault};
-    ghost use Rattle.rv_machine.specs.Memory.{FitsIn, bytes_at};
-    ghost use Rattle.rv_machine.specs.Steps.{WentOn, IsStop, StoppedAt, Counted};
+    ghost use Rattle.rv_machine.specs.Memory.{place_of, FitsIn, bytes_at};
+    ghost use Rattle.rv_machine.specs.Steps.{WentOn, IsPlain, IsStop, StoppedAt, Counted};
     ghost use Rattle.rv_machine.specs.Shown.{hart_state};
 
     /// A hart with this memory, which stands at 0 with registers of zero.
@@ -66,9 +70,49 @@ impl Hart {
         self.registers = registers_for(PRIVATE + self.private.len() as u64, heap, limit, arguments);
     }
 
-    /// What an instruction does. One that stops the run leaves the hart as it was.
-    #[inline]
-    pub(crate) fn perform<K: Sink>(&mut self, instr: Instr, out: &mut K) -> Result<(), Stop>
+    /// Carries out a word of text. One that stops the run leaves the hart as it was.
+    #[inline(always)]
+    pub(crate) fn perform<K: Sink>(&mut self, word: &Decoded, out: &mut K) -> Result<(), Stop>
+        ensures ok { OnOk result (WentOn (obeys (Some (found_of word.now)) (hart_state self.old)) (hart_state self.new) (K.taken out.old) (K.taken out.new) (out.new ≡ out.old)) }
+        ensures quiet { OnOk result (K.faults out.new ≡ K.faults out.old) }
+        ensures err { IfErr result (λ stop. StoppedAt stop (hart_state self.old).pc (obeys (Some (found_of word.now)) (hart_state self.old)) (K.taken out.old) (K.taken out.new)) }
+        ensures counted { IfErr result (λ stop. Counted stop (K.faults out.old) (K.faults out.new)) }
+        ensures untouched { IfErr result (λ stop. stop ≢ WriteFault → out.new ≡ out.old) }
+        ensures same { OnErr result (hart_state self.new ≡ hart_state self.old) }
+    {
+        match *word {
+            Decoded::Illegal => Err(self.fault(MachineKind::IllegalWord)),
+            Decoded::Add { rd, rs1, rs2 } => {
+                self.write(
+                    rd,
+                    register_value(RegisterOp::Add, self.read(rs1), self.read(rs2)),
+                );
+                Ok(())
+            }
+            Decoded::AddImmediate { rd, rs1, imm } => {
+                self.write(rd, self.address(rs1, imm));
+                Ok(())
+            }
+            Decoded::LoadDouble { rd, rs1, offset } => {
+                self.load(LoadOp::Ld, rd, self.address(rs1, offset))
+            }
+            Decoded::StoreDouble { rs1, rs2, offset } => {
+                self.store(StoreOp::Sd, self.address(rs1, offset), self.read(rs2))
+            }
+            Decoded::BranchEqual { rs1, rs2, offset } => {
+                self.branch(self.read(rs1) == self.read(rs2), offset);
+                Ok(())
+            }
+            Decoded::BranchNotEqual { rs1, rs2, offset } => {
+                self.branch(self.read(rs1) != self.read(rs2), offset);
+                Ok(())
+            }
+            Decoded::Other(instr) => self.execute(instr, out),
+        }
+    }
+
+    // What any instruction does. One that stops the run leaves the hart as it was.
+    fn execute<K: Sink>(&mut self, instr: Instr, out: &mut K) -> Result<(), Stop>
         ensures ok { OnOk result (WentOn (act instr (hart_state self.old)) (hart_state self.new) (K.taken out.old) (K.taken out.new) (out.new ≡ out.old)) }
         ensures quiet { OnOk result (K.faults out.new ≡ K.faults out.old) }
         ensures err { IfErr result (λ stop. StoppedAt stop (hart_state self.old).pc (act instr (hart_state self.old)) (K.taken out.old) (K.taken out.new)) }
@@ -76,33 +120,7 @@ impl Hart {
         ensures untouched { IfErr result (λ stop. stop ≢ WriteFault → out.new ≡ out.old) }
         ensures same { OnErr result (hart_state self.new ≡ hart_state self.old) }
     {
-        if instr == Instr::Ecall {
-            return self.call(out);
-        }
-        match self.execute(instr) {
-            Ok(()) => Ok(()),
-            Err(kind) => Err(self.fault(kind)),
-        }
-    }
-
-    // What an instruction does that makes no call. One that faults leaves the hart as it was.
-    fn execute(&mut self, instr: Instr) -> Result<(), MachineKind>
-        requires { instr ≢ Ecall }
-        ensures ok { OnOk result (act instr (hart_state self.old) ≡ GoesOn (hart_state self.new)) }
-        ensures err { IfErr result (λ kind. act instr (hart_state self.old) ≡ Faults kind) }
-        ensures same { OnErr result (hart_state self.new ≡ hart_state self.old) }
-    {
         match instr {
-            Instr::Lui { rd, imm } => self.write(rd, upper(imm)),
-            Instr::Auipc { rd, imm } => self.write(rd, self.ahead(upper(imm))),
-            Instr::Jal { rd, offset } => self.jump(rd, self.ahead(jump_word(offset))),
-            Instr::Jalr { rd, rs1, offset } => self.jump(rd, even(self.address(rs1, offset))),
-            Instr::Branch {
-                condition,
-                rs1,
-                rs2,
-                offset,
-            } => { self.branch(is_taken(condition, self.read(rs1), self.read(rs2)), offset) }
             Instr::Load {
                 op,
                 rd,
@@ -114,7 +132,33 @@ impl Hart {
                 rs1,
                 rs2,
                 offset,
-            } => { self.store(op, self.address(rs1, offset), self.read(rs2)) }
+            } => self.store(op, self.address(rs1, offset), self.read(rs2)),
+            Instr::Ecall => self.call(out),
+            Instr::Ebreak => Err(self.fault(MachineKind::Break)),
+            _ => {
+                self.go_on(instr);
+                Ok(())
+            }
+        }
+    }
+
+    // What an instruction does that reaches neither memory nor the environment.
+    #[inline]
+    fn go_on(&mut self, instr: Instr)
+        requires { IsPlain instr }
+        ensures { act instr (hart_state self.old) ≡ GoesOn (hart_state self.new) }
+    {
+        match instr {
+            Instr::Lui { rd, imm } => self.write(rd, upper(imm)),
+            Instr::Auipc { rd, imm } => self.write(rd, self.ahead(upper(imm))),
+            Instr::Jal { rd, offset } => self.jump(rd, self.ahead(jump_word(offset))),
+            Instr::Jalr { rd, rs1, offset } => self.jump(rd, even(self.address(rs1, offset))),
+            Instr::Branch {
+                condition,
+                rs1,
+                rs2,
+                offset,
+            } => self.branch(is_taken(condition, self.read(rs1), self.read(rs2)), offset),
             Instr::RegisterImmediate { op, rd, rs1, imm } => {
                 self.write(rd, immediate_value(op, self.read(rs1), immediate_word(imm)))
             }
@@ -137,8 +181,10 @@ impl Hart {
                 self.write(rd, register_word_value(op, self.read(rs1), self.read(rs2)))
             }
             Instr::Fence { .. } => self.skip(),
-            Instr::Ebreak => Err(MachineKind::Break),
+            Instr::Load { .. } => unreachable!(),
+            Instr::Store { .. } => unreachable!(),
             Instr::Ecall => unreachable!(),
+            Instr::Ebreak => unreachable!(),
         }
     }
 
@@ -176,12 +222,7 @@ impl Hart {
             self.answer(count);
             return Ok(());
         }
-        let Some(place) = find_place(
-            self.region.len(),
-            self.private.len(),
-            self.registers[11],
-            count,
-        ) else {
+        let Some(place) = self.place(self.registers[11], count) else {
             return Err(self.fault(MachineKind::BadCall));
         };
         match write_all(out, self.bytes(place, count)) {
@@ -211,7 +252,7 @@ impl Hart {
         ensures { hart_state self.new ≡ at_with (hart_state self.old) (low ((hart_state self.old).pc + 4)) 10 value }
     {
         put(&mut self.registers, 10, value);
-        self.pc = self.pc.wrapping_add(4);
+        self.skip();
     }
 
     // How the run stops by the call that ends it.
@@ -236,16 +277,12 @@ impl Hart {
         Stop::MachineFault { kind, pc: self.pc }
     }
 
-    /// The value of a register, of which x0 reads zero.
+    // The value of a register, of which x0 reads zero.
     #[inline]
-    pub(crate) fn read(&self, register: Register) -> u64
+    fn read(&self, register: Register) -> u64
         ensures { result ≡ value_at (hart_state self.now) register }
     {
-        if register.number == 0 {
-            0
-        } else {
-            self.registers[register.number as usize]
-        }
+        self.registers[register.number as usize]
     }
 
     // The address so far from the program counter.
@@ -269,100 +306,84 @@ impl Hart {
     // Writes a register and goes on at the next instruction.
     #[inline]
     #[tactic(auto, unfolding(crate::specs::Word::low))]
-    fn write(&mut self, register: Register, value: u64) -> Result<(), MachineKind>
-        ensures ok { result ≡ Ok tt }
-        ensures state { writes (hart_state self.old) register value ≡ GoesOn (hart_state self.new) }
+    fn write(&mut self, register: Register, value: u64)
+        ensures { writes (hart_state self.old) register value ≡ GoesOn (hart_state self.new) }
     {
         put(&mut self.registers, register.number, value);
-        self.pc = self.pc.wrapping_add(4);
-        Ok(())
+        self.skip();
     }
 
     // Goes on at an address, with the next address in a register.
     #[tactic(auto, unfolding(crate::specs::Word::low))]
-    fn jump(&mut self, register: Register, target: u64) -> Result<(), MachineKind>
-        ensures ok { result ≡ Ok tt }
-        ensures state { jumps (hart_state self.old) register target ≡ GoesOn (hart_state self.new) }
+    fn jump(&mut self, register: Register, target: u64)
+        ensures { jumps (hart_state self.old) register target ≡ GoesOn (hart_state self.new) }
     {
         let next = self.pc.wrapping_add(4);
         put(&mut self.registers, register.number, next);
         self.pc = target;
-        Ok(())
     }
 
     // Goes on at an offset from here if the branch is taken, and else at the next instruction.
     #[inline]
     #[tactic(auto, unfolding(crate::specs::Word::low))]
-    fn branch(&mut self, taken: bool, offset: BranchOffset) -> Result<(), MachineKind>
-        ensures ok { result ≡ Ok tt }
-        ensures state { branches (hart_state self.old) taken offset ≡ GoesOn (hart_state self.new) }
+    fn branch(&mut self, taken: bool, offset: BranchOffset)
+        ensures { branches (hart_state self.old) taken offset ≡ GoesOn (hart_state self.new) }
     {
         let distance = if taken { branch_word(offset) } else { 4 };
         self.pc = self.pc.wrapping_add(distance);
-        Ok(())
     }
 
     // Goes on at the next instruction.
+    #[inline]
     #[tactic(auto, unfolding(crate::specs::Word::low))]
-    fn skip(&mut self) -> Result<(), MachineKind>
-        ensures ok { result ≡ Ok tt }
-        ensures state { goes_to (hart_state self.old) (low ((hart_state self.old).pc + 4)) ≡ GoesOn (hart_state self.new) }
+    fn skip(&mut self)
+        ensures { goes_to (hart_state self.old) (low ((hart_state self.old).pc + 4)) ≡ GoesOn (hart_state self.new) }
     {
         self.pc = self.pc.wrapping_add(4);
-        Ok(())
     }
 
     // Loads from an address to a register.
     #[inline]
-    fn load(&mut self, op: LoadOp, register: Register, address: u64) -> Result<(), MachineKind>
+    fn load(&mut self, op: LoadOp, register: Register, address: u64) -> Result<(), Stop>
         ensures ok { OnOk result (loads (hart_state self.old) op register address ≡ GoesOn (hart_state self.new)) }
-        ensures err { IfErr result (λ kind. loads (hart_state self.old) op register address ≡ Faults kind) }
+        ensures stop { IfErr result (λ stop. stop ≡ MachineFault BadAccess (hart_state self.old).pc) }
+        ensures err { OnErr result (loads (hart_state self.old) op register address ≡ Faults BadAccess) }
         ensures same { OnErr result (hart_state self.new ≡ hart_state self.old) }
     {
-        match find_place(
-            self.region.len(),
-            self.private.len(),
-            address,
-            load_width(op),
-        ) {
-            Some(Place::Region(at)) => {
-                let value = load_value(op, &self.region, at);
-                self.write(register, value)
-            }
-            Some(Place::Private(at)) => {
-                let value = load_value(op, &self.private, at);
-                self.write(register, value)
-            }
-            None => Err(MachineKind::BadAccess),
-        }
+        let value = match self.place(address, load_width(op)) {
+            Some(Place::Private(at)) => load_value(op, &self.private, at),
+            Some(Place::Region(at)) => load_value(op, &self.region, at),
+            None => return Err(self.fault(MachineKind::BadAccess)),
+        };
+        self.write(register, value);
+        Ok(())
     }
 
     // Stores bytes of a value at an address.
     #[inline]
     #[tactic(auto, unfolding(crate::specs::Word::low))]
-    fn store(&mut self, op: StoreOp, address: u64, value: u64) -> Result<(), MachineKind>
+    fn store(&mut self, op: StoreOp, address: u64, value: u64) -> Result<(), Stop>
         ensures ok { OnOk result (stores (hart_state self.old) op address value ≡ GoesOn (hart_state self.new)) }
-        ensures err { IfErr result (λ kind. stores (hart_state self.old) op address value ≡ Faults kind) }
+        ensures stop { IfErr result (λ stop. stop ≡ MachineFault BadAccess (hart_state self.old).pc) }
+        ensures err { OnErr result (stores (hart_state self.old) op address value ≡ Faults BadAccess) }
         ensures same { OnErr result (hart_state self.new ≡ hart_state self.old) }
     {
-        match find_place(
-            self.region.len(),
-            self.private.len(),
-            address,
-            store_width(op),
-        ) {
-            Some(Place::Region(at)) => {
-                put_value(op, &mut self.region, at, value);
-                self.pc = self.pc.wrapping_add(4);
-                Ok(())
-            }
-            Some(Place::Private(at)) => {
-                put_value(op, &mut self.private, at, value);
-                self.pc = self.pc.wrapping_add(4);
-                Ok(())
-            }
-            None => Err(MachineKind::BadAccess),
+        match self.place(address, store_width(op)) {
+            Some(Place::Private(at)) => put_value(op, &mut self.private, at, value),
+            Some(Place::Region(at)) => put_value(op, &mut self.region, at, value),
+            None => return Err(self.fault(MachineKind::BadAccess)),
         }
+        self.skip();
+        Ok(())
+    }
+
+    // Where bytes at an address lie wholly.
+    #[inline]
+    fn place(&self, address: u64, width: u64) -> Option<Place>
+        ensures place { result ≡ place_of (length (hart_state self.now).region) (length (hart_state self.now).private) address width }
+        ensures within { IfSome result (FitsIn (length self.now.region.items) (length self.now.private.items) width) }
+    {
+        find_place(self.region.len(), self.private.len(), address, width)
     }
 }
 
@@ -370,7 +391,8 @@ impl Hart {
 #[inline]
 fn put(registers: &mut [u64; 32], number: u8, value: u64)
     requires { number < 32 }
-    ensures { slice_index registers.new ≡ written (slice_index registers.old) number value }
+    ensures registers { slice_index registers.new ≡ written (slice_index registers.old) number value }
+    ensures zero { slice_index registers.new 0 ≡ slice_index registers.old 0 }
 {
     if number != 0 {
         registers[number as usize] = value;
@@ -380,7 +402,8 @@ fn put(registers: &mut [u64; 32], number: u8, value: u64)
 // The registers at the start of a run.
 fn registers_for(end: u64, heap: u64, limit: u64, arguments: &[u64]) -> [u64; 32]
     requires { length arguments.now ≤ 8 }
-    ensures { slice_index result ≡ start_registers end heap limit arguments.now }
+    ensures registers { slice_index result ≡ start_registers end heap limit arguments.now }
+    ensures zero { slice_index result 0 ≡ 0 }
 {
     let mut registers = [0; 32];
     registers[2] = end;

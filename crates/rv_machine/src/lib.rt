@@ -16,6 +16,7 @@
 #![tactic(auto)]
 
 mod arithmetic;
+mod decoded;
 mod hart;
 pub mod machine;
 pub mod memory;

@@ -1,35 +1,37 @@
 // The machine and its run.
 
-ghost use Rattle.std.specs.Prelude.{◌≡◌, ◌≢◌, ◌+◌, ◌-◌, ◌*◌, ◌/◌, ◌≤◌, ◌<◌, ◌^◌, ◌++◌, length, replicate, drop, IfOk, IfErr, OnOk, OnErr};
+ghost use Rattle.std.specs.Prelude.{◌≡◌, ◌≢◌, ◌+◌, ◌-◌, ◌*◌, ◌/◌, ◌%◌, ◌≤◌, ◌<◌, ◌^◌, ◌++◌, map, option_map, length, replicate, drop, IfOk, IfErr, OnOk, OnErr};
 ghost use Rattle.rv_machine.specs.Laws.{RunsGoOn, RunsStayOver, OneProgram};
 ghost use Rattle.rv_machine.specs.Program.{IsProgram};
+ghost use Rattle.rv_machine.specs.Decoded.{found_of};
+ghost use Rattle.rv_machine.specs.Machine.{fetch};
 
+use crate::decoded::Decoded;
 use crate::hart::Hart;
 use crate::stops::{MachineKind, Stop};
 use elf_image::Image;
-use rv_isa::{Instr, decode};
+use rv_isa::decode;
 use std::alloc::Global;
 use tl_base::{NoMemory, Sink};
 
 /// The address of the first word of text.
 pub const TEXT: u64 = 0x1_0000;
 
-/// The most bytes that private memory has.
-pub const PRIVATE_LIMIT: u64 = 603_979_776;
-
-/// A machine: the instructions of its text, where its heap begins, and its hart.
+/// A machine: its text, where its heap begins, and its hart.
 #[derive(Drop)]
 pub struct Machine {
-    program: Vec<Option<Instr>>,
+    text: Vec<Decoded>,
     heap: u64,
     hart: Hart,
+    ghost short: { length text.items < 2 ^ 62 - 2 ^ 14 },
 }
 
 impl Machine {
     ghost use Rattle.std.specs.Prelude.{List, ℕ, []};
     ghost use Rattle.elf_image.specs.Lawful.{IsLawful};
-    ghost use Rattle.rv_machine.specs.declared.stops.Stop.TheVariants.{WriteFault};
-    ghost use Rattle.rv_machine.specs.Machine.{fetch, step, run_of, start_state, loaded_state};
+    ghost use Rattle.rv_machine.specs.declared.stops.Stop.TheVariants.{Returned, MachineFault, WriteFault};
+    ghost use Rattle.rv_machine.specs.declared.stops.MachineKind.TheVariants.{BadFetch};
+    ghost use Rattle.rv_machine.specs.Machine.{step, run_of, start_state, loaded_state};
     ghost use Rattle.rv_machine.specs.Runs.{Agrees, IsBeforeWrite};
     ghost use Rattle.rv_machine.specs.Steps.{WentOn, StoppedAt, Counted};
     ghost use Rattle.rv_machine.specs.Shown.{program_of, heap_of, state_of};
@@ -43,11 +45,11 @@ impl Machine {
         ensures heap { IfOk result (λ machine. heap_of machine ≡ image.now.heap) }
         ensures state { IfOk result (λ machine. state_of machine ≡ loaded_state (image.now.statics ++ replicate (image.now.memory - length image.now.statics) 0) (replicate image.now.private 0)) }
     {
-        let program = decoded(alloc, image.text.as_slice())?;
+        let text = decode_text(alloc, image.text.as_slice())?;
         let region = region_of(alloc, image.memory, image.statics.as_slice())?;
         let private = zeros(alloc, image.private)?;
         Ok(Machine {
-            program,
+            text,
             heap: image.heap,
             hart: Hart::new(region, private),
         })
@@ -60,10 +62,10 @@ impl Machine {
         ensures heap { IfOk result (λ machine. heap_of machine ≡ 0) }
         ensures state { IfOk result (λ machine. state_of machine ≡ loaded_state [] (replicate private 0)) }
     {
-        let program = decoded(alloc, text)?;
+        let text = decode_text(alloc, text)?;
         let bytes = zeros(alloc, private)?;
         Ok(Machine {
-            program,
+            text,
             heap: 0,
             hart: Hart::new(Vec::new(alloc), bytes),
         })
@@ -93,9 +95,6 @@ impl Machine {
         ensures heap { heap_of self.new ≡ heap_of self.old }
     {
         for _ in 0..steps {
-            if self.hart.pc == 0 {
-                return Stop::Returned(self.hart.registers[10]);
-            }
             if let Err(stop) = self.step(out) {
                 return stop;
             }
@@ -107,38 +106,58 @@ impl Machine {
         }
     }
 
-    // One instruction. One that stops the run leaves the state as it was.
+    // One instruction, or none where the run is over. One that stops the run leaves the state as it was.
+    #[inline]
     fn step<K: Sink>(&mut self, out: &mut K) -> Result<(), Stop>
+        ensures going { OnOk result ((state_of self.old).pc ≢ 0) }
+        ensures over { IfErr result (λ stop. (state_of self.old).pc ≡ 0 → stop ≡ Returned ((state_of self.old).registers 10) × K.taken out.new ≡ K.taken out.old) }
         ensures ok { OnOk result (WentOn (step (program_of self.old) (state_of self.old)) (state_of self.new) (K.taken out.old) (K.taken out.new) (out.new ≡ out.old)) }
         ensures quiet { OnOk result (K.faults out.new ≡ K.faults out.old) }
-        ensures err { IfErr result (λ stop. StoppedAt stop (state_of self.old).pc (step (program_of self.old) (state_of self.old)) (K.taken out.old) (K.taken out.new)) }
+        ensures err { IfErr result (λ stop. (state_of self.old).pc ≢ 0 → StoppedAt stop (state_of self.old).pc (step (program_of self.old) (state_of self.old)) (K.taken out.old) (K.taken out.new)) }
         ensures counted { IfErr result (λ stop. Counted stop (K.faults out.old) (K.faults out.new)) }
         ensures untouched { IfErr result (λ stop. stop ≢ WriteFault → out.new ≡ out.old) }
         ensures same { OnErr result (state_of self.new ≡ state_of self.old) }
         ensures program { program_of self.new ≡ program_of self.old }
         ensures heap { heap_of self.new ≡ heap_of self.old }
     {
-        let Some(found) = self.fetch() else {
-            return Err(self.hart.fault(MachineKind::BadFetch));
-        };
-        let Some(instr) = found else {
-            return Err(self.hart.fault(MachineKind::IllegalWord));
-        };
-        self.hart.perform(instr, out)
+        match fetch(&self.text, self.hart.pc) {
+            Some(word) => self.hart.perform(word, out),
+            None => Err(self.outside()),
+        }
     }
 
-    // The instruction at the program counter, or None within where its word is none.
-    #[inline]
-    #[tactic(auto, unfolding(crate::specs::Machine::fetch))]
-    fn fetch(&self) -> Option<Option<Instr>>
-        ensures { result ≡ fetch (program_of self.now) (state_of self.now).pc }
+    // How the run stops where the program counter is not in text.
+    fn outside(&self) -> Stop
+        ensures over { (state_of self.now).pc ≡ 0 → result ≡ Returned ((state_of self.now).registers 10) }
+        ensures fault { (state_of self.now).pc ≢ 0 → result ≡ MachineFault BadFetch (state_of self.now).pc }
     {
-        let pc = self.hart.pc;
-        if pc < TEXT || pc % 4 != 0 {
-            return None;
+        if self.hart.pc == 0 {
+            Stop::Returned(self.hart.registers[10])
+        } else {
+            self.hart.fault(MachineKind::BadFetch)
         }
-        self.program.get(((pc - TEXT) / 4) as usize).copied()
     }
+}
+
+// The word of text at an address, if there is one.
+#[inline]
+fn fetch(text: &[Decoded], address: u64) -> Option<&Decoded>
+    requires { length text.now < 2 ^ 62 - 2 ^ 14 }
+    ensures { option_map (λ word. found_of word.now) result ≡ fetch (map found_of text.now) address }
+{
+    text.get(text_index(address))
+}
+
+// Where the word at an address stands in text. An address before text, or between two words, gets a number past every text: the
+// two lowest bits of its distance become the two highest of the number.
+#[inline]
+fn text_index(address: u64) -> usize
+    ensures inside { 65536 ≤ address → address % 4 ≡ 0 → result ≡ (address - 65536) / 4 }
+    ensures before { address < 65536 → 2 ^ 62 - 2 ^ 14 ≤ result }
+    ensures between { address % 4 ≢ 0 → 2 ^ 62 ≤ result }
+{
+    let distance = address.wrapping_sub(TEXT);
+    (distance / 4 + distance % 4 * (1 << 62)) as usize
 }
 
 /// The laws of runs and of text. A run that isn't over goes on from where it stands, so a run may be made in parts; one that is
@@ -149,15 +168,16 @@ pub fn runs_go_on()
     ensures program { OneProgram }
 {}
 
-// The instructions of words.
-fn decoded(alloc: Global, text: &[u32]) -> Result<Vec<Option<Instr>>, NoMemory>
-    ensures { IfOk result (λ program. IsProgram text.now program.items) }
+// The words of text, decoded.
+fn decode_text(alloc: Global, words: &[u32]) -> Result<Vec<Decoded>, NoMemory>
+    ensures program { IfOk result (λ text. IsProgram words.now (map found_of text.items)) }
+    ensures short { IfOk result (λ text. length text.items < 2 ^ 62 - 2 ^ 14) }
 {
-    let mut program = Vec::with_capacity(alloc, text.len())?;
-    for word in text {
-        program.push(decode(*word))?;
+    let mut text = Vec::with_capacity(alloc, words.len())?;
+    for word in words {
+        text.push(Decoded::new(decode(*word)))?;
     }
-    Ok(program)
+    Ok(text)
 }
 
 // A region of so many bytes that begins with these.

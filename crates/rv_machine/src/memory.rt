@@ -22,30 +22,33 @@ pub enum Place {
 }
 
 /// Where bytes at an address lie wholly, in a region and private memory of these sizes.
-#[tactic(auto, unfolding(crate::specs::Memory::place_of))]
+#[inline]
+#[tactic(auto, unfolding(crate::specs::Memory::place_of, crate::specs::Memory::offset_in))]
 pub(crate) fn find_place(region: usize, private: usize, address: u64, width: u64) -> Option<Place>
+    requires region { region ≤ 67108864 }
+    requires private { private ≤ 603979776 }
     ensures place { result ≡ place_of region private address width }
     ensures within { IfSome result (FitsIn region private width) }
 {
-    if let Some(at) = offset(REGION, region, address, width) {
-        return Some(Place::Region(at));
+    if let Some(at) = offset(PRIVATE, private, address, width) {
+        return Some(Place::Private(at));
     }
-    match offset(PRIVATE, private, address, width) {
-        Some(at) => Some(Place::Private(at)),
+    match offset(REGION, region, address, width) {
+        Some(at) => Some(Place::Region(at)),
         None => None,
     }
 }
 
-// Where bytes lie in an area of `size` bytes that begins at `start`.
+// Where bytes lie in an area of `size` bytes that begins at `start`. An address before it is a very long way after it, since
+// addresses wrap.
+#[inline]
 #[tactic(auto, unfolding(crate::specs::Memory::offset_in))]
 fn offset(start: u64, size: usize, address: u64, width: u64) -> Option<usize>
+    requires { start + size < 2 ^ 64 }
     ensures offset { result ≡ offset_in start size address width }
     ensures within { IfSome result (λ at. at + width ≤ size) }
 {
-    if address < start {
-        return None;
-    }
-    let at = (address - start) as usize;
+    let at = address.wrapping_sub(start) as usize;
     let width = width as usize;
     if width <= size && at <= size - width {
         Some(at)
