@@ -4,3 +4,4 @@ pub mod Runs
 pub mod Programs
 pub mod Reaches
 pub mod Regions
+pub mod ImageRuns

@@ -8,4 +8,5 @@ pub mod Output
 pub mod Steps
 pub mod Runs
 pub mod Laws
+pub mod ImageRun
 pub mod Shown

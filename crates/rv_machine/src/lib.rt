@@ -3,7 +3,7 @@
 //! A machine has words of text at 0x10000, which are fetched only; a region at 0x40000000 and private memory at 2^32, which are
 //! read and written, misaligned too. [`Machine::load`] takes all the memory of a run of an image, and [`Machine::load_words`] that
 //! of words without a region. Both decode the text once. [`Machine::start`] sets the registers to those of the start, and
-//! [`Machine::run`] takes at most so many steps and says why it stopped.
+//! [`Machine::run`] takes at most so many steps and says why it stopped. [`run_image`] is the three together.
 //!
 //! A program ends where the program counter is 0, with x10 as its result. It has two calls, by ECALL with their number in x17: 64
 //! writes x12 bytes from x11 to the output, which x10 names by the number 1; and 1024 ends the run by a fault of its own, with its
@@ -11,13 +11,15 @@
 //!
 //! `specs/` has what this means. `Word` has words and their signed values; `Arithmetic` what each instruction that computes gives, and
 //! `Memory` loads and stores, in the terms of the RISC-V Unprivileged ISA manual; `Program` the instructions of a text, by the table
-//! of `rv_isa`; `Machine` the state, one row for each instruction, one step and a run, with its output; `Runs` what a call of `run`
-//! does by that run; `Shown` what contracts see of a [`Machine`]; and `Laws` the laws that [`runs_go_on`] states.
+//! of `rv_isa`; `Machine` the state, one row for each instruction, one step and a run, with its output; `ImageRun` the run of an image,
+//! and its laws, which [`images_have_runs`] states; `Runs` what a call of `run` does by that run; `Decoded` and `Shown` what contracts
+//! see of a decoded word and of a [`Machine`]; and `Laws` the laws that [`runs_go_on`] states.
 #![tactic(auto)]
 
 mod arithmetic;
 mod decoded;
 mod hart;
+pub mod image_run;
 pub mod machine;
 pub mod memory;
 mod output;
@@ -25,5 +27,6 @@ pub mod stops;
 #[cfg(test)]
 mod tests;
 
+pub use image_run::{images_have_runs, run_image};
 pub use machine::{Machine, TEXT, runs_go_on};
 pub use stops::{MachineKind, Stop};
