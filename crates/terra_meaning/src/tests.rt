@@ -1,7 +1,7 @@
 use crate::evaluate;
+use first_form::{ParseError, parse};
 use std::alloc::Global;
 use std::test::Fail;
-use first_form::{ParseError, parse};
 
 // The value of a function's expression at these arguments.
 fn value(alloc: Global, text: &[u8], arguments: &[u64]) -> Result<u64, Fail> {

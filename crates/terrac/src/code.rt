@@ -5,10 +5,10 @@ ghost use Rattle.first_form.specs.Tree.{tree_of, operators, HasParametersBelow, 
 ghost use Rattle.terra_meaning.specs.Meaning.{meaning};
 ghost use Rattle.terrac.specs.Code.{Computes, expression_words, operator_word, depth_of};
 
+use first_form::{Expression, Operator};
 use rv_machine::{Machine, Stop, TEXT};
 use std::alloc::Global;
 use tl_base::{NoMemory, Sink};
-use first_form::{Expression, Operator};
 
 // addi x5, x10, 0; the position of a parameter is added to the field of x10
 const PARAMETER: u32 = 0x0005_0293;

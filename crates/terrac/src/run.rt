@@ -20,9 +20,9 @@ use crate::lines::{
 };
 use crate::reading::{ReadError, read_source};
 use crate::words::{Job, job_of};
+use first_form::{Function, ParseError, parse};
 use std::alloc::Global;
 use tl_base::{NoMemory, Sink, Source};
-use first_form::{Function, ParseError, parse};
 
 /// How many bytes of a source are read at most: one more than it may have, which tells that it has too many.
 const READ_LIMIT: usize = 65_537;
