@@ -3,7 +3,7 @@
 ghost use Rattle.std.specs.Prelude.{◌≡◌, ◌≢◌, ℕ, ◌+◌, ◌<◌, ◌^◌, pos, [], OnOk, OnErr, position, find, not, length, drop, IsTrue, ◌≤◌};
 ghost use Rattle.lua_value.specs.Numbers.{largest_size};
 ghost use Rattle.lua_value.specs.Values.{same_value, is_nil};
-ghost use Rattle.lua_table.specs.Keys.{AreKeyed};
+ghost use Rattle.lua_table.specs.Keys.{AreKeyed, HasKeysOnce};
 ghost use Rattle.lua_table.specs.Pairs.{value_in, with_value, value_at, border_of, first_in, next_in};
 
 use crate::next::Next;
@@ -15,7 +15,8 @@ use tl_base::NoMemory;
 
 /// A table (Lua 5.1 manual, section 2.2): a list of pairs in order of first insertion.
 ///
-/// An emptied entry stays in the list with nil as its value, and takes its place again when it is set. No key is nil.
+/// An emptied entry stays in the list with nil as its value, and takes its place again when it is set. No key is nil, and the keys
+/// differ from each other.
 #[derive(Debug, Drop)]
 pub struct Table {
     pairs: Vec<Pair>,
@@ -24,13 +25,13 @@ pub struct Table {
 impl Model for Table {
     ghost use Rattle.std.specs.Prelude.{List};
     ghost use Rattle.lua_table.specs.declared.pair.Pair.{Pair};
-    ghost use Rattle.lua_table.specs.Keys.{AreKeyed};
+    ghost use Rattle.lua_table.specs.Keys.{AreTable};
 
     ghost Value = { List Pair };
 
     ghost view = { λ t. t.pairs.items };
 
-    ghost invariant = { λ t. AreKeyed t.pairs.items };
+    ghost invariant = { λ t. AreTable t.pairs.items };
 }
 
 impl Table {
@@ -58,15 +59,7 @@ impl Table {
         ensures ok { OnOk result (self.new ≡ with_value self.old key value) }
         ensures err { OnErr result (self.new ≡ self.old) }
     {
-        match place_of(&self.pairs, &key) {
-            Some(place) => self.pairs[place] = Pair { key, value },
-            None => {
-                if !value.is_nil() {
-                    self.pairs.push(Pair { key, value })?;
-                }
-            }
-        }
-        Ok(())
+        put(&mut self.pairs, key, value)
     }
 
     /// The least border (manual, section 2.5.5): the values under 1 to the border aren't nil, and the one after it is nil.
@@ -91,6 +84,29 @@ impl Table {
             None => Next::NoKey,
         }
     }
+
+    /// The keys of a table differ from each other. This is a law, and does nothing.
+    pub fn keys_differ(&self)
+        ensures { HasKeysOnce self.now }
+    {
+        let _pairs = &self.pairs;
+    }
+}
+
+/// Puts a value under a key: in its entry where there is one, and else in a new one, unless it is nil.
+fn put(pairs: &mut Vec<Pair>, key: Value, value: Value) -> Result<(), NoMemory>
+    ensures ok { OnOk result (pairs.new.items ≡ with_value pairs.old.items key value) }
+    ensures err { OnErr result (pairs.new.items ≡ pairs.old.items) }
+{
+    match place_of(pairs, &key) {
+        Some(place) => pairs[place] = Pair { key, value },
+        None => {
+            if !value.is_nil() {
+                pairs.push(Pair { key, value })?;
+            }
+        }
+    }
+    Ok(())
 }
 
 /// The place of a key's entry.
