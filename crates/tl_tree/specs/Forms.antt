@@ -1,0 +1,125 @@
+-- What the grammars of Lua and Terra code are made of.
+use Rattle.std.specs.Prelude.{ℕ, List, [], ◌∷◌, Some, None}
+use Rattle.tl_tree.specs.declared.symbol.Symbol.{Symbol}
+use Rattle.tl_tree.specs.declared.symbol.Symbol.TheVariants as symbols
+use Rattle.tl_tree.specs.declared.mode.Extra.TheVariants.{Plain, Continues}
+use Rattle.tl_tree.specs.declared.mode.Shape.{Shape}
+use Rattle.tl_tree.specs.declared.mode.Shape.TheVariants as shapes
+use Rattle.tl_tree.specs.declared.node.BinaryOperator.{BinaryOperator}
+use Rattle.tl_tree.specs.declared.node.BinaryOperator.TheVariants as binary
+use Rattle.tl_tree.specs.declared.node.UnaryOperator.{UnaryOperator}
+use Rattle.tl_tree.specs.declared.node.UnaryOperator.TheVariants as unary
+use Rattle.tl_tree.specs.Tokens.{Token, among, is, sample}
+use Rattle.tl_tree.specs.Tree.{Tree, Nothing, More, Name, Part}
+use Rattle.tl_tree.specs.Grammar.{Grammar, give, token, bind, when, many, down}
+
+-- a token with a symbol
+abbrev pub sign : Symbol → Grammar (Token × Tree)
+sign s = token (is s) (λ t. Plain) (λ t. None) (sample s)
+
+-- a token with a symbol, and the part that it opens
+abbrev pub opening : Symbol → Part → Grammar (Token × Tree)
+opening s part = token (is s) (λ t. Plain) (λ t. Some part) (sample s)
+
+-- {"," x}, behind a list
+abbrev pub listed_behind : Grammar Tree → Tree → Grammar Tree
+listed_behind x before = many (λ a t. is symbols.Comma t) (λ a t. Plain) (λ a t. None) (λ t y a. bind x λ e. give (More a e)) before
+
+-- x {"," x}
+abbrev pub listed : Grammar Tree → Grammar Tree
+listed x = bind x λ e. listed_behind x (More Nothing e)
+
+-- {("," | ";") x} [("," | ";")], up to a "}", behind a list
+abbrev pub separated_behind : Grammar Tree → Tree → Grammar Tree
+separated_behind x before =
+    many (λ a t. among (symbols.Comma ∷ symbols.Semicolon ∷ []) t) (λ a t. Plain) (λ a t. None)
+    (λ t y a. when (is symbols.CloseBrace) (give a) (bind x λ e. give (More a e))) before
+
+-- Name
+abbrev pub name : Grammar Tree
+name = bind (sign symbols.Name) λ n. give (Name n.0.place n.0.text)
+
+-- Name {"," Name}
+abbrev pub names : Grammar Tree
+names = listed name
+
+-- [";"]
+abbrev pub semicolon : Grammar Tree
+semicolon = when (is symbols.Semicolon) (bind (sign symbols.Semicolon) λ y. give Nothing) (give Nothing)
+
+-- ---- chains
+
+-- how many tokens may continue a chain
+abbrev pub chain : ℕ
+chain = 1000
+
+-- A tree, how many more tokens may continue its chain, and what the tree is, as far as what follows depends on it.
+pub record Chained : Type 0 where
+  pub tree : Tree
+  pub left : ℕ
+  pub shape : Shape
+
+abbrev pub chained : Tree → ℕ → Shape → Chained
+chained tree left shape = record { tree = tree; left = left; shape = shape }
+
+-- an operand of a chain of operators
+abbrev pub operand : ℕ → Tree → Chained
+operand left tree = chained tree left shapes.Other
+
+-- the same tree in another chain
+abbrev pub in_chain : ℕ → Chained → Chained
+in_chain left a = chained a.tree left a.shape
+
+-- ---- operators
+
+-- the operator that a token is, between two operands
+abbrev pub binary_of : Symbol → BinaryOperator
+binary_of symbols.Or = binary.Or
+binary_of symbols.And = binary.And
+binary_of symbols.Less = binary.Less
+binary_of symbols.Greater = binary.Greater
+binary_of symbols.LessEqual = binary.LessEqual
+binary_of symbols.GreaterEqual = binary.GreaterEqual
+binary_of symbols.NotEqual = binary.NotEqual
+binary_of symbols.DoubleEqual = binary.Equal
+binary_of symbols.DoubleDot = binary.Concatenate
+binary_of symbols.DoubleLess = binary.ShiftLeft
+binary_of symbols.DoubleGreater = binary.ShiftRight
+binary_of symbols.Plus = binary.Add
+binary_of symbols.Minus = binary.Subtract
+binary_of symbols.Star = binary.Multiply
+binary_of symbols.Slash = binary.Divide
+binary_of symbols.Percent = binary.Modulo
+binary_of symbols.Caret = binary.Power
+binary_of _ = binary.Arrow
+
+-- the operator that a token is, before its operand
+abbrev pub unary_of : Symbol → UnaryOperator
+unary_of symbols.Not = unary.Not
+unary_of symbols.Hash = unary.Length
+unary_of symbols.Ampersand = unary.Address
+unary_of symbols.At = unary.Dereference
+unary_of _ = unary.Negate
+
+abbrev pub comparisons : List Symbol
+comparisons = symbols.Less ∷ symbols.Greater ∷ symbols.LessEqual ∷ symbols.GreaterEqual ∷ symbols.NotEqual ∷ symbols.DoubleEqual ∷ []
+
+abbrev pub additive : List Symbol
+additive = symbols.Plus ∷ symbols.Minus ∷ []
+
+abbrev pub multiplicative : List Symbol
+multiplicative = symbols.Star ∷ symbols.Slash ∷ symbols.Percent ∷ []
+
+-- Operators of these symbols and their operands, which group to the left, behind a first operand. `make` makes the tree; an operand
+-- is read in the chain that goes on.
+abbrev pub operators : List Symbol → (ℕ → Grammar Chained) → (Token → Tree → Tree → Tree) → Chained → Grammar Chained
+operators ss x make a =
+    many (λ a t. among ss t) (λ a t. Continues a.left) (λ a t. None)
+    (λ t y a. bind (x (down a.left)) λ b. give (operand b.left (make t a.tree b.tree))) a
+
+-- An operator that groups to the right, with the part that is its right operand, behind a left operand; or the operand alone.
+abbrev pub right_operator : Symbol → Part → (Token → Tree → Tree → Tree) → Chained → Grammar Chained
+right_operator s part make a =
+    when (is s)
+    (bind (token (is s) (λ t. Continues a.left) (λ t. Some part) (sample s)) λ x. give (operand (down a.left) (make x.0 a.tree x.1)))
+    (give a)

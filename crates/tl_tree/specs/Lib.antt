@@ -1,0 +1,10 @@
+pub mod Symbols
+pub mod Numbers
+pub mod Tokens
+pub mod Tree
+pub mod Grammar
+pub mod Refusing
+pub mod Forms
+pub mod LuaExpressions
+pub mod LuaStatements
+pub mod Syntax

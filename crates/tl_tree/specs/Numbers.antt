@@ -1,0 +1,32 @@
+-- What numerals stand for, and how large they may be.
+use Rattle.std.specs.Prelude.{ℕ, ◌+◌, ◌-◌, ◌*◌, Bool, List, [], ◌∷◌, drop, if◌then◌else◌, ◌==◌, ◌||◌, ◌&&◌, nat_le}
+use Rattle.tl_lex.specs.Bytes.{is_digit, is_hex_digit}
+use Rattle.tl_tree.specs.declared.symbol.Symbol.{Symbol}
+use Rattle.tl_tree.specs.declared.symbol.Symbol.TheVariants as symbols
+
+-- the value of a digit, small and large letters alike
+abbrev pub digit_value : ℕ → ℕ
+digit_value c = if nat_le 97 c then c - 87 else (if nat_le 65 c then c - 55 else c - 48)
+
+-- the number that the digits of a base write, up to what is no such digit, behind digits that write `before`
+abbrev pub number_in : ℕ → (ℕ → Bool) → ℕ → List ℕ → ℕ
+number_in base class before [] = before
+number_in base class before (c ∷ rest) = if class c then number_in base class (before * base + digit_value c) rest else before
+
+abbrev pub is_hexadecimal : List ℕ → Bool
+is_hexadecimal (z ∷ x ∷ rest) = (z == 48) && ((x == 120) || (x == 88))
+is_hexadecimal _ = Bool.false
+
+-- the value of a numeral: decimal digits, or `0x` or `0X` and hexadecimal digits, and a suffix
+unfoldable pub value_of : List ℕ → ℕ
+value_of text = if is_hexadecimal text then number_in 16 is_hex_digit 0 (drop 2 text) else number_in 10 is_digit 0 text
+
+-- the largest number of Lua code
+abbrev pub largest_lua : ℕ
+largest_lua = 99999999999999
+
+-- the largest numeral of Terra code: an int32, or with `LL` an int64, or with `ULL` a uint64
+abbrev pub largest_terra : Symbol → ℕ
+largest_terra symbols.LongNumeral = 9223372036854775807
+largest_terra symbols.UnsignedNumeral = 18446744073709551615
+largest_terra _ = 2147483647

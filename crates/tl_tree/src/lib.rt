@@ -1,0 +1,14 @@
+//! The trees of Lua and Terra code, the grammar that says which text has which tree, and which token of a text that has none is
+//! refused, and why.
+#![tactic(auto)]
+
+pub mod mode;
+pub mod node;
+pub mod symbol;
+
+pub use mode::{Context, Extra, Mode, Shape};
+pub use node::{
+    BinaryOperator, Expression, Node, NodeList, Piece, Statement, TerraExpression, TerraStatement,
+    UnaryOperator,
+};
+pub use symbol::Symbol;

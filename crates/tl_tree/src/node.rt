@@ -1,0 +1,253 @@
+// The nodes of trees.
+ghost use Rattle.std.specs.Prelude.{◌≡◌, [], ◌∷◌, ◌++◌, OnOk, OnErr};
+
+use std::alloc::Global;
+use std::marker::Model;
+use tl_base::{NoMemory, NodeId, Place};
+
+/// The operators between two operands of Lua and Terra code (Lua 5.1 manual, section 2.5).
+#[derive(Clone, Copy, Debug, PartialEq, Eq)]
+pub enum BinaryOperator {
+    /// `->`, from the types of parameters to a type of results.
+    Arrow,
+    Or,
+    And,
+    Less,
+    Greater,
+    LessEqual,
+    GreaterEqual,
+    NotEqual,
+    Equal,
+    Concatenate,
+    ShiftLeft,
+    ShiftRight,
+    Add,
+    Subtract,
+    Multiply,
+    Divide,
+    Modulo,
+    Power,
+}
+
+/// The operators before one operand.
+#[derive(Clone, Copy, Debug, PartialEq, Eq)]
+pub enum UnaryOperator {
+    Not,
+    /// `#`
+    Length,
+    Negate,
+    /// `&`, a pointer type in Lua code and an address in Terra code.
+    Address,
+    /// `@`
+    Dereference,
+}
+
+/// Numbers of nodes in the order of the text. Contracts see the list.
+#[derive(Debug, Drop)]
+pub struct NodeList {
+    ids: Vec<NodeId>,
+}
+
+impl Model for NodeList {
+    ghost use Rattle.std.specs.Prelude.{List};
+    ghost use Rattle.tl_base.specs.declared.ids.NodeId.{NodeId};
+
+    ghost Value = { List NodeId };
+
+    ghost view = { λ l. l.ids.items };
+}
+
+impl NodeList {
+    /// No nodes.
+    pub fn new(alloc: Global) -> NodeList
+        ensures { result ≡ [] }
+    {
+        NodeList {
+            ids: Vec::new(alloc),
+        }
+    }
+
+    /// Adds a node at the end. After `NoMemory` the list is as it was.
+    pub fn push(&mut self, id: NodeId) -> Result<(), NoMemory>
+        ensures ok { OnOk result (self.new ≡ self.old ++ id ∷ []) }
+        ensures err { OnErr result (self.new ≡ self.old) }
+    {
+        self.ids.push(id)?;
+        Ok(())
+    }
+
+    /// The numbers.
+    pub fn as_slice(&self) -> &[NodeId]
+        ensures { result.now ≡ self.now }
+    {
+        &self.ids
+    }
+}
+
+/// An expression of Lua code that is no name, number or text (Lua 5.1 manual, section 2.5).
+#[derive(Debug, Drop)]
+pub enum Expression {
+    Nil,
+    False,
+    True,
+    /// `...`
+    Varargs,
+    /// The function with this body.
+    Function(NodeId),
+    /// Fields: expressions, and `Piece::NamedField` and `Piece::KeyedField`.
+    Table(NodeList),
+    Binary(BinaryOperator, NodeId, NodeId),
+    Unary(UnaryOperator, NodeId),
+    /// An expression in brackets, which has one value.
+    Paren(NodeId),
+    /// `object[key]`
+    Index(NodeId, NodeId),
+    /// `object.name`
+    Select(NodeId, NodeId),
+    /// A function and its arguments.
+    Call(NodeId, NodeList),
+    /// `object:name(arguments)`
+    Method(NodeId, NodeId, NodeList),
+    /// `terra` with this body.
+    Terra(NodeId),
+    /// `struct` with these entries.
+    Struct(NodeList),
+    /// `quote .. end` with this `Piece::Quoted`.
+    Quote(NodeId),
+    /// A Terra expression behind a backtick.
+    Backtick(NodeId),
+}
+
+/// A statement of Lua code (Lua 5.1 manual, section 2.4).
+#[derive(Debug, Drop)]
+pub enum Statement {
+    /// The targets and the expressions.
+    Assign(NodeList, NodeList),
+    /// A call.
+    Call(NodeId),
+    Do(NodeId),
+    /// The condition and the block.
+    While(NodeId, NodeId),
+    /// The block and the condition.
+    Repeat(NodeId, NodeId),
+    /// `Piece::Arm`s, and the block behind `else`.
+    If(NodeList, Option<NodeId>),
+    /// The name, the first value, the limit, the step and the block.
+    NumericFor(NodeId, NodeId, NodeId, Option<NodeId>, NodeId),
+    /// The names, the expressions and the block.
+    GenericFor(NodeList, NodeList, NodeId),
+    /// `function` with a `Piece::Path` and a `Piece::Body`.
+    Function(NodeId, NodeId),
+    /// `local function` with a name and a `Piece::Body`.
+    LocalFunction(NodeId, NodeId),
+    /// The names and the expressions.
+    Local(NodeList, NodeList),
+    /// `terra` with a `Piece::Path` and a `Piece::TerraBody`.
+    Terra(NodeId, NodeId),
+    /// `terra` with a `Piece::Path`, `::` and a type.
+    DeclareTerra(NodeId, NodeId),
+    /// `local terra` with a name and a `Piece::TerraBody`.
+    LocalTerra(NodeId, NodeId),
+    /// `local terra` with a name, `::` and a type.
+    LocalDeclareTerra(NodeId, NodeId),
+    /// `struct` with a `Piece::Path` and `Piece::Entry`s.
+    Struct(NodeId, NodeList),
+    /// `local struct` with a name and `Piece::Entry`s.
+    LocalStruct(NodeId, NodeList),
+    Emit(NodeId),
+    Return(NodeList),
+    Break,
+}
+
+/// An expression of Terra code that is no name, number or text.
+#[derive(Debug, Drop)]
+pub enum TerraExpression {
+    Nil,
+    False,
+    True,
+    Binary(BinaryOperator, NodeId, NodeId),
+    Unary(UnaryOperator, NodeId),
+    Paren(NodeId),
+    /// `[e]` with Lua code, as an expression or as a name.
+    Escape(NodeId),
+    /// `object[key]`
+    Index(NodeId, NodeId),
+    /// `object.name`
+    Select(NodeId, NodeId),
+    /// A function and its arguments.
+    Call(NodeId, NodeList),
+    /// `object:name(arguments)`
+    Method(NodeId, NodeId, NodeList),
+    /// A type and its initialisers: all expressions, or all `Piece::NamedField`s.
+    Construct(NodeId, NodeList),
+}
+
+/// A statement of Terra code.
+#[derive(Debug, Drop)]
+pub enum TerraStatement {
+    /// The targets and the expressions.
+    Assign(NodeList, NodeList),
+    /// A call.
+    Call(NodeId),
+    /// `[e]` with Lua code.
+    Splice(NodeId),
+    Do(NodeId),
+    /// The condition and the block.
+    While(NodeId, NodeId),
+    /// The block and the condition.
+    Repeat(NodeId, NodeId),
+    /// `Piece::Arm`s, and the block behind `else`.
+    If(NodeList, Option<NodeId>),
+    /// The name, the first value, the limit, the step and the block.
+    For(NodeId, NodeId, NodeId, Option<NodeId>, NodeId),
+    /// `var` with `Piece::Variable`s and expressions.
+    Var(NodeList, NodeList),
+    /// `escape` with a block of Lua code.
+    Escape(NodeId),
+    Return(NodeList),
+    Break,
+}
+
+/// What a node has within it that is no expression and no statement.
+#[derive(Debug, Drop)]
+pub enum Piece {
+    /// The statements of a block, of Lua or of Terra code.
+    Block(NodeList),
+    /// A condition and its block.
+    Arm(NodeId, NodeId),
+    /// The parameters of a Lua function, whether `...` is one more, and its block.
+    Body(NodeList, bool, NodeId),
+    /// A first name and the names behind it, each of these with the place of its `.`, and the method's name with that of its `:`.
+    Path(NodeList, Option<NodeId>),
+    /// `name = value`
+    NamedField(NodeId, NodeId),
+    /// `[key] = value`
+    KeyedField(NodeId, NodeId),
+    /// `name : type` of a struct.
+    Entry(NodeId, NodeId),
+    /// The block of a quote, and its expression.
+    Quoted(NodeId, Option<NodeId>),
+    /// The parameters of a Terra function, its result type and its block.
+    TerraBody(NodeList, Option<NodeId>, NodeId),
+    /// `name : type` of a Terra function.
+    Parameter(NodeId, NodeId),
+    /// `[e]` as a parameter of a Terra function.
+    SpliceParameter(NodeId),
+    /// A name that `var` declares, and its type.
+    Variable(NodeId, Option<NodeId>),
+}
+
+/// A node of a tree. Texts are slices of the source.
+#[derive(Debug, Drop)]
+pub enum Node<'a> {
+    /// A name: an expression where one stands, and else what is declared, selected or called.
+    Name(Place, &'a str),
+    Numeral(Place, &'a str),
+    /// A text in quotes or in long brackets.
+    Literal(Place, &'a str),
+    Expression(Place, Expression),
+    Statement(Place, Statement),
+    TerraExpression(Place, TerraExpression),
+    TerraStatement(Place, TerraStatement),
+    Piece(Piece),
+}
