@@ -2,6 +2,8 @@ pub mod Symbols
 pub mod Numbers
 pub mod Tokens
 pub mod Tree
+pub mod Item
+pub mod Nodes
 pub mod Grammar
 pub mod Refusing
 pub mod Forms

@@ -7,7 +7,8 @@ use Rattle.tl_tree.specs.declared.node.BinaryOperator.{BinaryOperator}
 use Rattle.tl_tree.specs.declared.node.UnaryOperator.{UnaryOperator}
 
 -- The place of a tree is that of its first token, with these exceptions: a binary operator has the operator's; a call, index, selection
--- or method call that of its `(`, `[`, `.` or `:`, and a call whose argument is a table or text alone that argument's.
+-- or method call that of its `(`, `[`, `.` or `:`, and a call whose argument is a table or text alone that argument's; a
+-- constructor has that of its `{`.
 pub data Tree : Type 0 where
   -- no tree, and the empty list
   Nothing : Tree
@@ -35,6 +36,14 @@ pub data Tree : Type 0 where
   Call : Place → Tree → Tree → Tree
   -- the object, the name and the arguments
   Method : Place → Tree → Tree → Tree → Tree
+  -- `terra` and its body
+  TerraFunction : Place → Tree → Tree
+  -- `struct` and its entries
+  Struct : Place → Tree → Tree
+  -- `quote` and what is quoted
+  Quote : Place → Tree → Tree
+  -- a Terra expression behind a backtick
+  Backtick : Place → Tree → Tree
   -- ---- statements of Lua code (Lua 5.1 manual, section 2.4)
   -- the targets and the expressions
   Assign : Place → Tree → Tree → Tree
@@ -57,10 +66,59 @@ pub data Tree : Type 0 where
   LocalFunction : Place → Tree → Tree → Tree
   -- the names and the expressions
   Local : Place → Tree → Tree → Tree
+  -- `terra`, the path and the body, or the type behind `::`
+  DefineTerra DeclareTerra : Place → Tree → Tree → Tree
+  -- `local terra`, the name and the body, or the type behind `::`
+  LocalTerra LocalDeclareTerra : Place → Tree → Tree → Tree
+  -- the path and the entries
+  DefineStruct : Place → Tree → Tree → Tree
+  -- the name and the entries
+  LocalStruct : Place → Tree → Tree → Tree
+  Emit : Place → Tree → Tree
   -- the expressions
   Return : Place → Tree → Tree
   Break : Place → Tree
-  -- ---- parts of these
+  -- ---- expressions of Terra code
+  TerraNil TerraFalse TerraTrue : Place → Tree
+  TerraBinary : Place → BinaryOperator → Tree → Tree → Tree
+  TerraUnary : Place → UnaryOperator → Tree → Tree
+  TerraParen : Place → Tree → Tree
+  -- Lua code in `[` and `]`, where an expression stands and where a name does
+  Escape : Place → Tree → Tree
+  -- the object and the key
+  TerraIndex : Place → Tree → Tree → Tree
+  -- the object and the name
+  TerraSelect : Place → Tree → Tree → Tree
+  -- the function and the arguments
+  TerraCall : Place → Tree → Tree → Tree
+  -- the object, the name and the arguments
+  TerraMethod : Place → Tree → Tree → Tree → Tree
+  -- the type and its initialisers, which are expressions, or all `NamedField`
+  Construct : Place → Tree → Tree → Tree
+  -- ---- statements of Terra code
+  -- the targets and the expressions
+  TerraAssign : Place → Tree → Tree → Tree
+  -- a call that is a statement
+  TerraPerform : Place → Tree → Tree
+  -- Lua code in `[` and `]` that is a statement
+  Splice : Place → Tree → Tree
+  TerraDo : Place → Tree → Tree
+  -- the condition and the block
+  TerraWhile : Place → Tree → Tree → Tree
+  -- the block and the condition
+  TerraRepeat : Place → Tree → Tree → Tree
+  -- the arms, and the block behind `else` if there is one
+  TerraIf : Place → Tree → Tree → Tree
+  -- the name, the first value, the limit, the step if there is one, and the block
+  TerraFor : Place → Tree → Tree → Tree → Tree → Tree → Tree
+  -- the variables and the expressions
+  Var : Place → Tree → Tree → Tree
+  -- `escape` and its block of Lua code
+  EscapeBlock : Place → Tree → Tree
+  -- the expressions
+  TerraReturn : Place → Tree → Tree
+  TerraBreak : Place → Tree
+  -- ---- what is within these, and is no expression and no statement
   -- the statements
   Block : Tree → Tree
   -- a condition and its block
@@ -73,6 +131,18 @@ pub data Tree : Type 0 where
   NamedField : Tree → Tree → Tree
   -- a key and its value
   KeyedField : Tree → Tree → Tree
+  -- the name and the type of a struct's entry
+  Entry : Tree → Tree → Tree
+  -- the block of a quote, and its expression if there is one
+  Quoted : Tree → Tree → Tree
+  -- the parameters of a Terra function, its result type if it is written, and its block
+  TerraBody : Tree → Tree → Tree → Tree
+  -- the name and the type of a Terra function's parameter
+  Parameter : Tree → Tree → Tree
+  -- Lua code in `[` and `]` that is a parameter
+  SpliceParameter : Tree → Tree
+  -- a name that `var` declares, and its type if it is written
+  Variable : Tree → Tree → Tree
 
 -- What is read one level of nesting deeper than the token before it.
 pub data Part : Type 0 where
