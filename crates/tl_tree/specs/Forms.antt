@@ -1,5 +1,5 @@
 -- What the grammars of Lua and Terra code are made of.
-use Rattle.std.specs.Prelude.{ℕ, List, [], ◌∷◌, Some, None}
+use Rattle.std.specs.Prelude.{ℕ, Bool, true, false, List, [], ◌∷◌, Some, None}
 use Rattle.tl_tree.specs.declared.symbol.Symbol.{Symbol}
 use Rattle.tl_tree.specs.declared.symbol.Symbol.TheVariants as symbols
 use Rattle.tl_tree.specs.declared.mode.Extra.TheVariants.{Plain, Continues}
@@ -46,6 +46,28 @@ names = listed name
 -- [";"]
 abbrev pub semicolon : Grammar Tree
 semicolon = when (is symbols.Semicolon) (bind (sign symbols.Semicolon) λ y. give Nothing) (give Nothing)
+
+-- ["," | ";"]
+abbrev pub separator : Grammar Tree
+separator =
+    when (among (symbols.Comma ∷ symbols.Semicolon ∷ []))
+    (bind (token (among (symbols.Comma ∷ symbols.Semicolon ∷ [])) (λ t. Plain) (λ t. None) (sample symbols.Semicolon)) λ y. give Nothing)
+    (give Nothing)
+
+-- {"." Name}: the names of a path have the places of their "."
+abbrev pub path_names : Tree → Grammar Tree
+path_names a =
+    many (λ b t. is symbols.Dot t) (λ b t. Plain) (λ b t. None) (λ t x b. bind (sign symbols.Name) λ n. give (More b (Name t.place n.0.text))) a
+
+-- ---- languages
+
+-- what a source may hold: Lua code alone, or Lua and Terra code
+pub data Language : Type 0 where
+  LuaAlone Joint : Language
+
+abbrev pub has_terra : Language → Bool
+has_terra LuaAlone = false
+has_terra Joint = true
 
 -- ---- chains
 

@@ -9,4 +9,6 @@ pub mod Refusing
 pub mod Forms
 pub mod LuaExpressions
 pub mod LuaStatements
+pub mod TerraExpressions
+pub mod TerraStatements
 pub mod Syntax

@@ -1,7 +1,6 @@
 -- The nodes of a tree in the order of the text: those of its children one after the other, and then its own. A node's number is its
 -- place among them, so a node's children have smaller numbers.
-use Rattle.std.specs.Prelude.{ℕ, pred, List, [], ◌∷◌, ◌++◌, length, Option, Some, None}
-use Rattle.tl_base.specs.declared.place.Place.{Place}
+use Rattle.std.specs.Prelude.{pred, List, [], ◌∷◌, ◌++◌, length, Option, Some, None}
 use Rattle.tl_base.specs.declared.ids.NodeId.{NodeId}
 use Rattle.tl_tree.specs.declared.node.Expression.TheVariants as expressions
 use Rattle.tl_tree.specs.declared.node.Statement.TheVariants as statements

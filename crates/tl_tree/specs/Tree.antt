@@ -153,3 +153,13 @@ pub data Part : Type 0 where
   Statements : Context → Part
   -- the parameters of a Lua function, its block and its `end`
   FunctionBody : Part
+  -- the entries of a struct
+  Entries : Mode → Part
+  -- an expression of Terra code; the operand of a prefix operator; the arguments of a call; the initialisers of a constructor
+  TerraExpression TerraOperand TerraArguments Initialisers : Part
+  -- the statements of a block of Terra code
+  TerraStatements : Part
+  -- the parameters of a Terra function, its result type, its block and its `end`
+  TerraFunctionBody : Part
+  -- the statements of a quote, and its expression
+  QuotedCode : Part
