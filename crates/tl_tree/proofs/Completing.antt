@@ -331,6 +331,63 @@ module _ (levels : ℕ) (readers : Readers) (parts : Rule → Parts) (part_after
       p (λ a. starts_of (h a) mid after (q a)) (λ a f s le k. q a f s k)
       front r (omega arith) (run levels readers g (front ++ r)) refl sh
 
+  -- a token and what follows it, which begins in a class that depends on the token
+  pub completes-then : {A : Type 0} (class : Token → Bool) (extra : Token → Extra) (opens : Token → Option Part) (sample : Token) (h : Token × Tree → Grammar A) (first : Token → Bool) (other : Token → Token → Bool) (after : Token → Bool) → is_of class sample ≡ true → first sample ≡ true → ((t : Token) → is_of class t ≡ true → Covers (other t) (opens t)) → ((x : Token × Tree) → is_of class x.0 ≡ true → Completes (h x) (other x.0) after) → Completes (bind (token class extra opens sample) h) first after
+  completes-then {A} class extra opens sample h first other after good_sample first_sample covers next [] r sh =
+      let c = bare-both (λ rule ts x rest. Opened (parts rule) (opens sample) ts x rest) (λ rule x ts y rest. Reads rule levels (parts rule) (h (sample, x)) ts y rest) (λ t. true) (other sample) after (opened_bare (opens sample) (other sample) (covers sample good_sample)) (λ x. starts_of (h (sample, x)) (other sample) after (next (sample, x) good_sample)) in
+      record {
+        more = sample ∷ c.more;
+        value = c.value;
+        starts = λ none close k. first_sample;
+        reads = λ close k rule al le fo.
+            let i = c.reads close k rule al (λ role ts short. le role ts (omega arith)) in (
+              (sample, i.0),
+              i.1,
+              (c.more ++ close, refl, good_sample, le (record { opens = opens sample; levels = levels; extra = extra sample }) (sample ∷ (c.more ++ close)) (omega arith), i.2),
+              i.3,
+            );
+      }
+  completes-then {A} class extra opens sample h first other after good_sample first_sample covers next (t ∷ front) r sh = go (is_of class t) refl (bar (record { opens = opens t; levels = levels; extra = extra t }) t) refl sh
+    where
+      f : Token × Tree → List Token → Outcome A
+      f a mid = run levels readers (h a) mid
+
+      bind_again : (o : Outcome Tree) → ((o >>= λ x mid. Took (t, x) mid) >>= λ a mid. run levels readers (h a) mid) ≡ (o >>= λ x mid. run levels readers (h (t, x)) mid)
+      bind_again (Took x mid) = refl
+      bind_again (Stop why rest) = refl
+
+      go : (c : Bool) → is_of class t ≡ c → (o : Option SyntaxKind) → bar (record { opens = opens t; levels = levels; extra = extra t }) t ≡ o → Shows {A = A} (cond c (unless o (t ∷ (front ++ r)) (opened readers (opens t) (front ++ r) >>= λ x mid. Took (t, x) mid)) (Stop (blame t.symbol) (t ∷ (front ++ r))) >>= λ a mid. run levels readers (h a) mid) r → Completion {A = A} (λ rule ts a rest. Reads rule levels (parts rule) (bind (token class extra opens sample) h) ts a rest) (cond c (unless o (t ∷ (front ++ r)) (opened readers (opens t) (front ++ r) >>= λ x mid. Took (t, x) mid)) (Stop (blame t.symbol) (t ∷ (front ++ r))) >>= λ a mid. run levels readers (h a) mid) first after (t ∷ front)
+      go true e None k s =
+          let same = bind_again (opened readers (opens t) (front ++ r)) in
+          let c =
+          seq (λ ts. opened readers (opens t) ts) (λ rule ts x rest. Opened (parts rule) (opens t) ts x rest) (λ x ts. run levels readers (h (t, x)) ts) (λ rule x ts y rest. Reads rule levels (parts rule) (h (t, x)) ts y rest) (λ t. true) (other t) after (length (front ++ r))
+          (λ ts. leaves-opened readers readers_leave (opens t) ts) (λ f s x b u e. steady-opened readers readers_steady (opens t) f s x b u e)
+          (λ rule al ts x rest e. sound-opened levels readers (parts rule) (readers_sound rule al) (extra t) t (opens t) k ts x rest e) (λ x ts. leaves levels readers readers_leave (h (t, x)) ts)
+          (opened_completes (extra t) t (opens t) (other t) (covers t e) k) (λ x. starts_of (h (t, x)) (other t) after (next (t, x) e)) (λ x f s le q. next (t, x) e f s q)
+          front r (omega arith) (opened readers (opens t) (front ++ r)) refl (subst (λ (o : Outcome A). Shows o r) same s) in
+          subst (λ (o : Outcome A). Completion {A = A} (λ rule ts a rest. Reads rule levels (parts rule) (bind (token class extra opens sample) h) ts a rest) o first after (t ∷ front)) (sym same)
+          (record {
+            more = c.more;
+            value = c.value;
+            starts = λ none close f. absurd cc;
+            reads = λ close f rule al le fo.
+                let b = c.reads close f rule al le fo in
+                ((t, b.0), b.1, (front ++ (c.more ++ close), refl, e, al (record { opens = opens t; levels = levels; extra = extra t }) t (front ++ (c.more ++ close)) k, b.2), b.3);
+          })
+      go true e (Some why) k s =
+          let empty : front ≡ [] = append_cancel_right front [] r s.0 in
+          let c = bare-both (λ rule ts x rest. Opened (parts rule) (opens t) ts x rest) (λ rule x ts y rest. Reads rule levels (parts rule) (h (t, x)) ts y rest) (λ t. true) (other t) after (opened_bare (opens t) (other t) (covers t e)) (λ x. starts_of (h (t, x)) (other t) after (next (t, x) e)) in
+          record {
+            more = c.more;
+            value = c.value;
+            starts = λ none close f. absurd cc;
+            reads = λ close f rule al le fo.
+                let b = c.reads close f rule al le in
+                subst (λ (x : List Token). Reads rule levels (parts rule) (bind (token class extra opens sample) h) (t ∷ (x ++ (c.more ++ close))) c.value close) (sym empty)
+                ((t, b.0), b.1, (c.more ++ close, refl, e, fo (record { opens = opens t; levels = levels; extra = extra t }) k, b.2), b.3);
+          }
+      go false e o k s = absurd (no_limit t s.1)
+
   pub completes-when : {A : Type 0} (class : Token → Bool) (g h : Grammar A) (first other after : Token → Bool) → Completes g other after → Completes h first after → ((t : Token) → first t ≡ true → is_of class t ≡ false) → Completes (when class g h) first after
   completes-when class g h first other after p q far [] r sh = subst (λ (x : List Token). Completion (λ rule ts a rest. Reads rule levels (parts rule) (when class g h) ts a rest) (run levels readers (when class g h) x) first after []) (sym none) found
     where
@@ -447,26 +504,9 @@ pub record Setting (part_after : Part → Token → Bool) : Type 1 where
   pub below : is_none_left levels ≡ false → (part : Part) (front r : List Token) → Shows (readers part (front ++ r)) r → Completion (λ rule ts x rest. parts rule part ts x rest) (readers part (front ++ r)) (λ t. true) (part_after part) front
 
 module _ {part_after : Part → Token → Bool} (s : Setting part_after) where
-  abbrev pub Goes : {A : Type 0} → Grammar A → (Token → Bool) → (Token → Bool) → Type 0
-  Goes g first after = Completes s.levels s.readers s.parts part_after s.leave s.steady s.sound s.bare s.below g first after
+  -- what the setting makes of reading can be completed
+  abbrev pub Completable : {A : Type 0} → Grammar A → (Token → Bool) → (Token → Bool) → Type 0
+  Completable g first after = Completes s.levels s.readers s.parts part_after s.leave s.steady s.sound s.bare s.below g first after
 
   abbrev pub CoveredBy : (Token → Bool) → Option Part → Type 0
   CoveredBy after o = Covers s.levels s.readers s.parts part_after s.leave s.steady s.sound s.bare s.below after o
-
-  pub goes-within : {A : Type 0} (g : Grammar A) (first first' after after' : Token → Bool) → ((t : Token) → first t ≡ true → first' t ≡ true) → ((t : Token) → after' t ≡ true → after t ≡ true) → Goes g first after → Goes g first' after'
-  goes-within = completes-within s.levels s.readers s.parts part_after s.leave s.steady s.sound s.bare s.below
-
-  pub goes-give : {A : Type 0} (a : A) (after : Token → Bool) → Goes (give a) after after
-  goes-give = completes-give s.levels s.readers s.parts part_after s.leave s.steady s.sound s.bare s.below
-
-  pub goes-token : (class : Token → Bool) (extra : Token → Extra) (opens : Token → Option Part) (sample : Token) (first after : Token → Bool) → is_of class sample ≡ true → first sample ≡ true → ((t : Token) → is_of class t ≡ true → CoveredBy after (opens t)) → Goes (token class extra opens sample) first after
-  goes-token = completes-token s.levels s.readers s.parts part_after s.leave s.steady s.sound s.bare s.below
-
-  pub goes-bind : {A B : Type 0} (g : Grammar A) (h : A → Grammar B) (first mid after : Token → Bool) → Goes g first mid → ((a : A) → Goes (h a) mid after) → Goes (bind g h) first after
-  goes-bind = completes-bind s.levels s.readers s.parts part_after s.leave s.steady s.sound s.bare s.below
-
-  pub goes-when : {A : Type 0} (class : Token → Bool) (g h : Grammar A) (first other after : Token → Bool) → Goes g other after → Goes h first after → ((t : Token) → first t ≡ true → is_of class t ≡ false) → Goes (when class g h) first after
-  goes-when = completes-when s.levels s.readers s.parts part_after s.leave s.steady s.sound s.bare s.below
-
-  pub goes-many : {A : Type 0} (class : A → Token → Bool) (extra : A → Token → Extra) (opens : A → Token → Option Part) (step : Token → Tree → A → Grammar A) (other : Token → Token → Bool) (after : Token → Bool) → ((a : A) (t : Token) → is_of (class a) t ≡ true → CoveredBy (other t) (opens a t)) → ((t : Token) (x : Tree) (a : A) → is_of (class a) t ≡ true → Goes (step t x a) (other t) after) → ((a : A) (t : Token) → after t ≡ true → is_of (class a) t ≡ false) → (a : A) → Goes (many class extra opens step a) after after
-  goes-many = completes-many s.levels s.readers s.parts part_after s.leave s.steady s.sound s.bare s.below

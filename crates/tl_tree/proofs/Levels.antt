@@ -4,7 +4,7 @@ use Rattle.tl_tree.specs.Tokens.{Token}
 use Rattle.tl_tree.specs.Tree.{Tree, Part}
 use Rattle.tl_tree.specs.Grammar.{Rule, Parts, Took, Stop, blame, unexpected, is_none_left, Table, down, parts_at, readers_at, all_levels, Whole}
 use Rattle.tl_tree.proofs.Reading.{Allows, leaves_all, leaves, steady, sound, complete, not_longer, same_back, Answers, ReadersLeave, ReadersSteady}
-use Rattle.tl_tree.proofs.Completing.{Shows, Completion, Starts, Setting, Goes}
+use Rattle.tl_tree.proofs.Completing.{Shows, Completion, Starts, Setting, Completable}
 use Rattle.tl_tree.proofs.Exact.{ReadersBlame, blames-run, Meets}
 
 -- where no level is left
@@ -51,7 +51,7 @@ abbrev pub Begun : Table → (Part → Token → Bool) → Type 1
 Begun table after = (levels : ℕ) (parts : Rule → Parts) (part : Part) → Starts levels parts (table part) (λ t. true) (after part)
 
 abbrev pub Completed : Table → (Part → Token → Bool) → Type 1
-Completed table after = (s : Setting after) (part : Part) → Goes s (table part) (λ t. true) (after part)
+Completed table after = (s : Setting after) (part : Part) → Completable s (table part) (λ t. true) (after part)
 
 module _ (table : Table) (after : Part → Token → Bool) (begun : Begun table after) (completed : Completed table after) where
   completes_at : (levels : ℕ) (part : Part) (front r : List Token) → Shows (readers_at table levels part (front ++ r)) r → Completion (λ rule ts x rest. parts_at table rule (suc (suc levels)) levels part ts x rest) (readers_at table levels part (front ++ r)) (λ t. true) (after part) front

@@ -4,3 +4,4 @@ pub mod Exact
 pub mod Levels
 pub mod Classes
 pub mod Unrolling
+pub mod Going
