@@ -65,3 +65,24 @@ apart_from_and xs ys more d t h = is_of_false (is_bad t.symbol) (among ys t && m
 
 pub within : (xs ys : List Symbol) → subset xs ys ≡ true → (t : Token) → among xs t ≡ true → among ys t ≡ true
 within xs ys d t h = has_within xs ys d (number_of t.symbol) h
+
+and_of_false : (bad b more : Bool) → cond bad false b ≡ false → cond bad false (b && more) ≡ false
+and_of_false true b more e = refl
+and_of_false false b more e = and_false b more e
+
+-- a class that asks for more has no token that the class has not
+pub apart_and : (xs : List Symbol) (class more : Token → Bool) → ((t : Token) → among xs t ≡ true → is_of class t ≡ false) → (t : Token) → among xs t ≡ true → is_of (λ u. class u && more u) t ≡ false
+apart_and xs class more far t h = and_of_false (is_bad t.symbol) (class t) (more t) (far t h)
+
+or_of_false : (bad b c : Bool) → cond bad false b ≡ false → cond bad false c ≡ false → cond bad false (b || c) ≡ false
+or_of_false true b c e f = refl
+or_of_false false true c e f = absurd cc
+or_of_false false false c e f = f
+
+-- a class that is one of two
+pub apart_or : (xs : List Symbol) (class other : Token → Bool) → ((t : Token) → among xs t ≡ true → is_of class t ≡ false) → ((t : Token) → among xs t ≡ true → is_of other t ≡ false) → (t : Token) → among xs t ≡ true → is_of (λ u. class u || other u) t ≡ false
+apart_or xs class other far also t h = or_of_false (is_bad t.symbol) (class t) (other t) (far t h) (also t h)
+
+-- the class of no token
+pub apart_none : (xs : List Symbol) (t : Token) → among xs t ≡ true → is_of (λ u. false) t ≡ false
+apart_none xs t h = is_of_false (is_bad t.symbol) false refl

@@ -30,6 +30,9 @@ pub begins-bind : {levels : ℕ} {parts : Rule → Parts} {A B : Type 0} {g : Gr
 begins-bind {levels} {parts} {A} {B} {g} {h} {first} {wide} {mid} {after} p q d =
     record { starts = bare-bind levels parts g h (among first) (among mid) (among after) (bare-within levels parts g (among first) (among first) (among wide) (among mid) (λ t k. k) (within mid wide d) p.starts) (λ a. (q a).starts) }
 
+pub begins-next : {levels : ℕ} {parts : Rule → Parts} {A B : Type 0} {g : Grammar A} {h : A → Grammar B} {first mid after : List Symbol} → Begins levels parts g first mid → ((a : A) → Begins levels parts (h a) mid after) → Begins levels parts (bind g h) first after
+begins-next {levels} {parts} {A} {B} {g} {h} {first} {mid} {after} p q = record { starts = bare-bind levels parts g h (among first) (among mid) (among after) p.starts (λ a. (q a).starts) }
+
 pub begins-then : {levels : ℕ} {parts : Rule → Parts} {A : Type 0} {h : Token × Tree → Grammar A} {mid after : List Symbol} (s : Symbol) → ((x : Token × Tree) → Begins levels parts (h x) mid after) → is_of (is s) (sample s) ≡ true → among (one s) (sample s) ≡ true → Begins levels parts (bind (sign s) h) (one s) after
 begins-then {levels} {parts} {A} {h} {mid} {after} s q good first =
     record { starts = bare-bind levels parts (sign s) h (among (one s)) (among mid) (among after) (bare-token levels parts (is s) (λ t. Plain) (λ t. None) (sample s) (among (one s)) (among mid) good first refl) (λ x. (q x).starts) }
@@ -61,6 +64,10 @@ module _ {part_after : Part → Token → Bool} {s : Setting part_after} where
             (completes-within s.levels s.readers s.parts part_after s.leave s.steady s.sound s.bare s.below g (among first) (among first) (among wide) (among mid) (λ t k. k) (within mid wide d) p.completes)
             (λ a. (q a).completes);
       }
+
+  pub goes-next : {A B : Type 0} {g : Grammar A} {h : A → Grammar B} {first mid after : List Symbol} → Goes s g first mid → ((a : A) → Goes s (h a) mid after) → Goes s (bind g h) first after
+  goes-next {A} {B} {g} {h} {first} {mid} {after} p q =
+      record { completes = completes-bind s.levels s.readers s.parts part_after s.leave s.steady s.sound s.bare s.below g h (among first) (among mid) (among after) p.completes (λ a. (q a).completes) }
 
   -- a token that opens nothing, and what follows it
   pub goes-then : {A : Type 0} {h : Token × Tree → Grammar A} {mid after : List Symbol} (k : Symbol) → ((x : Token × Tree) → Goes s (h x) mid after) → is_of (is k) (sample k) ≡ true → among (one k) (sample k) ≡ true → Goes s (bind (sign k) h) (one k) after

@@ -5,3 +5,5 @@ pub mod Levels
 pub mod Classes
 pub mod Unrolling
 pub mod Going
+pub mod Following
+pub mod LuaExpressionsGo

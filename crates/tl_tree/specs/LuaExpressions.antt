@@ -158,6 +158,13 @@ begins_terra l t = among terra_symbols t && has_terra l
 abbrev pub terra_code : Mode → Grammar Tree
 terra_code m = when (is symbols.Terra) terra_function (when (is symbols.Struct) (struct m) (when (is symbols.Quote) quote backtick))
 
+abbrev pub operation : Token → Tree → Tree → Tree
+operation t a b = Binary t.place (binary_of t.symbol) a b
+
+-- "not" | "#" | "-" | "&"
+abbrev pub prefix_symbols : List Symbol
+prefix_symbols = symbols.Not ∷ symbols.Hash ∷ symbols.Minus ∷ symbols.Ampersand ∷ []
+
 module _ (l : Language) where
   abbrev pub primary : Mode → ℕ → Grammar Chained
   primary m left =
@@ -174,16 +181,9 @@ module _ (l : Language) where
 
   -- ---- operators, one definition for each level of precedence
 
-  abbrev pub operation : Token → Tree → Tree → Tree
-  operation t a b = Binary t.place (binary_of t.symbol) a b
-
   -- `^` binds more than a prefix operator on its left, and less than one on its right.
   abbrev pub power : Mode → ℕ → Grammar Chained
   power m left = bind (primary m left) λ a. right_operator symbols.Caret (Operand m) operation a
-
-  -- "not" | "#" | "-" | "&"
-  abbrev pub prefix_symbols : List Symbol
-  prefix_symbols = symbols.Not ∷ symbols.Hash ∷ symbols.Minus ∷ symbols.Ampersand ∷ []
 
   abbrev pub unary : Mode → ℕ → Grammar Chained
   unary m left =

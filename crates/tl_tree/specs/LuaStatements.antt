@@ -169,6 +169,12 @@ abbrev pub body_mode : Bool → Mode
 body_mode true = modes.Variadic
 body_mode false = modes.Plain
 
+-- the tokens that begin an expression without Terra code
+abbrev pub expression_symbols : List Symbol
+expression_symbols =
+    symbols.Name ∷ symbols.Numeral ∷ symbols.Literal ∷ symbols.Nil ∷ symbols.False ∷ symbols.True ∷ symbols.Ellipsis ∷ symbols.Function
+    ∷ symbols.OpenParen ∷ symbols.OpenBrace ∷ symbols.Not ∷ symbols.Hash ∷ symbols.Minus ∷ symbols.Ampersand ∷ []
+
 module _ (l : Language) where
   -- {"," var} "=" exps, behind the first variable
   abbrev pub assignment : Mode → Token → Tree → Grammar Tree
@@ -213,12 +219,6 @@ module _ (l : Language) where
   -- ["=" exps]
   abbrev pub initial_values : Mode → Grammar Tree
   initial_values m = when (is symbols.Equal) (bind (sign symbols.Equal) λ y. expressions l m) (give Nothing)
-
-  -- the tokens that begin an expression without Terra code
-  abbrev pub expression_symbols : List Symbol
-  expression_symbols =
-      symbols.Name ∷ symbols.Numeral ∷ symbols.Literal ∷ symbols.Nil ∷ symbols.False ∷ symbols.True ∷ symbols.Ellipsis ∷ symbols.Function
-      ∷ symbols.OpenParen ∷ symbols.OpenBrace ∷ symbols.Not ∷ symbols.Hash ∷ symbols.Minus ∷ symbols.Ampersand ∷ []
 
   abbrev pub begins_expression : Token → Bool
   begins_expression t = among expression_symbols t || begins_terra l t
