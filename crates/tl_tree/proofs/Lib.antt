@@ -7,3 +7,4 @@ pub mod Unrolling
 pub mod Going
 pub mod Following
 pub mod LuaExpressionsGo
+pub mod LuaStatementsGo

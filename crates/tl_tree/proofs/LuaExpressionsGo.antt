@@ -21,7 +21,7 @@ varargs_apart Plain xs d = apart_none xs
 varargs_apart Variadic xs d = apart_from xs (one symbols.Ellipsis) d
 varargs_apart Types xs d = apart_none xs
 
-terra_apart : (l : Language) (xs : List Symbol) → disjoint xs terra_symbols ≡ true → Apart xs (begins_terra l)
+pub terra_apart : (l : Language) (xs : List Symbol) → disjoint xs terra_symbols ≡ true → Apart xs (begins_terra l)
 terra_apart l xs d = apart_from_and xs terra_symbols (λ u. has_terra l) d
 
 abbrev pub only_name : List Symbol
@@ -111,7 +111,7 @@ module _ {levels : ℕ} {parts : Rule → Parts} where
 -- ---- from any front
 
 -- what a suffix goes on with, by its form
-abbrev suffix_first : Suffix → List Symbol → List Symbol
+abbrev pub suffix_first : Suffix → List Symbol → List Symbol
 suffix_first InParens xs = one symbols.CloseParen
 suffix_first InBrackets xs = one symbols.CloseBracket
 suffix_first Selects xs = only_name
