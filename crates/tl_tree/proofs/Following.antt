@@ -1,14 +1,14 @@
 -- What may follow each part, and the completions of the forms that both languages share.
-use Rattle.std.proofs.Common.{◌≡◌, ℕ, Bool, true, false, not, List, [], ◌∷◌, Option, Some, None, refl}
+use Rattle.std.proofs.Common.{◌≡◌, ℕ, Bool, true, List, [], ◌∷◌, refl}
 use Rattle.tl_tree.specs.declared.symbol.Symbol.{Symbol}
 use Rattle.tl_tree.specs.declared.symbol.Symbol.TheVariants as symbols
 use Rattle.tl_tree.specs.Tokens.{Token, among, is, sample}
-use Rattle.tl_tree.specs.Tree.{Tree, Nothing, More, Part, Expression, Operand, Concatenation, Arguments, Fields, Statements, FunctionBody, Entries, TerraExpression, TerraOperand, TerraArguments, Initialisers, TerraStatements, TerraFunctionBody, QuotedCode}
-use Rattle.tl_tree.specs.Grammar.{Grammar, give, token, bind, when, many, Rule, Parts, is_of}
-use Rattle.tl_tree.specs.Forms.{sign, opening, listed_behind, listed, separated_behind, name, names, semicolon, separator, path_names, Chained, operators, right_operator}
+use Rattle.tl_tree.specs.Tree.{Tree, Part, Expression, Operand, Concatenation, Arguments, Fields, Statements, FunctionBody, Entries, TerraExpression, TerraOperand, TerraArguments, Initialisers, TerraStatements, TerraFunctionBody, QuotedCode}
+use Rattle.tl_tree.specs.Grammar.{Grammar, give, bind, Rule, Parts, is_of}
+use Rattle.tl_tree.specs.Forms.{sign, listed_behind, listed, separated_behind, name, semicolon, separator, path_names, Chained, operators, right_operator}
 use Rattle.tl_tree.proofs.Classes.{disjoint, subset, apart_from, within}
 use Rattle.tl_tree.proofs.Completing.{Setting}
-use Rattle.tl_tree.proofs.Going.{one, Apart, Begins, begins-give, begins-bind, begins-next, begins-then, begins-when, begins-many, Goes, goes-within, goes-give, goes-bind, goes-next, goes-then, goes-open, goes-token, goes-when, goes-many}
+use Rattle.tl_tree.proofs.Going.{one, Begins, begins-give, begins-next, begins-then, begins-when, begins-many, Goes, goes-give, goes-next, goes-then, goes-token, goes-when, goes-many}
 
 -- what may follow a block
 abbrev pub after_block : List Symbol
@@ -18,7 +18,7 @@ after_block = symbols.End ∷ symbols.Else ∷ symbols.Elseif ∷ symbols.Until 
 abbrev pub after_expression : List Symbol
 after_expression =
     symbols.CloseParen ∷ symbols.CloseBracket ∷ symbols.CloseBrace ∷ symbols.Comma ∷ symbols.Do ∷ symbols.Then ∷ symbols.End ∷ symbols.Else ∷ symbols.Elseif
-    ∷ symbols.Until ∷ symbols.In ∷ []
+    ∷ symbols.Until ∷ symbols.In ∷ symbols.Equal ∷ []
 
 abbrev pub following : Part → List Symbol
 following (Expression m) = after_expression

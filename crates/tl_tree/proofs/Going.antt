@@ -3,9 +3,8 @@ use Rattle.std.proofs.Common.{◌≡◌, ℕ, Bool, true, false, List, [], ◌�
 use Rattle.tl_tree.specs.declared.symbol.Symbol.{Symbol}
 use Rattle.tl_tree.specs.declared.mode.Extra.{Extra}
 use Rattle.tl_tree.specs.declared.mode.Extra.TheVariants.{Plain}
-use Rattle.tl_tree.specs.Symbols.{has}
 use Rattle.tl_tree.specs.Tokens.{Token, among, is, sample}
-use Rattle.tl_tree.specs.Tree.{Tree, Nothing, Part}
+use Rattle.tl_tree.specs.Tree.{Tree, Part}
 use Rattle.tl_tree.specs.Grammar.{Grammar, give, token, bind, when, many, Rule, Parts, is_of}
 use Rattle.tl_tree.specs.Forms.{sign, opening}
 use Rattle.tl_tree.proofs.Classes.{subset, within}

@@ -8,3 +8,7 @@ pub mod Going
 pub mod Following
 pub mod LuaExpressionsGo
 pub mod LuaStatementsGo
+pub mod TerraExpressionsGo
+pub mod TerraStatementsGo
+pub mod PartsGo
+pub mod Answering

@@ -1,5 +1,5 @@
 -- The completions of Lua expressions, one for each name of the grammar.
-use Rattle.std.proofs.Common.{◌≡◌, ℕ, Bool, true, false, not, List, [], ◌∷◌, Option, Some, None, refl}
+use Rattle.std.proofs.Common.{◌≡◌, ℕ, true, List, refl}
 use Rattle.tl_tree.specs.declared.symbol.Symbol.{Symbol}
 use Rattle.tl_tree.specs.declared.symbol.Symbol.TheVariants as symbols
 use Rattle.tl_tree.specs.declared.mode.Mode.{Mode}
@@ -7,14 +7,14 @@ use Rattle.tl_tree.specs.declared.mode.Mode.TheVariants.{Plain, Variadic, Types}
 use Rattle.tl_tree.specs.declared.mode.Shape.{Shape}
 use Rattle.tl_tree.specs.declared.mode.Shape.TheVariants as shapes
 use Rattle.tl_tree.specs.Tokens.{Token, among, is, sample}
-use Rattle.tl_tree.specs.Tree.{Tree, Nothing, More, Part, Expression, Operand, Concatenation, Arguments, Fields, FunctionBody, Entries, TerraExpression, TerraFunctionBody, QuotedCode}
-use Rattle.tl_tree.specs.Grammar.{Grammar, give, token, bind, when, many, Rule, Parts, is_of}
-use Rattle.tl_tree.specs.Forms.{sign, Language, LuaAlone, Joint, has_terra, Chained, chain, comparisons, additive, multiplicative}
-use Rattle.tl_tree.specs.LuaExpressions.{paren, base, suffix_symbols, stays, is_suffix, Suffix, InParens, InBrackets, Selects, CallsMethod, WithTable, WithText, suffix_of, suffix_opens, arguments, suffix, suffixes, prefix, as_operand, nil, no, yes, number, literal, is_varargs, varargs, function, table, terra_function, struct_body, struct, quote, backtick, terra_symbols, begins_terra, terra_code, primary, operation, power, prefix_symbols, unary, product, sum, concatenation, comparison, conjunction, disjunction, chained_expression, expression, expressions, operand_of, concatenation_of, arguments_of, field_behind, keyed_field, field, fields, entries}
+use Rattle.tl_tree.specs.Tree.{Tree, Expression, Arguments, Fields, FunctionBody, Entries, TerraExpression, TerraFunctionBody, QuotedCode}
+use Rattle.tl_tree.specs.Grammar.{Grammar, give, bind, Rule, Parts, is_of}
+use Rattle.tl_tree.specs.Forms.{sign, Language, has_terra, Chained, comparisons, additive, multiplicative}
+use Rattle.tl_tree.specs.LuaExpressions.{paren, base, suffix_symbols, stays, Suffix, InParens, InBrackets, Selects, CallsMethod, WithTable, WithText, suffix_of, suffix_opens, arguments, suffix, suffixes, prefix, as_operand, is_varargs, function, table, struct_body, terra_symbols, begins_terra, terra_code, primary, operation, power, prefix_symbols, unary, product, sum, concatenation, comparison, conjunction, disjunction, chained_expression, expression, expressions, operand_of, concatenation_of, arguments_of, field_behind, keyed_field, field, fields, entries}
 use Rattle.tl_tree.proofs.Classes.{disjoint, subset, apart_from, apart_from_and, apart_none, within}
 use Rattle.tl_tree.proofs.Completing.{Setting, CoveredBy}
-use Rattle.tl_tree.proofs.Going.{one, Apart, Begins, begins-give, begins-bind, begins-next, begins-then, begins-when, begins-many, Goes, goes-within, goes-give, goes-bind, goes-next, goes-then, goes-open, goes-token, goes-when, goes-many}
-use Rattle.tl_tree.proofs.Following.{after_expression, following, after_part, begins-name, begins-listed_behind, begins-listed, begins-separated_behind, begins-operators, begins-right_operator, goes-closed, goes-name, goes-listed, goes-separated_behind, goes-separator, goes-operators, goes-right_operator}
+use Rattle.tl_tree.proofs.Going.{one, Apart, Begins, begins-give, begins-bind, begins-next, begins-when, begins-many, Goes, goes-within, goes-give, goes-bind, goes-next, goes-then, goes-open, goes-token, goes-when, goes-many}
+use Rattle.tl_tree.proofs.Following.{after_expression, after_part, begins-name, begins-listed_behind, begins-separated_behind, begins-operators, begins-right_operator, goes-closed, goes-name, goes-listed, goes-separated_behind, goes-separator, goes-operators, goes-right_operator}
 
 varargs_apart : (m : Mode) (xs : List Symbol) → disjoint xs (one symbols.Ellipsis) ≡ true → Apart xs (is_varargs m)
 varargs_apart Plain xs d = apart_none xs
@@ -157,7 +157,7 @@ module _ {s : Setting after_part} where
   goes-prefix : {m : Mode} {left : ℕ} → Goes s (prefix m left) only_name after_expression
   goes-prefix = goes-next goes-base (λ b. goes-next (goes-suffixes after_expression refl) (λ a. goes-give))
 
-  goes-as_operand : {left : ℕ} {x : Grammar Tree} {first xs : List Symbol} → Goes s x first xs → Goes s (as_operand left x) first xs
+  pub goes-as_operand : {left : ℕ} {x : Grammar Tree} {first xs : List Symbol} → Goes s x first xs → Goes s (as_operand left x) first xs
   goes-as_operand p = goes-next p (λ e. goes-give)
 
   -- a token alone, as an operand

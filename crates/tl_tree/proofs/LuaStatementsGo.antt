@@ -1,5 +1,5 @@
 -- The completions of Lua statements and functions, one for each name of the grammar.
-use Rattle.std.proofs.Common.{◌≡◌, ◌&&◌, ℕ, Bool, true, false, not, List, [], ◌∷◌, Option, Some, None, refl}
+use Rattle.std.proofs.Common.{◌≡◌, ◌&&◌, ℕ, Bool, true, not, List, [], ◌∷◌, refl}
 use Rattle.tl_tree.specs.declared.symbol.Symbol.{Symbol}
 use Rattle.tl_tree.specs.declared.symbol.Symbol.TheVariants as symbols
 use Rattle.tl_tree.specs.declared.mode.Mode.{Mode}
@@ -7,16 +7,16 @@ use Rattle.tl_tree.specs.declared.mode.Mode.TheVariants.{Plain, Variadic, Types}
 use Rattle.tl_tree.specs.declared.mode.Context.{Context}
 use Rattle.tl_tree.specs.declared.mode.Shape.{Shape}
 use Rattle.tl_tree.specs.declared.mode.Shape.TheVariants as shapes
-use Rattle.tl_tree.specs.Tokens.{Token, among, is, sample}
-use Rattle.tl_tree.specs.Tree.{Tree, Nothing, More, Part, Expression, Statements, FunctionBody, TerraFunctionBody}
-use Rattle.tl_tree.specs.Grammar.{Grammar, give, token, bind, when, many, Rule, Parts, is_of}
-use Rattle.tl_tree.specs.Forms.{Language, has_terra, listed_behind, name, names, Chained, chain}
-use Rattle.tl_tree.specs.LuaExpressions.{suffix_symbols, stays, is_suffix, suffix_of, suffix_opens, terra_symbols}
-use Rattle.tl_tree.specs.LuaStatements.{looped, fresh, next_suffix, call_symbols, index_symbols, to_variable, settled, variable_suffixes, variable, path_method, path, struct_path, loop, Statement, FromName, FromParen, FromDo, FromWhile, FromRepeat, FromIf, FromFor, FromFunction, FromLocal, FromReturn, FromBreak, FromTerra, FromStruct, FromEmit, statement_of, statement_symbols, has_place, is_statement, statement_opens, Sequence, sequence, Parameters, parameter, parameters, body_mode, expression_symbols, assignment, call_or_assignment, arm, arms, otherwise, step, numeric_for, generic_for, initial_values, begins_expression, returned_values, terra_definition, local_terra, begins_local_terra, statement, block, function_body}
-use Rattle.tl_tree.proofs.Classes.{disjoint, subset, apart_from, apart_from_and, apart_and, apart_or, within}
+use Rattle.tl_tree.specs.Tokens.{Token, among, sample}
+use Rattle.tl_tree.specs.Tree.{Tree, Statements, FunctionBody, TerraFunctionBody}
+use Rattle.tl_tree.specs.Grammar.{Rule, Parts, is_of}
+use Rattle.tl_tree.specs.Forms.{Language, has_terra, Chained}
+use Rattle.tl_tree.specs.LuaExpressions.{suffix_symbols, stays, is_suffix, suffix_of, terra_symbols}
+use Rattle.tl_tree.specs.LuaStatements.{looped, fresh, next_suffix, call_symbols, index_symbols, to_variable, settled, variable_suffixes, variable, path_method, path, struct_path, loop, Statement, FromName, FromParen, FromDo, FromWhile, FromRepeat, FromIf, FromFor, FromFunction, FromLocal, FromReturn, FromBreak, FromTerra, FromStruct, FromEmit, statement_of, statement_symbols, has_place, is_statement, statement_opens, parameter, parameters, body_mode, expression_symbols, assignment, call_or_assignment, arm, arms, otherwise, step, numeric_for, generic_for, initial_values, returned_values, terra_definition, local_terra, statement, block, function_body}
+use Rattle.tl_tree.proofs.Classes.{disjoint, apart_from, apart_from_and, apart_and, apart_or, within}
 use Rattle.tl_tree.proofs.Completing.{Setting, CoveredBy}
 use Rattle.tl_tree.proofs.Going.{one, Apart, Begins, begins-give, begins-bind, begins-next, begins-then, begins-when, begins-many, Goes, goes-within, goes-give, goes-bind, goes-next, goes-then, goes-open, goes-token, goes-when, goes-many}
-use Rattle.tl_tree.proofs.Following.{after_block, after_expression, following, after_part, begins-name, goes-closed, goes-name, goes-listed_behind, goes-listed, goes-semicolon, goes-path_names}
+use Rattle.tl_tree.proofs.Following.{after_block, after_expression, after_part, begins-name, goes-closed, goes-name, goes-listed_behind, goes-listed, goes-semicolon, goes-path_names}
 use Rattle.tl_tree.proofs.LuaExpressionsGo.{only_name, suffix_first, terra_apart, goes-paren, suffix_covers, goes-suffix, goes-suffixes, goes-struct_body, goes-expression, goes-expressions}
 
 statement_apart : (l : Language) (c : Context) (ended : Bool) (xs : List Symbol) → disjoint xs statement_symbols ≡ true → Apart xs (λ t. is_statement l c t && not ended)

@@ -12,3 +12,4 @@ pub mod LuaStatements
 pub mod TerraExpressions
 pub mod TerraStatements
 pub mod Syntax
+pub mod Laws

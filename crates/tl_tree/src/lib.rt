@@ -2,6 +2,7 @@
 //! refused, and why.
 #![tactic(auto)]
 
+pub mod laws;
 pub mod mode;
 pub mod node;
 pub mod symbol;
