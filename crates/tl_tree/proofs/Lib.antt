@@ -4,6 +4,8 @@ pub mod Exact
 pub mod Levels
 pub mod Classes
 pub mod Unrolling
+pub mod Lengths
+pub mod Digits
 pub mod Going
 pub mod Following
 pub mod LuaExpressionsGo

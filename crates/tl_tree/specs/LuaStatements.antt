@@ -238,8 +238,8 @@ module _ (l : Language) where
   abbrev pub local_terra : Context → Token → Grammar Tree
   local_terra c t =
       when (is symbols.Struct)
-      (bind (sign symbols.Struct) λ y. bind name λ n. bind (struct_body c.mode) λ es. give (LocalStruct t.place n es))
-      (bind (sign symbols.Terra) λ y. bind name λ n. terra_definition c (LocalDeclareTerra t.place n) (LocalTerra t.place n))
+      (bind (sign symbols.Struct) λ y. bind name λ n. bind (struct_body c.mode) λ es. give (LocalStruct t.place y.0.place n es))
+      (bind (sign symbols.Terra) λ y. bind name λ n. terra_definition c (LocalDeclareTerra t.place y.0.place n) (LocalTerra t.place y.0.place n))
 
   -- the tokens of declarations of Terra code behind "local"
   abbrev pub begins_local_terra : Token → Bool

@@ -112,14 +112,14 @@ laid (DefineTerra place a b) items =
     let x = laid a items in let y = laid b x.items in node y.items (kept.Statement place (statements.Terra (last x) (last y)))
 laid (DeclareTerra place a b) items =
     let x = laid a items in let y = laid b x.items in node y.items (kept.Statement place (statements.DeclareTerra (last x) (last y)))
-laid (LocalTerra place a b) items =
-    let x = laid a items in let y = laid b x.items in node y.items (kept.Statement place (statements.LocalTerra (last x) (last y)))
-laid (LocalDeclareTerra place a b) items =
-    let x = laid a items in let y = laid b x.items in node y.items (kept.Statement place (statements.LocalDeclareTerra (last x) (last y)))
+laid (LocalTerra place word a b) items =
+    let x = laid a items in let y = laid b x.items in node y.items (kept.Statement place (statements.LocalTerra word (last x) (last y)))
+laid (LocalDeclareTerra place word a b) items =
+    let x = laid a items in let y = laid b x.items in node y.items (kept.Statement place (statements.LocalDeclareTerra word (last x) (last y)))
 laid (DefineStruct place a b) items =
     let x = laid a items in let y = laid b x.items in node y.items (kept.Statement place (statements.Struct (last x) y.numbers))
-laid (LocalStruct place a b) items =
-    let x = laid a items in let y = laid b x.items in node y.items (kept.Statement place (statements.LocalStruct (last x) y.numbers))
+laid (LocalStruct place word a b) items =
+    let x = laid a items in let y = laid b x.items in node y.items (kept.Statement place (statements.LocalStruct word (last x) y.numbers))
 laid (Emit place a) items = let x = laid a items in node x.items (kept.Statement place (statements.Emit (last x)))
 laid (Return place a) items =
     let x = laid a items in node x.items (kept.Statement place (statements.Return x.numbers))

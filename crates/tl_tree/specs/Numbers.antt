@@ -1,25 +1,34 @@
 -- What numerals stand for, and how large they may be.
-use Rattle.std.specs.Prelude.{ℕ, ◌+◌, ◌-◌, ◌*◌, Bool, List, [], ◌∷◌, drop, if◌then◌else◌, ◌==◌, ◌||◌, ◌&&◌, nat_le}
-use Rattle.tl_lex.specs.Bytes.{is_digit, is_hex_digit}
+use Rattle.std.specs.Prelude.{ℕ, ◌+◌, ◌-◌, ◌*◌, Bool, false, List, [], ◌∷◌, drop, if◌then◌else◌, ◌==◌, ◌||◌, ◌&&◌, nat_lt, nat_le, Option, Some, None}
+use Rattle.std.specs.Option.{option_map_or}
+use Rattle.tl_lex.specs.Bytes.{is_hex_digit}
 use Rattle.tl_tree.specs.declared.symbol.Symbol.{Symbol}
 use Rattle.tl_tree.specs.declared.symbol.Symbol.TheVariants as symbols
 
--- the value of a digit, small and large letters alike
+-- the value that a digit or letter has as a digit, small and large letters alike
 abbrev pub digit_value : ℕ → ℕ
 digit_value c = if nat_le 97 c then c - 87 else (if nat_le 65 c then c - 55 else c - 48)
 
--- the number that the digits of a base write, up to what is no such digit, behind digits that write `before`
-abbrev pub number_in : ℕ → (ℕ → Bool) → ℕ → List ℕ → ℕ
-number_in base class before [] = before
-number_in base class before (c ∷ rest) = if class c then number_in base class (before * base + digit_value c) rest else before
+-- the value of a digit of a base up to 16
+abbrev pub digit_of : ℕ → ℕ → Option ℕ
+digit_of base c = if is_hex_digit c && nat_lt (digit_value c) base then Some (digit_value c) else None
+
+-- the number that digits of a base write, up to what is no such digit, behind digits that write `before`
+abbrev pub number_in : ℕ → ℕ → List ℕ → ℕ
+number_in base before [] = before
+number_in base before (c ∷ rest) = option_map_or (λ d. number_in base (before * base + d) rest) (digit_of base c) before
 
 abbrev pub is_hexadecimal : List ℕ → Bool
 is_hexadecimal (z ∷ x ∷ rest) = (z == 48) && ((x == 120) || (x == 88))
-is_hexadecimal _ = Bool.false
+is_hexadecimal _ = false
 
 -- the value of a numeral: decimal digits, or `0x` or `0X` and hexadecimal digits, and a suffix
 unfoldable pub value_of : List ℕ → ℕ
-value_of text = if is_hexadecimal text then number_in 16 is_hex_digit 0 (drop 2 text) else number_in 10 is_digit 0 text
+value_of text = if is_hexadecimal text then number_in 16 0 (drop 2 text) else number_in 10 0 text
+
+-- a number that has 64 bits at most
+abbrev pub fitting : ℕ → Option ℕ
+fitting n = if nat_lt n 18446744073709551616 then Some n else None
 
 -- the largest number of Lua code
 abbrev pub largest_lua : ℕ

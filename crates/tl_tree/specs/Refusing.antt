@@ -53,7 +53,7 @@ Against Reads before t _ = ⊥
 abbrev pub Row : {A : Type 0} → Language A → List Token → Token → SyntaxKind → Type 0
 Row Reads before t kind = (t.symbol ≡ Bad kind) ⊎ Against Reads before t kind
 
--- The order of the rows. The last two but one belong to whole sources and hold at no token of a text.
+-- The order of the rows. TooLong and NotUtf8 are refusals of whole sources, and hold at no token of a text.
 abbrev pub rank : SyntaxKind → ℕ
 rank BadByte = 0
 rank OpenText = 1

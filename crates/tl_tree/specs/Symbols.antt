@@ -166,6 +166,11 @@ abbrev pub written : List Symbol → List ℕ → Symbol
 written [] text = symbols.Finish
 written (s ∷ more) text = if bytes_eq text (spelling s) then s else written more text
 
+-- those of the symbols that are written with so many bytes
+abbrev pub of_length : ℕ → List Symbol → List Symbol
+of_length n [] = []
+of_length n (s ∷ more) = if length (spelling s) == n then s ∷ of_length n more else of_length n more
+
 -- the last so many bytes
 abbrev pub last_bytes : ℕ → List ℕ → List ℕ
 last_bytes n text = drop (length text - n) text

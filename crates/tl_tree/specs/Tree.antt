@@ -68,12 +68,12 @@ pub data Tree : Type 0 where
   Local : Place → Tree → Tree → Tree
   -- `terra`, the path and the body, or the type behind `::`
   DefineTerra DeclareTerra : Place → Tree → Tree → Tree
-  -- `local terra`, the name and the body, or the type behind `::`
-  LocalTerra LocalDeclareTerra : Place → Tree → Tree → Tree
+  -- `local terra`, the place of `terra`, the name and the body, or the type behind `::`
+  LocalTerra LocalDeclareTerra : Place → Place → Tree → Tree → Tree
   -- the path and the entries
   DefineStruct : Place → Tree → Tree → Tree
-  -- the name and the entries
-  LocalStruct : Place → Tree → Tree → Tree
+  -- `local struct`, the place of `struct`, the name and the entries
+  LocalStruct : Place → Place → Tree → Tree → Tree
   Emit : Place → Tree → Tree
   -- the expressions
   Return : Place → Tree → Tree

@@ -5,7 +5,10 @@
 pub mod laws;
 pub mod mode;
 pub mod node;
+pub mod numeral;
+mod spelling;
 pub mod symbol;
+
 
 pub use mode::{Context, Extra, Mode, Shape};
 pub use node::{
@@ -13,3 +16,5 @@ pub use node::{
     UnaryOperator,
 };
 pub use symbol::Symbol;
+pub use numeral::numeral_value;
+pub use spelling::symbol_of;

@@ -146,14 +146,14 @@ pub enum Statement {
     Terra(NodeId, NodeId),
     /// `terra` with a `Piece::Path`, `::` and a type.
     DeclareTerra(NodeId, NodeId),
-    /// `local terra` with a name and a `Piece::TerraBody`.
-    LocalTerra(NodeId, NodeId),
-    /// `local terra` with a name, `::` and a type.
-    LocalDeclareTerra(NodeId, NodeId),
+    /// `local terra` with the place of `terra`, a name and a `Piece::TerraBody`.
+    LocalTerra(Place, NodeId, NodeId),
+    /// `local terra` with the place of `terra`, a name, `::` and a type.
+    LocalDeclareTerra(Place, NodeId, NodeId),
     /// `struct` with a `Piece::Path` and `Piece::Entry`s.
     Struct(NodeId, NodeList),
-    /// `local struct` with a name and `Piece::Entry`s.
-    LocalStruct(NodeId, NodeList),
+    /// `local struct` with the place of `struct`, a name and `Piece::Entry`s.
+    LocalStruct(Place, NodeId, NodeList),
     Emit(NodeId),
     Return(NodeList),
     Break,
