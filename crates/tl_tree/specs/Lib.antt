@@ -13,3 +13,4 @@ pub mod TerraExpressions
 pub mod TerraStatements
 pub mod Syntax
 pub mod Laws
+pub mod Arena

@@ -1,6 +1,6 @@
 -- The nodes of a tree in the order of the text: those of its children one after the other, and then its own. A node's number is its
 -- place among them, so a node's children have smaller numbers.
-use Rattle.std.specs.Prelude.{pred, List, [], ◌∷◌, ◌++◌, length, Option, Some, None}
+use Rattle.std.specs.Prelude.{pred, List, [], ◌∷◌, ◌++◌, length, get_or, Option, Some, None}
 use Rattle.tl_base.specs.declared.ids.NodeId.{NodeId}
 use Rattle.tl_tree.specs.declared.node.Expression.TheVariants as expressions
 use Rattle.tl_tree.specs.declared.node.Statement.TheVariants as statements
@@ -201,3 +201,11 @@ lay tree items = (laid tree items).items
 -- the numbers of the trees of a list
 abbrev pub numbers : Tree → List Item → List NodeId
 numbers tree items = (laid tree items).numbers
+
+-- what stands for nodes that a tree has not
+abbrev pub absent_item : Item
+absent_item = kept.Expression (record { line = 0; word = 0 }) expressions.Nil
+
+-- the node with this number
+abbrev pub item_at : List Item → NodeId → Item
+item_at items n = get_or items n.0 absent_item

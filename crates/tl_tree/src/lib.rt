@@ -8,13 +8,14 @@ pub mod node;
 pub mod numeral;
 mod spelling;
 pub mod symbol;
-
+pub mod tree;
 
 pub use mode::{Context, Extra, Mode, Shape};
 pub use node::{
     BinaryOperator, Expression, Node, NodeList, Piece, Statement, TerraExpression, TerraStatement,
     UnaryOperator,
 };
-pub use symbol::Symbol;
 pub use numeral::numeral_value;
 pub use spelling::symbol_of;
+pub use symbol::Symbol;
+pub use tree::Tree;

@@ -1,4 +1,4 @@
-use Rattle.std.proofs.Common.{◌≡◌, ℕ, ◌+◌, ◌*◌, Option, Some, None, refl, sym, ap, ◌∙◌, subst, arith, slice_index_or, drop}
+use Rattle.std.proofs.Common.{ℕ, ◌+◌, ◌*◌, refl, sym, ap, ◌∙◌, arith, drop}
 use Rattle.tl_tree.specs.Numbers as numbers
 use Rattle.tl_tree.proofs.Digits.{next_digit, no_digit, all_digits, fits, fitting_some, too_large}
 use Rattle.tl_tree.proofs.numeral.number_in.Goals as goal
