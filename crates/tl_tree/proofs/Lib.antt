@@ -14,3 +14,4 @@ pub mod TerraExpressionsGo
 pub mod TerraStatementsGo
 pub mod PartsGo
 pub mod Answering
+pub mod Examples

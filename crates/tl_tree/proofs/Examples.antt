@@ -1,0 +1,192 @@
+-- Texts with their trees and refusals, computed from the grammar. The tokens of a text stand on one line unless it says otherwise.
+use Rattle.std.proofs.Common.{◌≡◌, ℕ, zero, suc, Bool, true, false, List, [], ◌∷◌, ◌++◌, ◌+◌, ◌==◌, drop, refl}
+use Rattle.std.specs.Prelude.{codes}
+use Rattle.tl_base.specs.declared.place.Place.{Place}
+use Rattle.tl_lex.specs.declared.SyntaxKind.{SyntaxKind}
+use Rattle.tl_lex.specs.declared.SyntaxKind.TheVariants as why
+use Rattle.tl_tree.specs.declared.symbol.Symbol.{Symbol}
+use Rattle.tl_tree.specs.declared.symbol.Symbol.TheVariants.{Break, Do, Else, Elseif, End, For, Function, If, In, Nil, Not, Or, And, Repeat, Return, Then, Until, While, Terra, Quote, Escape, Emit, Struct, Var, Local, Plus, Minus, Star, Caret, DoubleEqual, Less, Equal, OpenParen, CloseParen, OpenBrace, CloseBrace, OpenBracket, CloseBracket, Semicolon, Colon, DoubleColon, Comma, Dot, DoubleDot, Ellipsis, Arrow, At, Ampersand, DoubleLess, Backtick, Name, Numeral, LongNumeral, Literal, Bad}
+use Rattle.tl_tree.specs.declared.node.BinaryOperator.TheVariants as binary
+use Rattle.tl_tree.specs.declared.node.UnaryOperator.TheVariants as unary
+use Rattle.tl_tree.specs.Symbols.{spelling}
+use Rattle.tl_tree.specs.Tokens.{Token}
+use Rattle.tl_tree.specs.Tree as t
+use Rattle.tl_tree.specs.Refusing.{Answer, IsTree, Refused}
+use Rattle.tl_tree.specs.Forms.{LuaAlone, Joint}
+use Rattle.tl_tree.proofs.Answering.{reads}
+
+-- ---- tokens and trees
+
+abbrev p : ℕ → Place
+p w = record { line = 1; word = w }
+
+-- tokens on a line, from a word on
+abbrev row : ℕ → ℕ → List Symbol → List Token
+row line w [] = []
+row line w (s ∷ more) = record { symbol = s; text = spelling s; place = record { line = line; word = w }; first_on_line = w == 1 } ∷ row line (w + 1) more
+
+abbrev text : List Symbol → List Token
+text ss = row 1 1 ss
+
+-- the numeral with these bytes
+abbrev numeral : ℕ → Symbol → List ℕ → Token
+numeral w s bytes = record { symbol = s; text = bytes; place = p w; first_on_line = false }
+
+-- the name `x` at a word
+abbrev x : ℕ → t.Tree
+x w = t.Name (p w) (spelling Name)
+
+infixl 5 ◌&◌
+abbrev ◌&◌ : t.Tree → t.Tree → t.Tree
+a & b = t.More a b
+
+abbrev none : t.Tree
+none = t.Nothing
+
+-- a chunk of one statement
+abbrev chunk_of : t.Tree → Answer t.Tree
+chunk_of s = IsTree (t.Block (none & s))
+
+-- the tokens are refused behind so many of them
+abbrev refused : SyntaxKind → ℕ → List Token → Answer t.Tree
+refused kind n ts = Refused kind (drop n ts)
+
+-- ---- Lua code
+
+-- local x = = 1
+second_equal : reads Joint (text (Local ∷ Name ∷ Equal ∷ Equal ∷ Numeral ∷ [])) ≡ refused why.Unexpected 3 (text (Local ∷ Name ∷ Equal ∷ Equal ∷ Numeral ∷ []))
+second_equal = refl
+
+-- x = x or x and x < x .. x .. x + x * - x ^ x ^ x
+precedence :
+    reads LuaAlone (text (Name ∷ Equal ∷ Name ∷ Or ∷ Name ∷ And ∷ Name ∷ Less ∷ Name ∷ DoubleDot ∷ Name ∷ DoubleDot ∷ Name ∷ Plus ∷ Name ∷ Star ∷ Minus ∷ Name ∷ Caret ∷ Name ∷ Caret ∷ Name ∷ []))
+    ≡ chunk_of
+    (t.Assign (p 1) (none & x 1)
+    (none
+    & t.Binary (p 4) binary.Or (x 3)
+    (t.Binary (p 6) binary.And (x 5)
+    (t.Binary (p 8) binary.Less (x 7)
+    (t.Binary (p 10) binary.Concatenate (x 9)
+    (t.Binary (p 12) binary.Concatenate (x 11)
+    (t.Binary (p 14) binary.Add (x 13) (t.Binary (p 16) binary.Multiply (x 15) (t.Unary (p 17) unary.Negate (t.Binary (p 19) binary.Power (x 18) (t.Binary (p 21) binary.Power (x 20) (x 22))))))))))))
+precedence = refl
+
+-- x = x - x - x ; x = x -> x -> x
+groups_left_and_right :
+    reads LuaAlone (text (Name ∷ Equal ∷ Name ∷ Minus ∷ Name ∷ Minus ∷ Name ∷ Semicolon ∷ Name ∷ Equal ∷ Name ∷ Arrow ∷ Name ∷ Arrow ∷ Name ∷ []))
+    ≡ IsTree
+    (t.Block
+    (none & t.Assign (p 1) (none & x 1) (none & t.Binary (p 6) binary.Subtract (t.Binary (p 4) binary.Subtract (x 3) (x 5)) (x 7))
+    & t.Assign (p 9) (none & x 9) (none & t.Binary (p 12) binary.Arrow (x 11) (t.Binary (p 14) binary.Arrow (x 13) (x 15)))))
+groups_left_and_right = refl
+
+-- x.x:x(x)[x], x = x {}, x ''
+targets :
+    reads LuaAlone (text (Name ∷ Dot ∷ Name ∷ Colon ∷ Name ∷ OpenParen ∷ Name ∷ CloseParen ∷ OpenBracket ∷ Name ∷ CloseBracket ∷ Comma ∷ Name ∷ Equal ∷ Name ∷ OpenBrace ∷ CloseBrace ∷ Comma ∷ Name ∷ Literal ∷ []))
+    ≡ chunk_of
+    (t.Assign (p 1) (none & t.Index (p 9) (t.Method (p 4) (t.Select (p 2) (x 1) (x 3)) (x 5) (none & x 7)) (x 10) & x 13)
+    (none & t.Call (p 16) (x 15) (none & t.Table (p 16) none) & t.Call (p 20) (x 19) (none & t.Literal (p 20) (39 ∷ 39 ∷ []))))
+targets = refl
+
+-- x, (x)().x = x
+called_target :
+    reads LuaAlone (text (Name ∷ Comma ∷ OpenParen ∷ Name ∷ CloseParen ∷ OpenParen ∷ CloseParen ∷ Dot ∷ Name ∷ Equal ∷ Name ∷ []))
+    ≡ chunk_of (t.Assign (p 1) (none & x 1 & t.Select (p 8) (t.Call (p 6) (t.Paren (p 3) (x 4)) none) (x 9)) (none & x 11))
+called_target = refl
+
+-- no target: x, x() = x ; x() = x ; (x) = x ; x
+call_is_no_target : reads LuaAlone (text (Name ∷ Comma ∷ Name ∷ OpenParen ∷ CloseParen ∷ Equal ∷ [])) ≡ refused why.Unexpected 5 (text (Name ∷ Comma ∷ Name ∷ OpenParen ∷ CloseParen ∷ Equal ∷ []))
+call_is_no_target = refl
+
+first_call_is_no_target : reads LuaAlone (text (Name ∷ OpenParen ∷ CloseParen ∷ Equal ∷ [])) ≡ refused why.Unexpected 3 (text (Name ∷ OpenParen ∷ CloseParen ∷ Equal ∷ []))
+first_call_is_no_target = refl
+
+brackets_are_no_target : reads LuaAlone (text (OpenParen ∷ Name ∷ CloseParen ∷ Equal ∷ [])) ≡ refused why.Unexpected 3 (text (OpenParen ∷ Name ∷ CloseParen ∷ Equal ∷ []))
+brackets_are_no_target = refl
+
+name_alone : reads LuaAlone (text (Name ∷ [])) ≡ Refused why.Unexpected []
+name_alone = refl
+
+-- x = { x = x , [ x ] = x ; x , }
+table :
+    reads LuaAlone (text (Name ∷ Equal ∷ OpenBrace ∷ Name ∷ Equal ∷ Name ∷ Comma ∷ OpenBracket ∷ Name ∷ CloseBracket ∷ Equal ∷ Name ∷ Semicolon ∷ Name ∷ Comma ∷ CloseBrace ∷ []))
+    ≡ chunk_of (t.Assign (p 1) (none & x 1) (none & t.Table (p 3) (none & t.NamedField (x 4) (x 6) & t.KeyedField (x 9) (x 12) & x 14)))
+table = refl
+
+-- function x.x:x(x, ...) return ... ; end
+function_statement :
+    reads LuaAlone (text (Function ∷ Name ∷ Dot ∷ Name ∷ Colon ∷ Name ∷ OpenParen ∷ Name ∷ Comma ∷ Ellipsis ∷ CloseParen ∷ Return ∷ Ellipsis ∷ Semicolon ∷ End ∷ []))
+    ≡ chunk_of
+    (t.DefineFunction (p 1) (t.Path (none & x 2 & t.Name (p 3) (spelling Name)) (t.Just (t.Name (p 5) (spelling Name)))) (t.Body (none & x 8) true (t.Block (none & t.Return (p 12) (none & t.Varargs (p 13))))))
+function_statement = refl
+
+-- function x(..., x): nothing follows `...`
+nothing_behind_dots : reads LuaAlone (text (Function ∷ Name ∷ OpenParen ∷ Ellipsis ∷ Comma ∷ [])) ≡ refused why.Unexpected 4 (text (Function ∷ Name ∷ OpenParen ∷ Ellipsis ∷ Comma ∷ []))
+nothing_behind_dots = refl
+
+-- local function x() return ...: this function has none
+no_dots : reads LuaAlone (text (Local ∷ Function ∷ Name ∷ OpenParen ∷ CloseParen ∷ Return ∷ Ellipsis ∷ [])) ≡ refused why.Unexpected 6 (text (Local ∷ Function ∷ Name ∷ OpenParen ∷ CloseParen ∷ Return ∷ Ellipsis ∷ []))
+no_dots = refl
+
+-- while x do break end
+breaks_loop : reads LuaAlone (text (While ∷ Name ∷ Do ∷ Break ∷ End ∷ [])) ≡ chunk_of (t.While (p 1) (x 2) (t.Block (none & t.Break (p 4))))
+breaks_loop = refl
+
+-- while x do x = function() break: the function is in no loop
+breaks_no_loop : reads LuaAlone (text (While ∷ Name ∷ Do ∷ Name ∷ Equal ∷ Function ∷ OpenParen ∷ CloseParen ∷ Break ∷ [])) ≡ refused why.Unexpected 8 (text (While ∷ Name ∷ Do ∷ Name ∷ Equal ∷ Function ∷ OpenParen ∷ CloseParen ∷ Break ∷ []))
+breaks_no_loop = refl
+
+-- if x then elseif x then return else end
+choice :
+    reads LuaAlone (text (If ∷ Name ∷ Then ∷ Elseif ∷ Name ∷ Then ∷ Return ∷ Else ∷ End ∷ []))
+    ≡ chunk_of (t.If (p 1) (none & t.Arm (x 2) (t.Block none) & t.Arm (x 5) (t.Block (none & t.Return (p 7) none))) (t.Just (t.Block none)))
+choice = refl
+
+-- for x = x, x, x do end  for x, x in x do end  repeat until x  do end
+loops :
+    reads LuaAlone (text (For ∷ Name ∷ Equal ∷ Name ∷ Comma ∷ Name ∷ Comma ∷ Name ∷ Do ∷ End ∷ For ∷ Name ∷ Comma ∷ Name ∷ In ∷ Name ∷ Do ∷ End ∷ Repeat ∷ Until ∷ Name ∷ Do ∷ End ∷ []))
+    ≡ IsTree
+    (t.Block
+    (none & t.NumericFor (p 1) (x 2) (x 4) (x 6) (t.Just (x 8)) (t.Block none) & t.GenericFor (p 11) (none & x 12 & x 14) (none & x 16) (t.Block none) & t.Repeat (p 19) (t.Block none) (x 21)
+    & t.Do (p 22) (t.Block none)))
+loops = refl
+
+-- return return
+returns_once : reads LuaAlone (text (Return ∷ Return ∷ [])) ≡ refused why.Unexpected 1 (text (Return ∷ Return ∷ []))
+returns_once = refl
+
+-- x() and on the next line (x)()
+ambiguous :
+    reads LuaAlone (row 1 1 (Name ∷ OpenParen ∷ CloseParen ∷ []) ++ row 2 1 (OpenParen ∷ Name ∷ CloseParen ∷ OpenParen ∷ CloseParen ∷ []))
+    ≡ Refused why.Ambiguous (row 2 1 (OpenParen ∷ Name ∷ CloseParen ∷ OpenParen ∷ CloseParen ∷ []))
+ambiguous = refl
+
+-- x:x and on the next line (x)
+method_is_clear : reads LuaAlone (row 1 1 (Name ∷ Colon ∷ Name ∷ []) ++ row 2 1 (OpenParen ∷ CloseParen ∷ [])) ≡ chunk_of (t.Perform (p 1) (t.Method (p 2) (x 1) (x 3) none))
+method_is_clear = refl
+
+-- a hundred blocks are open, and one more
+abbrev times : ℕ → Symbol → List Symbol
+times zero s = []
+times (suc n) s = s ∷ times n s
+
+open_blocks : reads LuaAlone (text (times 100 Do)) ≡ Refused why.Unexpected []
+open_blocks = refl
+
+too_many_blocks : reads LuaAlone (text (times 101 Do)) ≡ refused why.TooDeep 100 (text (times 101 Do))
+too_many_blocks = refl
+
+-- numbers
+abbrev returned : Token → List Token
+returned n = record { symbol = Return; text = codes "return"; place = p 1; first_on_line = true } ∷ n ∷ []
+
+largest : reads LuaAlone (returned (numeral 2 Numeral (codes "99999999999999"))) ≡ chunk_of (t.Return (p 1) (none & t.Numeral (p 2) (codes "99999999999999")))
+unfolding Rattle.tl_tree.specs.Numbers.value_of
+largest = refl
+
+larger : reads LuaAlone (returned (numeral 2 Numeral (codes "100000000000000"))) ≡ Refused why.BadNumber (numeral 2 Numeral (codes "100000000000000") ∷ [])
+unfolding Rattle.tl_tree.specs.Numbers.value_of
+larger = refl
+
+suffix_in_lua : reads Joint (returned (numeral 2 LongNumeral (codes "5LL"))) ≡ Refused why.Unexpected (numeral 2 LongNumeral (codes "5LL") ∷ [])
+suffix_in_lua = refl
