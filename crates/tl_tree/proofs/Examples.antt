@@ -17,38 +17,38 @@ use Rattle.tl_tree.proofs.Answering.{reads}
 
 -- ---- tokens and trees
 
-abbrev p : ℕ → Place
+abbrev pub p : ℕ → Place
 p w = record { line = 1; word = w }
 
 -- tokens on a line, from a word on
-abbrev row : ℕ → ℕ → List Symbol → List Token
+abbrev pub row : ℕ → ℕ → List Symbol → List Token
 row line w [] = []
 row line w (s ∷ more) = record { symbol = s; text = spelling s; place = record { line = line; word = w }; first_on_line = w == 1 } ∷ row line (w + 1) more
 
-abbrev text : List Symbol → List Token
+abbrev pub text : List Symbol → List Token
 text ss = row 1 1 ss
 
 -- the numeral with these bytes
-abbrev numeral : ℕ → Symbol → List ℕ → Token
+abbrev pub numeral : ℕ → Symbol → List ℕ → Token
 numeral w s bytes = record { symbol = s; text = bytes; place = p w; first_on_line = false }
 
 -- the name `x` at a word
-abbrev x : ℕ → t.Tree
+abbrev pub x : ℕ → t.Tree
 x w = t.Name (p w) (spelling Name)
 
 infixl 5 ◌&◌
-abbrev ◌&◌ : t.Tree → t.Tree → t.Tree
+abbrev pub ◌&◌ : t.Tree → t.Tree → t.Tree
 a & b = t.More a b
 
-abbrev none : t.Tree
+abbrev pub none : t.Tree
 none = t.Nothing
 
 -- a chunk of one statement
-abbrev chunk_of : t.Tree → Answer t.Tree
+abbrev pub chunk_of : t.Tree → Answer t.Tree
 chunk_of s = IsTree (t.Block (none & s))
 
 -- the tokens are refused behind so many of them
-abbrev refused : SyntaxKind → ℕ → List Token → Answer t.Tree
+abbrev pub refused : SyntaxKind → ℕ → List Token → Answer t.Tree
 refused kind n ts = Refused kind (drop n ts)
 
 -- ---- Lua code

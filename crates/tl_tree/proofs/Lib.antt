@@ -15,3 +15,4 @@ pub mod TerraStatementsGo
 pub mod PartsGo
 pub mod Answering
 pub mod Examples
+pub mod TerraExamples
