@@ -190,3 +190,14 @@ larger = refl
 
 suffix_in_lua : reads Joint (returned (numeral 2 LongNumeral (codes "5LL"))) ≡ Refused why.Unexpected (numeral 2 LongNumeral (codes "5LL") ∷ [])
 suffix_in_lua = refl
+
+-- so many times `.x`, and so many times `+ x`
+abbrev selections : ℕ → List Symbol
+selections zero = []
+selections (suc n) = Dot ∷ Name ∷ selections n
+
+too_many_suffixes : reads LuaAlone (text (Name ∷ selections 1001)) ≡ refused why.TooDeep 2001 (text (Name ∷ selections 1001))
+too_many_suffixes = refl
+
+all_suffixes : reads LuaAlone (text (Name ∷ selections 1000)) ≡ Refused why.Unexpected []
+all_suffixes = refl

@@ -8,6 +8,7 @@ use Rattle.tl_tree.specs.declared.node.BinaryOperator.TheVariants as binary
 use Rattle.tl_tree.specs.declared.node.UnaryOperator.TheVariants as unary
 use Rattle.tl_tree.specs.Symbols.{spelling}
 use Rattle.tl_tree.specs.Tokens.{Token}
+use Rattle.tl_tree.specs.Counting.{nodes_of}
 use Rattle.tl_tree.specs.Tree as t
 use Rattle.tl_tree.specs.Refusing.{Answer, IsTree, Refused}
 use Rattle.tl_tree.specs.Forms.{LuaAlone, Joint}
@@ -191,3 +192,37 @@ largest_int64 = refl
 larger_int64 : reads Joint (in_terra (numeral 3 LongNumeral (codes "9223372036854775808LL"))) ≡ Refused why.BadNumber (numeral 3 LongNumeral (codes "9223372036854775808LL") ∷ [])
 unfolding Rattle.tl_tree.specs.Numbers.value_of
 larger_int64 = refl
+
+-- ---- nodes
+
+abbrev nodes_in : Answer t.Tree → ℕ
+nodes_in (IsTree tree) = nodes_of tree
+nodes_in (Refused kind rest) = 0
+
+-- local x = terra() end
+terra_expression_nodes : nodes_in (reads Joint (text (Local ∷ Name ∷ Equal ∷ Terra ∷ OpenParen ∷ CloseParen ∷ End ∷ []))) ≡ 3
+terra_expression_nodes = refl
+
+-- local terra x() end
+local_terra_nodes : nodes_in (reads Joint (text (Local ∷ Terra ∷ Name ∷ OpenParen ∷ CloseParen ∷ End ∷ []))) ≡ 2
+local_terra_nodes = refl
+
+-- terra x() end
+terra_nodes : nodes_in (reads Joint (text (Terra ∷ Name ∷ OpenParen ∷ CloseParen ∷ End ∷ []))) ≡ 3
+terra_nodes = refl
+
+-- local x = ` nil
+backtick_nodes : nodes_in (reads Joint (text (Local ∷ Name ∷ Equal ∷ Backtick ∷ Nil ∷ []))) ≡ 3
+backtick_nodes = refl
+
+-- local x = ` [ nil ]
+escape_nodes : nodes_in (reads Joint (text (Local ∷ Name ∷ Equal ∷ Backtick ∷ OpenBracket ∷ Nil ∷ CloseBracket ∷ []))) ≡ 4
+escape_nodes = refl
+
+-- local x = quote [ { } ] end
+splice_nodes : nodes_in (reads Joint (text (Local ∷ Name ∷ Equal ∷ Quote ∷ OpenBracket ∷ OpenBrace ∷ CloseBrace ∷ CloseBracket ∷ End ∷ []))) ≡ 4
+splice_nodes = refl
+
+-- x.x, x[(x)] = x { x } : a statement, two targets with their objects, a key in brackets, a call with its table and field
+assignment_nodes : nodes_in (reads LuaAlone (text (Name ∷ Dot ∷ Name ∷ Comma ∷ Name ∷ OpenBracket ∷ OpenParen ∷ Name ∷ CloseParen ∷ CloseBracket ∷ Equal ∷ Name ∷ OpenBrace ∷ Name ∷ CloseBrace ∷ []))) ≡ 11
+assignment_nodes = refl

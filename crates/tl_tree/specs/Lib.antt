@@ -4,6 +4,7 @@ pub mod Tokens
 pub mod Tree
 pub mod Item
 pub mod Nodes
+pub mod Counting
 pub mod Grammar
 pub mod Refusing
 pub mod Forms
