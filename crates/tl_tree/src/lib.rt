@@ -19,3 +19,6 @@ pub use numeral::numeral_value;
 pub use spelling::symbol_of;
 pub use symbol::Symbol;
 pub use tree::Tree;
+
+#[cfg(test)]
+mod tests;
