@@ -1,13 +1,20 @@
 -- Texts with their trees and refusals, computed from the grammar. The tokens of a text stand on one line unless it says otherwise.
-use Rattle.std.proofs.Common.{◌≡◌, ℕ, zero, suc, Bool, true, false, List, [], ◌∷◌, ◌++◌, ◌+◌, ◌==◌, drop, refl}
+use Rattle.std.proofs.Common.{◌≡◌, ℕ, zero, suc, Bool, true, false, List, [], ◌∷◌, ◌++◌, ◌+◌, ◌==◌, drop, refl, Some}
 use Rattle.std.specs.Prelude.{codes}
 use Rattle.tl_base.specs.declared.place.Place.{Place}
 use Rattle.tl_lex.specs.declared.SyntaxKind.{SyntaxKind}
 use Rattle.tl_lex.specs.declared.SyntaxKind.TheVariants as why
 use Rattle.tl_tree.specs.declared.symbol.Symbol.{Symbol}
-use Rattle.tl_tree.specs.declared.symbol.Symbol.TheVariants.{Break, Do, Else, Elseif, End, For, Function, If, In, Nil, Not, Or, And, Repeat, Return, Then, Until, While, Terra, Quote, Escape, Emit, Struct, Var, Local, Plus, Minus, Star, Caret, DoubleEqual, Less, Equal, OpenParen, CloseParen, OpenBrace, CloseBrace, OpenBracket, CloseBracket, Semicolon, Colon, DoubleColon, Comma, Dot, DoubleDot, Ellipsis, Arrow, At, Ampersand, DoubleLess, Backtick, Name, Numeral, LongNumeral, Literal, Bad}
+use Rattle.tl_tree.specs.declared.symbol.Symbol.TheVariants.{Break, Do, Else, Elseif, End, False, True, Hash, For, Function, If, In, Nil, Not, Or, And, Repeat, Return, Then, Until, While, Terra, Quote, Escape, Emit, Struct, Var, Local, Plus, Minus, Star, Caret, DoubleEqual, Less, Equal, OpenParen, CloseParen, OpenBrace, CloseBrace, OpenBracket, CloseBracket, Semicolon, Colon, DoubleColon, Comma, Dot, DoubleDot, Ellipsis, Arrow, At, Ampersand, DoubleLess, Backtick, Name, Numeral, LongNumeral, Literal, Bad}
 use Rattle.tl_tree.specs.declared.node.BinaryOperator.TheVariants as binary
 use Rattle.tl_tree.specs.declared.node.UnaryOperator.TheVariants as unary
+use Rattle.tl_base.specs.declared.ids.NodeId.{NodeId}
+use Rattle.tl_tree.specs.declared.node.Expression.TheVariants as expressions
+use Rattle.tl_tree.specs.declared.node.Statement.TheVariants as statements
+use Rattle.tl_tree.specs.declared.node.Piece.TheVariants as pieces
+use Rattle.tl_tree.specs.Item.{Item}
+use Rattle.tl_tree.specs.Item as items
+use Rattle.tl_tree.specs.Nodes.{lay}
 use Rattle.tl_tree.specs.Symbols.{spelling}
 use Rattle.tl_tree.specs.Tokens.{Token}
 use Rattle.tl_tree.specs.Tree as t
@@ -201,3 +208,45 @@ too_many_suffixes = refl
 
 all_suffixes : reads LuaAlone (text (Name ∷ selections 1000)) ≡ Refused why.Unexpected []
 all_suffixes = refl
+
+-- local function x() end  local x, x = x  (x).x''  x:x{x}
+more_statements :
+    reads LuaAlone (text (Local ∷ Function ∷ Name ∷ OpenParen ∷ CloseParen ∷ End ∷ Local ∷ Name ∷ Comma ∷ Name ∷ Equal ∷ Name ∷ Semicolon ∷ OpenParen ∷ Name ∷ CloseParen ∷ Dot ∷ Name ∷ Literal ∷ Name ∷ Colon ∷ Name ∷ OpenBrace ∷ Name ∷ CloseBrace ∷ []))
+    ≡ IsTree
+    (t.Block
+    (none & t.LocalFunction (p 1) (x 3) (t.Body none false (t.Block none)) & t.Local (p 7) (none & x 8 & x 10) (none & x 12)
+    & t.Perform (p 14) (t.Call (p 19) (t.Select (p 17) (t.Paren (p 14) (x 15)) (x 18)) (none & t.Literal (p 19) (39 ∷ 39 ∷ [])))
+    & t.Perform (p 20) (t.Method (p 21) (x 20) (x 22) (none & t.Table (p 23) (none & x 24)))))
+more_statements = refl
+
+-- return nil, false, true, #x, not x, function() end
+operands :
+    reads LuaAlone (text (Return ∷ Nil ∷ Comma ∷ False ∷ Comma ∷ True ∷ Comma ∷ Hash ∷ Name ∷ Comma ∷ Not ∷ Name ∷ Comma ∷ Function ∷ OpenParen ∷ CloseParen ∷ End ∷ []))
+    ≡ chunk_of
+    (t.Return (p 1)
+    (none & t.Nil (p 2) & t.False (p 4) & t.True (p 6) & t.Unary (p 8) unary.Length (x 9) & t.Unary (p 11) unary.Not (x 12) & t.Function (p 14) (t.Body none false (t.Block none))))
+operands = refl
+
+-- ---- nodes
+
+abbrev n : ℕ → NodeId
+n k = record { 0 = k }
+
+abbrev nodes_in : Answer t.Tree → List Item
+nodes_in (IsTree tree) = lay tree []
+nodes_in (Refused kind rest) = []
+
+-- x = x:x{x}: children come before their node, in order of the text
+nodes_of_assignment :
+    nodes_in (reads LuaAlone (text (Name ∷ Equal ∷ Name ∷ Colon ∷ Name ∷ OpenBrace ∷ Name ∷ CloseBrace ∷ [])))
+    ≡ items.Name (p 1) (spelling Name) ∷ items.Name (p 3) (spelling Name) ∷ items.Name (p 5) (spelling Name) ∷ items.Name (p 7) (spelling Name)
+    ∷ items.Expression (p 6) (expressions.Table (n 3 ∷ [])) ∷ items.Expression (p 4) (expressions.Method (n 1) (n 2) (n 4 ∷ []))
+    ∷ items.Statement (p 1) (statements.Assign (n 0 ∷ []) (n 5 ∷ [])) ∷ items.Piece (pieces.Block (n 6 ∷ [])) ∷ []
+nodes_of_assignment = refl
+
+-- if x then else end
+nodes_of_choice :
+    nodes_in (reads LuaAlone (text (If ∷ Name ∷ Then ∷ Else ∷ End ∷ [])))
+    ≡ items.Name (p 2) (spelling Name) ∷ items.Piece (pieces.Block []) ∷ items.Piece (pieces.Arm (n 0) (n 1)) ∷ items.Piece (pieces.Block [])
+    ∷ items.Statement (p 1) (statements.If (n 2 ∷ []) (Some (n 3))) ∷ items.Piece (pieces.Block (n 4 ∷ [])) ∷ []
+nodes_of_choice = refl

@@ -3,7 +3,7 @@ use Rattle.std.proofs.Common.{◌≡◌, ℕ, Bool, true, false, List, [], ◌�
 use Rattle.std.specs.Prelude.{codes}
 use Rattle.tl_lex.specs.declared.SyntaxKind.TheVariants as why
 use Rattle.tl_tree.specs.declared.symbol.Symbol.{Symbol}
-use Rattle.tl_tree.specs.declared.symbol.Symbol.TheVariants.{Break, Do, Else, Elseif, End, For, Function, If, In, Nil, Not, Or, And, Repeat, Return, Then, Until, While, Terra, Quote, Escape, Emit, Struct, Var, Local, Plus, Minus, Star, Caret, DoubleEqual, Less, Equal, OpenParen, CloseParen, OpenBrace, CloseBrace, OpenBracket, CloseBracket, Semicolon, Colon, DoubleColon, Comma, Dot, DoubleDot, Ellipsis, Arrow, At, Ampersand, DoubleLess, Backtick, Name, Numeral, LongNumeral, Literal, Bad}
+use Rattle.tl_tree.specs.declared.symbol.Symbol.TheVariants.{Break, Do, Else, Elseif, End, False, True, Hash, For, Function, If, In, Nil, Not, Or, And, Repeat, Return, Then, Until, While, Terra, Quote, Escape, Emit, Struct, Var, Local, Plus, Minus, Star, Caret, DoubleEqual, Less, Equal, OpenParen, CloseParen, OpenBrace, CloseBrace, OpenBracket, CloseBracket, Semicolon, Colon, DoubleColon, Comma, Dot, DoubleDot, Ellipsis, Arrow, At, Ampersand, DoubleLess, Backtick, Name, Numeral, LongNumeral, Literal, Bad}
 use Rattle.tl_tree.specs.declared.node.BinaryOperator.TheVariants as binary
 use Rattle.tl_tree.specs.declared.node.UnaryOperator.TheVariants as unary
 use Rattle.tl_tree.specs.Symbols.{spelling}
@@ -226,3 +226,36 @@ splice_nodes = refl
 -- x.x, x[(x)] = x { x } : a statement, two targets with their objects, a key in brackets, a call with its table and field
 assignment_nodes : nodes_in (reads LuaAlone (text (Name ∷ Dot ∷ Name ∷ Comma ∷ Name ∷ OpenBracket ∷ OpenParen ∷ Name ∷ CloseParen ∷ CloseBracket ∷ Equal ∷ Name ∷ OpenBrace ∷ Name ∷ CloseBrace ∷ []))) ≡ 11
 assignment_nodes = refl
+
+-- ---- the other statements of Terra code
+
+-- do end  while x do break end  repeat until x  if x then elseif x then else end
+terra_blocks :
+    reads Joint (text (Return ∷ Quote ∷ Do ∷ End ∷ While ∷ Name ∷ Do ∷ Break ∷ End ∷ Repeat ∷ Until ∷ Name ∷ If ∷ Name ∷ Then ∷ Elseif ∷ Name ∷ Then ∷ Else ∷ End ∷ End ∷ []))
+    ≡ returns
+    (t.Quote (p 2)
+    (t.Quoted
+    (t.Block
+    (none & t.TerraDo (p 3) (t.Block none) & t.TerraWhile (p 5) (x 6) (t.Block (none & t.TerraBreak (p 8))) & t.TerraRepeat (p 10) (t.Block none) (x 12)
+    & t.TerraIf (p 13) (none & t.Arm (x 14) (t.Block none) & t.Arm (x 17) (t.Block none)) (t.Just (t.Block none))))
+    t.Nothing))
+terra_blocks = refl
+
+-- x[x], (x).x = x, nil
+terra_targets :
+    reads Joint (text (Return ∷ Quote ∷ Name ∷ OpenBracket ∷ Name ∷ CloseBracket ∷ Comma ∷ OpenParen ∷ Name ∷ CloseParen ∷ Dot ∷ Name ∷ Equal ∷ Name ∷ Comma ∷ Nil ∷ End ∷ []))
+    ≡ quotes 1
+    (t.TerraAssign (p 3) (none & t.TerraIndex (p 4) (x 3) (x 5) & t.TerraSelect (p 11) (t.TerraParen (p 8) (x 9)) (x 12)) (none & x 14 & t.TerraNil (p 16)))
+terra_targets = refl
+
+-- return & x, true; end
+terra_return :
+    reads Joint (text (Return ∷ Quote ∷ Return ∷ Ampersand ∷ Name ∷ Comma ∷ True ∷ Semicolon ∷ End ∷ []))
+    ≡ quotes 1 (t.TerraReturn (p 3) (none & t.TerraUnary (p 4) unary.Address (x 5) & t.TerraTrue (p 7)))
+terra_return = refl
+
+-- terra([x], x : x) end
+terra_parameters :
+    reads Joint (text (Return ∷ Terra ∷ OpenParen ∷ OpenBracket ∷ Name ∷ CloseBracket ∷ Comma ∷ Name ∷ Colon ∷ Name ∷ CloseParen ∷ End ∷ []))
+    ≡ returns (t.TerraFunction (p 2) (t.TerraBody (none & t.SpliceParameter (t.Escape (p 4) (x 5)) & t.Parameter (x 8) (x 10)) t.Nothing (t.Block none)))
+terra_parameters = refl
