@@ -1,6 +1,6 @@
 // What the definitions mean together. Each function changes nothing, and its clauses are laws.
 
-ghost use Rattle.std.specs.Prelude.{◌≡◌, ◌≢◌, ◌↔◌, ℕ, ◌+◌, ◌<◌, List, length, bytes_eq, ℤ, pos, negsuc, ◌+ℤ◌, ◌*ℤ◌, Some};
+ghost use Rattle.std.specs.Prelude.{◌≡◌, ◌≢◌, ◌↔◌, ℕ, ◌+◌, ◌<◌, List, length, bytes_eq, ℤ, pos, negsuc, ◌+ℤ◌, ◌*ℤ◌, Some, IsSome};
 ghost use Rattle.lua_value.specs.Numbers.{number_from};
 ghost use Rattle.lua_value.specs.declared.value.Value.{Value};
 ghost use Rattle.lua_value.specs.declared.value.Value.TheVariants as values;
@@ -23,8 +23,9 @@ pub fn quotients_are_exact()
     ensures { (a b q : ℤ) → (exact_result Arithmetic.Divide a b ≡ Some q) ↔ ((b ≢ pos 0) × (q *ℤ b ≡ a)) }
 {}
 
-/// `a % b` is what a multiple of b leaves of a. It has the sign of b, or is 0, and is smaller than b.
+/// `a % b` is what a multiple of b leaves of a. It has the sign of b, or is 0, and is smaller than b. There is one unless b is 0.
 pub fn remainders_lie_below_the_divisor()
+    ensures exists { (a b : ℤ) → b ≢ pos 0 → IsSome (exact_result Arithmetic.Remainder a b) }
     ensures rest { (a b r : ℤ) → exact_result Arithmetic.Remainder a b ≡ Some r → (q : ℤ) × (a ≡ q *ℤ b +ℤ r) }
     ensures below { (a b r : ℤ) → exact_result Arithmetic.Remainder a b ≡ Some r → LiesBelow b r }
 {}
