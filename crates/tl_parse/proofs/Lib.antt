@@ -1,0 +1,12 @@
+pub mod Looking
+pub mod Failing
+pub mod Taking
+pub mod Numbers
+pub mod Uses
+pub mod Agreeing
+pub mod Turns
+pub mod Parts
+pub mod AgreeingStatements
+pub mod StatementTurns
+pub mod Looping
+pub mod Whole

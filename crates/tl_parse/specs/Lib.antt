@@ -1,0 +1,9 @@
+pub mod Parsing
+pub mod Using
+pub mod Looking
+pub mod Taking
+pub mod Expressions
+pub mod Statements
+pub mod Going
+pub mod Joining
+pub mod Whole
