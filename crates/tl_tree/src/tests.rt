@@ -51,6 +51,7 @@ static VALUES: [(&str, Option<u64>); 12] = [
 
 /// The symbols of a text up to its end or its first refusal.
 fn symbols(rt: &impl Abort, alloc: Global, text: &str) -> Result<String, Fail> {
+    assert!(rt; text.len() <= LONGEST_TEXT);
     let mut out = String::new(alloc);
     let mut lexer = Lexer::new(text);
     for _ in 0..40 {
@@ -72,7 +73,6 @@ fn symbols(rt: &impl Abort, alloc: Global, text: &str) -> Result<String, Fail> {
 fn symbols_of_texts(rt: HostRuntime) -> Result<(), Fail> {
     for row in &ROWS {
         let (text, want) = *row;
-        assert!(rt; text.len() <= LONGEST_TEXT);
         let got = symbols(&rt, rt.alloc(), text)?;
         assert_eq!(rt; got.as_str(), want, "at {text:?}");
     }
