@@ -17,6 +17,7 @@ mod expressions;
 mod parser;
 mod statements;
 mod symbols;
+mod tables;
 
 pub use chunk::parse;
 pub use error::SyntaxError;
