@@ -21,3 +21,6 @@ mod tables;
 
 pub use chunk::parse;
 pub use error::SyntaxError;
+
+#[cfg(test)]
+mod tests;
