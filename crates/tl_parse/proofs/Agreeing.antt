@@ -19,31 +19,10 @@ use Rattle.tl_tree.proofs.Unrolling.{bind_again}
 use Rattle.tl_parse.specs.Using.{language, reading, part_at, used, sign_at, open_at, prefix_at, raise_at, number_at}
 use Rattle.tl_parse.specs.Expressions.{name_at, paren_at, base_at, method_arguments_at, is_other, applied_at, suffixes_at, prefixed_at, number_tree_at, literal_at, constant, constant_at, function_at, table_at, simple_at, is_simple, primary_at, right_at, power_at, unary_at, binary_at, inner_at, more_at, concatenation_at, chained_at, is_name, field_behind_at, keyed_field_at, field_at, expressions_at, more_expressions_at, arguments_at, fields_at, more_fields_at}
 use Rattle.tl_parse.specs.declared.expressions.Precedence.TheVariants as precedences
+pub use Rattle.tl_parse.proofs.Following.{sign_then, opened_then, open_then, then, either_is}
+use Rattle.tl_parse.proofs.TerraCodeAgreeing.{terra_code_agrees}
+use Rattle.tl_parse.specs.TerraCode.{terra_code_at}
 use Rattle.tl_parse.proofs.Uses.{both, operator_with, bind_same, opening_is, plain_is, sign_is, open_is}
-
--- ---- one form after the other
-
-pub sign_then : {A : Type 0} (levels : ℕ) (s : Symbol) (h : Token × Tree → Grammar A) (k : Token → List Token → Outcome A) → ((t : Token) (us : List Token) → reading levels (h (both t Nothing)) us ≡ k t us) → (ts : List Token) → reading levels (bind (sign s) h) ts ≡ (sign_at s ts >>= λ t rest. k t rest)
-sign_then levels s h k same ts =
-    ap (λ (o : Outcome (Token × Tree)). o >>= λ x mid. reading levels (h x) mid) (sign_is levels s ts)
-    ∙ bind_again (sign_at s ts) (λ t rest. Took (both t Nothing) rest) (λ x mid. reading levels (h x) mid)
-    ∙ bind_same (sign_at s ts) (λ t mid. reading levels (h (both t Nothing)) mid) (λ t mid. k t mid) same
-
-pub opened_then : {A : Type 0} (levels : ℕ) (part : Part) (o : Outcome Token) (h : Token × Tree → Grammar A) (k : Token → Tree → List Token → Outcome A) → ((t : Token) (x : Tree) (us : List Token) → reading levels (h (both t x)) us ≡ k t x us) → ((o >>= λ t mid. part_at (levels - 1) part mid >>= λ x rest. Took (both t x) rest) >>= λ x mid. reading levels (h x) mid) ≡ (o >>= λ t mid. part_at (levels - 1) part mid >>= λ x rest. k t x rest)
-opened_then levels part (Took t mid) h k same = bind_again (part_at (levels - 1) part mid) (λ x rest. Took (both t x) rest) (λ x mid. reading levels (h x) mid) ∙ bind_same (part_at (levels - 1) part mid) (λ x us. reading levels (h (both t x)) us) (λ x us. k t x us) (λ x us. same t x us)
-opened_then levels part (Stop kind rest) h k same = refl
-
-pub open_then : {A : Type 0} (levels : ℕ) (s : Symbol) (part : Part) (h : Token × Tree → Grammar A) (k : Token → Tree → List Token → Outcome A) → ((t : Token) (x : Tree) (us : List Token) → reading levels (h (both t x)) us ≡ k t x us) → (ts : List Token) → reading levels (bind (opening s part) h) ts ≡ (open_at s levels ts >>= λ t mid. part_at (levels - 1) part mid >>= λ x rest. k t x rest)
-open_then levels s part h k same ts =
-    ap (λ (o : Outcome (Token × Tree)). o >>= λ x mid. reading levels (h x) mid) (open_is levels s part ts) ∙ opened_then levels part (open_at s levels ts) h k same
-
-pub then : {A B : Type 0} (levels : ℕ) (g : Grammar A) (h : A → Grammar B) (g_at : List Token → Outcome A) (k : A → List Token → Outcome B) → ((us : List Token) → reading levels g us ≡ g_at us) → ((a : A) (us : List Token) → reading levels (h a) us ≡ k a us) → (ts : List Token) → reading levels (bind g h) ts ≡ (g_at ts >>= λ a rest. k a rest)
-then {A} levels g h g_at k same follows ts =
-    ap (λ (o : Outcome A). o >>= λ a mid. reading levels (h a) mid) (same ts) ∙ bind_same (g_at ts) (λ a mid. reading levels (h a) mid) (λ a mid. k a mid) follows
-
-pub either_is : {A : Type 0} (b : Bool) (x y u v : Outcome A) → x ≡ u → y ≡ v → cond b x y ≡ cond b u v
-either_is true x y u v p q = p
-either_is false x y u v p q = q
 
 -- ---- names, prefix expressions
 
@@ -91,7 +70,7 @@ prefixed_agrees levels m left ts =
 
 -- ---- operands
 
-as_operand : (levels left : ℕ) (g : Grammar Tree) (g_at : Outcome Tree) (ts : List Token) → reading levels g ts ≡ g_at → reading levels (lua.as_operand left g) ts ≡ (g_at >>= λ e rest. Took (operand left e) rest)
+pub as_operand : (levels left : ℕ) (g : Grammar Tree) (g_at : Outcome Tree) (ts : List Token) → reading levels g ts ≡ g_at → reading levels (lua.as_operand left g) ts ≡ (g_at >>= λ e rest. Took (operand left e) rest)
 as_operand levels left g g_at ts same = ap (λ (o : Outcome Tree). o >>= λ e rest. Took (operand left e) rest) same
 
 number_agrees : (levels : ℕ) (ts : List Token) → reading levels lua.number ts ≡ number_tree_at ts
@@ -100,7 +79,7 @@ number_agrees levels ts =
     ap (λ (o : Outcome (Token × Tree)). o >>= λ x rest. Took (Numeral x.0.place x.0.text) rest) (plain_is levels (is symbols.Numeral) LuaNumber (sample symbols.Numeral) ts)
     ∙ bind_again (used (is symbols.Numeral) false 0 LuaNumber ts) (λ t rest. Took (both t Nothing) rest) (λ x rest. Took (Numeral x.0.place x.0.text) rest)
 
-literal_agrees : (levels : ℕ) (ts : List Token) → reading levels lua.literal ts ≡ literal_at ts
+pub literal_agrees : (levels : ℕ) (ts : List Token) → reading levels lua.literal ts ≡ literal_at ts
 unfolding literal_at
 literal_agrees levels ts = sign_then levels symbols.Literal (λ x. give (Literal x.0.place x.0.text)) (λ t rest. Took (Literal t.place t.text) rest) (λ t us. refl) ts
 
@@ -119,6 +98,10 @@ unfolding table_at
 table_agrees levels m ts =
     open_then levels symbols.OpenBrace (Fields m) (λ x. bind (sign symbols.CloseBrace) λ y. give (Table x.0.place x.1)) (λ t x us. sign_at symbols.CloseBrace us >>= λ y rest. Took (Table t.place x) rest)
     (λ t x us. sign_then levels symbols.CloseBrace (λ y. give (Table t.place x)) (λ y rest. Took (Table t.place x) rest) (λ y vs. refl) us) ts
+
+-- Terra code is an operand of Lua code.
+terra_operand : (levels : ℕ) (m : Mode) (left : ℕ) (ts : List Token) → reading levels (lua.as_operand left (lua.terra_code m)) ts ≡ (terra_code_at levels m ts >>= λ e rest. Took (operand left e) rest)
+terra_operand levels m left ts = as_operand levels left (lua.terra_code m) (terra_code_at levels m ts) ts (terra_code_agrees levels m ts)
 
 -- by the first token
 primary_by : (levels : ℕ) (m : Mode) (left : ℕ) (symbol : Symbol) (text : List ℕ) (place : Place) (first : Bool) (ts : List Token) →
@@ -148,6 +131,18 @@ primary_by levels modes.Plain left symbols.OpenBrace text place first ts =
     let us : List Token = record { symbol = symbols.OpenBrace; text = text; place = place; first_on_line = first } ∷ ts in as_operand levels left (lua.table modes.Plain) (table_at levels modes.Plain us) us (table_agrees levels modes.Plain us)
 primary_by levels modes.Types left symbols.OpenBrace text place first ts =
     let us : List Token = record { symbol = symbols.OpenBrace; text = text; place = place; first_on_line = first } ∷ ts in as_operand levels left (lua.table modes.Types) (table_at levels modes.Types us) us (table_agrees levels modes.Types us)
+primary_by levels modes.Variadic left symbols.Terra text place first ts = terra_operand levels modes.Variadic left (record { symbol = symbols.Terra; text = text; place = place; first_on_line = first } ∷ ts)
+primary_by levels modes.Plain left symbols.Terra text place first ts = terra_operand levels modes.Plain left (record { symbol = symbols.Terra; text = text; place = place; first_on_line = first } ∷ ts)
+primary_by levels modes.Types left symbols.Terra text place first ts = terra_operand levels modes.Types left (record { symbol = symbols.Terra; text = text; place = place; first_on_line = first } ∷ ts)
+primary_by levels modes.Variadic left symbols.Struct text place first ts = terra_operand levels modes.Variadic left (record { symbol = symbols.Struct; text = text; place = place; first_on_line = first } ∷ ts)
+primary_by levels modes.Plain left symbols.Struct text place first ts = terra_operand levels modes.Plain left (record { symbol = symbols.Struct; text = text; place = place; first_on_line = first } ∷ ts)
+primary_by levels modes.Types left symbols.Struct text place first ts = terra_operand levels modes.Types left (record { symbol = symbols.Struct; text = text; place = place; first_on_line = first } ∷ ts)
+primary_by levels modes.Variadic left symbols.Quote text place first ts = terra_operand levels modes.Variadic left (record { symbol = symbols.Quote; text = text; place = place; first_on_line = first } ∷ ts)
+primary_by levels modes.Plain left symbols.Quote text place first ts = terra_operand levels modes.Plain left (record { symbol = symbols.Quote; text = text; place = place; first_on_line = first } ∷ ts)
+primary_by levels modes.Types left symbols.Quote text place first ts = terra_operand levels modes.Types left (record { symbol = symbols.Quote; text = text; place = place; first_on_line = first } ∷ ts)
+primary_by levels modes.Variadic left symbols.Backtick text place first ts = terra_operand levels modes.Variadic left (record { symbol = symbols.Backtick; text = text; place = place; first_on_line = first } ∷ ts)
+primary_by levels modes.Plain left symbols.Backtick text place first ts = terra_operand levels modes.Plain left (record { symbol = symbols.Backtick; text = text; place = place; first_on_line = first } ∷ ts)
+primary_by levels modes.Types left symbols.Backtick text place first ts = terra_operand levels modes.Types left (record { symbol = symbols.Backtick; text = text; place = place; first_on_line = first } ∷ ts)
 primary_by levels modes.Variadic left symbol text place first ts = prefixed_agrees levels modes.Variadic left (record { symbol = symbol; text = text; place = place; first_on_line = first } ∷ ts)
 primary_by levels modes.Plain left symbol text place first ts = prefixed_agrees levels modes.Plain left (record { symbol = symbol; text = text; place = place; first_on_line = first } ∷ ts)
 primary_by levels modes.Types left symbol text place first ts = prefixed_agrees levels modes.Types left (record { symbol = symbol; text = text; place = place; first_on_line = first } ∷ ts)

@@ -76,7 +76,7 @@ path_method_agrees levels ns ts = by (begins (is symbols.Colon) ts)
         go (Took t a) = inner t (sign_at symbols.Name a)
         go (Stop kind rest) = refl
 
-path_agrees : (levels : ℕ) (ts : List Token) → reading levels lua.path ts ≡ path_at levels ts
+pub path_agrees : (levels : ℕ) (ts : List Token) → reading levels lua.path ts ≡ path_at levels ts
 unfolding path_at path_names_at
 path_agrees levels ts =
     then levels name (λ n. bind (path_names (More Nothing n)) λ ns. lua.path_method ns) (λ us. name_at us) (λ n a. path_names_at levels (More Nothing n) a >>= λ ns b. path_method_at b >>= λ o rest. Took (trees.Path ns o) rest) (λ us. name_agrees levels us)

@@ -9,4 +9,14 @@ pub mod Parts
 pub mod AgreeingStatements
 pub mod StatementTurns
 pub mod Looping
-pub mod Whole
+pub mod Following
+pub mod TerraCodeAgreeing
+pub mod TerraLooking
+pub mod TerraAgreeing
+pub mod TerraParts
+pub mod TerraTurns
+pub mod TerraNumbers
+pub mod TerraStatementAgreeing
+pub mod TerraStatementTurns
+pub mod TerraStatementParts
+pub mod TerraDefinitionAgreeing

@@ -27,7 +27,7 @@ use Rattle.tl_parse.proofs.Agreeing.{name_agrees, method_arguments_agree, field_
 -- ---- lists
 
 -- a turn of a list of what a grammar reads
-list_turn : (levels : ℕ) (x : Grammar Tree) (before : Tree) (ts : List Token) →
+pub list_turn : (levels : ℕ) (x : Grammar Tree) (before : Tree) (ts : List Token) →
     reading levels (bind (token (λ t. is symbols.Comma t) (λ t. Plain) (λ t. None) (sample symbols.Comma)) λ y. bind x λ e. give (More before e)) ts
     ≡ ((sign_at symbols.Comma ts >>= λ y rest. reading levels x rest) >>= λ e rest. Took (More before e) rest)
 list_turn levels x before ts =
@@ -63,7 +63,7 @@ expression_shorter levels m x ts rest e = list_shorter levels (lua.expression la
 
 -- ---- operators that group to the left
 
-operators_turn : (levels : ℕ) (ss : List Symbol) (x : ℕ → Grammar Chained) (make : Token → Tree → Tree → Tree) (piece : Token) (a : Chained) (ts : List Token) →
+pub operators_turn : (levels : ℕ) (ss : List Symbol) (x : ℕ → Grammar Chained) (make : Token → Tree → Tree → Tree) (piece : Token) (a : Chained) (ts : List Token) →
     reading levels (bind (token (λ t. among ss t) (λ t. Continues a.left) (λ t. None) piece) λ y. bind (x (down a.left)) λ b. give (operand b.left (make y.0 a.tree b.tree))) ts
     ≡ ((operator_at ss a.left ts >>= λ t mid. reading levels (x (down a.left)) mid >>= λ b rest. Took (operator_with t b) rest) >>= λ p rest. Took (operand p.1.left (make p.0 a.tree p.1.tree)) rest)
 unfolding operator_at
@@ -76,7 +76,7 @@ operators_turn levels ss x make piece a ts =
     go (Took t rest) = sym (bind_again (reading levels (x (down a.left)) rest) (λ b rest. Took (operator_with t b) rest) (λ p rest. Took (operand p.1.left (make p.0 a.tree p.1.tree)) rest))
     go (Stop kind rest) = refl
 
-operators_goes : (levels : ℕ) (ss : List Symbol) (x : ℕ → Grammar Chained) (make : Token → Tree → Tree → Tree) (a : Chained) (ts : List Token) → begins (among ss) ts ≡ true →
+pub operators_goes : (levels : ℕ) (ss : List Symbol) (x : ℕ → Grammar Chained) (make : Token → Tree → Tree → Tree) (a : Chained) (ts : List Token) → begins (among ss) ts ≡ true →
     reading levels (operators ss x make a) ts ≡ ((operator_at ss a.left ts >>= λ t mid. reading levels (x (down a.left)) mid >>= λ b rest. Took (operator_with t b) rest) >>= λ p rest. reading levels (operators ss x make (operand p.1.left (make p.0 a.tree p.1.tree))) rest)
 operators_goes levels ss x make a ts h =
     repeats levels (λ a t. among ss t) (λ a t. Continues a.left) (λ a t. None) (λ t y a. bind (x (down a.left)) λ b. give (operand b.left (make t a.tree b.tree))) (sample symbols.Plus) a
@@ -99,7 +99,7 @@ operation_shorter levels p m left x ts rest e =
 
 -- ---- fields
 
-fields_turn : (levels : ℕ) (x : Grammar Tree) (x_at : List Token → Outcome Tree) → ((us : List Token) → reading levels x us ≡ x_at us) → (before : Tree) (ts : List Token) →
+pub fields_turn : (levels : ℕ) (x : Grammar Tree) (x_at : List Token → Outcome Tree) → ((us : List Token) → reading levels x us ≡ x_at us) → (before : Tree) (ts : List Token) →
     reading levels (bind (token (λ t. among separators t) (λ t. Plain) (λ t. None) (sample symbols.Comma)) λ y. when (is symbols.CloseBrace) (give before) (bind x λ e. give (More before e))) ts
     ≡ ((sign_among_at separators ts >>= λ y a. cond (begins (is symbols.CloseBrace) a) (Took None a) (x_at a >>= λ f rest. Took (Some f) rest)) >>= λ f rest. Took (more_if before f) rest)
 unfolding sign_among_at
@@ -168,7 +168,7 @@ suffix_token levels class m a t ts h =
     ∙ turn_of levels m a t ts (barred (opens_any (lua.suffix_opens m (lua.suffix_of t.symbol))) levels (lua.suffix_extra a t) t)
 
 -- behind a sign, what is read goes on
-sign_behind : {A B : Type 0} (levels : ℕ) (s : Symbol) (v : A) (w : B) (f : B → A) (us : List Token) → f w ≡ v → reading levels (bind (sign s) λ y. give v) us ≡ ((sign_at s us >>= λ y rest. Took w rest) >>= λ b rest. Took (f b) rest)
+pub sign_behind : {A B : Type 0} (levels : ℕ) (s : Symbol) (v : A) (w : B) (f : B → A) (us : List Token) → f w ≡ v → reading levels (bind (sign s) λ y. give v) us ≡ ((sign_at s us >>= λ y rest. Took w rest) >>= λ b rest. Took (f b) rest)
 sign_behind {A} {B} levels s v w f us e =
     ap (λ (o : Outcome (Token × Tree)). o >>= λ y rest. Took v rest) (sign_is levels s us) ∙ go (sign_at s us)
   where
@@ -184,7 +184,7 @@ part_behind levels part s a v w us e =
     ∙ sym (bind_again (part_at (levels - 1) part us) (λ x b. sign_at s b >>= λ y rest. Took (w x) rest) (λ r rest. Took (with_suffix a r) rest))
 
 -- the token, and what is behind it
-use_behind : {A : Type 0} (b : Option SyntaxKind) (t : Token) (ts : List Token) (f : List Token → Outcome Chained) (k : Token → List Token → Outcome A) (g : A → Chained) → f ts ≡ (k t ts >>= λ r rest. Took (g r) rest) → (used_here b t ts >>= λ u mid. f mid) ≡ ((used_here b t ts >>= λ u mid. k u mid) >>= λ r rest. Took (g r) rest)
+pub use_behind : {A : Type 0} (b : Option SyntaxKind) (t : Token) (ts : List Token) (f : List Token → Outcome Chained) (k : Token → List Token → Outcome A) (g : A → Chained) → f ts ≡ (k t ts >>= λ r rest. Took (g r) rest) → (used_here b t ts >>= λ u mid. f mid) ≡ ((used_here b t ts >>= λ u mid. k u mid) >>= λ r rest. Took (g r) rest)
 use_behind None t ts f k g h = h
 use_behind (Some kind) t ts f k g h = refl
 

@@ -15,6 +15,7 @@ use Rattle.tl_tree.specs.Forms.{name, listed_behind, separated_behind, Chained, 
 use Rattle.tl_tree.specs.LuaExpressions as lua
 use Rattle.tl_tree.specs.LuaExpressions.{is_varargs}
 use Rattle.tl_parse.specs.Using.{language, reading, part_at, sign_at, open_at, prefix_at, operator_at, raise_at, call_at, number_at, sign_among_at}
+use Rattle.tl_parse.specs.TerraCode.{terra_code_at}
 use Rattle.tl_parse.specs.declared.expressions.Precedence.{Precedence}
 use Rattle.tl_parse.specs.declared.expressions.Precedence.TheVariants as precedences
 
@@ -153,7 +154,8 @@ simple_at levels m ts =
     else (if begins (is symbols.True) ts then constant_at symbols.True ts
     else (if begins (is symbols.Ellipsis) ts then constant_at symbols.Ellipsis ts
     else (if begins (is symbols.Function) ts then function_at levels ts
-    else table_at levels m ts))))))
+    else (if begins (among lua.terra_symbols) ts then terra_code_at levels m ts
+    else table_at levels m ts)))))))
 
 abbrev pub is_types : Mode → Bool
 is_types modes.Types = true
@@ -165,7 +167,7 @@ is_variadic _ = false
 
 -- the tokens that begin such an operand
 abbrev pub simple_symbols : List Symbol
-simple_symbols = symbols.Numeral ∷ symbols.Literal ∷ symbols.Nil ∷ symbols.False ∷ symbols.True ∷ symbols.Function ∷ symbols.OpenBrace ∷ []
+simple_symbols = symbols.Numeral ∷ symbols.Literal ∷ symbols.Nil ∷ symbols.False ∷ symbols.True ∷ symbols.Function ∷ symbols.OpenBrace ∷ symbols.Terra ∷ symbols.Struct ∷ symbols.Quote ∷ symbols.Backtick ∷ []
 
 unfoldable pub is_simple : Mode → List Token → Bool
 is_simple m ts = if begins (among simple_symbols) ts then true else begins (is_varargs m) ts

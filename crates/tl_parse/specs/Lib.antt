@@ -6,4 +6,10 @@ pub mod Expressions
 pub mod Statements
 pub mod Going
 pub mod Joining
-pub mod Whole
+pub mod TerraExpressions
+pub mod TerraCode
+pub mod Entries
+pub mod TerraGoing
+pub mod TerraStatements
+pub mod TerraDefinitions
+pub mod TerraLines

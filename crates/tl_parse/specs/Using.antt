@@ -9,12 +9,12 @@ use Rattle.tl_tree.specs.declared.mode.Extra.TheVariants.{Plain, Continues, Call
 use Rattle.tl_tree.specs.Tokens.{Token, among, is}
 use Rattle.tl_tree.specs.Tree.{Tree, Part, FunctionBody}
 use Rattle.tl_tree.specs.Grammar.{Grammar, Outcome, Took, Stop, blame, run, below, bar, is_of, unless}
-use Rattle.tl_tree.specs.Forms.{Language, LuaAlone}
+use Rattle.tl_tree.specs.Forms.{Language, Joint}
 use Rattle.tl_tree.specs.Syntax.{syntax_of}
 
 -- the language that the code reads
 abbrev pub language : Language
-language = LuaAlone
+language = Joint
 
 -- reading a grammar, with so many levels left
 abbrev pub reading : {A : Type 0} → ℕ → Grammar A → List Token → Outcome A

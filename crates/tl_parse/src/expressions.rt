@@ -45,6 +45,15 @@ static DISJUNCTION: [Symbol; 1] = [Symbol::Or];
 
 static PREFIX: [Symbol; 4] = [Symbol::Not, Symbol::Hash, Symbol::Minus, Symbol::Ampersand];
 
+static TERRA: [Symbol; 4] = [
+    Symbol::Terra,
+    Symbol::Struct,
+    Symbol::Quote,
+    Symbol::Backtick,
+];
+
+static SEPARATOR: [Symbol; 2] = [Symbol::Comma, Symbol::Semicolon];
+
 static DOT: [Symbol; 1] = [Symbol::Dot];
 
 static COLON: [Symbol; 1] = [Symbol::Colon];
@@ -66,7 +75,7 @@ fn symbols_of(precedence: Precedence) -> &'static [Symbol]
 }
 
 /// The operator that a token is, before its operand.
-fn unary_of(symbol: Symbol) -> UnaryOperator
+pub(crate) fn unary_of(symbol: Symbol) -> UnaryOperator
     ensures { result ≡ forms.unary_of symbol }
 {
     match symbol {
@@ -530,6 +539,20 @@ impl<'a> Parser<'a> {
         self.push(Node::Expression(token.place, Expression::Function(body)))
     }
 
+    /// A table.
+    #[cycle(parser)]
+    #[tactic(auto, using(crate::proofs::Failing::fails_bind, crate::proofs::Failing::fails_after), unfolding(crate::specs::Expressions::table_at))]
+    fn table(&mut self, mode: Mode, levels: u32) -> Result<NodeId, SyntaxError>
+        requires { Ready self.old }
+        ensures ok { IfOk result (λ r. TookTree self.old self.new (table_at levels mode (tokens_left self.old)) r) }
+        ensures err { IfErr result (λ e. Fails self.old (table_at levels mode (tokens_left self.old)) e) }
+    {
+        let token = read!(self.open(Symbol::OpenBrace, levels));
+        let fields = read!(self.fields(mode, levels - 1));
+        read!(self.take(Symbol::CloseBrace));
+        self.push(Node::Expression(token.place, Expression::Table(fields)))
+    }
+
     /// An operand that is no prefix expression.
     #[cycle(parser)]
     #[tactic(auto, using(crate::proofs::Failing::fails_bind, crate::proofs::Failing::fails_after), unfolding(crate::specs::Expressions::simple_at))]
@@ -558,6 +581,9 @@ impl<'a> Parser<'a> {
         }
         if self.next_is(Symbol::Function) {
             return self.function(levels);
+        }
+        if self.next_is_among(&TERRA) {
+            return self.terra_code(mode, levels);
         }
         self.table(mode, levels)
     }
@@ -719,5 +745,81 @@ impl<'a> Parser<'a> {
             return self.operation(token, a, right, a.left - 1);
         }
         Ok(a)
+    }
+
+    /// A field with a key in brackets.
+    #[cycle(parser)]
+    #[tactic(auto, using(crate::proofs::Failing::fails_bind, crate::proofs::Failing::fails_after), unfolding(crate::specs::Expressions::keyed_field_at))]
+    fn keyed_field(&mut self, mode: Mode, levels: u32) -> Result<NodeId, SyntaxError>
+        requires { Ready self.old }
+        ensures ok { IfOk result (λ r. TookTree self.old self.new (keyed_field_at levels mode (tokens_left self.old)) r) }
+        ensures err { IfErr result (λ e. Fails self.old (keyed_field_at levels mode (tokens_left self.old)) e) }
+    {
+        read!(self.open(Symbol::OpenBracket, levels));
+        let key = read!(self.expression(mode, levels - 1));
+        read!(self.take(Symbol::CloseBracket));
+        read!(self.take(Symbol::Equal));
+        let value = read!(self.expression(mode, levels));
+        self.push(Node::Piece(Piece::KeyedField(key, value)))
+    }
+
+    /// A field of a table.
+    #[cycle(parser)]
+    #[tactic(auto, using(crate::proofs::Failing::fails_bind, crate::proofs::Failing::fails_after), unfolding(crate::specs::Expressions::field_at, crate::specs::Expressions::field_behind_at))]
+    fn field(&mut self, mode: Mode, levels: u32) -> Result<NodeId, SyntaxError>
+        requires { Ready self.old }
+        ensures ok { IfOk result (λ r. TookTree self.old self.new (field_at levels mode (tokens_left self.old)) r) }
+        ensures err { IfErr result (λ e. Fails self.old (field_at levels mode (tokens_left self.old)) e) }
+    {
+        if self.next_is(Symbol::OpenBracket) {
+            return self.keyed_field(mode, levels);
+        }
+        let e = read!(self.chained(mode, levels));
+        if is_name(e.shape) {
+            if self.next_is(Symbol::Equal) {
+                read!(self.take(Symbol::Equal));
+                let value = read!(self.expression(mode, levels));
+                return self.push(Node::Piece(Piece::NamedField(e.node, value)));
+            }
+        }
+        Ok(e.node)
+    }
+
+    /// A separator, and a field if one follows.
+    #[cycle(parser)]
+    #[tactic(auto, using(crate::proofs::Failing::fails_bind, crate::proofs::Failing::fails_after), unfolding(crate::specs::Expressions::next_field_at))]
+    fn next_field(&mut self, mode: Mode, levels: u32) -> Result<Option<NodeId>, SyntaxError>
+        requires { Ready self.old }
+        ensures ok { IfOk result (λ r. TookMaybe self.old self.new (next_field_at levels mode (tokens_left self.old)) r) }
+        ensures err { IfErr result (λ e. Fails self.old (next_field_at levels mode (tokens_left self.old)) e) }
+    {
+        read!(self.take_among(&SEPARATOR));
+        if self.next_is(Symbol::CloseBrace) {
+            return Ok(None);
+        }
+        let field = read!(self.field(mode, levels));
+        Ok(Some(field))
+    }
+
+    /// The fields of a table, up to a `}`.
+    #[cycle(parser)]
+    #[tactic(auto, using(crate::proofs::Failing::fails_bind, crate::proofs::Failing::fails_after, crate::proofs::Parts::fields_part, crate::proofs::Failing::fails_same, crate::proofs::Failing::fails_from, crate::proofs::Turns::fields_go, crate::proofs::Turns::fields_end, crate::proofs::Turns::field_shorter), unfolding(crate::specs::Expressions::fields_at))]
+    fn fields(&mut self, mode: Mode, levels: u32) -> Result<NodeList, SyntaxError>
+        requires { Ready self.old }
+        ensures ok { IfOk result (λ r. TookList self.old self.new (part_at levels (parts.Fields mode) (tokens_left self.old)) r) }
+        ensures err { IfErr result (λ e. Fails self.old (part_at levels (parts.Fields mode) (tokens_left self.old)) e) }
+    {
+        let mut list = self.no_nodes();
+        if self.next_is(Symbol::CloseBrace) {
+            return Ok(list);
+        }
+        let first = read!(self.field(mode, levels));
+        read!(add(&mut list, first));
+        'more: while self.next_is_among(&SEPARATOR) {
+            if let Some(next) = read!(self.next_field(mode, levels)) {
+                read!(add(&mut list, next));
+            }
+        }
+        Ok(list)
     }
 }

@@ -11,16 +11,21 @@ macro_rules! read {
     };
 }
 
-pub mod chunk;
 pub mod error;
 mod expressions;
+mod numerals;
 mod parser;
 mod statements;
 mod symbols;
-mod tables;
+mod terra_code;
+mod terra_definitions;
+mod terra_expressions;
+mod terra_statements;
 
-pub use chunk::parse;
 pub use error::SyntaxError;
 
 #[cfg(test)]
 mod tests;
+
+#[cfg(test)]
+mod terra_tests;

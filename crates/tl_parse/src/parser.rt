@@ -1,11 +1,13 @@
 // The parser: the token before it, and the nodes that it made.
-ghost use Rattle.std.specs.Prelude.{◌≡◌, ℕ, ◌+◌, ◌-◌, ◌<◌, ◌≤◌, length, true, false, List, [], ◌∷◌, ◌++◌, ◌&&◌, map, IfOk, IfErr};
-ghost use Rattle.tl_tree.specs.Nodes.{item_of};
+ghost use Rattle.std.specs.Prelude.{◌≡◌, ℕ, ◌+◌, ◌-◌, ◌<◌, ◌≤◌, length, true, false, List, [], ◌∷◌, ◌++◌, ◌&&◌, IfOk, IfErr};
 ghost use Rattle.tl_tree.specs.declared.symbol.Symbol.TheVariants as symbols;
 ghost use Rattle.std.specs.Prelude.{nat_lt};
 ghost use Rattle.tl_tree.specs.Numbers.{largest_lua, value_of};
 ghost use Rattle.tl_tree.specs.Forms as forms;
 ghost use Rattle.tl_tree.specs.LuaExpressions as lua;
+ghost use Rattle.tl_tree.specs.TerraExpressions as terra;
+ghost use Rattle.tl_tree.specs.Numbers.{largest_terra};
+ghost use Rattle.tl_parse.specs.TerraExpressions.{terra_number_at};
 ghost use Rattle.tl_parse.specs.Expressions.{is_simple, is_types, is_variadic};
 ghost use Rattle.tl_parse.specs.Joining.{Joined};
 ghost use Rattle.tl_parse.specs.Statements.{first_place, goes_on};
@@ -20,6 +22,7 @@ ghost use Rattle.tl_parse.specs.Using.{is_number, sign_at, open_at, sign_among_a
 ghost use Rattle.tl_parse.specs.Taking.{bar_of, Uses, Barred};
 
 use crate::error::SyntaxError;
+use crate::numerals::is_above;
 use crate::symbols::{has, number_of};
 use std::alloc::Global;
 use tl_base::{NodeId, Place};
@@ -36,6 +39,26 @@ pub(crate) const CHAIN: u32 = 1000;
 /// The largest number of Lua code.
 const LARGEST_NUMBER: u64 = 99_999_999_999_999;
 
+/// The largest number of Terra code without a suffix.
+const LARGEST_INT: u64 = 2_147_483_647;
+
+/// The largest number with the suffix `LL`.
+const LARGEST_LONG: u64 = 9_223_372_036_854_775_807;
+
+static TERRA_SUFFIX: [Symbol; 5] = [
+    Symbol::OpenParen,
+    Symbol::OpenBracket,
+    Symbol::Dot,
+    Symbol::Colon,
+    Symbol::OpenBrace,
+];
+
+static TERRA_NUMERAL: [Symbol; 3] = [
+    Symbol::Numeral,
+    Symbol::LongNumeral,
+    Symbol::UnsignedNumeral,
+];
+
 static SUFFIX: [Symbol; 6] = [
     Symbol::OpenParen,
     Symbol::OpenBracket,
@@ -45,7 +68,7 @@ static SUFFIX: [Symbol; 6] = [
     Symbol::Literal,
 ];
 
-static SIMPLE: [Symbol; 7] = [
+static SIMPLE: [Symbol; 11] = [
     Symbol::Numeral,
     Symbol::Literal,
     Symbol::Nil,
@@ -53,6 +76,10 @@ static SIMPLE: [Symbol; 7] = [
     Symbol::True,
     Symbol::Function,
     Symbol::OpenBrace,
+    Symbol::Terra,
+    Symbol::Struct,
+    Symbol::Quote,
+    Symbol::Backtick,
 ];
 
 static STATEMENT: [Symbol; 10] = [
@@ -187,18 +214,9 @@ impl<'a> Parser<'a> {
         }
     }
 
-    /// The nodes that it made.
-    #[tactic(auto, unfolding(crate::specs::Parsing::items_of))]
-    pub(crate) fn into_nodes(self) -> Vec<Node<'a>>
-        ensures { map item_of result.items ≡ items_of self.entry }
-    {
-        let Parser {
-            lexer: _,
-            current: _,
-            nodes,
-            alloc: _,
-        } = self;
-        nodes
+    #[cfg(test)]
+    pub(crate) fn nodes(&self) -> &[Node<'a>] {
+        &self.nodes
     }
 
     /// Is the next token this one?
@@ -426,6 +444,36 @@ impl<'a> Parser<'a> {
         Ok(read!(self.advance(false, 0, Extra::Plain)))
     }
 
+    /// Takes a number of Terra code.
+    #[tactic(auto, using(crate::proofs::TerraNumbers::taken_terra_number, crate::proofs::TerraNumbers::too_large_for_terra, crate::proofs::TerraNumbers::barred_terra_number, crate::proofs::Taking::refused_there, crate::proofs::Taking::next_of), unfolding(crate::specs::TerraExpressions::terra_number_at))]
+    pub(crate) fn take_terra_number(&mut self) -> Result<Next<'a>, SyntaxError>
+        requires { Ready self.old }
+        ensures ok { IfOk result (λ t. TookToken self.old self.new (terra_number_at (tokens_left self.old)) t) }
+        ensures err { IfErr result (λ e. Fails self.old (terra_number_at (tokens_left self.old)) e) }
+    {
+        if !self.next_is_among(&TERRA_NUMERAL) {
+            return Err(self.refusal());
+        }
+        if is_above(self.current.text, largest_terra(self.current.symbol)) {
+            return Err(SyntaxError::Refused {
+                kind: SyntaxKind::BadNumber,
+                place: self.current.place,
+            });
+        }
+        Ok(read!(self.advance(false, 0, Extra::Plain)))
+    }
+
+    /// Does the next token follow a prefix expression of Terra code, and belong to it?
+    #[tactic(auto, using(crate::proofs::TerraLooking::barred_terra_suffix, crate::proofs::TerraLooking::free_terra_suffix))]
+    pub(crate) fn next_is_terra_suffix(&self) -> bool
+        ensures { result ≡ begins (λ t. terra.is_terra_suffix t) (tokens_left self.now) }
+    {
+        if self.next_is_barred(Mode::Types) {
+            return false;
+        }
+        self.next_is_among(&TERRA_SUFFIX)
+    }
+
     /// Is the next token a `[` that is first on its line, in a type of Terra code?
     fn next_is_barred(&self, mode: Mode) -> bool
         ensures { result ≡ (is_types mode && (begins (is symbols.OpenBracket) (tokens_left self.now) && self.now.current.first_on_line)) }
@@ -558,8 +606,19 @@ fn is_variadic(mode: Mode) -> bool
     }
 }
 
+/// The largest number that a numeral of Terra code may stand for.
+fn largest_terra(symbol: Symbol) -> u64
+    ensures { result ≡ largest_terra symbol }
+{
+    match symbol {
+        Symbol::LongNumeral => LARGEST_LONG,
+        Symbol::UnsignedNumeral => u64::MAX,
+        _ => LARGEST_INT,
+    }
+}
+
 /// The operator that a token is, between two operands.
-fn binary_of(symbol: Symbol) -> BinaryOperator
+pub(crate) fn binary_of(symbol: Symbol) -> BinaryOperator
     ensures { result ≡ forms.binary_of symbol }
 {
     match symbol {

@@ -55,7 +55,7 @@ fn is_unsettled(shape: Shape) -> bool
     }
 }
 
-fn is_call(shape: Shape) -> bool
+pub(crate) fn is_call(shape: Shape) -> bool
     ensures { result ≡ is_call shape }
 {
     match shape {
@@ -125,7 +125,7 @@ impl<'a> Parser<'a> {
 
     /// A sign and a name behind it, with the place of the sign.
     #[tactic(auto, using(crate::proofs::Failing::fails_bind, crate::proofs::Failing::fails_after), unfolding(crate::specs::Statements::behind_sign_at))]
-    fn behind_sign(&mut self, symbol: Symbol) -> Result<NodeId, SyntaxError>
+    pub(crate) fn behind_sign(&mut self, symbol: Symbol) -> Result<NodeId, SyntaxError>
         requires first { is_bad symbol ≡ false }
         requires ready { Ready self.old }
         ensures ok { IfOk result (λ r. TookTree self.old self.new (behind_sign_at symbol (tokens_left self.old)) r) }
@@ -152,7 +152,7 @@ impl<'a> Parser<'a> {
 
     /// A path of names.
     #[tactic(auto, using(crate::proofs::Failing::fails_bind, crate::proofs::Failing::fails_after, crate::proofs::Failing::fails_from, crate::proofs::StatementTurns::path_goes, crate::proofs::StatementTurns::path_ends, crate::proofs::StatementTurns::path_shorter), unfolding(crate::specs::Statements::path_at))]
-    fn path(&mut self, levels: u32) -> Result<NodeId, SyntaxError>
+    pub(crate) fn path(&mut self, levels: u32) -> Result<NodeId, SyntaxError>
         requires { Ready self.old }
         ensures ok { IfOk result (λ r. TookTree self.old self.new (path_at levels (tokens_left self.old)) r) }
         ensures err { IfErr result (λ e. Fails self.old (path_at levels (tokens_left self.old)) e) }

@@ -8,6 +8,7 @@ use Rattle.tl_parse.specs.Parsing.{token_of, tokens_left}
 use Rattle.tl_parse.proofs.Uses.{operator_with}
 use Rattle.tl_parse.proofs.Turns.{suffix_shorter, operation_shorter}
 use Rattle.tl_parse.proofs.Looping.{listing_first, listing_next, targets_begin, targets_next, names_begin, names_next, body_fails}
+use Rattle.tl_parse.proofs.TerraTurns.{terra_suffix_shorter, terra_operation_shorter}
 use Rattle.tl_parse.proofs.parser.Parser.+parser.Goals as goal
 
 pub applied-more-smaller : goal.applied-more-smaller
@@ -56,3 +57,14 @@ function_body-returns-in-Err-block-clause-err t c =
     let p = c.in-Ok.ensures.ok in
     let s = c.in-Ok-take.ensures.ok in
     body_fails c.args.self.now c.take.new.self c.args.levels (tokens_left c.parameters.new.self) p.tree c.in-Ok.x.1 (token_of c.in-Ok-take.x) c.fresh.result c.in-Err-block.e p.took s.took c.fresh.ensures (s.finish ∙ p.finish) c.in-Err-block.ensures.err
+
+pub terra_applied-more-smaller : goal.terra_applied-more-smaller
+terra_applied-more-smaller t c =
+    terra_suffix_shorter c.args.levels c.more.a.left c.in-Ok-terra_suffix.ensures.ok.suffix (tokens_left c.more.self) (tokens_left c.terra_suffix.new.self) (sym c.next_is_terra_suffix.ensures ∙ c.more-test.true) c.in-Ok-terra_suffix.ensures.ok.took
+
+pub terra_binary-more-smaller : goal.terra_binary-more-smaller
+terra_binary-more-smaller t c =
+    let o = c.in-Ok-terra_one_more.ensures.ok in
+    let x = c.in-Ok-terra_one_more.x in
+    subst (λ (ts : List Token). length ts < length (tokens_left c.more.self)) (sym c.in-Ok-terra_operation.ensures.ok.pushed.rest)
+    (terra_operation_shorter c.args.levels c.args.precedence c.more.a.left (operator_with (token_of x.0) (chained o.tree x.1.left x.1.shape)) (tokens_left c.more.self) (tokens_left c.terra_one_more.new.self) o.took)
