@@ -1,11 +1,11 @@
 -- Texts with their trees and refusals, computed from the grammar. The tokens of a text stand on one line unless it says otherwise.
-use Rattle.std.proofs.Common.{◌≡◌, ℕ, zero, suc, Bool, true, false, List, [], ◌∷◌, ◌++◌, ◌+◌, ◌==◌, drop, refl, Some}
+use Rattle.std.proofs.Common.{◌≡◌, ℕ, zero, suc, true, false, List, [], ◌∷◌, ◌++◌, ◌+◌, ◌==◌, drop, refl, Some}
 use Rattle.std.specs.Prelude.{codes}
 use Rattle.tl_base.specs.declared.place.Place.{Place}
 use Rattle.tl_lex.specs.declared.SyntaxKind.{SyntaxKind}
 use Rattle.tl_lex.specs.declared.SyntaxKind.TheVariants as why
 use Rattle.tl_tree.specs.declared.symbol.Symbol.{Symbol}
-use Rattle.tl_tree.specs.declared.symbol.Symbol.TheVariants.{Break, Do, Else, Elseif, End, False, True, Hash, For, Function, If, In, Nil, Not, Or, And, Repeat, Return, Then, Until, While, Terra, Quote, Escape, Emit, Struct, Var, Local, Plus, Minus, Star, Caret, DoubleEqual, Less, Equal, OpenParen, CloseParen, OpenBrace, CloseBrace, OpenBracket, CloseBracket, Semicolon, Colon, DoubleColon, Comma, Dot, DoubleDot, Ellipsis, Arrow, At, Ampersand, DoubleLess, Backtick, Name, Numeral, LongNumeral, Literal, Bad}
+use Rattle.tl_tree.specs.declared.symbol.Symbol.TheVariants.{Break, Do, Else, Elseif, End, False, True, Hash, For, Function, If, In, Nil, Not, Or, And, Repeat, Return, Then, Until, While, Local, Plus, Minus, Star, Caret, Less, Equal, OpenParen, CloseParen, OpenBrace, CloseBrace, OpenBracket, CloseBracket, Semicolon, Colon, Comma, Dot, DoubleDot, Ellipsis, Arrow, Name, Numeral, LongNumeral, Literal}
 use Rattle.tl_tree.specs.declared.node.BinaryOperator.TheVariants as binary
 use Rattle.tl_tree.specs.declared.node.UnaryOperator.TheVariants as unary
 use Rattle.tl_base.specs.declared.ids.NodeId.{NodeId}

@@ -1,9 +1,8 @@
 -- Texts of Lua and Terra code with their trees and refusals, computed from the grammar.
-use Rattle.std.proofs.Common.{◌≡◌, ℕ, Bool, true, false, List, [], ◌∷◌, ◌++◌, refl}
+use Rattle.std.proofs.Common.{◌≡◌, ℕ, List, [], ◌∷◌, ◌++◌, refl}
 use Rattle.std.specs.Prelude.{codes}
 use Rattle.tl_lex.specs.declared.SyntaxKind.TheVariants as why
-use Rattle.tl_tree.specs.declared.symbol.Symbol.{Symbol}
-use Rattle.tl_tree.specs.declared.symbol.Symbol.TheVariants.{Break, Do, Else, Elseif, End, False, True, Hash, For, Function, If, In, Nil, Not, Or, And, Repeat, Return, Then, Until, While, Terra, Quote, Escape, Emit, Struct, Var, Local, Plus, Minus, Star, Caret, DoubleEqual, Less, Equal, OpenParen, CloseParen, OpenBrace, CloseBrace, OpenBracket, CloseBracket, Semicolon, Colon, DoubleColon, Comma, Dot, DoubleDot, Ellipsis, Arrow, At, Ampersand, DoubleLess, Backtick, Name, Numeral, LongNumeral, Literal, Bad}
+use Rattle.tl_tree.specs.declared.symbol.Symbol.TheVariants.{Break, Do, Else, Elseif, End, True, For, Function, If, In, Nil, Not, Repeat, Return, Then, Until, While, Terra, Quote, Escape, Emit, Struct, Var, Local, Plus, Minus, Star, Caret, DoubleEqual, Equal, OpenParen, CloseParen, OpenBrace, CloseBrace, OpenBracket, CloseBracket, Semicolon, Colon, DoubleColon, Comma, Dot, Ellipsis, Arrow, At, Ampersand, DoubleLess, Backtick, Name, Numeral, LongNumeral}
 use Rattle.tl_tree.specs.declared.node.BinaryOperator.TheVariants as binary
 use Rattle.tl_tree.specs.declared.node.UnaryOperator.TheVariants as unary
 use Rattle.tl_tree.specs.Symbols.{spelling}
