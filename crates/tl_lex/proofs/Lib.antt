@@ -15,3 +15,5 @@ pub mod LongestLemmas
 pub mod TokenLemmas
 pub mod LawLemmas
 pub mod RefusalLemmas
+pub mod CutLemmas
+pub mod CutTexts
