@@ -1,6 +1,7 @@
 -- What was not refused can be completed: some tokens after it make the grammar read it.
 use Rattle.std.proofs.Common.{◌≡◌, ℕ, zero, suc, ◌≤◌, Bool, true, false, cond, List, [], ◌∷◌, ◌++◌, length, Option, Some, None, refl, sym, ap, ◌∙◌, subst, append_assoc, append-nil, arith, inl, inr, length-append}
 use Rattle.std.proofs.lemmas.List.{append_cancel_right}
+use Rattle.tl_base.specs.declared.place.Place.{Place}
 use Rattle.tl_tree.specs.Tokens.{Token}
 use Rattle.tl_tree.specs.declared.symbol.Symbol.{Symbol}
 use Rattle.tl_tree.specs.declared.symbol.Symbol.TheVariants.{Bad}
@@ -10,6 +11,7 @@ use Rattle.tl_tree.specs.declared.mode.Extra.{Extra}
 use Rattle.tl_tree.specs.Symbols.{is_bad}
 use Rattle.tl_tree.specs.Tree.{Tree, Nothing, Part}
 use Rattle.tl_tree.specs.Grammar.{Use, bar, is_of, is_none_left, Grammar, give, token, bind, when, many, begins, Rule, Parts, Opened, Turns, stop, turn, Reads, Outcome, Took, Stop, ◌>>=◌, blame, unless, Readers, opened, turns, run}
+use Rattle.tl_tree.proofs.Spelled.{is_written, placed, next_word, behind, Spelled, spelled-append}
 use Rattle.tl_tree.proofs.Reading.{rest_of, with_rest, Allows, Leaves, leaves, leaves-turns, leaves-opened, leaves-bind, leaves_length, leaves_all, not_longer, back_of, steady, steady-opened, steady-bind, sound, sound-opened, bar_levels, bind_took, ReadersLeave, ReadersSteady, ReadersSound}
 
 -- the next token, if there is one, is of the class
@@ -43,16 +45,18 @@ Forgives (Took a rest) rule tail = Unit {0}
 Forgives (Stop why []) rule tail = Unit {0}
 Forgives (Stop why (t ∷ rest)) rule tail = (role : Use) → bar role t ≡ Some why → rule role (t ∷ tail) ≡ true
 
--- tokens that complete the front, whatever follows them, if its first token is of the class after
-pub record Completion {A : Type 0} (R : Rule → List Token → A → List Token → Type 0) (o : Outcome A) (first after : Token → Bool) (front : List Token) : Type 0 where
+-- tokens that complete the front, from this place on and whatever follows them, if its first token is of the class after
+pub record Completion {A : Type 0} (R : Rule → List Token → A → List Token → Type 0) (p : Place) (o : Outcome A) (first after : Token → Bool) (front : List Token) : Type 0 where
   pub more : List Token
+  pub spelled : Spelled p more
   pub value : A
   pub starts : front ≡ [] → (close : List Token) → fits after close ≡ true → fits first (more ++ close) ≡ true
   pub reads : (close : List Token) → fits after close ≡ true → (rule : Rule) → Allows rule → Lenient rule (length (more ++ close)) → Forgives o rule (more ++ close) → R rule (front ++ (more ++ close)) value close
 
 -- the same from nothing on
-pub record Bare {A : Type 0} (R : Rule → List Token → A → List Token → Type 0) (first after : Token → Bool) : Type 0 where
+pub record Bare {A : Type 0} (R : Rule → List Token → A → List Token → Type 0) (p : Place) (first after : Token → Bool) : Type 0 where
   pub more : List Token
+  pub spelled : Spelled p more
   pub value : A
   pub starts : (close : List Token) → fits after close ≡ true → fits first (more ++ close) ≡ true
   pub reads : (close : List Token) → fits after close ≡ true → (rule : Rule) → Allows rule → Lenient rule (length (more ++ close)) → R rule (more ++ close) value close
@@ -95,28 +99,29 @@ no_limit_of _ e h = h
 pub no_limit : (t : Token) → IsLimit t (blame t.symbol) → ⊥
 no_limit t h = no_limit_of t.symbol h.0 h.1
 
-apart : (b class : Token → Bool) → ((t : Token) → b t ≡ true → is_of class t ≡ false) → (ts : List Token) → fits b ts ≡ true → begins class ts ≡ false
+pub apart : (b class : Token → Bool) → ((t : Token) → b t ≡ true → is_of class t ≡ false) → (ts : List Token) → fits b ts ≡ true → begins class ts ≡ false
 apart b class h [] e = refl
 apart b class h (t ∷ ts) e = h t e
 
 -- ---- one after the other
 
 abbrev pub Both : {A B : Type 0} → (Rule → List Token → A → List Token → Type 0) → (Rule → A → List Token → B → List Token → Type 0) → Rule → List Token → B → List Token → Type 0
-Both {A} R1 R2 rule ts b rest = (a : A) × (m : List Token) × R1 rule ts a m × R2 rule a m b rest
+Both {A} Reads1 Reads2 rule ts b rest = (a : A) × (m : List Token) × Reads1 rule ts a m × Reads2 rule a m b rest
 
-module _ {A B : Type 0} (o1 : List Token → Outcome A) (R1 : Rule → List Token → A → List Token → Type 0) (o2 : A → List Token → Outcome B) (R2 : Rule → A → List Token → B → List Token → Type 0) (first mid after : Token → Bool) (n : ℕ)
+module _ {A B : Type 0} (o1 : List Token → Outcome A) (Reads1 : Rule → List Token → A → List Token → Type 0) (o2 : A → List Token → Outcome B) (Reads2 : Rule → A → List Token → B → List Token → Type 0) (p : Place) (first mid after : Token → Bool) (n : ℕ)
     (leaves1 : (ts : List Token) → Leaves (rest_of (o1 ts)) ts)
     (steady1 : (front r x b : List Token) (t : Token) → rest_of (o1 (front ++ r)) ≡ t ∷ (b ++ r) → o1 (front ++ x) ≡ with_rest (t ∷ (b ++ x)) (o1 (front ++ r)))
-    (sound1 : (rule : Rule) → Allows rule → (ts : List Token) (a : A) (rest : List Token) → o1 ts ≡ Took a rest → R1 rule ts a rest)
+    (sound1 : (rule : Rule) → Allows rule → (ts : List Token) (a : A) (rest : List Token) → o1 ts ≡ Took a rest → Reads1 rule ts a rest)
     (leaves2 : (a : A) (ts : List Token) → Leaves (rest_of (o2 a ts)) ts)
-    (completes1 : (front r : List Token) → Shows (o1 (front ++ r)) r → Completion R1 (o1 (front ++ r)) first mid front)
-    (bare2 : (a : A) → Bare (λ rule ts b rest. R2 rule a ts b rest) mid after)
-    (completes2 : (a : A) (front r : List Token) → length (front ++ r) ≤ n → Shows (o2 a (front ++ r)) r → Completion (λ rule ts b rest. R2 rule a ts b rest) (o2 a (front ++ r)) mid after front) where
-  join : (o : Outcome A) (o' : Outcome B) (front : List Token) → Completion R1 o first mid front → ((rule : Rule) (tail : List Token) → Forgives o' rule tail → Forgives o rule tail) → Completion (Both R1 R2) o' first after front
+    (completes1 : (front r : List Token) → Shows (o1 (front ++ r)) r → Completion Reads1 p (o1 (front ++ r)) first mid front)
+    (bare2 : (q : Place) (a : A) → Bare (λ rule ts b rest. Reads2 rule a ts b rest) q mid after)
+    (completes2 : (a : A) (front r : List Token) → length (front ++ r) ≤ n → Shows (o2 a (front ++ r)) r → Completion (λ rule ts b rest. Reads2 rule a ts b rest) p (o2 a (front ++ r)) mid after front) where
+  join : (o : Outcome A) (o' : Outcome B) (front : List Token) → Completion Reads1 p o first mid front → ((rule : Rule) (tail : List Token) → Forgives o' rule tail → Forgives o rule tail) → Completion (Both Reads1 Reads2) p o' first after front
   join o o' front c1 pass =
-      let c2 = bare2 c1.value in
+      let c2 = bare2 (behind p c1.more) c1.value in
       record {
         more = c1.more ++ c2.more;
+        spelled = spelled-append p c1.more c2.more c1.spelled c2.spelled;
         value = c2.value;
         starts = λ none close k. subst (λ (x : List Token). fits first x ≡ true) (sym (append_assoc c1.more c2.more close)) (c1.starts none (c2.more ++ close) (c2.starts close k));
         reads = λ close k rule al le fo.
@@ -124,13 +129,13 @@ module _ {A B : Type 0} (o1 : List Token → Outcome A) (R1 : Rule → List Toke
             let len : length (c2.more ++ close) ≤ length ((c1.more ++ c2.more) ++ close) = subst (λ (x : List Token). length (c2.more ++ close) ≤ length x) (sym same) (omega (arith, length-append c1.more (c2.more ++ close))) in (
               c1.value,
               c2.more ++ close,
-              subst (λ (x : List Token). R1 rule (front ++ x) c1.value (c2.more ++ close)) (sym same)
+              subst (λ (x : List Token). Reads1 rule (front ++ x) c1.value (c2.more ++ close)) (sym same)
                   (c1.reads (c2.more ++ close) (c2.starts close k) rule al (subst (λ (x : List Token). Lenient rule (length x)) same le) (pass rule (c1.more ++ (c2.more ++ close)) (subst (λ (x : List Token). Forgives o' rule x) same fo))),
               c2.reads close k rule al (λ role ts short. le role ts (omega arith)),
             );
       }
 
-  pub seq : (front r : List Token) → length (front ++ r) ≤ n → (o : Outcome A) → o1 (front ++ r) ≡ o → Shows (o >>= o2) r → Completion (Both R1 R2) (o >>= o2) first after front
+  pub seq : (front r : List Token) → length (front ++ r) ≤ n → (o : Outcome A) → o1 (front ++ r) ≡ o → Shows (o >>= o2) r → Completion (Both Reads1 Reads2) p (o >>= o2) first after front
   seq front r le (Took a []) e sh =
       let none : r ≡ [] = shows_from_nothing (o2 a []) r (leaves2 a []) sh in
       join (o1 (front ++ r)) (o2 a []) front (completes1 front r (subst (λ (o : Outcome A). Shows o r) (sym e) (refl, none))) (λ rule tail f. subst (λ (o : Outcome A). Forgives o rule tail) (sym e) tt)
@@ -154,6 +159,7 @@ module _ {A B : Type 0} (o1 : List Token → Outcome A) (R1 : Rule → List Toke
       let c2 = completes2 a (s ∷ c) r (omega arith) (subst (λ (x : List Token). Shows (o2 a x) r) is sh) in
       record {
         more = c2.more;
+        spelled = c2.spelled;
         value = c2.value;
         starts = λ none close k. absurd (not_longer (s ∷ (c ++ r)) r c s (subst (λ (x : List Token). Leaves (s ∷ (c ++ r)) (x ++ r)) none left) refl);
         reads = λ close k rule al len2 fo.
@@ -166,7 +172,7 @@ module _ {A B : Type 0} (o1 : List Token → Outcome A) (R1 : Rule → List Toke
             );
       }
 
-all_fit : (ts : List Token) → fits (λ t. true) ts ≡ true
+pub all_fit : (ts : List Token) → fits (λ t. true) ts ≡ true
 all_fit [] = refl
 all_fit (t ∷ ts) = refl
 
@@ -176,11 +182,12 @@ fits_also a b h (t ∷ ts) e = h t e
 
 -- ---- the completions from nothing, form by form
 
-pub bare-both : {A B : Type 0} (R1 : Rule → List Token → A → List Token → Type 0) (R2 : Rule → A → List Token → B → List Token → Type 0) (first mid after : Token → Bool) → Bare R1 first mid → ((a : A) → Bare (λ rule ts b rest. R2 rule a ts b rest) mid after) → Bare (Both R1 R2) first after
-bare-both R1 R2 first mid after c1 h =
-    let c2 = h c1.value in
+pub bare-both : {A B : Type 0} (Reads1 : Rule → List Token → A → List Token → Type 0) (Reads2 : Rule → A → List Token → B → List Token → Type 0) (p : Place) (first mid after : Token → Bool) → Bare Reads1 p first mid → ((q : Place) (a : A) → Bare (λ rule ts b rest. Reads2 rule a ts b rest) q mid after) → Bare (Both Reads1 Reads2) p first after
+bare-both Reads1 Reads2 p first mid after c1 h =
+    let c2 = h (behind p c1.more) c1.value in
     record {
       more = c1.more ++ c2.more;
+      spelled = spelled-append p c1.more c2.more c1.spelled c2.spelled;
       value = c2.value;
       starts = λ close k. subst (λ (x : List Token). fits first x ≡ true) (sym (append_assoc c1.more c2.more close)) (c1.starts (c2.more ++ close) (c2.starts close k));
       reads = λ close k rule al le.
@@ -188,114 +195,119 @@ bare-both R1 R2 first mid after c1 h =
           let len : length (c2.more ++ close) ≤ length ((c1.more ++ c2.more) ++ close) = subst (λ (x : List Token). length (c2.more ++ close) ≤ length x) (sym same) (omega (arith, length-append c1.more (c2.more ++ close))) in (
             c1.value,
             c2.more ++ close,
-            subst (λ (x : List Token). R1 rule x c1.value (c2.more ++ close)) (sym same) (c1.reads (c2.more ++ close) (c2.starts close k) rule al (subst (λ (x : List Token). Lenient rule (length x)) same le)),
+            subst (λ (x : List Token). Reads1 rule x c1.value (c2.more ++ close)) (sym same) (c1.reads (c2.more ++ close) (c2.starts close k) rule al (subst (λ (x : List Token). Lenient rule (length x)) same le)),
             c2.reads close k rule al (λ role ts short. le role ts (omega arith)),
           );
     }
 
 module _ (levels : ℕ) (parts : Rule → Parts) where
-  -- a grammar that some tokens complete
+  -- a grammar that some tokens complete, from each place on
   abbrev pub Starts : {A : Type 0} → Grammar A → (Token → Bool) → (Token → Bool) → Type 0
-  Starts g first after = Bare (λ rule ts a rest. Reads rule levels (parts rule) g ts a rest) first after
+  Starts g first after = (p : Place) → Bare (λ rule ts a rest. Reads rule levels (parts rule) g ts a rest) p first after
 
   pub bare-within : {A : Type 0} (g : Grammar A) (first first' after after' : Token → Bool) → ((t : Token) → first t ≡ true → first' t ≡ true) → ((t : Token) → after' t ≡ true → after t ≡ true) → Starts g first after → Starts g first' after'
-  bare-within g first first' after after' wider narrower c =
-      record { more = c.more; value = c.value; starts = λ close k. fits_also first first' wider (c.more ++ close) (c.starts close (fits_also after' after narrower close k)); reads = λ close k rule al le. c.reads close (fits_also after' after narrower close k) rule al le }
+  bare-within g first first' after after' wider narrower starts p =
+      let c = starts p in
+      record { more = c.more; spelled = c.spelled; value = c.value; starts = λ close k. fits_also first first' wider (c.more ++ close) (c.starts close (fits_also after' after narrower close k)); reads = λ close k rule al le. c.reads close (fits_also after' after narrower close k) rule al le }
 
   pub bare-give : {A : Type 0} (a : A) (after : Token → Bool) → Starts (give a) after after
-  bare-give a after = record { more = []; value = a; starts = λ close k. k; reads = λ close k rule al le. (refl, refl) }
+  bare-give a after p = record { more = []; spelled = tt; value = a; starts = λ close k. k; reads = λ close k rule al le. (refl, refl) }
 
-  pub bare-opened : (class : Token → Bool) (extra : Token → Extra) (opens : Token → Option Part) (sample : Token) (first other after : Token → Bool) → is_of class sample ≡ true → first sample ≡ true → Bare (λ rule ts x rest. Opened (parts rule) (opens sample) ts x rest) other after → Starts (token class extra opens sample) first after
-  bare-opened class extra opens sample first other after good_sample first_sample c =
+  pub bare-opened : (class : Token → Bool) (extra : Token → Extra) (opens : Token → Option Part) (sample : Token) (k : Symbol) (p : Place) (first other after : Token → Bool) → is_written k ≡ true → is_of class (placed p k) ≡ true → first (placed p k) ≡ true → Bare (λ rule ts x rest. Opened (parts rule) (opens (placed p k)) ts x rest) (next_word p) other after → Bare (λ rule ts a rest. Reads rule levels (parts rule) (token class extra opens sample) ts a rest) p first after
+  bare-opened class extra opens sample k p first other after written good good_first c =
+      let t : Token = placed p k in
       record {
-        more = sample ∷ c.more;
-        value = (sample, c.value);
-        starts = λ close k. first_sample;
-        reads = λ close k rule al le.
-            (c.more ++ close, refl, good_sample, le (record { opens = opens sample; levels = levels; extra = extra sample }) (sample ∷ (c.more ++ close)) (omega arith), c.reads close k rule al (λ role ts short. le role ts (omega arith)));
+        more = t ∷ c.more;
+        spelled = ((k, written, refl), c.spelled);
+        value = (t, c.value);
+        starts = λ close h. good_first;
+        reads = λ close h rule al le.
+            (c.more ++ close, refl, good, le (record { opens = opens t; levels = levels; extra = extra t }) (t ∷ (c.more ++ close)) (omega arith), c.reads close h rule al (λ role ts short. le role ts (omega arith)));
       }
 
-  pub bare-none : (after : Token → Bool) → Bare (λ rule ts x rest. Opened (parts rule) None ts x rest) after after
-  bare-none after = record { more = []; value = Nothing; starts = λ close k. k; reads = λ close k rule al le. (refl, refl) }
+  pub bare-none : (p : Place) (after : Token → Bool) → Bare (λ rule ts x rest. Opened (parts rule) None ts x rest) p after after
+  bare-none p after = record { more = []; spelled = tt; value = Nothing; starts = λ close k. k; reads = λ close k rule al le. (refl, refl) }
 
-  pub bare-token : (class : Token → Bool) (extra : Token → Extra) (opens : Token → Option Part) (sample : Token) (first after : Token → Bool) → is_of class sample ≡ true → first sample ≡ true → opens sample ≡ None → Starts (token class extra opens sample) first after
-  bare-token class extra opens sample first after good_sample first_sample none =
-      bare-opened class extra opens sample first after after good_sample first_sample (subst (λ (o : Option Part). Bare (λ rule ts x rest. Opened (parts rule) o ts x rest) after after) (sym none) (bare-none after))
+  pub bare-token : (class : Token → Bool) (extra : Token → Extra) (opens : Token → Option Part) (sample : Token) (k : Symbol) (first after : Token → Bool) → is_written k ≡ true → ((p : Place) → is_of class (placed p k) ≡ true) → ((p : Place) → first (placed p k) ≡ true) → ((p : Place) → opens (placed p k) ≡ None) → Starts (token class extra opens sample) first after
+  bare-token class extra opens sample k first after written good good_first none p =
+      bare-opened class extra opens sample k p first after after written (good p) (good_first p) (subst (λ (o : Option Part). Bare (λ rule ts x rest. Opened (parts rule) o ts x rest) (next_word p) after after) (sym (none p)) (bare-none (next_word p) after))
 
   pub bare-bind : {A B : Type 0} (g : Grammar A) (h : A → Grammar B) (first mid after : Token → Bool) → Starts g first mid → ((a : A) → Starts (h a) mid after) → Starts (bind g h) first after
-  bare-bind g h first mid after p q = bare-both (λ rule ts a rest. Reads rule levels (parts rule) g ts a rest) (λ rule a ts b rest. Reads rule levels (parts rule) (h a) ts b rest) first mid after p q
+  bare-bind g h first mid after c d p = bare-both (λ rule ts a rest. Reads rule levels (parts rule) g ts a rest) (λ rule a ts b rest. Reads rule levels (parts rule) (h a) ts b rest) p first mid after (c p) (λ q a. d a q)
 
   pub bare-when : {A : Type 0} (class : Token → Bool) (g h : Grammar A) (first after : Token → Bool) → Starts h first after → ((t : Token) → first t ≡ true → is_of class t ≡ false) → Starts (when class g h) first after
-  bare-when class g h first after c far =
-      record { more = c.more; value = c.value; starts = c.starts; reads = λ close k rule al le. inr (apart first class far (c.more ++ close) (c.starts close k), c.reads close k rule al le) }
+  bare-when class g h first after starts far p =
+      let c = starts p in
+      record { more = c.more; spelled = c.spelled; value = c.value; starts = c.starts; reads = λ close k rule al le. inr (apart first class far (c.more ++ close) (c.starts close k), c.reads close k rule al le) }
 
   pub bare-many : {A : Type 0} (class : A → Token → Bool) (extra : A → Token → Extra) (opens : A → Token → Option Part) (step : Token → Tree → A → Grammar A) (a : A) (after : Token → Bool) → ((b : A) (t : Token) → after t ≡ true → is_of (class b) t ≡ false) → Starts (many class extra opens step a) after after
-  bare-many class extra opens step a after far =
-      record { more = []; value = a; starts = λ close k. k; reads = λ close k rule al le. stop (apart after (class a) (far a) close k) }
+  bare-many class extra opens step a after far p =
+      record { more = []; spelled = tt; value = a; starts = λ close k. k; reads = λ close k rule al le. stop (apart after (class a) (far a) close k) }
 
 -- ---- the completions of a grammar, form by form
 
 module _ (levels : ℕ) (readers : Readers) (parts : Rule → Parts) (part_after : Part → Token → Bool)
     (readers_leave : ReadersLeave readers) (readers_steady : ReadersSteady readers)
     (readers_sound : (rule : Rule) → Allows rule → ReadersSound levels readers (parts rule))
-    (parts_bare : (part : Part) → Bare (λ rule ts x rest. parts rule part ts x rest) (λ t. true) (part_after part))
-    (readers_complete : is_none_left levels ≡ false → (part : Part) (front r : List Token) → Shows (readers part (front ++ r)) r → Completion (λ rule ts x rest. parts rule part ts x rest) (readers part (front ++ r)) (λ t. true) (part_after part) front) where
+    (parts_bare : (part : Part) (p : Place) → Bare (λ rule ts x rest. parts rule part ts x rest) p (λ t. true) (part_after part))
+    (readers_complete : is_none_left levels ≡ false → (part : Part) (p : Place) (front r : List Token) → Shows (readers part (front ++ r)) r → Completion (λ rule ts x rest. parts rule part ts x rest) p (readers part (front ++ r)) (λ t. true) (part_after part) front) where
   -- what is completed by what follows
   abbrev pub Covers : (Token → Bool) → Option Part → Type 0
   Covers after None = Unit {0}
   Covers after (Some part) = (t : Token) → after t ≡ true → part_after part t ≡ true
 
   abbrev pub Completes : {A : Type 0} → Grammar A → (Token → Bool) → (Token → Bool) → Type 0
-  Completes g first after = (front r : List Token) → Shows (run levels readers g (front ++ r)) r → Completion (λ rule ts a rest. Reads rule levels (parts rule) g ts a rest) (run levels readers g (front ++ r)) first after front
+  Completes g first after = (p : Place) (front r : List Token) → Shows (run levels readers g (front ++ r)) r → Completion (λ rule ts a rest. Reads rule levels (parts rule) g ts a rest) p (run levels readers g (front ++ r)) first after front
 
   pub starts_of : {A : Type 0} (g : Grammar A) (first after : Token → Bool) → Completes g first after → Starts levels parts g first after
-  starts_of g first after p =
-      let c = p [] [] (shows_nothing (run levels readers g []) (leaves levels readers readers_leave g [])) in
-      record { more = c.more; value = c.value; starts = λ close k. c.starts refl close k; reads = λ close k rule al le. c.reads close k rule al le (forgives_nothing (run levels readers g []) rule (c.more ++ close) (leaves levels readers readers_leave g [])) }
+  starts_of g first after completes p =
+      let c = completes p [] [] (shows_nothing (run levels readers g []) (leaves levels readers readers_leave g [])) in
+      record { more = c.more; spelled = c.spelled; value = c.value; starts = λ close k. c.starts refl close k; reads = λ close k rule al le. c.reads close k rule al le (forgives_nothing (run levels readers g []) rule (c.more ++ close) (leaves levels readers readers_leave g [])) }
 
-  opened_bare : (o : Option Part) (after : Token → Bool) → Covers after o → Bare (λ rule ts x rest. Opened (parts rule) o ts x rest) (λ t. true) after
-  opened_bare None after h = record { more = []; value = Nothing; starts = λ close k. all_fit close; reads = λ close k rule al le. (refl, refl) }
-  opened_bare (Some part) after h =
-      let c = parts_bare part in
-      record { more = c.more; value = c.value; starts = λ close k. all_fit (c.more ++ close); reads = λ close k rule al le. c.reads close (fits_also after (part_after part) h close k) rule al le }
+  opened_bare : (o : Option Part) (p : Place) (after : Token → Bool) → Covers after o → Bare (λ rule ts x rest. Opened (parts rule) o ts x rest) p (λ t. true) after
+  opened_bare None p after h = record { more = []; spelled = tt; value = Nothing; starts = λ close k. all_fit close; reads = λ close k rule al le. (refl, refl) }
+  opened_bare (Some part) p after h =
+      let c = parts_bare part p in
+      record { more = c.more; spelled = c.spelled; value = c.value; starts = λ close k. all_fit (c.more ++ close); reads = λ close k rule al le. c.reads close (fits_also after (part_after part) h close k) rule al le }
 
-  opened_completes : (extra : Extra) (t : Token) (o : Option Part) (after : Token → Bool) → Covers after o → bar (record { opens = o; levels = levels; extra = extra }) t ≡ None → (front r : List Token) → Shows (opened readers o (front ++ r)) r → Completion (λ rule ts x rest. Opened (parts rule) o ts x rest) (opened readers o (front ++ r)) (λ t. true) after front
-  opened_completes extra t None after h k [] r s = record { more = []; value = Nothing; starts = λ none close k2. all_fit close; reads = λ close k2 rule al le fo. (refl, refl) }
-  opened_completes extra t None after h k (u ∷ front) r s = absurd cc
-  opened_completes extra t (Some part) after h k front r s =
-      let c = readers_complete (bar_levels part levels extra t k) part front r s in
-      record { more = c.more; value = c.value; starts = λ none close k2. all_fit (c.more ++ close); reads = λ close k2 rule al le fo. c.reads close (fits_also after (part_after part) h close k2) rule al le fo }
+  opened_completes : (extra : Extra) (t : Token) (o : Option Part) (p : Place) (after : Token → Bool) → Covers after o → bar (record { opens = o; levels = levels; extra = extra }) t ≡ None → (front r : List Token) → Shows (opened readers o (front ++ r)) r → Completion (λ rule ts x rest. Opened (parts rule) o ts x rest) p (opened readers o (front ++ r)) (λ t. true) after front
+  opened_completes extra t None p after h k [] r s = record { more = []; spelled = tt; value = Nothing; starts = λ none close k2. all_fit close; reads = λ close k2 rule al le fo. (refl, refl) }
+  opened_completes extra t None p after h k (u ∷ front) r s = absurd cc
+  opened_completes extra t (Some part) p after h k front r s =
+      let c = readers_complete (bar_levels part levels extra t k) part p front r s in
+      record { more = c.more; spelled = c.spelled; value = c.value; starts = λ none close k2. all_fit (c.more ++ close); reads = λ close k2 rule al le fo. c.reads close (fits_also after (part_after part) h close k2) rule al le fo }
 
   pub completes-within : {A : Type 0} (g : Grammar A) (first first' after after' : Token → Bool) → ((t : Token) → first t ≡ true → first' t ≡ true) → ((t : Token) → after' t ≡ true → after t ≡ true) → Completes g first after → Completes g first' after'
-  completes-within g first first' after after' wider narrower p front r sh =
-      let c = p front r sh in
-      record { more = c.more; value = c.value; starts = λ none close k. fits_also first first' wider (c.more ++ close) (c.starts none close (fits_also after' after narrower close k)); reads = λ close k rule al le fo. c.reads close (fits_also after' after narrower close k) rule al le fo }
+  completes-within g first first' after after' wider narrower completes p front r sh =
+      let c = completes p front r sh in
+      record { more = c.more; spelled = c.spelled; value = c.value; starts = λ none close k. fits_also first first' wider (c.more ++ close) (c.starts none close (fits_also after' after narrower close k)); reads = λ close k rule al le fo. c.reads close (fits_also after' after narrower close k) rule al le fo }
 
   pub completes-give : {A : Type 0} (a : A) (after : Token → Bool) → Completes (give a) after after
-  completes-give a after [] r sh = record { more = []; value = a; starts = λ none close k. k; reads = λ close k rule al le fo. (refl, refl) }
-  completes-give a after (t ∷ front) r sh = absurd cc
+  completes-give a after p [] r sh = record { more = []; spelled = tt; value = a; starts = λ none close k. k; reads = λ close k rule al le fo. (refl, refl) }
+  completes-give a after p (t ∷ front) r sh = absurd cc
 
-  pub completes-token : (class : Token → Bool) (extra : Token → Extra) (opens : Token → Option Part) (sample : Token) (first after : Token → Bool) → is_of class sample ≡ true → first sample ≡ true → ((t : Token) → is_of class t ≡ true → Covers after (opens t)) → Completes (token class extra opens sample) first after
-  completes-token class extra opens sample first after good_sample first_sample covers [] r sh =
-      let c = bare-opened levels parts class extra opens sample first (λ t. true) after good_sample first_sample (opened_bare (opens sample) after (covers sample good_sample)) in
-      record { more = c.more; value = c.value; starts = λ none close k. c.starts close k; reads = λ close k rule al le fo. c.reads close k rule al le }
-  completes-token class extra opens sample first after good_sample first_sample covers (t ∷ front) r sh = go (is_of class t) refl (bar (use_of t) t) refl sh
+  pub completes-token : (class : Token → Bool) (extra : Token → Extra) (opens : Token → Option Part) (sample : Token) (k : Symbol) (first after : Token → Bool) → is_written k ≡ true → ((p : Place) → is_of class (placed p k) ≡ true) → ((p : Place) → first (placed p k) ≡ true) → ((t : Token) → is_of class t ≡ true → Covers after (opens t)) → Completes (token class extra opens sample) first after
+  completes-token class extra opens sample k first after written good good_first covers p [] r sh =
+      let c = bare-opened levels parts class extra opens sample k p first (λ t. true) after written (good p) (good_first p) (opened_bare (opens (placed p k)) (next_word p) after (covers (placed p k) (good p))) in
+      record { more = c.more; spelled = c.spelled; value = c.value; starts = λ none close h. c.starts close h; reads = λ close h rule al le fo. c.reads close h rule al le }
+  completes-token class extra opens sample k first after written good good_first covers p (t ∷ front) r sh = go (is_of class t) refl (bar (use_of t) t) refl sh
     where
       use_of : Token → Use
       use_of t = record { opens = opens t; levels = levels; extra = extra t }
 
-      go : (c : Bool) → is_of class t ≡ c → (o : Option SyntaxKind) → bar (record { opens = opens t; levels = levels; extra = extra t }) t ≡ o → Shows {A = Token × Tree} (cond c (unless o (t ∷ (front ++ r)) (opened readers (opens t) (front ++ r) >>= λ x mid. Took (t, x) mid)) (Stop (blame t.symbol) (t ∷ (front ++ r)))) r → Completion {A = Token × Tree} (λ rule ts a rest. Reads rule levels (parts rule) (token class extra opens sample) ts a rest) (cond c (unless o (t ∷ (front ++ r)) (opened readers (opens t) (front ++ r) >>= λ x mid. Took (t, x) mid)) (Stop (blame t.symbol) (t ∷ (front ++ r)))) first after (t ∷ front)
+      go : (c : Bool) → is_of class t ≡ c → (o : Option SyntaxKind) → bar (record { opens = opens t; levels = levels; extra = extra t }) t ≡ o → Shows {A = Token × Tree} (cond c (unless o (t ∷ (front ++ r)) (opened readers (opens t) (front ++ r) >>= λ x mid. Took (t, x) mid)) (Stop (blame t.symbol) (t ∷ (front ++ r)))) r → Completion {A = Token × Tree} (λ rule ts a rest. Reads rule levels (parts rule) (token class extra opens sample) ts a rest) p (cond c (unless o (t ∷ (front ++ r)) (opened readers (opens t) (front ++ r) >>= λ x mid. Took (t, x) mid)) (Stop (blame t.symbol) (t ∷ (front ++ r)))) first after (t ∷ front)
       go true h None k s =
           let c =
-          seq (λ ts. opened readers (opens t) ts) (λ rule ts x rest. Opened (parts rule) (opens t) ts x rest) (λ x ts. Took (t, x) ts) (λ rule x ts b rest. (b ≡ (t, x)) × (rest ≡ ts)) (λ t. true) after after (length (front ++ r))
+          seq (λ ts. opened readers (opens t) ts) (λ rule ts x rest. Opened (parts rule) (opens t) ts x rest) (λ x ts. Took (t, x) ts) (λ rule x ts b rest. (b ≡ (t, x)) × (rest ≡ ts)) p (λ t. true) after after (length (front ++ r))
           (λ ts. leaves-opened readers readers_leave (opens t) ts) (λ f s x b u e. steady-opened readers readers_steady (opens t) f s x b u e)
           (λ rule al ts x rest e. sound-opened levels readers (parts rule) (readers_sound rule al) (extra t) t (opens t) k ts x rest e) (λ x ts. leaves_all ts)
-          (opened_completes (extra t) t (opens t) after (covers t h) k)
-          (λ x. record { more = []; value = (t, x); starts = λ close k2. k2; reads = λ close k2 rule al le. (refl, refl) })
+          (opened_completes (extra t) t (opens t) p after (covers t h) k)
+          (λ q x. record { more = []; spelled = tt; value = (t, x); starts = λ close k2. k2; reads = λ close k2 rule al le. (refl, refl) })
           (λ x f s le q. given x f s q)
           front r (omega arith) (opened readers (opens t) (front ++ r)) refl s in
           record {
             more = c.more;
+            spelled = c.spelled;
             value = c.value;
             starts = λ none close f. absurd cc;
             reads = λ close f rule al le fo.
@@ -303,8 +315,8 @@ module _ (levels : ℕ) (readers : Readers) (parts : Rule → Parts) (part_after
                 pair_reads rule (front ++ (c.more ++ close)) c.value close h (al (record { opens = opens t; levels = levels; extra = extra t }) t (front ++ (c.more ++ close)) k) b.0 b.1 b.2 b.3;
           }
         where
-          given : (x : Tree) (f s : List Token) → Shows {A = Token × Tree} (Took (t, x) (f ++ s)) s → Completion {A = Token × Tree} (λ rule ts b rest. (b ≡ (t, x)) × (rest ≡ ts)) (Took (t, x) (f ++ s)) after after f
-          given x [] s q = record { more = []; value = (t, x); starts = λ none close k. k; reads = λ close k rule al le fo. (refl, refl) }
+          given : (x : Tree) (f s : List Token) → Shows {A = Token × Tree} (Took (t, x) (f ++ s)) s → Completion {A = Token × Tree} (λ rule ts b rest. (b ≡ (t, x)) × (rest ≡ ts)) p (Took (t, x) (f ++ s)) after after f
+          given x [] s q = record { more = []; spelled = tt; value = (t, x); starts = λ none close k. k; reads = λ close k rule al le fo. (refl, refl) }
           given x (u ∷ f) s q = absurd cc
 
           pair_reads : (rule : Rule) (inner : List Token) (v : Token × Tree) (close : List Token) → is_of class t ≡ true → rule (record { opens = opens t; levels = levels; extra = extra t }) (t ∷ inner) ≡ true → (x : Tree) (mid : List Token) → Opened (parts rule) (opens t) inner x mid → (v ≡ (t, x)) × (close ≡ mid) → Reads rule levels (parts rule) (token class extra opens sample) (t ∷ inner) v close
@@ -312,9 +324,10 @@ module _ (levels : ℕ) (readers : Readers) (parts : Rule → Parts) (part_after
               subst (λ (w : Token × Tree). Reads rule levels (parts rule) (token class extra opens sample) (t ∷ inner) w close) (sym e.0) (inner, refl, h, r, subst (λ (m : List Token). Opened (parts rule) (opens t) inner x m) (sym e.1) o)
       go true h (Some why) k s =
           let empty : front ≡ [] = append_cancel_right front [] r s.0 in
-          let c = opened_bare (opens t) after (covers t h) in
+          let c = opened_bare (opens t) p after (covers t h) in
           record {
             more = c.more;
+            spelled = c.spelled;
             value = (t, c.value);
             starts = λ none close f. absurd cc;
             reads = λ close f rule al le fo.
@@ -324,30 +337,32 @@ module _ (levels : ℕ) (readers : Readers) (parts : Rule → Parts) (part_after
       go false h o k s = absurd (no_limit t s.1)
 
   pub completes-bind : {A B : Type 0} (g : Grammar A) (h : A → Grammar B) (first mid after : Token → Bool) → Completes g first mid → ((a : A) → Completes (h a) mid after) → Completes (bind g h) first after
-  completes-bind g h first mid after p q front r sh =
-      seq (λ ts. run levels readers g ts) (λ rule ts a rest. Reads rule levels (parts rule) g ts a rest) (λ a ts. run levels readers (h a) ts) (λ rule a ts b rest. Reads rule levels (parts rule) (h a) ts b rest) first mid after (length (front ++ r))
+  completes-bind g h first mid after c d p front r sh =
+      seq (λ ts. run levels readers g ts) (λ rule ts a rest. Reads rule levels (parts rule) g ts a rest) (λ a ts. run levels readers (h a) ts) (λ rule a ts b rest. Reads rule levels (parts rule) (h a) ts b rest) p first mid after (length (front ++ r))
       (λ ts. leaves levels readers readers_leave g ts) (λ f s x b t e. steady levels readers readers_leave readers_steady g f s x b t e)
       (λ rule al ts a rest e. sound rule al levels readers (parts rule) readers_leave (readers_sound rule al) g ts a rest e) (λ a ts. leaves levels readers readers_leave (h a) ts)
-      p (λ a. starts_of (h a) mid after (q a)) (λ a f s le k. q a f s k)
+      (c p) (λ q a. starts_of (h a) mid after (d a) q) (λ a f s le k. d a p f s k)
       front r (omega arith) (run levels readers g (front ++ r)) refl sh
 
   -- a token and what follows it, which begins in a class that depends on the token
-  pub completes-then : {A : Type 0} (class : Token → Bool) (extra : Token → Extra) (opens : Token → Option Part) (sample : Token) (h : Token × Tree → Grammar A) (first : Token → Bool) (other : Token → Token → Bool) (after : Token → Bool) → is_of class sample ≡ true → first sample ≡ true → ((t : Token) → is_of class t ≡ true → Covers (other t) (opens t)) → ((x : Token × Tree) → is_of class x.0 ≡ true → Completes (h x) (other x.0) after) → Completes (bind (token class extra opens sample) h) first after
-  completes-then {A} class extra opens sample h first other after good_sample first_sample covers next [] r sh =
-      let c = bare-both (λ rule ts x rest. Opened (parts rule) (opens sample) ts x rest) (λ rule x ts y rest. Reads rule levels (parts rule) (h (sample, x)) ts y rest) (λ t. true) (other sample) after (opened_bare (opens sample) (other sample) (covers sample good_sample)) (λ x. starts_of (h (sample, x)) (other sample) after (next (sample, x) good_sample)) in
+  pub completes-then : {A : Type 0} (class : Token → Bool) (extra : Token → Extra) (opens : Token → Option Part) (sample : Token) (s : Symbol) (h : Token × Tree → Grammar A) (first : Token → Bool) (other : Token → Token → Bool) (after : Token → Bool) → is_written s ≡ true → ((p : Place) → is_of class (placed p s) ≡ true) → ((p : Place) → first (placed p s) ≡ true) → ((t : Token) → is_of class t ≡ true → Covers (other t) (opens t)) → ((x : Token × Tree) → is_of class x.0 ≡ true → Completes (h x) (other x.0) after) → Completes (bind (token class extra opens sample) h) first after
+  completes-then {A} class extra opens sample s h first other after written good good_first covers next p [] r sh =
+      let t : Token = placed p s in
+      let c = bare-both (λ rule ts x rest. Opened (parts rule) (opens t) ts x rest) (λ rule x ts y rest. Reads rule levels (parts rule) (h (t, x)) ts y rest) (next_word p) (λ t. true) (other t) after (opened_bare (opens t) (next_word p) (other t) (covers t (good p))) (λ q x. starts_of (h (t, x)) (other t) after (next (t, x) (good p)) q) in
       record {
-        more = sample ∷ c.more;
+        more = t ∷ c.more;
+        spelled = ((s, written, refl), c.spelled);
         value = c.value;
-        starts = λ none close k. first_sample;
+        starts = λ none close k. good_first p;
         reads = λ close k rule al le fo.
             let i = c.reads close k rule al (λ role ts short. le role ts (omega arith)) in (
-              (sample, i.0),
+              (t, i.0),
               i.1,
-              (c.more ++ close, refl, good_sample, le (record { opens = opens sample; levels = levels; extra = extra sample }) (sample ∷ (c.more ++ close)) (omega arith), i.2),
+              (c.more ++ close, refl, good p, le (record { opens = opens t; levels = levels; extra = extra t }) (t ∷ (c.more ++ close)) (omega arith), i.2),
               i.3,
             );
       }
-  completes-then {A} class extra opens sample h first other after good_sample first_sample covers next (t ∷ front) r sh = go (is_of class t) refl (bar (record { opens = opens t; levels = levels; extra = extra t }) t) refl sh
+  completes-then {A} class extra opens sample s h first other after written good good_first covers next p (t ∷ front) r sh = go (is_of class t) refl (bar (record { opens = opens t; levels = levels; extra = extra t }) t) refl sh
     where
       f : Token × Tree → List Token → Outcome A
       f a mid = run levels readers (h a) mid
@@ -356,18 +371,19 @@ module _ (levels : ℕ) (readers : Readers) (parts : Rule → Parts) (part_after
       bind_again (Took x mid) = refl
       bind_again (Stop why rest) = refl
 
-      go : (c : Bool) → is_of class t ≡ c → (o : Option SyntaxKind) → bar (record { opens = opens t; levels = levels; extra = extra t }) t ≡ o → Shows {A = A} (cond c (unless o (t ∷ (front ++ r)) (opened readers (opens t) (front ++ r) >>= λ x mid. Took (t, x) mid)) (Stop (blame t.symbol) (t ∷ (front ++ r))) >>= λ a mid. run levels readers (h a) mid) r → Completion {A = A} (λ rule ts a rest. Reads rule levels (parts rule) (bind (token class extra opens sample) h) ts a rest) (cond c (unless o (t ∷ (front ++ r)) (opened readers (opens t) (front ++ r) >>= λ x mid. Took (t, x) mid)) (Stop (blame t.symbol) (t ∷ (front ++ r))) >>= λ a mid. run levels readers (h a) mid) first after (t ∷ front)
+      go : (c : Bool) → is_of class t ≡ c → (o : Option SyntaxKind) → bar (record { opens = opens t; levels = levels; extra = extra t }) t ≡ o → Shows {A = A} (cond c (unless o (t ∷ (front ++ r)) (opened readers (opens t) (front ++ r) >>= λ x mid. Took (t, x) mid)) (Stop (blame t.symbol) (t ∷ (front ++ r))) >>= λ a mid. run levels readers (h a) mid) r → Completion {A = A} (λ rule ts a rest. Reads rule levels (parts rule) (bind (token class extra opens sample) h) ts a rest) p (cond c (unless o (t ∷ (front ++ r)) (opened readers (opens t) (front ++ r) >>= λ x mid. Took (t, x) mid)) (Stop (blame t.symbol) (t ∷ (front ++ r))) >>= λ a mid. run levels readers (h a) mid) first after (t ∷ front)
       go true e None k s =
           let same = bind_again (opened readers (opens t) (front ++ r)) in
           let c =
-          seq (λ ts. opened readers (opens t) ts) (λ rule ts x rest. Opened (parts rule) (opens t) ts x rest) (λ x ts. run levels readers (h (t, x)) ts) (λ rule x ts y rest. Reads rule levels (parts rule) (h (t, x)) ts y rest) (λ t. true) (other t) after (length (front ++ r))
+          seq (λ ts. opened readers (opens t) ts) (λ rule ts x rest. Opened (parts rule) (opens t) ts x rest) (λ x ts. run levels readers (h (t, x)) ts) (λ rule x ts y rest. Reads rule levels (parts rule) (h (t, x)) ts y rest) p (λ t. true) (other t) after (length (front ++ r))
           (λ ts. leaves-opened readers readers_leave (opens t) ts) (λ f s x b u e. steady-opened readers readers_steady (opens t) f s x b u e)
           (λ rule al ts x rest e. sound-opened levels readers (parts rule) (readers_sound rule al) (extra t) t (opens t) k ts x rest e) (λ x ts. leaves levels readers readers_leave (h (t, x)) ts)
-          (opened_completes (extra t) t (opens t) (other t) (covers t e) k) (λ x. starts_of (h (t, x)) (other t) after (next (t, x) e)) (λ x f s le q. next (t, x) e f s q)
+          (opened_completes (extra t) t (opens t) p (other t) (covers t e) k) (λ q x. starts_of (h (t, x)) (other t) after (next (t, x) e) q) (λ x f s le k2. next (t, x) e p f s k2)
           front r (omega arith) (opened readers (opens t) (front ++ r)) refl (subst (λ (o : Outcome A). Shows o r) same s) in
-          subst (λ (o : Outcome A). Completion {A = A} (λ rule ts a rest. Reads rule levels (parts rule) (bind (token class extra opens sample) h) ts a rest) o first after (t ∷ front)) (sym same)
+          subst (λ (o : Outcome A). Completion {A = A} (λ rule ts a rest. Reads rule levels (parts rule) (bind (token class extra opens sample) h) ts a rest) p o first after (t ∷ front)) (sym same)
           (record {
             more = c.more;
+            spelled = c.spelled;
             value = c.value;
             starts = λ none close f. absurd cc;
             reads = λ close f rule al le fo.
@@ -376,9 +392,10 @@ module _ (levels : ℕ) (readers : Readers) (parts : Rule → Parts) (part_after
           })
       go true e (Some why) k s =
           let empty : front ≡ [] = append_cancel_right front [] r s.0 in
-          let c = bare-both (λ rule ts x rest. Opened (parts rule) (opens t) ts x rest) (λ rule x ts y rest. Reads rule levels (parts rule) (h (t, x)) ts y rest) (λ t. true) (other t) after (opened_bare (opens t) (other t) (covers t e)) (λ x. starts_of (h (t, x)) (other t) after (next (t, x) e)) in
+          let c = bare-both (λ rule ts x rest. Opened (parts rule) (opens t) ts x rest) (λ rule x ts y rest. Reads rule levels (parts rule) (h (t, x)) ts y rest) p (λ t. true) (other t) after (opened_bare (opens t) p (other t) (covers t e)) (λ q x. starts_of (h (t, x)) (other t) after (next (t, x) e) q) in
           record {
             more = c.more;
+            spelled = c.spelled;
             value = c.value;
             starts = λ none close f. absurd cc;
             reads = λ close f rule al le fo.
@@ -389,25 +406,25 @@ module _ (levels : ℕ) (readers : Readers) (parts : Rule → Parts) (part_after
       go false e o k s = absurd (no_limit t s.1)
 
   pub completes-when : {A : Type 0} (class : Token → Bool) (g h : Grammar A) (first other after : Token → Bool) → Completes g other after → Completes h first after → ((t : Token) → first t ≡ true → is_of class t ≡ false) → Completes (when class g h) first after
-  completes-when class g h first other after p q far [] r sh = subst (λ (x : List Token). Completion (λ rule ts a rest. Reads rule levels (parts rule) (when class g h) ts a rest) (run levels readers (when class g h) x) first after []) (sym none) found
+  completes-when class g h first other after c1 c2 far p [] r sh = subst (λ (x : List Token). Completion (λ rule ts a rest. Reads rule levels (parts rule) (when class g h) ts a rest) p (run levels readers (when class g h) x) first after []) (sym none) found
     where
       none : r ≡ []
       none = shows_no_front (run levels readers (when class g h) r) r (leaves levels readers readers_leave (when class g h) r) sh
 
-      c : Starts levels parts (when class g h) first after
-      c = bare-when levels parts class g h first after (starts_of h first after q) far
+      c : Bare (λ rule ts a rest. Reads rule levels (parts rule) (when class g h) ts a rest) p first after
+      c = bare-when levels parts class g h first after (starts_of h first after c2) far p
 
-      found : Completion (λ rule ts a rest. Reads rule levels (parts rule) (when class g h) ts a rest) (run levels readers h []) first after []
-      found = record { more = c.more; value = c.value; starts = λ none close k. c.starts close k; reads = λ close k rule al le fo. c.reads close k rule al le }
-  completes-when class g h first other after p q far (t ∷ front) r sh = go (is_of class t) refl sh
+      found : Completion (λ rule ts a rest. Reads rule levels (parts rule) (when class g h) ts a rest) p (run levels readers h []) first after []
+      found = record { more = c.more; spelled = c.spelled; value = c.value; starts = λ none close k. c.starts close k; reads = λ close k rule al le fo. c.reads close k rule al le }
+  completes-when class g h first other after c1 c2 far p (t ∷ front) r sh = go (is_of class t) refl sh
     where
-      go : (c : Bool) → is_of class t ≡ c → Shows (cond c (run levels readers g (t ∷ (front ++ r))) (run levels readers h (t ∷ (front ++ r)))) r → Completion (λ rule ts a rest. Reads rule levels (parts rule) (when class g h) ts a rest) (cond c (run levels readers g (t ∷ (front ++ r))) (run levels readers h (t ∷ (front ++ r)))) first after (t ∷ front)
+      go : (c : Bool) → is_of class t ≡ c → Shows (cond c (run levels readers g (t ∷ (front ++ r))) (run levels readers h (t ∷ (front ++ r)))) r → Completion (λ rule ts a rest. Reads rule levels (parts rule) (when class g h) ts a rest) p (cond c (run levels readers g (t ∷ (front ++ r))) (run levels readers h (t ∷ (front ++ r)))) first after (t ∷ front)
       go true e s =
-          let c = p (t ∷ front) r s in
-          record { more = c.more; value = c.value; starts = λ none close k. absurd cc; reads = λ close k rule al le fo. inl (e, c.reads close k rule al le fo) }
+          let c = c1 p (t ∷ front) r s in
+          record { more = c.more; spelled = c.spelled; value = c.value; starts = λ none close k. absurd cc; reads = λ close k rule al le fo. inl (e, c.reads close k rule al le fo) }
       go false e s =
-          let c = q (t ∷ front) r s in
-          record { more = c.more; value = c.value; starts = λ none close k. absurd cc; reads = λ close k rule al le fo. inr (e, c.reads close k rule al le fo) }
+          let c = c2 p (t ∷ front) r s in
+          record { more = c.more; spelled = c.spelled; value = c.value; starts = λ none close k. absurd cc; reads = λ close k rule al le fo. inr (e, c.reads close k rule al le fo) }
 
   module _ {A : Type 0} (class : A → Token → Bool) (extra : A → Token → Extra) (opens : A → Token → Option Part) (step : Token → Tree → A → Grammar A) (other : Token → Token → Bool) (after : Token → Bool) (covers : (a : A) (t : Token) → is_of (class a) t ≡ true → Covers (other t) (opens a t)) (step_completes : (t : Token) (x : Tree) (a : A) → is_of (class a) t ≡ true → Completes (step t x a) (other t) after) (far : (a : A) (t : Token) → after t ≡ true → is_of (class a) t ≡ false) where
     abbrev Inside : Rule → A → Token → List Token → A → List Token → Type 0
@@ -438,30 +455,31 @@ module _ (levels : ℕ) (readers : Readers) (parts : Rule → Parts) (part_after
         let s = bind_took (opened readers (opens a t) inner) (λ x mid. run levels readers (step t x a) mid) y next e in
         (s.0, s.1, sound-opened levels readers (parts rule) (readers_sound rule al) (extra a t) t (opens a t) k inner s.0 s.1 s.2, sound rule al levels readers (parts rule) readers_leave (readers_sound rule al) (step t s.0 a) s.1 y next s.3)
 
-    inside_bare : (a : A) (t : Token) → is_of (class a) t ≡ true → Bare (λ rule inner y next. Inside rule a t inner y next) (λ t. true) after
-    inside_bare a t h = bare-both (λ rule ts x rest. Opened (parts rule) (opens a t) ts x rest) (λ rule x ts y rest. Reads rule levels (parts rule) (step t x a) ts y rest) (λ t. true) (other t) after (opened_bare (opens a t) (other t) (covers a t h)) (λ x. starts_of (step t x a) (other t) after (step_completes t x a h))
+    inside_bare : (p : Place) (a : A) (t : Token) → is_of (class a) t ≡ true → Bare (λ rule inner y next. Inside rule a t inner y next) p (λ t. true) after
+    inside_bare p a t h = bare-both (λ rule ts x rest. Opened (parts rule) (opens a t) ts x rest) (λ rule x ts y rest. Reads rule levels (parts rule) (step t x a) ts y rest) p (λ t. true) (other t) after (opened_bare (opens a t) p (other t) (covers a t h)) (λ q x. starts_of (step t x a) (other t) after (step_completes t x a h) q)
 
-    inside_completes : (a : A) (t : Token) → is_of (class a) t ≡ true → bar (record { opens = opens a t; levels = levels; extra = extra a t }) t ≡ None → (front r : List Token) → Shows (go_on a t (front ++ r)) r → Completion (λ rule inner y next. Inside rule a t inner y next) (go_on a t (front ++ r)) (λ t. true) after front
-    inside_completes a t h k front r s =
-        seq (λ ts. opened readers (opens a t) ts) (λ rule ts x rest. Opened (parts rule) (opens a t) ts x rest) (λ x ts. run levels readers (step t x a) ts) (λ rule x ts y rest. Reads rule levels (parts rule) (step t x a) ts y rest) (λ t. true) (other t) after (length (front ++ r))
+    inside_completes : (p : Place) (a : A) (t : Token) → is_of (class a) t ≡ true → bar (record { opens = opens a t; levels = levels; extra = extra a t }) t ≡ None → (front r : List Token) → Shows (go_on a t (front ++ r)) r → Completion (λ rule inner y next. Inside rule a t inner y next) p (go_on a t (front ++ r)) (λ t. true) after front
+    inside_completes p a t h k front r s =
+        seq (λ ts. opened readers (opens a t) ts) (λ rule ts x rest. Opened (parts rule) (opens a t) ts x rest) (λ x ts. run levels readers (step t x a) ts) (λ rule x ts y rest. Reads rule levels (parts rule) (step t x a) ts y rest) p (λ t. true) (other t) after (length (front ++ r))
         (λ ts. leaves-opened readers readers_leave (opens a t) ts) (λ f s x b u e. steady-opened readers readers_steady (opens a t) f s x b u e)
         (λ rule al ts x rest e. sound-opened levels readers (parts rule) (readers_sound rule al) (extra a t) t (opens a t) k ts x rest e) (λ x ts. leaves levels readers readers_leave (step t x a) ts)
-        (opened_completes (extra a t) t (opens a t) (other t) (covers a t h) k) (λ x. starts_of (step t x a) (other t) after (step_completes t x a h)) (λ x f s le q. step_completes t x a h f s q)
+        (opened_completes (extra a t) t (opens a t) p (other t) (covers a t h) k) (λ q x. starts_of (step t x a) (other t) after (step_completes t x a h) q) (λ x f s le k2. step_completes t x a h p f s k2)
         front r (omega arith) (opened readers (opens a t) (front ++ r)) refl s
 
-    completes-runs : (n : ℕ) (a : A) (front r : List Token) → length (front ++ r) ≤ n → Shows (runs n a (front ++ r)) r → Completion (λ rule ts b rest. Turns class (Turn rule) a ts b rest) (runs n a (front ++ r)) after after front
-    completes-runs n a [] r le sh =
-        record { more = []; value = a; starts = λ none close k. k; reads = λ close k rule al le2 fo. stop (apart after (class a) (far a) close k) }
-    completes-runs zero a (t ∷ front) r le sh = absurd (omega arith)
-    completes-runs (suc n) a (t ∷ front) r le sh = go (is_of (class a) t) refl (bar (record { opens = opens a t; levels = levels; extra = extra a t }) t) refl sh (λ x f r2 le2 k2. completes-runs n x f r2 le2 k2)
+    completes-runs : (p : Place) (n : ℕ) (a : A) (front r : List Token) → length (front ++ r) ≤ n → Shows (runs n a (front ++ r)) r → Completion (λ rule ts b rest. Turns class (Turn rule) a ts b rest) p (runs n a (front ++ r)) after after front
+    completes-runs p n a [] r le sh =
+        record { more = []; spelled = tt; value = a; starts = λ none close k. k; reads = λ close k rule al le2 fo. stop (apart after (class a) (far a) close k) }
+    completes-runs p zero a (t ∷ front) r le sh = absurd (omega arith)
+    completes-runs p (suc n) a (t ∷ front) r le sh = go (is_of (class a) t) refl (bar (record { opens = opens a t; levels = levels; extra = extra a t }) t) refl sh (λ x f r2 le2 k2. completes-runs p n x f r2 le2 k2)
       where
-        go : (c : Bool) → is_of (class a) t ≡ c → (o : Option SyntaxKind) → bar (record { opens = opens a t; levels = levels; extra = extra a t }) t ≡ o → Shows (cond c (unless o (t ∷ (front ++ r)) (go_on a t (front ++ r) >>= λ x mid. runs n x mid)) (Took a (t ∷ (front ++ r)))) r → ((x : A) (f r2 : List Token) → length (f ++ r2) ≤ n → Shows (runs n x (f ++ r2)) r2 → Completion (λ rule ts b rest. Turns class (Turn rule) x ts b rest) (runs n x (f ++ r2)) after after f) → Completion (λ rule ts b rest. Turns class (Turn rule) a ts b rest) (cond c (unless o (t ∷ (front ++ r)) (go_on a t (front ++ r) >>= λ x mid. runs n x mid)) (Took a (t ∷ (front ++ r)))) after after (t ∷ front)
+        go : (c : Bool) → is_of (class a) t ≡ c → (o : Option SyntaxKind) → bar (record { opens = opens a t; levels = levels; extra = extra a t }) t ≡ o → Shows (cond c (unless o (t ∷ (front ++ r)) (go_on a t (front ++ r) >>= λ x mid. runs n x mid)) (Took a (t ∷ (front ++ r)))) r → ((x : A) (f r2 : List Token) → length (f ++ r2) ≤ n → Shows (runs n x (f ++ r2)) r2 → Completion (λ rule ts b rest. Turns class (Turn rule) x ts b rest) p (runs n x (f ++ r2)) after after f) → Completion (λ rule ts b rest. Turns class (Turn rule) a ts b rest) p (cond c (unless o (t ∷ (front ++ r)) (go_on a t (front ++ r) >>= λ x mid. runs n x mid)) (Took a (t ∷ (front ++ r)))) after after (t ∷ front)
         go false h o k s again = absurd cc
         go true h (Some why) k s again =
             let empty : front ≡ [] = append_cancel_right front [] r s.0 in
-            let c1 = inside_bare a t h in
+            let c1 = inside_bare p a t h in
             record {
               more = c1.more;
+              spelled = c1.spelled;
               value = c1.value;
               starts = λ none close f. absurd cc;
               reads = λ close f rule al le2 fo.
@@ -471,15 +489,16 @@ module _ (levels : ℕ) (readers : Readers) (parts : Rule → Parts) (part_after
             }
         go true h None k s again =
             let c =
-            seq (λ ts. go_on a t ts) (λ rule ts x rest. Inside rule a t ts x rest) (λ x ts. runs n x ts) (λ rule x ts b rest. Turns class (Turn rule) x ts b rest) (λ t. true) after after n
+            seq (λ ts. go_on a t ts) (λ rule ts x rest. Inside rule a t ts x rest) (λ x ts. runs n x ts) (λ rule x ts b rest. Turns class (Turn rule) x ts b rest) p (λ t. true) after after n
             (λ ts. go_on_leaves a t ts) (λ f s x b t2 e. go_on_steady a t f s x b t2 e) (λ rule al ts x rest e. inside_sound rule al a t k ts x rest e)
             (λ x ts. runs_leaves n x ts)
-            (inside_completes a t h k)
-            (λ x. record { more = []; value = x; starts = λ close f. f; reads = λ close f rule al le2. stop (apart after (class x) (far x) close f) })
+            (inside_completes p a t h k)
+            (λ q x. record { more = []; spelled = tt; value = x; starts = λ close f. f; reads = λ close f rule al le2. stop (apart after (class x) (far x) close f) })
             again
             front r (omega arith) (go_on a t (front ++ r)) refl s in
             record {
               more = c.more;
+              spelled = c.spelled;
               value = c.value;
               starts = λ none close f. absurd cc;
               reads = λ close f rule al le2 fo.
@@ -489,24 +508,4 @@ module _ (levels : ℕ) (readers : Readers) (parts : Rule → Parts) (part_after
             }
 
     pub completes-many : (a : A) → Completes (many class extra opens step a) after after
-    completes-many a front r sh = completes-runs (length (front ++ r)) a front r (omega arith) sh
-
--- ---- the same, with all that is known of the readers in one record
-
-pub record Setting (part_after : Part → Token → Bool) : Type 1 where
-  pub levels : ℕ
-  pub readers : Readers
-  pub parts : Rule → Parts
-  pub leave : ReadersLeave readers
-  pub steady : ReadersSteady readers
-  pub sound : (rule : Rule) → Allows rule → ReadersSound levels readers (parts rule)
-  pub bare : (part : Part) → Bare (λ rule ts x rest. parts rule part ts x rest) (λ t. true) (part_after part)
-  pub below : is_none_left levels ≡ false → (part : Part) (front r : List Token) → Shows (readers part (front ++ r)) r → Completion (λ rule ts x rest. parts rule part ts x rest) (readers part (front ++ r)) (λ t. true) (part_after part) front
-
-module _ {part_after : Part → Token → Bool} (s : Setting part_after) where
-  -- what the setting makes of reading can be completed
-  abbrev pub Completable : {A : Type 0} → Grammar A → (Token → Bool) → (Token → Bool) → Type 0
-  Completable g first after = Completes s.levels s.readers s.parts part_after s.leave s.steady s.sound s.bare s.below g first after
-
-  abbrev pub CoveredBy : (Token → Bool) → Option Part → Type 0
-  CoveredBy after o = Covers s.levels s.readers s.parts part_after s.leave s.steady s.sound s.bare s.below after o
+    completes-many a p front r sh = completes-runs p (length (front ++ r)) a front r (omega arith) sh

@@ -1,5 +1,6 @@
 -- Reading gives a tree exactly where the tokens have it, and refuses a token exactly where the first row holds.
 use Rattle.std.proofs.Common.{◌≡◌, ℕ, zero, suc, ◌<◌, ◌≤◌, Bool, true, false, not, cond, eqb, List, [], ◌∷◌, ◌++◌, length, Option, Some, None, refl, sym, ap, ◌∙◌, subst, append_assoc, append-nil, arith, inl, inr, ◌⊎◌, length-append, eq-eqb}
+use Rattle.tl_base.specs.declared.place.Place.{Place}
 use Rattle.tl_tree.specs.Tokens.{Token}
 use Rattle.tl_tree.specs.declared.symbol.Symbol.{Symbol}
 use Rattle.tl_tree.specs.declared.symbol.Symbol.TheVariants.{Bad}
@@ -10,6 +11,7 @@ use Rattle.tl_tree.specs.Tree.{Part}
 use Rattle.tl_tree.specs.Grammar.{Use, bar, breaks, is_too_large, is_too_deep, is_ambiguous, is_of, Grammar, give, token, bind, when, many, begins, Rule, Outcome, Took, Stop, ◌>>=◌, blame, unless, Readers, opened, turns, run}
 use Rattle.tl_tree.specs.Refusing.{any, limits, is_allowed, without, PastLimits, Against, Language, HasTree, Viable, Row, rank, FirstRow, NoRow, Refuses, Answer, IsTree, Refused, answer, Says}
 use Rattle.tl_tree.proofs.Reading.{rest_of, with_rest, Allows, AllGood, Leaves, good, Answers, Barred}
+use Rattle.tl_tree.proofs.Spelled.{Spelled}
 use Rattle.tl_tree.proofs.Completing.{Shows, Forgives, Lenient, IsLimitKind, IsLimit, no_limit}
 
 -- ---- who is to blame
@@ -551,3 +553,30 @@ module _ {A : Type 0} (o : List Token → Outcome A) (Reads : Language A) (meets
       go : (y : Answer A) → Says Reads ts y → Refused why rest ≡ y
       go (IsTree tree) k = absurd (not_both ts tree why rest k h)
       go (Refused w s) k = let e = one_refusal Reads ts why rest w s h k in ap (λ (v : SyntaxKind). Refused v rest) e.0 ∙ ap (λ (l : List Token). Refused w l) e.1
+
+-- ---- what goes on
+
+-- The front breaks no rule of tokens, and goes on from this place with tokens that stand one behind the other, the limits aside.
+pub record GoesOn {A : Type 0} (Reads : Language A) (p : Place) (front : List Token) : Type 0 where
+  pub good : AllGood front
+  pub more : List Token
+  pub tree : A
+  pub spelled : Spelled p more
+  pub reads : Reads any (front ++ more) tree
+
+module _ {A : Type 0} (o : List Token → Outcome A) (Reads : Language A) (meets : Meets o Reads) where
+  -- where no row holds at any of its tokens, reading takes all of it
+  pub unrefused_viable : (front : List Token) → NoRow Reads front → Viable Reads front
+  unfolding Goes
+  unrefused_viable front none = go (o front) refl
+    where
+      taken : rest_of (o front) ≡ [] → Viable Reads front
+      taken e =
+          let g = goes o Reads meets front (ap (λ (x : List Token). rest_of (o x)) (append-nil front) ∙ e) in
+          (g.0, g.1, g.2 any allows-any (lenient-any (length g.0)))
+
+      go : (out : Outcome A) → o front ≡ out → Viable Reads front
+      go (Took x []) e = taken (ap (λ (o : Outcome A). rest_of o) e)
+      go (Stop why []) e = taken (ap (λ (o : Outcome A). rest_of o) e)
+      go (Took x (u ∷ rest)) e = let r = says o Reads meets front (Took x (u ∷ rest)) e in absurd (none r.0 u rest r.1 (blame u.symbol) r.3.holds)
+      go (Stop why (u ∷ rest)) e = let r = says o Reads meets front (Stop why (u ∷ rest)) e in absurd (none r.0 u rest r.1 why r.3.holds)

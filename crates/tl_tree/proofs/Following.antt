@@ -7,7 +7,8 @@ use Rattle.tl_tree.specs.Tree.{Tree, Part, Expression, Operand, Concatenation, A
 use Rattle.tl_tree.specs.Grammar.{Grammar, give, bind, Rule, Parts, is_of}
 use Rattle.tl_tree.specs.Forms.{sign, listed_behind, listed, separated_behind, name, semicolon, separator, path_names, Chained, operators, right_operator}
 use Rattle.tl_tree.proofs.Classes.{disjoint, subset, apart_from, within}
-use Rattle.tl_tree.proofs.Completing.{Setting}
+use Rattle.tl_tree.proofs.Spelled.{is_written}
+use Rattle.tl_tree.proofs.Settings.{Setting}
 use Rattle.tl_tree.proofs.Going.{one, Begins, begins-give, begins-next, begins-then, begins-when, begins-many, Goes, goes-give, goes-next, goes-then, goes-token, goes-when, goes-many}
 
 -- what may follow a block
@@ -65,8 +66,8 @@ module _ {levels : ℕ} {parts : Rule → Parts} where
 
 module _ {s : Setting after_part} where
   -- a token, and nothing behind it
-  pub goes-closed : {A : Type 0} {f : Token × Tree → A} {xs : List Symbol} (k : Symbol) → is_of (is k) (sample k) ≡ true → among (one k) (sample k) ≡ true → Goes s (bind (sign k) λ y. give (f y)) (one k) xs
-  goes-closed k good first = goes-then k (λ y. goes-give) good first
+  pub goes-closed : {A : Type 0} {f : Token × Tree → A} {xs : List Symbol} (k : Symbol) → is_of (is k) (sample k) ≡ true → is_written k ≡ true → Goes s (bind (sign k) λ y. give (f y)) (one k) xs
+  goes-closed k good written = goes-then k (λ y. goes-give) good written
 
   pub goes-name : {xs : List Symbol} → Goes s name (one symbols.Name) xs
   goes-name = goes-closed symbols.Name refl refl
@@ -87,7 +88,7 @@ module _ {s : Setting after_part} where
 
   pub goes-separator : (xs : List Symbol) → disjoint xs (symbols.Comma ∷ symbols.Semicolon ∷ []) ≡ true → Goes s separator xs xs
   goes-separator xs d =
-      goes-when (goes-token symbols.Semicolon (λ t. xs) (λ t h. tt) (λ y h. goes-give) refl refl) goes-give (apart_from xs (symbols.Comma ∷ symbols.Semicolon ∷ []) d)
+      goes-when (goes-token symbols.Semicolon (λ t. xs) (λ t h. tt) (λ y h. goes-give) (λ p. refl) refl) goes-give (apart_from xs (symbols.Comma ∷ symbols.Semicolon ∷ []) d)
 
   pub goes-path_names : {a : Tree} (xs : List Symbol) → disjoint xs (one symbols.Dot) ≡ true → Goes s (path_names a) xs xs
   goes-path_names xs d = goes-many (λ t. one symbols.Name) (λ b t h. tt) (λ t x b h. goes-closed symbols.Name refl refl) (λ b. apart_from xs (one symbols.Dot) d)
@@ -95,6 +96,6 @@ module _ {s : Setting after_part} where
   pub goes-operators : (ss : List Symbol) (x : ℕ → Grammar Chained) (make : Token → Tree → Tree → Tree) (a : Chained) {first : List Symbol} (xs : List Symbol) → ((n : ℕ) → Goes s (x n) first xs) → disjoint xs ss ≡ true → Goes s (operators ss x make a) xs xs
   goes-operators ss x make a {first} xs p d = goes-many (λ t. first) (λ b t h. tt) (λ t y b h. goes-next (p _) (λ c. goes-give)) (λ b. apart_from xs ss d)
 
-  pub goes-right_operator : {part : Part} (make : Token → Tree → Tree → Tree) {a : Chained} (k : Symbol) (xs : List Symbol) → is_of (is k) (sample k) ≡ true → among (one k) (sample k) ≡ true → subset xs (following part) ≡ true → disjoint xs (one k) ≡ true → Goes s (right_operator k part make a) xs xs
-  goes-right_operator {part} make k xs good first w d =
-      goes-when (goes-token k (λ t. xs) (λ t h. within xs (following part) w) (λ x h. goes-give) good first) goes-give (apart_from xs (one k) d)
+  pub goes-right_operator : {part : Part} (make : Token → Tree → Tree → Tree) {a : Chained} (k : Symbol) (xs : List Symbol) → is_of (is k) (sample k) ≡ true → is_written k ≡ true → subset xs (following part) ≡ true → disjoint xs (one k) ≡ true → Goes s (right_operator k part make a) xs xs
+  goes-right_operator {part} make k xs good written w d =
+      goes-when (goes-token k (λ t. xs) (λ t h. within xs (following part) w) (λ x h. goes-give) (λ p. good) written) goes-give (apart_from xs (one k) d)

@@ -1,11 +1,17 @@
 -- Reading part within part, level by level, meets the language of whole texts.
-use Rattle.std.proofs.Common.{◌≡◌, ℕ, zero, suc, Bool, true, false, List, [], ◌∷◌, ◌++◌, refl, ap, inr}
+use Rattle.std.proofs.Common.{◌≡◌, ℕ, zero, suc, Bool, true, false, List, [], ◌∷◌, ◌++◌, refl, sym, ap, ◌∙◌, subst, append-nil, inr}
+use Rattle.tl_base.specs.declared.place.Place.{Place}
+use Rattle.tl_lex.specs.Answers.{place_at}
 use Rattle.tl_tree.specs.Tokens.{Token}
 use Rattle.tl_tree.specs.Tree.{Tree, Part}
 use Rattle.tl_tree.specs.Grammar.{Rule, Parts, Took, Stop, blame, unexpected, is_none_left, Table, down, parts_at, readers_at, all_levels, Whole}
-use Rattle.tl_tree.proofs.Reading.{Allows, leaves_all, leaves, steady, sound, complete, not_longer, same_back, Answers, ReadersLeave, ReadersSteady}
-use Rattle.tl_tree.proofs.Completing.{Shows, Completion, Starts, Setting, Completable}
-use Rattle.tl_tree.proofs.Exact.{ReadersBlame, blames-run, Meets}
+use Rattle.tl_tree.specs.Refusing.{any, Viable}
+use Rattle.tl_tree.proofs.Reading.{Allows, AllGood, leaves_all, leaves, steady, sound, complete, not_longer, same_back, Answers, ReadersLeave, ReadersSteady}
+use Rattle.tl_tree.proofs.Spelled.{spelled-append}
+use Rattle.tl_tree.proofs.Completing.{Shows, Completion, Bare, Starts}
+use Rattle.tl_tree.proofs.Parting.{Leaving, Keeping, Ending, Deep, leaving_of, keeping_of, Turned, turned_any}
+use Rattle.tl_tree.proofs.Settings.{Setting, Completable}
+use Rattle.tl_tree.proofs.Exact.{ReadersBlame, blames-run, Meets, GoesOn}
 
 -- where no level is left
 junk_leave : ReadersLeave (λ part ts. unexpected ts)
@@ -53,11 +59,44 @@ Begun table after = (levels : ℕ) (parts : Rule → Parts) (part : Part) → St
 abbrev pub Completed : Table → (Part → Token → Bool) → Type 1
 Completed table after = (s : Setting after) (part : Part) → Completable s (table part) (λ t. true) (after part)
 
-module _ (table : Table) (after : Part → Token → Bool) (begun : Begun table after) (completed : Completed table after) where
-  completes_at : (levels : ℕ) (part : Part) (front r : List Token) → Shows (readers_at table levels part (front ++ r)) r → Completion (λ rule ts x rest. parts_at table rule (suc (suc levels)) levels part ts x rest) (readers_at table levels part (front ++ r)) (λ t. true) (after part) front
-  completes_at zero part front r sh =
-      completed
-      (record {
+abbrev pub Parted : Table → (Part → Token → Bool) → Type 1
+Parted table after = (s : Setting after) (part : Part) → Turned s.deep (table part) (λ t. true) (after part)
+
+module _ (table : Table) (after : Part → Token → Bool) (begun : Begun table after) where
+  -- the parts that nest so deep, the limits aside
+  abbrev parts_within : ℕ → ℕ → Parts
+  parts_within depth levels part ts x rest = parts_at table any depth levels part ts x rest
+
+  -- What is known of them: where a reading of one is parted, one that nests one deeper completes it.
+  record Facts (depth levels : ℕ) : Type 0 where
+    leaving : (part : Part) → Leaving (λ ts x rest. parts_within depth levels part ts x rest)
+    keeping : (part : Part) → Keeping (λ ts x rest. parts_within depth levels part ts x rest) (λ ts x rest. parts_within (suc depth) levels part ts x rest)
+    ending : (part : Part) → Ending (λ ts x rest. parts_within depth levels part ts x rest) (λ ts x rest. parts_within (suc depth) levels part ts x rest) (after part)
+
+  bare_within : (depth levels : ℕ) (part : Part) (p : Place) → Bare (λ rule ts x rest. parts_within (suc depth) levels part ts x rest) p (λ t. true) (after part)
+  bare_within depth levels part p =
+      let c = begun levels (λ rule q us y r. parts_within depth (down levels) q us y r) part p in
+      record { more = c.more; spelled = c.spelled; value = c.value; starts = c.starts; reads = λ close k rule al le. c.reads close k any (λ role t ts e. refl) (λ role ts e. refl) }
+
+  abbrev deep_of : (depth levels : ℕ) → Facts depth (down levels) → Deep after
+  deep_of depth levels facts =
+      record {
+        levels = levels;
+        inner = parts_within depth (down levels);
+        outer = parts_within (suc depth) (down levels);
+        leaving = facts.leaving;
+        keeping = facts.keeping;
+        bare = λ part p. bare_within depth (down levels) part p;
+        ending = facts.ending;
+      }
+
+  no_facts : (levels : ℕ) → Facts zero levels
+  no_facts levels = record { leaving = λ part ts x rest h. absurd h; keeping = λ part front r x b t y h. absurd h; ending = λ part p t f r x rest h k. absurd h }
+
+  -- where no level is left, no token opens a part
+  abbrev lowest : Deep after → Setting after
+  lowest deep =
+      record {
         levels = zero;
         readers = λ inner us. unexpected us;
         parts = λ rule p us y rest. parts_at table rule 1 zero p us y rest;
@@ -66,9 +105,43 @@ module _ (table : Table) (after : Part → Token → Bool) (begun : Begun table 
         sound = λ rule al left. none_left table left;
         bare = λ p. begun zero (λ rule q us y rest. parts_at table rule zero zero q us y rest) p;
         below = λ left. none_left table left;
-      })
-      part front r sh
-  completes_at (suc levels) part front r sh =
+        deep = deep;
+      }
+
+module _ (table : Table) (after : Part → Token → Bool) (begun : Begun table after) (parted_at : Parted table after) where
+  facts_at : (depth levels : ℕ) → Facts table after begun depth levels
+  facts_at zero levels = no_facts table after begun levels
+  facts_at (suc depth) levels =
+      let d = deep_of table after begun depth levels (facts_at depth (down levels)) in
+      record { leaving = λ part. leaving_of d (table part); keeping = λ part. keeping_of d (table part); ending = λ part. (parted_at (lowest table after begun d) part).ends }
+
+  first_good : (front more : List Token) → AllGood (front ++ more) → AllGood front
+  first_good [] more h = tt
+  first_good (t ∷ front) more h = (h.0, first_good front more h.1)
+
+  -- what begins a whole text, the limits aside, goes on from each place with tokens that stand one behind the other
+  pub viable_goes : (part : Part) (p : Place) (front : List Token) → Viable (λ rule ts tree. Whole table part rule ts tree) front → GoesOn (λ rule ts tree. Whole table part rule ts tree) p front
+  viable_goes part p front v = go v.2.0 v.2.1
+    where
+      go : (depth : ℕ) → parts_at table any depth all_levels part (front ++ v.0) v.1 [] → GoesOn (λ rule ts tree. Whole table part rule ts tree) p front
+      go zero h = absurd h
+      go (suc depth) h =
+          let d = deep_of table after begun depth all_levels (facts_at depth (down all_levels)) in
+          let left = leaving_of d (table part) (front ++ v.0) v.1 [] h in
+          let e = turned_any d (table part) (λ t. true) (after part) (parted_at (lowest table after begun d) part) p front v.0 v.1 [] h (v.0, sym (append-nil v.0)) in
+          record {
+            good = first_good front v.0 (subst (λ (x : List Token). AllGood x) (sym (append-nil left.0) ∙ sym left.1) left.2);
+            more = e.more ++ [];
+            tree = e.value;
+            spelled = spelled-append p e.more [] e.spelled tt;
+            reads = (suc (suc depth), e.reads [] refl);
+          }
+
+module _ (table : Table) (after : Part → Token → Bool) (begun : Begun table after) (completed : Completed table after) where
+  completes_at : (levels : ℕ) (part : Part) (p : Place) (front r : List Token) → Shows (readers_at table levels part (front ++ r)) r → Completion (λ rule ts x rest. parts_at table rule (suc (suc levels)) levels part ts x rest) p (readers_at table levels part (front ++ r)) (λ t. true) (after part) front
+  completes_at zero part place front r sh =
+      completed (lowest table after begun (deep_of table after begun zero zero (no_facts table after begun zero))) part place front r sh
+  completes_at (suc levels) part place front r sh =
       completed
       (record {
         levels = suc levels;
@@ -79,8 +152,9 @@ module _ (table : Table) (after : Part → Token → Bool) (begun : Begun table 
         sound = λ rule al left. sound_at table rule al levels;
         bare = λ p. begun levels (λ rule q us y rest. parts_at table rule (suc levels) (down levels) q us y rest) p;
         below = λ left. completes_at levels;
+        deep = deep_of table after begun zero zero (no_facts table after begun zero);
       })
-      part front r sh
+      part place front r sh
 
   pub meets : (part : Part) → Meets (λ ts. readers_at table all_levels part ts) (λ rule ts tree. Whole table part rule ts tree)
   meets part =
@@ -91,6 +165,6 @@ module _ (table : Table) (after : Part → Token → Bool) (begun : Begun table 
         sound = λ rule al ts a e. (suc (suc all_levels), sound_at table rule al all_levels part ts a [] e);
         complete = λ rule ts a p. complete_at table rule p.0 all_levels part ts a [] p.1;
         completes = λ front r sh.
-            let c = completes_at all_levels part front r sh in
+            let c = completes_at all_levels part (place_at 1 1) front r sh in
             (c.more ++ [], c.value, λ rule al le fo. (suc (suc all_levels), c.reads [] refl rule al le fo));
       }

@@ -1,6 +1,9 @@
+pub mod Spelled
 pub mod Reading
 pub mod Completing
 pub mod Exact
+pub mod Parting
+pub mod Settings
 pub mod Levels
 pub mod Classes
 pub mod Unrolling

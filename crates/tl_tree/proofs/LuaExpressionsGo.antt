@@ -12,7 +12,8 @@ use Rattle.tl_tree.specs.Grammar.{Grammar, give, bind, Rule, Parts, is_of}
 use Rattle.tl_tree.specs.Forms.{sign, Language, has_terra, Chained, comparisons, additive, multiplicative}
 use Rattle.tl_tree.specs.LuaExpressions.{paren, base, suffix_symbols, stays, Suffix, InParens, InBrackets, Selects, CallsMethod, WithTable, WithText, suffix_of, suffix_opens, arguments, suffix, suffixes, prefix, as_operand, is_varargs, function, table, struct_body, terra_symbols, begins_terra, terra_code, primary, operation, power, prefix_symbols, unary, product, sum, concatenation, comparison, conjunction, disjunction, chained_expression, expression, expressions, operand_of, concatenation_of, arguments_of, field_behind, keyed_field, field, fields, entries}
 use Rattle.tl_tree.proofs.Classes.{disjoint, subset, apart_from, apart_from_and, apart_none, within}
-use Rattle.tl_tree.proofs.Completing.{Setting, CoveredBy}
+use Rattle.tl_tree.proofs.Spelled.{is_written}
+use Rattle.tl_tree.proofs.Settings.{Setting, CoveredBy}
 use Rattle.tl_tree.proofs.Going.{one, Apart, Begins, begins-give, begins-bind, begins-next, begins-when, begins-many, Goes, goes-within, goes-give, goes-bind, goes-next, goes-then, goes-open, goes-token, goes-when, goes-many}
 use Rattle.tl_tree.proofs.Following.{after_expression, after_part, begins-name, begins-listed_behind, begins-separated_behind, begins-operators, begins-right_operator, goes-closed, goes-name, goes-listed, goes-separated_behind, goes-separator, goes-operators, goes-right_operator}
 
@@ -161,8 +162,8 @@ module _ {s : Setting after_part} where
   goes-as_operand p = goes-next p (λ e. goes-give)
 
   -- a token alone, as an operand
-  pub goes-leaf : {left : ℕ} {f : Token × Tree → Tree} {xs : List Symbol} (k : Symbol) → is_of (is k) (sample k) ≡ true → among (one k) (sample k) ≡ true → Goes s (as_operand left (bind (sign k) λ x. give (f x))) (one k) xs
-  goes-leaf k good first = goes-as_operand (goes-closed k good first)
+  pub goes-leaf : {left : ℕ} {f : Token × Tree → Tree} {xs : List Symbol} (k : Symbol) → is_of (is k) (sample k) ≡ true → is_written k ≡ true → Goes s (as_operand left (bind (sign k) λ x. give (f x))) (one k) xs
+  goes-leaf k good written = goes-as_operand (goes-closed k good written)
 
   goes-function : Goes s function (one symbols.Function) after_expression
   goes-function =
@@ -186,7 +187,7 @@ module _ {s : Setting after_part} where
 
   goes-primary : (l : Language) {m : Mode} {left : ℕ} → Goes s (primary l m left) only_name after_expression
   goes-primary l {m} {left} =
-      goes-when (goes-as_operand (goes-token symbols.Numeral (λ t. after_expression) (λ t h. tt) (λ x h. goes-give) refl refl))
+      goes-when (goes-as_operand (goes-token symbols.Numeral (λ t. after_expression) (λ t h. tt) (λ x h. goes-give) (λ p. refl) refl))
       (goes-when (goes-leaf symbols.Literal refl refl)
       (goes-when (goes-leaf symbols.Nil refl refl)
       (goes-when (goes-leaf symbols.False refl refl)
@@ -209,7 +210,7 @@ module _ {s : Setting after_part} where
 
   goes-unary : (l : Language) {m : Mode} {left : ℕ} → Goes s (unary l m left) only_name after_expression
   goes-unary l =
-      goes-when (goes-token symbols.Minus (λ t. after_expression) (λ t h. within after_expression after_expression refl) (λ x h. goes-give) refl refl) (goes-power l) (apart_from only_name prefix_symbols refl)
+      goes-when (goes-token symbols.Minus (λ t. after_expression) (λ t h. within after_expression after_expression refl) (λ x h. goes-give) (λ p. refl) refl) (goes-power l) (apart_from only_name prefix_symbols refl)
 
   goes-product : (l : Language) {m : Mode} {left : ℕ} → Goes s (product l m left) only_name after_expression
   goes-product l {m} = goes-next (goes-unary l) (λ a. goes-operators multiplicative (unary l m) operation a after_expression (λ n. goes-unary l) refl)

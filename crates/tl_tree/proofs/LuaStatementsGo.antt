@@ -1,5 +1,6 @@
 -- The completions of Lua statements and functions, one for each name of the grammar.
 use Rattle.std.proofs.Common.{◌≡◌, ◌&&◌, ℕ, Bool, true, not, List, [], ◌∷◌, refl}
+use Rattle.tl_base.specs.declared.place.Place.{Place}
 use Rattle.tl_tree.specs.declared.symbol.Symbol.{Symbol}
 use Rattle.tl_tree.specs.declared.symbol.Symbol.TheVariants as symbols
 use Rattle.tl_tree.specs.declared.mode.Mode.{Mode}
@@ -7,14 +8,15 @@ use Rattle.tl_tree.specs.declared.mode.Mode.TheVariants.{Plain, Variadic, Types}
 use Rattle.tl_tree.specs.declared.mode.Context.{Context}
 use Rattle.tl_tree.specs.declared.mode.Shape.{Shape}
 use Rattle.tl_tree.specs.declared.mode.Shape.TheVariants as shapes
-use Rattle.tl_tree.specs.Tokens.{Token, among, sample}
+use Rattle.tl_tree.specs.Tokens.{Token, among}
 use Rattle.tl_tree.specs.Tree.{Tree, Statements, FunctionBody, TerraFunctionBody}
 use Rattle.tl_tree.specs.Grammar.{Rule, Parts, is_of}
 use Rattle.tl_tree.specs.Forms.{Language, has_terra, Chained}
 use Rattle.tl_tree.specs.LuaExpressions.{suffix_symbols, stays, is_suffix, suffix_of, terra_symbols}
 use Rattle.tl_tree.specs.LuaStatements.{looped, fresh, next_suffix, call_symbols, index_symbols, to_variable, settled, variable_suffixes, variable, path_method, path, struct_path, loop, Statement, FromName, FromParen, FromDo, FromWhile, FromRepeat, FromIf, FromFor, FromFunction, FromLocal, FromReturn, FromBreak, FromTerra, FromStruct, FromEmit, statement_of, statement_symbols, has_place, is_statement, statement_opens, parameter, parameters, body_mode, expression_symbols, assignment, call_or_assignment, arm, arms, otherwise, step, numeric_for, generic_for, initial_values, returned_values, terra_definition, local_terra, statement, block, function_body}
 use Rattle.tl_tree.proofs.Classes.{disjoint, apart_from, apart_from_and, apart_and, apart_or, within}
-use Rattle.tl_tree.proofs.Completing.{Setting, CoveredBy}
+use Rattle.tl_tree.proofs.Spelled.{placed}
+use Rattle.tl_tree.proofs.Settings.{Setting, CoveredBy}
 use Rattle.tl_tree.proofs.Going.{one, Apart, Begins, begins-give, begins-bind, begins-next, begins-then, begins-when, begins-many, Goes, goes-within, goes-give, goes-bind, goes-next, goes-then, goes-open, goes-token, goes-when, goes-many}
 use Rattle.tl_tree.proofs.Following.{after_block, after_expression, after_part, begins-name, goes-closed, goes-name, goes-listed_behind, goes-listed, goes-semicolon, goes-path_names}
 use Rattle.tl_tree.proofs.LuaExpressionsGo.{only_name, suffix_first, terra_apart, goes-paren, suffix_covers, goes-suffix, goes-suffixes, goes-struct_body, goes-expression, goes-expressions}
@@ -22,15 +24,15 @@ use Rattle.tl_tree.proofs.LuaExpressionsGo.{only_name, suffix_first, terra_apart
 statement_apart : (l : Language) (c : Context) (ended : Bool) (xs : List Symbol) → disjoint xs statement_symbols ≡ true → Apart xs (λ t. is_statement l c t && not ended)
 statement_apart l c ended xs d = apart_and xs (is_statement l c) (λ t. not ended) (apart_from_and xs statement_symbols (has_place l c) d)
 
-dot_is_suffix : (m : Mode) → is_of (is_suffix m) (sample symbols.Dot) ≡ true
-dot_is_suffix Plain = refl
-dot_is_suffix Variadic = refl
-dot_is_suffix Types = refl
+dot_is_suffix : (m : Mode) (p : Place) → is_of (is_suffix m) (placed p symbols.Dot) ≡ true
+dot_is_suffix Plain p = refl
+dot_is_suffix Variadic p = refl
+dot_is_suffix Types p = refl
 
-dot_is_index : (m : Mode) → is_of (λ t. among index_symbols t && is_suffix m t) (sample symbols.Dot) ≡ true
-dot_is_index Plain = refl
-dot_is_index Variadic = refl
-dot_is_index Types = refl
+dot_is_index : (m : Mode) (p : Place) → is_of (λ t. among index_symbols t && is_suffix m t) (placed p symbols.Dot) ≡ true
+dot_is_index Plain p = refl
+dot_is_index Variadic p = refl
+dot_is_index Types p = refl
 
 -- ---- from nothing on
 

@@ -2,14 +2,16 @@
 use Rattle.std.proofs.Common.{ℕ, true, List, refl}
 use Rattle.tl_tree.specs.declared.symbol.Symbol.{Symbol}
 use Rattle.tl_tree.specs.Tokens.{among}
-use Rattle.tl_tree.specs.Tree.{Tree, Expression, Operand, Concatenation, Arguments, Fields, Statements, FunctionBody, Entries, TerraExpression, TerraOperand, TerraArguments, Initialisers, TerraStatements, TerraFunctionBody, QuotedCode}
+use Rattle.tl_tree.specs.Tree.{Tree, Part, Expression, Operand, Concatenation, Arguments, Fields, Statements, FunctionBody, Entries, TerraExpression, TerraOperand, TerraArguments, Initialisers, TerraStatements, TerraFunctionBody, QuotedCode}
 use Rattle.tl_tree.specs.Grammar.{Grammar, Rule, Parts}
 use Rattle.tl_tree.specs.Forms.{Language}
 use Rattle.tl_tree.specs.Syntax.{syntax_of}
-use Rattle.tl_tree.proofs.Completing.{Starts, bare-within, Setting, Completable, completes-within}
-use Rattle.tl_tree.proofs.Levels.{Begun, Completed}
+use Rattle.tl_tree.proofs.Completing.{Starts, bare-within, completes-within}
+use Rattle.tl_tree.proofs.Parting.{turned-within}
+use Rattle.tl_tree.proofs.Settings.{Setting}
+use Rattle.tl_tree.proofs.Levels.{Begun, Completed, Parted}
 use Rattle.tl_tree.proofs.Going.{Begins, Goes}
-use Rattle.tl_tree.proofs.Following.{after_part}
+use Rattle.tl_tree.proofs.Following.{following, after_part}
 use Rattle.tl_tree.proofs.LuaExpressionsGo.{begins-expression, begins-operand_of, begins-concatenation_of, begins-arguments_of, begins-fields, begins-entries, goes-expression, goes-operand_of, goes-concatenation_of, goes-arguments_of, goes-fields, goes-entries}
 use Rattle.tl_tree.proofs.LuaStatementsGo.{begins-block, begins-function_body, goes-block, goes-function_body}
 use Rattle.tl_tree.proofs.TerraExpressionsGo.{begins-terra_expression, begins-terra_operand_of, begins-terra_arguments_of, begins-initialisers, goes-terra_expression, goes-terra_operand_of, goes-terra_arguments_of, goes-initialisers}
@@ -35,22 +37,37 @@ begun l levels parts TerraStatements = started begins-terra_block
 begun l levels parts TerraFunctionBody = started begins-terra_function_body
 begun l levels parts QuotedCode = started begins-quoted_code
 
-gone : (s : Setting after_part) {g : Grammar Tree} {first after : List Symbol} → Goes s g first after → Completable s g (λ t. true) (among after)
-gone s {g} {first} {after} p = completes-within s.levels s.readers s.parts after_part s.leave s.steady s.sound s.bare s.below g (among first) (λ t. true) (among after) (among after) (λ t h. refl) (λ t h. h) p.completes
+-- some symbols with which the part can begin
+record PartGoes (s : Setting after_part) (l : Language) (part : Part) : Type 0 where
+  first : List Symbol
+  goes : Goes s (syntax_of l part) first (following part)
+
+gone : (s : Setting after_part) (l : Language) (part : Part) {first : List Symbol} → Goes s (syntax_of l part) first (following part) → PartGoes s l part
+gone s l part {first} p = record { first = first; goes = p }
+
+part_goes : (s : Setting after_part) (l : Language) (part : Part) → PartGoes s l part
+part_goes s l (Expression m) = gone s l (Expression m) (goes-expression l)
+part_goes s l (Operand m) = gone s l (Operand m) (goes-operand_of l)
+part_goes s l (Concatenation m) = gone s l (Concatenation m) (goes-concatenation_of l)
+part_goes s l (Arguments m) = gone s l (Arguments m) (goes-arguments_of l)
+part_goes s l (Fields m) = gone s l (Fields m) (goes-fields l)
+part_goes s l (Statements c) = gone s l (Statements c) (goes-block l c)
+part_goes s l FunctionBody = gone s l FunctionBody (goes-function_body l)
+part_goes s l (Entries m) = gone s l (Entries m) (goes-entries l)
+part_goes s l TerraExpression = gone s l TerraExpression goes-terra_expression
+part_goes s l TerraOperand = gone s l TerraOperand goes-terra_operand_of
+part_goes s l TerraArguments = gone s l TerraArguments goes-terra_arguments_of
+part_goes s l Initialisers = gone s l Initialisers goes-initialisers
+part_goes s l TerraStatements = gone s l TerraStatements goes-terra_block
+part_goes s l TerraFunctionBody = gone s l TerraFunctionBody goes-terra_function_body
+part_goes s l QuotedCode = gone s l QuotedCode goes-quoted_code
 
 pub completed : (l : Language) → Completed (syntax_of l) after_part
-completed l s (Expression m) = gone s (goes-expression l)
-completed l s (Operand m) = gone s (goes-operand_of l)
-completed l s (Concatenation m) = gone s (goes-concatenation_of l)
-completed l s (Arguments m) = gone s (goes-arguments_of l)
-completed l s (Fields m) = gone s (goes-fields l)
-completed l s (Statements c) = gone s (goes-block l c)
-completed l s FunctionBody = gone s (goes-function_body l)
-completed l s (Entries m) = gone s (goes-entries l)
-completed l s TerraExpression = gone s goes-terra_expression
-completed l s TerraOperand = gone s goes-terra_operand_of
-completed l s TerraArguments = gone s goes-terra_arguments_of
-completed l s Initialisers = gone s goes-initialisers
-completed l s TerraStatements = gone s goes-terra_block
-completed l s TerraFunctionBody = gone s goes-terra_function_body
-completed l s QuotedCode = gone s goes-quoted_code
+completed l s part =
+    let p = part_goes s l part in
+    completes-within s.levels s.readers s.parts after_part s.leave s.steady s.sound s.bare s.below (syntax_of l part) (among p.first) (λ t. true) (after_part part) (after_part part) (λ t h. refl) (λ t h. h) p.goes.completes
+
+pub turned : (l : Language) → Parted (syntax_of l) after_part
+turned l s part =
+    let p = part_goes s l part in
+    turned-within s.deep (syntax_of l part) (among p.first) (λ t. true) (after_part part) (after_part part) (λ t h. refl) (λ t h. h) p.goes.turned

@@ -12,7 +12,7 @@ use Rattle.tl_tree.specs.Forms.{Chained, comparisons, additive, multiplicative}
 use Rattle.tl_tree.specs.LuaExpressions.{stays}
 use Rattle.tl_tree.specs.TerraExpressions.{escape, terra_name, terra_base, terra_suffix_symbols, TerraSuffix, InParens, InBrackets, Selects, CallsMethod, Constructs, terra_suffix_of, terra_suffix_opens, terra_suffix, terra_suffixes, terra_numerals, terra_primary, terra_operation, terra_prefix_symbols, terra_prefixed, terra_exponent, terra_power, terra_unary, terra_product, terra_sum, shifts, terra_shift, terra_comparison, terra_conjunction, terra_disjunction, terra_expression_behind, terra_expression, terra_expressions, terra_operand_of, terra_arguments_of, named_initialiser, positional_initialisers, initialisers_behind, initialisers}
 use Rattle.tl_tree.proofs.Classes.{disjoint, subset, apart_from, apart_from_and, within}
-use Rattle.tl_tree.proofs.Completing.{Setting, CoveredBy}
+use Rattle.tl_tree.proofs.Settings.{Setting, CoveredBy}
 use Rattle.tl_tree.proofs.Going.{one, Begins, begins-give, begins-bind, begins-next, begins-when, begins-many, Goes, goes-within, goes-give, goes-bind, goes-next, goes-then, goes-open, goes-token, goes-when, goes-many}
 use Rattle.tl_tree.proofs.Following.{after_expression, after_part, begins-name, begins-listed_behind, begins-separated_behind, begins-operators, goes-closed, goes-name, goes-listed, goes-separated_behind, goes-operators}
 use Rattle.tl_tree.proofs.LuaExpressionsGo.{only_name, goes-as_operand, goes-leaf}
@@ -127,7 +127,7 @@ module _ {s : Setting after_part} where
 
   goes-terra_primary : {left : ℕ} → Goes s (terra_primary left) only_name after_expression
   goes-terra_primary =
-      goes-when (goes-as_operand (goes-token symbols.Numeral (λ t. after_expression) (λ t h. tt) (λ x h. goes-give) refl refl))
+      goes-when (goes-as_operand (goes-token symbols.Numeral (λ t. after_expression) (λ t h. tt) (λ x h. goes-give) (λ p. refl) refl))
       (goes-when (goes-leaf symbols.Literal refl refl)
       (goes-when (goes-leaf symbols.Nil refl refl)
       (goes-when (goes-leaf symbols.False refl refl)
@@ -140,7 +140,7 @@ module _ {s : Setting after_part} where
       (apart_from only_name terra_numerals refl)
 
   goes-terra_prefixed : {left : ℕ} → Goes s (terra_prefixed left) (one symbols.Minus) after_expression
-  goes-terra_prefixed = goes-token symbols.Minus (λ t. after_expression) (λ t h. within after_expression after_expression refl) (λ x h. goes-give) refl refl
+  goes-terra_prefixed = goes-token symbols.Minus (λ t. after_expression) (λ t h. within after_expression after_expression refl) (λ x h. goes-give) (λ p. refl) refl
 
   goes-terra_exponent : {left : ℕ} → Goes s (terra_exponent left) only_name after_expression
   goes-terra_exponent = goes-when goes-terra_prefixed goes-terra_primary (apart_from only_name terra_prefix_symbols refl)

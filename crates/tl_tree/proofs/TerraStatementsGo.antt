@@ -10,7 +10,7 @@ use Rattle.tl_tree.specs.Grammar.{Rule, Parts}
 use Rattle.tl_tree.specs.Forms.{Joint, Chained}
 use Rattle.tl_tree.specs.TerraStatements.{terra_assignment, terra_simple_statement, written_type, terra_loop, terra_arm, terra_arms, terra_otherwise, terra_step, terra_variable, terra_initial_values, terra_expression_symbols, terra_returned_values, TerraStatement, FromName, FromParen, FromBracket, FromAt, FromDo, FromWhile, FromRepeat, FromIf, FromFor, FromVar, FromEscape, FromReturn, FromBreak, terra_statement_of, terra_statement_symbols, terra_statement_opens, terra_simple_behind, terra_statement, terra_block, terra_parameter, terra_parameters, terra_function_body, quoted_code}
 use Rattle.tl_tree.proofs.Classes.{disjoint, subset, apart_from, apart_from_and, within}
-use Rattle.tl_tree.proofs.Completing.{Setting, CoveredBy}
+use Rattle.tl_tree.proofs.Settings.{Setting, CoveredBy}
 use Rattle.tl_tree.proofs.Going.{one, Apart, Begins, begins-give, begins-bind, begins-next, begins-then, begins-when, begins-many, Goes, goes-within, goes-give, goes-bind, goes-next, goes-then, goes-open, goes-when, goes-many}
 use Rattle.tl_tree.proofs.Following.{after_block, after_expression, after_part, begins-name, begins-listed, goes-closed, goes-name, goes-listed_behind, goes-listed, goes-semicolon}
 use Rattle.tl_tree.proofs.LuaExpressionsGo.{only_name, begins-expression, goes-expression}
