@@ -1,4 +1,6 @@
 pub mod Spelled
+pub mod Spelt
+pub mod TextsGo
 pub mod Reading
 pub mod Completing
 pub mod Exact

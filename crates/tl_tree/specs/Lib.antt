@@ -14,4 +14,5 @@ pub mod TerraExpressions
 pub mod TerraStatements
 pub mod Syntax
 pub mod Laws
+pub mod Texts
 pub mod Arena
