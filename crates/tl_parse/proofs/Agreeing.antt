@@ -1,0 +1,249 @@
+-- What reading each name of the grammar of Lua expressions gives is what its grammar gives.
+use Rattle.std.proofs.Common.{◌≡◌, ℕ, ◌-◌, Bool, true, false, cond, List, [], ◌∷◌, Some, refl, sym, ap, ◌∙◌}
+use Rattle.tl_base.specs.declared.place.Place.{Place}
+use Rattle.tl_tree.specs.declared.mode.Mode.{Mode}
+use Rattle.tl_tree.specs.declared.mode.Mode.TheVariants as modes
+use Rattle.tl_tree.specs.declared.mode.Shape.{Shape}
+use Rattle.tl_tree.specs.declared.mode.Shape.TheVariants as shapes
+use Rattle.tl_tree.specs.declared.mode.Extra.TheVariants.{Plain, Continues, LuaNumber}
+use Rattle.tl_tree.specs.declared.symbol.Symbol.{Symbol}
+use Rattle.tl_tree.specs.declared.symbol.Symbol.TheVariants as symbols
+use Rattle.tl_tree.specs.Tokens.{Token, is, among, sample}
+use Rattle.tl_tree.specs.Tree.{Tree, Nothing, More, Name, Numeral, Literal, Function, Table, Unary, Paren, NamedField, KeyedField, Part, Expression, Operand, Concatenation, Arguments, Fields, FunctionBody}
+use Rattle.tl_tree.specs.Grammar.{Grammar, give, token, bind, Outcome, Took, ◌>>=◌, begins, down}
+use Rattle.tl_tree.specs.Forms.{sign, opening, name, Chained, chained, chain, operand, in_chain, right_operator, unary_of}
+use Rattle.tl_tree.specs.LuaExpressions as lua
+use Rattle.tl_tree.proofs.Unrolling.{bind_again}
+use Rattle.tl_parse.specs.Using.{language, reading, part_at, used, sign_at, open_at, prefix_at, raise_at, number_at}
+use Rattle.tl_parse.specs.Expressions.{name_at, paren_at, base_at, method_arguments_at, applied_at, suffixes_at, prefixed_at, number_tree_at, literal_at, constant, constant_at, function_at, table_at, simple_at, is_simple, primary_at, right_at, power_at, unary_at, binary_at, inner_at, more_at, concatenation_at, chained_at, is_name, field_behind_at, keyed_field_at, field_at}
+use Rattle.tl_parse.specs.declared.expressions.Precedence.TheVariants as precedences
+pub use Rattle.tl_parse.proofs.Following.{sign_then, opened_then, open_then, then, either_is}
+use Rattle.tl_parse.proofs.TerraCodeAgreeing.{terra_code_agrees}
+use Rattle.tl_parse.specs.TerraCode.{terra_code_at}
+use Rattle.tl_parse.proofs.Uses.{both, opening_is, plain_is}
+
+-- ---- names, prefix expressions
+
+pub name_agrees : (levels : ℕ) (ts : List Token) → reading levels name ts ≡ name_at ts
+unfolding name_at
+name_agrees levels ts = sign_then levels symbols.Name (λ n. give (Name n.0.place n.0.text)) (λ t rest. Took (Name t.place t.text) rest) (λ t us. refl) ts
+
+pub paren_agrees : (levels : ℕ) (m : Mode) (ts : List Token) → reading levels (lua.paren m) ts ≡ paren_at levels m ts
+unfolding paren_at
+paren_agrees levels m ts =
+    open_then levels symbols.OpenParen (Expression m) (λ x. bind (sign symbols.CloseParen) λ y. give (chained (Paren x.0.place x.1) chain shapes.Other)) (λ t x us. sign_at symbols.CloseParen us >>= λ y rest. Took (chained (Paren t.place x) chain shapes.Other) rest)
+    (λ t x us. sign_then levels symbols.CloseParen (λ y. give (chained (Paren t.place x) chain shapes.Other)) (λ y rest. Took (chained (Paren t.place x) chain shapes.Other) rest) (λ y vs. refl) us) ts
+
+pub base_agrees : (levels : ℕ) (m : Mode) (ts : List Token) → reading levels (lua.base m) ts ≡ base_at levels m ts
+unfolding base_at
+base_agrees levels m ts =
+    either_is (begins (is symbols.OpenParen) ts) (reading levels (lua.paren m) ts) (reading levels (bind name λ n. give (chained n chain shapes.Name)) ts) (paren_at levels m ts) (name_at ts >>= λ n rest. Took (chained n chain shapes.Name) rest)
+    (paren_agrees levels m ts) (then levels name (λ n. give (chained n chain shapes.Name)) (λ us. name_at us) (λ n rest. Took (chained n chain shapes.Name) rest) (λ us. name_agrees levels us) (λ n us. refl) ts)
+
+pub method_arguments_agree : (levels : ℕ) (m : Mode) (ts : List Token) → reading levels (lua.arguments m) ts ≡ method_arguments_at levels m ts
+unfolding method_arguments_at
+method_arguments_agree levels m ts =
+    either_is (begins (is symbols.OpenParen) ts) (reading levels (bind (opening symbols.OpenParen (Arguments m)) λ x. bind (sign symbols.CloseParen) λ y. give x.1) ts) (cond (begins (is symbols.OpenBrace) ts) (reading levels with_table ts) (reading levels with_text ts))
+    (open_at symbols.OpenParen levels ts >>= λ t a. part_at (levels - 1) (Arguments m) a >>= λ x b. sign_at symbols.CloseParen b >>= λ y rest. Took x rest) _
+    (open_then levels symbols.OpenParen (Arguments m) (λ x. bind (sign symbols.CloseParen) λ y. give x.1) (λ t x us. sign_at symbols.CloseParen us >>= λ y rest. Took x rest) (λ t x us. sign_then levels symbols.CloseParen (λ y. give x) (λ y rest. Took x rest) (λ y vs. refl) us) ts)
+    (either_is (begins (is symbols.OpenBrace) ts) (reading levels with_table ts) (reading levels with_text ts) _ _
+    (open_then levels symbols.OpenBrace (Fields m) (λ x. bind (sign symbols.CloseBrace) λ y. give (More Nothing (Table x.0.place x.1))) (λ t x us. sign_at symbols.CloseBrace us >>= λ y rest. Took (More Nothing (Table t.place x)) rest) (λ t x us. sign_then levels symbols.CloseBrace (λ y. give (More Nothing (Table t.place x))) (λ y rest. Took (More Nothing (Table t.place x)) rest) (λ y vs. refl) us) ts)
+    (sign_then levels symbols.Literal (λ x. give (More Nothing (Literal x.0.place x.0.text))) (λ t rest. Took (More Nothing (Literal t.place t.text)) rest) (λ t us. refl) ts))
+  where
+    with_table : Grammar Tree
+    with_table = bind (opening symbols.OpenBrace (Fields m)) λ x. bind (sign symbols.CloseBrace) λ y. give (More Nothing (Table x.0.place x.1))
+
+    with_text : Grammar Tree
+    with_text = bind (sign symbols.Literal) λ x. give (More Nothing (Literal x.0.place x.0.text))
+
+pub applied_agrees : (levels : ℕ) (m : Mode) (ts : List Token) → reading levels (bind (lua.base m) λ b. lua.suffixes m b) ts ≡ applied_at levels m false ts
+unfolding applied_at suffixes_at
+applied_agrees levels m ts = then levels (lua.base m) (λ b. lua.suffixes m b) (λ us. base_at levels m us) (λ b rest. suffixes_at levels m b rest) (λ us. base_agrees levels m us) (λ b us. refl) ts
+
+pub prefixed_agrees : (levels : ℕ) (m : Mode) (left : ℕ) (ts : List Token) → reading levels (lua.prefix m left) ts ≡ prefixed_at levels m left ts
+unfolding prefixed_at
+prefixed_agrees levels m left ts =
+    sym (bind_again (reading levels (lua.base m) ts) (λ b mid. reading levels (lua.suffixes m b) mid) (λ a rest. Took (in_chain left a) rest))
+    ∙ ap (λ (o : Outcome Chained). o >>= λ a rest. Took (in_chain left a) rest) (applied_agrees levels m ts)
+
+-- ---- operands
+
+pub as_operand : (levels left : ℕ) (g : Grammar Tree) (g_at : Outcome Tree) (ts : List Token) → reading levels g ts ≡ g_at → reading levels (lua.as_operand left g) ts ≡ (g_at >>= λ e rest. Took (operand left e) rest)
+as_operand levels left g g_at ts same = ap (λ (o : Outcome Tree). o >>= λ e rest. Took (operand left e) rest) same
+
+number_agrees : (levels : ℕ) (ts : List Token) → reading levels lua.number ts ≡ number_tree_at ts
+unfolding number_tree_at number_at
+number_agrees levels ts =
+    ap (λ (o : Outcome (Token × Tree)). o >>= λ x rest. Took (Numeral x.0.place x.0.text) rest) (plain_is levels (is symbols.Numeral) LuaNumber (sample symbols.Numeral) ts)
+    ∙ bind_again (used (is symbols.Numeral) false 0 LuaNumber ts) (λ t rest. Took (both t Nothing) rest) (λ x rest. Took (Numeral x.0.place x.0.text) rest)
+
+pub literal_agrees : (levels : ℕ) (ts : List Token) → reading levels lua.literal ts ≡ literal_at ts
+unfolding literal_at
+literal_agrees levels ts = sign_then levels symbols.Literal (λ x. give (Literal x.0.place x.0.text)) (λ t rest. Took (Literal t.place t.text) rest) (λ t us. refl) ts
+
+constant_agrees : (levels : ℕ) (s : Symbol) (ts : List Token) → reading levels (bind (sign s) λ x. give (constant s x.0.place)) ts ≡ constant_at s ts
+unfolding constant_at
+constant_agrees levels s ts = sign_then levels s (λ x. give (constant s x.0.place)) (λ t rest. Took (constant s t.place) rest) (λ t us. refl) ts
+
+function_agrees : (levels : ℕ) (ts : List Token) → reading levels lua.function ts ≡ function_at levels ts
+unfolding function_at
+function_agrees levels ts =
+    sign_then levels symbols.Function (λ f. bind (opening symbols.OpenParen FunctionBody) λ x. give (Function f.0.place x.1)) (λ f us. open_at symbols.OpenParen levels us >>= λ t b. part_at (levels - 1) FunctionBody b >>= λ x rest. Took (Function f.place x) rest)
+    (λ f us. open_then levels symbols.OpenParen FunctionBody (λ x. give (Function f.place x.1)) (λ t x rest. Took (Function f.place x) rest) (λ t x vs. refl) us) ts
+
+table_agrees : (levels : ℕ) (m : Mode) (ts : List Token) → reading levels (lua.table m) ts ≡ table_at levels m ts
+unfolding table_at
+table_agrees levels m ts =
+    open_then levels symbols.OpenBrace (Fields m) (λ x. bind (sign symbols.CloseBrace) λ y. give (Table x.0.place x.1)) (λ t x us. sign_at symbols.CloseBrace us >>= λ y rest. Took (Table t.place x) rest)
+    (λ t x us. sign_then levels symbols.CloseBrace (λ y. give (Table t.place x)) (λ y rest. Took (Table t.place x) rest) (λ y vs. refl) us) ts
+
+-- Terra code is an operand of Lua code.
+terra_operand : (levels : ℕ) (m : Mode) (left : ℕ) (ts : List Token) → reading levels (lua.as_operand left (lua.terra_code m)) ts ≡ (terra_code_at levels m ts >>= λ e rest. Took (operand left e) rest)
+terra_operand levels m left ts = as_operand levels left (lua.terra_code m) (terra_code_at levels m ts) ts (terra_code_agrees levels m ts)
+
+-- by the first token
+primary_by : (levels : ℕ) (m : Mode) (left : ℕ) (symbol : Symbol) (text : List ℕ) (place : Place) (first : Bool) (ts : List Token) →
+    reading levels (lua.primary language m left) (record { symbol = symbol; text = text; place = place; first_on_line = first } ∷ ts) ≡ primary_at levels m left (record { symbol = symbol; text = text; place = place; first_on_line = first } ∷ ts)
+unfolding primary_at is_simple simple_at
+primary_by levels m left symbols.Numeral text place first ts =
+    let us : List Token = record { symbol = symbols.Numeral; text = text; place = place; first_on_line = first } ∷ ts in as_operand levels left lua.number (number_tree_at us) us (number_agrees levels us)
+primary_by levels m left symbols.Literal text place first ts =
+    let us : List Token = record { symbol = symbols.Literal; text = text; place = place; first_on_line = first } ∷ ts in as_operand levels left lua.literal (literal_at us) us (literal_agrees levels us)
+primary_by levels m left symbols.Nil text place first ts =
+    let us : List Token = record { symbol = symbols.Nil; text = text; place = place; first_on_line = first } ∷ ts in as_operand levels left lua.nil (constant_at symbols.Nil us) us (constant_agrees levels symbols.Nil us)
+primary_by levels m left symbols.False text place first ts =
+    let us : List Token = record { symbol = symbols.False; text = text; place = place; first_on_line = first } ∷ ts in as_operand levels left lua.no (constant_at symbols.False us) us (constant_agrees levels symbols.False us)
+primary_by levels m left symbols.True text place first ts =
+    let us : List Token = record { symbol = symbols.True; text = text; place = place; first_on_line = first } ∷ ts in as_operand levels left lua.yes (constant_at symbols.True us) us (constant_agrees levels symbols.True us)
+primary_by levels modes.Variadic left symbols.Ellipsis text place first ts =
+    let us : List Token = record { symbol = symbols.Ellipsis; text = text; place = place; first_on_line = first } ∷ ts in as_operand levels left lua.varargs (constant_at symbols.Ellipsis us) us (constant_agrees levels symbols.Ellipsis us)
+primary_by levels modes.Variadic left symbols.Function text place first ts =
+    let us : List Token = record { symbol = symbols.Function; text = text; place = place; first_on_line = first } ∷ ts in as_operand levels left lua.function (function_at levels us) us (function_agrees levels us)
+primary_by levels modes.Plain left symbols.Function text place first ts =
+    let us : List Token = record { symbol = symbols.Function; text = text; place = place; first_on_line = first } ∷ ts in as_operand levels left lua.function (function_at levels us) us (function_agrees levels us)
+primary_by levels modes.Types left symbols.Function text place first ts =
+    let us : List Token = record { symbol = symbols.Function; text = text; place = place; first_on_line = first } ∷ ts in as_operand levels left lua.function (function_at levels us) us (function_agrees levels us)
+primary_by levels modes.Variadic left symbols.OpenBrace text place first ts =
+    let us : List Token = record { symbol = symbols.OpenBrace; text = text; place = place; first_on_line = first } ∷ ts in as_operand levels left (lua.table modes.Variadic) (table_at levels modes.Variadic us) us (table_agrees levels modes.Variadic us)
+primary_by levels modes.Plain left symbols.OpenBrace text place first ts =
+    let us : List Token = record { symbol = symbols.OpenBrace; text = text; place = place; first_on_line = first } ∷ ts in as_operand levels left (lua.table modes.Plain) (table_at levels modes.Plain us) us (table_agrees levels modes.Plain us)
+primary_by levels modes.Types left symbols.OpenBrace text place first ts =
+    let us : List Token = record { symbol = symbols.OpenBrace; text = text; place = place; first_on_line = first } ∷ ts in as_operand levels left (lua.table modes.Types) (table_at levels modes.Types us) us (table_agrees levels modes.Types us)
+primary_by levels modes.Variadic left symbols.Terra text place first ts = terra_operand levels modes.Variadic left (record { symbol = symbols.Terra; text = text; place = place; first_on_line = first } ∷ ts)
+primary_by levels modes.Plain left symbols.Terra text place first ts = terra_operand levels modes.Plain left (record { symbol = symbols.Terra; text = text; place = place; first_on_line = first } ∷ ts)
+primary_by levels modes.Types left symbols.Terra text place first ts = terra_operand levels modes.Types left (record { symbol = symbols.Terra; text = text; place = place; first_on_line = first } ∷ ts)
+primary_by levels modes.Variadic left symbols.Struct text place first ts = terra_operand levels modes.Variadic left (record { symbol = symbols.Struct; text = text; place = place; first_on_line = first } ∷ ts)
+primary_by levels modes.Plain left symbols.Struct text place first ts = terra_operand levels modes.Plain left (record { symbol = symbols.Struct; text = text; place = place; first_on_line = first } ∷ ts)
+primary_by levels modes.Types left symbols.Struct text place first ts = terra_operand levels modes.Types left (record { symbol = symbols.Struct; text = text; place = place; first_on_line = first } ∷ ts)
+primary_by levels modes.Variadic left symbols.Quote text place first ts = terra_operand levels modes.Variadic left (record { symbol = symbols.Quote; text = text; place = place; first_on_line = first } ∷ ts)
+primary_by levels modes.Plain left symbols.Quote text place first ts = terra_operand levels modes.Plain left (record { symbol = symbols.Quote; text = text; place = place; first_on_line = first } ∷ ts)
+primary_by levels modes.Types left symbols.Quote text place first ts = terra_operand levels modes.Types left (record { symbol = symbols.Quote; text = text; place = place; first_on_line = first } ∷ ts)
+primary_by levels modes.Variadic left symbols.Backtick text place first ts = terra_operand levels modes.Variadic left (record { symbol = symbols.Backtick; text = text; place = place; first_on_line = first } ∷ ts)
+primary_by levels modes.Plain left symbols.Backtick text place first ts = terra_operand levels modes.Plain left (record { symbol = symbols.Backtick; text = text; place = place; first_on_line = first } ∷ ts)
+primary_by levels modes.Types left symbols.Backtick text place first ts = terra_operand levels modes.Types left (record { symbol = symbols.Backtick; text = text; place = place; first_on_line = first } ∷ ts)
+primary_by levels modes.Variadic left symbol text place first ts = prefixed_agrees levels modes.Variadic left (record { symbol = symbol; text = text; place = place; first_on_line = first } ∷ ts)
+primary_by levels modes.Plain left symbol text place first ts = prefixed_agrees levels modes.Plain left (record { symbol = symbol; text = text; place = place; first_on_line = first } ∷ ts)
+primary_by levels modes.Types left symbol text place first ts = prefixed_agrees levels modes.Types left (record { symbol = symbol; text = text; place = place; first_on_line = first } ∷ ts)
+
+pub primary_agrees : (levels : ℕ) (m : Mode) (left : ℕ) (ts : List Token) → reading levels (lua.primary language m left) ts ≡ primary_at levels m left ts
+unfolding primary_at is_simple
+primary_agrees levels m left [] = prefixed_agrees levels m left []
+primary_agrees levels m left (t ∷ ts) = primary_by levels m left t.symbol t.text t.place t.first_on_line ts
+
+-- ---- operators
+
+right_agrees : (levels : ℕ) (s : Symbol) (part : Part) (a : Chained) (ts : List Token) → reading levels (right_operator s part lua.operation a) ts ≡ right_at levels s part a ts
+unfolding right_at raise_at
+right_agrees levels s part a ts =
+    either_is (begins (is s) ts) (reading levels (bind (token (is s) (λ t. Continues a.left) (λ t. Some part) (sample s)) λ x. give (operand (down a.left) (lua.operation x.0 a.tree x.1))) ts) (Took a ts)
+    (used (is s) true levels (Continues a.left) ts >>= λ t b. part_at (levels - 1) part b >>= λ x rest. Took (operand (down a.left) (lua.operation t a.tree x)) rest) (Took a ts)
+    (ap (λ (o : Outcome (Token × Tree)). o >>= λ x rest. Took (operand (down a.left) (lua.operation x.0 a.tree x.1)) rest) (opening_is levels (is s) (Continues a.left) part (sample s) ts)
+    ∙ opened_then levels part (used (is s) true levels (Continues a.left) ts) (λ x. give (operand (down a.left) (lua.operation x.0 a.tree x.1))) (λ t x rest. Took (operand (down a.left) (lua.operation t a.tree x)) rest) (λ t x us. refl))
+    refl
+
+pub power_agrees : (levels : ℕ) (m : Mode) (left : ℕ) (ts : List Token) → reading levels (lua.power language m left) ts ≡ power_at levels m left ts
+unfolding power_at
+power_agrees levels m left ts =
+    then levels (lua.primary language m left) (λ a. right_operator symbols.Caret (Operand m) lua.operation a) (λ us. primary_at levels m left us) (λ a rest. right_at levels symbols.Caret (Operand m) a rest)
+    (λ us. primary_agrees levels m left us) (λ a us. right_agrees levels symbols.Caret (Operand m) a us) ts
+
+pub unary_agrees : (levels : ℕ) (m : Mode) (left : ℕ) (ts : List Token) → reading levels (lua.unary language m left) ts ≡ unary_at levels m left ts
+unfolding unary_at prefix_at
+unary_agrees levels m left ts =
+    either_is (begins (among lua.prefix_symbols) ts) (reading levels (bind (token (among lua.prefix_symbols) (λ t. Plain) (λ t. Some (Operand m)) (sample symbols.Minus)) λ x. give (operand left (Unary x.0.place (unary_of x.0.symbol) x.1))) ts) (reading levels (lua.power language m left) ts)
+    (used (among lua.prefix_symbols) true levels Plain ts >>= λ t a. part_at (levels - 1) (Operand m) a >>= λ x rest. Took (operand left (Unary t.place (unary_of t.symbol) x)) rest) (power_at levels m left ts)
+    (ap (λ (o : Outcome (Token × Tree)). o >>= λ x rest. Took (operand left (Unary x.0.place (unary_of x.0.symbol) x.1)) rest) (opening_is levels (among lua.prefix_symbols) Plain (Operand m) (sample symbols.Minus) ts)
+    ∙ opened_then levels (Operand m) (used (among lua.prefix_symbols) true levels Plain ts) (λ x. give (operand left (Unary x.0.place (unary_of x.0.symbol) x.1))) (λ t x rest. Took (operand left (Unary t.place (unary_of t.symbol) x)) rest) (λ t x us. refl))
+    (power_agrees levels m left ts)
+
+pub product_agrees : (levels : ℕ) (m : Mode) (left : ℕ) (ts : List Token) → reading levels (lua.product language m left) ts ≡ binary_at levels precedences.Product m left ts
+unfolding binary_at inner_at more_at
+product_agrees levels m left ts = refl
+
+pub sum_agrees : (levels : ℕ) (m : Mode) (left : ℕ) (ts : List Token) → reading levels (lua.sum language m left) ts ≡ binary_at levels precedences.Sum m left ts
+unfolding binary_at inner_at more_at
+sum_agrees levels m left ts = refl
+
+pub concatenation_agrees : (levels : ℕ) (m : Mode) (left : ℕ) (ts : List Token) → reading levels (lua.concatenation language m left) ts ≡ concatenation_at levels m left ts
+unfolding concatenation_at
+concatenation_agrees levels m left ts =
+    then levels (lua.sum language m left) (λ a. right_operator symbols.DoubleDot (Concatenation m) lua.operation a) (λ us. binary_at levels precedences.Sum m left us) (λ a rest. right_at levels symbols.DoubleDot (Concatenation m) a rest)
+    (λ us. sum_agrees levels m left us) (λ a us. right_agrees levels symbols.DoubleDot (Concatenation m) a us) ts
+
+pub comparison_agrees : (levels : ℕ) (m : Mode) (left : ℕ) (ts : List Token) → reading levels (lua.comparison language m left) ts ≡ binary_at levels precedences.Comparison m left ts
+unfolding binary_at inner_at more_at
+comparison_agrees levels m left ts = refl
+
+pub conjunction_agrees : (levels : ℕ) (m : Mode) (left : ℕ) (ts : List Token) → reading levels (lua.conjunction language m left) ts ≡ binary_at levels precedences.Conjunction m left ts
+unfolding binary_at inner_at more_at
+conjunction_agrees levels m left ts = refl
+
+pub disjunction_agrees : (levels : ℕ) (m : Mode) (left : ℕ) (ts : List Token) → reading levels (lua.disjunction language m left) ts ≡ binary_at levels precedences.Disjunction m left ts
+unfolding binary_at inner_at more_at
+disjunction_agrees levels m left ts = refl
+
+pub chained_agrees : (levels : ℕ) (m : Mode) (ts : List Token) → reading levels (lua.chained_expression language m) ts ≡ chained_at levels m ts
+unfolding chained_at
+chained_agrees levels m ts =
+    then levels (lua.disjunction language m chain) (λ a. right_operator symbols.Arrow (Expression m) lua.operation a) (λ us. binary_at levels precedences.Disjunction m chain us) (λ a rest. right_at levels symbols.Arrow (Expression m) a rest)
+    (λ us. disjunction_agrees levels m chain us) (λ a us. right_agrees levels symbols.Arrow (Expression m) a us) ts
+
+-- ---- fields
+
+pub expression_agrees : (levels : ℕ) (m : Mode) (ts : List Token) → reading levels (lua.expression language m) ts ≡ part_at levels (Expression m) ts
+unfolding part_at
+expression_agrees levels m ts = refl
+
+field_behind_agrees : (levels : ℕ) (m : Mode) (e : Chained) (ts : List Token) → reading levels (lua.field_behind language m e.shape e.tree) ts ≡ field_behind_at levels m e ts
+unfolding field_behind_at
+field_behind_agrees levels m e ts = go e.shape
+  where
+    named : Outcome Tree
+    named = cond (begins (is symbols.Equal) ts) (sign_at symbols.Equal ts >>= λ y a. part_at levels (Expression m) a >>= λ v rest. Took (NamedField e.tree v) rest) (Took e.tree ts)
+
+    go : (shape : Shape) → reading levels (lua.field_behind language m shape e.tree) ts ≡ cond (is_name shape) named (Took e.tree ts)
+    go shapes.Name =
+        either_is (begins (is symbols.Equal) ts) (reading levels (bind (sign symbols.Equal) λ y. bind (lua.expression language m) λ v. give (NamedField e.tree v)) ts) (Took e.tree ts) (sign_at symbols.Equal ts >>= λ y a. part_at levels (Expression m) a >>= λ v rest. Took (NamedField e.tree v) rest) (Took e.tree ts)
+        (sign_then levels symbols.Equal (λ y. bind (lua.expression language m) λ v. give (NamedField e.tree v)) (λ y a. part_at levels (Expression m) a >>= λ v rest. Took (NamedField e.tree v) rest)
+        (λ y us. then levels (lua.expression language m) (λ v. give (NamedField e.tree v)) (λ us. part_at levels (Expression m) us) (λ v rest. Took (NamedField e.tree v) rest) (λ us. expression_agrees levels m us) (λ v us. refl) us) ts)
+        refl
+    go shapes.Variable = refl
+    go shapes.Call = refl
+    go shapes.Escape = refl
+    go shapes.Other = refl
+
+keyed_field_agrees : (levels : ℕ) (m : Mode) (ts : List Token) → reading levels (lua.keyed_field language m) ts ≡ keyed_field_at levels m ts
+unfolding keyed_field_at
+keyed_field_agrees levels m ts =
+    open_then levels symbols.OpenBracket (Expression m) (λ k. bind (sign symbols.CloseBracket) λ y. bind (sign symbols.Equal) λ z. bind (lua.expression language m) λ v. give (KeyedField k.1 v))
+    (λ t k b. sign_at symbols.CloseBracket b >>= λ y c. sign_at symbols.Equal c >>= λ z d. part_at levels (Expression m) d >>= λ v rest. Took (KeyedField k v) rest)
+    (λ t k b. sign_then levels symbols.CloseBracket (λ y. bind (sign symbols.Equal) λ z. bind (lua.expression language m) λ v. give (KeyedField k v)) (λ y c. sign_at symbols.Equal c >>= λ z d. part_at levels (Expression m) d >>= λ v rest. Took (KeyedField k v) rest)
+    (λ y c. sign_then levels symbols.Equal (λ z. bind (lua.expression language m) λ v. give (KeyedField k v)) (λ z d. part_at levels (Expression m) d >>= λ v rest. Took (KeyedField k v) rest)
+    (λ z d. then levels (lua.expression language m) (λ v. give (KeyedField k v)) (λ us. part_at levels (Expression m) us) (λ v rest. Took (KeyedField k v) rest) (λ us. expression_agrees levels m us) (λ v us. refl) d) c) b) ts
+
+pub field_agrees : (levels : ℕ) (m : Mode) (ts : List Token) → reading levels (lua.field language m) ts ≡ field_at levels m ts
+unfolding field_at
+field_agrees levels m ts =
+    either_is (begins (is symbols.OpenBracket) ts) (reading levels (lua.keyed_field language m) ts) (reading levels (bind (lua.chained_expression language m) λ e. lua.field_behind language m e.shape e.tree) ts) (keyed_field_at levels m ts) (chained_at levels m ts >>= λ e rest. field_behind_at levels m e rest)
+    (keyed_field_agrees levels m ts)
+    (then levels (lua.chained_expression language m) (λ e. lua.field_behind language m e.shape e.tree) (λ us. chained_at levels m us) (λ e rest. field_behind_at levels m e rest) (λ us. chained_agrees levels m us) (λ e us. field_behind_agrees levels m e us) ts)

@@ -1,0 +1,633 @@
+-- What reading each name of the grammar of Lua statements and functions gives is what its grammar gives.
+use Rattle.std.proofs.Common.{◌≡◌, ℕ, ◌-◌, Bool, true, false, cond, List, [], ◌∷◌, Option, Some, None, refl, sym, ap, ◌∙◌}
+use Rattle.std.specs.Prelude.{◌&&◌, not}
+use Rattle.tl_base.specs.declared.place.Place.{Place}
+use Rattle.tl_lex.specs.declared.SyntaxKind.{SyntaxKind}
+use Rattle.tl_tree.specs.declared.mode.Mode.{Mode}
+use Rattle.tl_tree.specs.declared.mode.Context.{Context}
+use Rattle.tl_tree.specs.declared.mode.Shape.{Shape}
+use Rattle.tl_tree.specs.declared.mode.Shape.TheVariants as shapes
+use Rattle.tl_tree.specs.declared.mode.Extra.TheVariants.{Plain}
+use Rattle.tl_tree.specs.declared.symbol.Symbol.{Symbol}
+use Rattle.tl_tree.specs.declared.symbol.Symbol.TheVariants as symbols
+use Rattle.tl_tree.specs.Symbols.{is_bad}
+use Rattle.tl_tree.specs.Tokens.{Token, is, among, sample}
+use Rattle.tl_tree.specs.Tree as trees
+use Rattle.tl_tree.specs.Tree.{Tree, Nothing, More, Just, Part, Expression, Statements, FunctionBody}
+use Rattle.tl_tree.specs.Grammar.{Grammar, give, token, bind, when, many, Outcome, Took, Stop, ◌>>=◌, begins, is_of, unexpected}
+use Rattle.tl_tree.specs.Forms.{sign, opening, name, names, semicolon, listed_behind, Chained, chained, chain}
+use Rattle.tl_tree.specs.LuaExpressions as expressions
+use Rattle.tl_tree.specs.LuaStatements as lua
+use Rattle.tl_tree.specs.LuaStatements.{looped, fresh, body_mode, Sequence, sequence, Parameters, parameters_of}
+use Rattle.tl_tree.proofs.Unrolling.{bind_again}
+use Rattle.tl_parse.specs.Using.{language, reading, part_at, used, barred, sign_at, open_at, call_at, operator_at, raise_at}
+use Rattle.tl_parse.specs.Expressions.{name_at, expressions_at, more_expressions_at, paren_at, base_at, is_other, applied_at, suffixes_at, Suffixed, attached, shape_of, suffix_at, call_suffix_at, index_suffix_at, select_suffix_at, method_arguments_at, method_suffix_at, table_suffix_at, literal_suffix_at}
+use Rattle.tl_parse.specs.Expressions as suffixed
+use Rattle.tl_parse.specs.Statements.{is_unsettled, settling, settle_at, variable_at, more_targets_at, is_call, values_at, call_or_assignment_at, do_at, loop_at, while_at, repeat_at, arm_at, more_arms_at, arms_at, otherwise_at, if_at, step_at, numeric_at, generic, generic_at, for_at, function_statement_at, local_function_at, initial_values_at, local_names_at, definition_symbols, local_at, first_symbols, returned_values_at, return_at, break_at, emit_at, statement_at, last_symbols, next_statement_at, goes_on, parameter_at, with_parameter, more_parameters, more_parameters_at, parameters_at, body_at}
+use Rattle.tl_parse.specs.Paths.{more_names_at, names_at, path_at}
+use Rattle.tl_parse.specs.TerraDefinitions.{local_terra_at}
+use Rattle.tl_parse.proofs.Uses.{both, bind_same, opened_at, opens_any, token_is, plain_is, sign_is, unrolls, ends, refuses, used_classes}
+use Rattle.tl_parse.proofs.Agreeing.{sign_then, open_then, then, either_is, name_agrees, paren_agrees, expression_agrees}
+use Rattle.tl_parse.proofs.Turns.{with_suffix, used_here, used_use, use_same, suffix_turn_of}
+use Rattle.tl_parse.proofs.Paths.{names_agree, path_agrees}
+use Rattle.tl_parse.proofs.TerraDefinitionAgreeing.{define_terra_is, define_struct_is, local_terra_agrees}
+
+-- the same where an outcome is known
+bind_where : {A B : Type 0} (o : Outcome A) (f g : A → List Token → Outcome B) → ((a : A) (mid : List Token) → o ≡ Took a mid → f a mid ≡ g a mid) → (o >>= f) ≡ (o >>= g)
+bind_where (Took a mid) f g h = h a mid refl
+bind_where (Stop kind rest) f g h = refl
+
+expressions_agree : (levels : ℕ) (m : Mode) (ts : List Token) → reading levels (expressions.expressions language m) ts ≡ expressions_at levels m ts
+unfolding expressions_at more_expressions_at part_at
+expressions_agree levels m ts = refl
+
+-- ---- targets
+
+-- the shape of what is read
+record Shaped (o : Outcome Suffixed) (shape : Shape) : Type 0 where
+  is_so : (s : Suffixed) (rest : List Token) → o ≡ Took s rest → shape_of s ≡ shape
+
+shaped_took : (s : Suffixed) (rest : List Token) → Shaped (Took s rest) (shape_of s)
+shaped_took s rest = record { is_so = λ r us e. let same : s ≡ r = cc in ap (λ (x : Suffixed). shape_of x) (sym same) }
+
+shaped_bind : {A : Type 0} (o : Outcome A) (f : A → List Token → Outcome Suffixed) (shape : Shape) → ((a : A) (mid : List Token) → Shaped (f a mid) shape) → Shaped (o >>= f) shape
+shaped_bind (Took a mid) f shape h = h a mid
+shaped_bind (Stop kind rest) f shape h = record { is_so = λ s us e. absurd cc }
+
+call_shaped : (levels : ℕ) (m : Mode) (left : ℕ) (ts : List Token) → Shaped (call_suffix_at levels m left ts) shapes.Call
+unfolding call_suffix_at
+call_shaped levels m left ts = shaped_bind {A = Token} (call_at levels left ts) _ shapes.Call (λ t a. shaped_bind {A = Tree} (part_at (levels - 1) (trees.Arguments m) a) _ shapes.Call (λ x b. shaped_bind {A = Token} (sign_at symbols.CloseParen b) _ shapes.Call (λ y rest. shaped_took (suffixed.Calls t.place x) rest)))
+
+method_shaped : (levels : ℕ) (m : Mode) (left : ℕ) (ts : List Token) → Shaped (method_suffix_at levels m left ts) shapes.Call
+unfolding method_suffix_at
+method_shaped levels m left ts = shaped_bind {A = Token} (operator_at (symbols.Colon ∷ []) left ts) _ shapes.Call (λ t a. shaped_bind {A = Tree} (name_at a) _ shapes.Call (λ n b. shaped_bind {A = Tree} (method_arguments_at levels m b) _ shapes.Call (λ x rest. shaped_took (suffixed.CallsMethod t.place n x) rest)))
+
+table_shaped : (levels : ℕ) (m : Mode) (left : ℕ) (ts : List Token) → Shaped (table_suffix_at levels m left ts) shapes.Call
+unfolding table_suffix_at
+table_shaped levels m left ts = shaped_bind {A = Token} (raise_at symbols.OpenBrace levels left ts) _ shapes.Call (λ t a. shaped_bind {A = Tree} (part_at (levels - 1) (trees.Fields m) a) _ shapes.Call (λ x b. shaped_bind {A = Token} (sign_at symbols.CloseBrace b) _ shapes.Call (λ y rest. shaped_took (suffixed.Calls t.place (More Nothing (trees.Table t.place x))) rest)))
+
+literal_shaped : (left : ℕ) (ts : List Token) → Shaped (literal_suffix_at left ts) shapes.Call
+unfolding literal_suffix_at
+literal_shaped left ts = shaped_bind {A = Token} _ _ shapes.Call (λ t rest. shaped_took (suffixed.Calls t.place (More Nothing (trees.Literal t.place t.text))) rest)
+
+index_shaped : (levels : ℕ) (m : Mode) (left : ℕ) (ts : List Token) → Shaped (index_suffix_at levels m left ts) shapes.Variable
+unfolding index_suffix_at
+index_shaped levels m left ts = shaped_bind {A = Token} (raise_at symbols.OpenBracket levels left ts) _ shapes.Variable (λ t a. shaped_bind {A = Tree} (part_at (levels - 1) (Expression m) a) _ shapes.Variable (λ x b. shaped_bind {A = Token} (sign_at symbols.CloseBracket b) _ shapes.Variable (λ y rest. shaped_took (suffixed.Indexes t.place x) rest)))
+
+select_shaped : (left : ℕ) (ts : List Token) → Shaped (select_suffix_at left ts) shapes.Variable
+unfolding select_suffix_at
+select_shaped left ts = shaped_bind {A = Token} (operator_at (symbols.Dot ∷ []) left ts) _ shapes.Variable (λ t a. shaped_bind {A = Tree} (name_at a) _ shapes.Variable (λ n rest. shaped_took (suffixed.Selects t.place n) rest))
+
+abbrev calls_class : Mode → Token → Bool
+calls_class m t = among lua.call_symbols t && expressions.is_suffix m t
+
+abbrev index_class : Mode → Token → Bool
+index_class m t = among lua.index_symbols t && expressions.is_suffix m t
+
+-- A suffix is a call or an index by its first token.
+data Kind (m : Mode) (o : Outcome Suffixed) (t : Token) : Type 0 where
+  IsCall : is_of (λ t. calls_class m t) t ≡ true → Shaped o shapes.Call → Kind m o t
+  IsIndex : is_of (λ t. calls_class m t) t ≡ false → is_of (λ t. index_class m t) t ≡ true → Shaped o shapes.Variable → Kind m o t
+
+kind_by : (levels : ℕ) (m : Mode) (left : ℕ) (symbol : Symbol) (text : List ℕ) (place : Place) (first : Bool) (ts : List Token) → is_of (λ t. expressions.is_suffix m t) (record { symbol = symbol; text = text; place = place; first_on_line = first }) ≡ true →
+    Kind m (suffix_at levels m left (record { symbol = symbol; text = text; place = place; first_on_line = first } ∷ ts)) (record { symbol = symbol; text = text; place = place; first_on_line = first })
+unfolding suffix_at
+kind_by levels m left symbols.OpenParen text place first ts h = IsCall h (call_shaped levels m left _)
+kind_by levels m left symbols.Colon text place first ts h = IsCall h (method_shaped levels m left _)
+kind_by levels m left symbols.OpenBrace text place first ts h = IsCall h (table_shaped levels m left _)
+kind_by levels m left symbols.Literal text place first ts h = IsCall h (literal_shaped left _)
+kind_by levels m left symbols.OpenBracket text place first ts h = IsIndex refl h (index_shaped levels m left _)
+kind_by levels m left symbols.Dot text place first ts h = IsIndex refl h (select_shaped left _)
+kind_by levels m left _ text place first ts h = absurd cc
+
+-- the grammars of the two turns of a target
+abbrev more_calls : Mode → Chained → Grammar Chained
+more_calls m a = many (λ b t. calls_class m t) (λ b t. expressions.suffix_extra b t) (λ b t. expressions.suffix_opens m (expressions.suffix_of t.symbol)) (λ t x b. expressions.suffix m (expressions.suffix_of t.symbol) t x b) a
+
+abbrev then_index : Mode → Chained → Grammar Chained
+then_index m b =
+    bind (token (λ t. index_class m t) (λ t. expressions.suffix_extra b t) (λ t. expressions.suffix_opens m (expressions.suffix_of t.symbol)) (sample symbols.Dot)) λ x. expressions.suffix m (expressions.suffix_of x.0.symbol) x.0 x.1 b
+
+unsettled_by : (levels : ℕ) (m : Mode) (a : Chained) (t : Token) (ts : List Token) → is_of (λ t. expressions.is_suffix m t) t ≡ true → Kind m (suffix_at levels m a.left (t ∷ ts)) t →
+    reading levels (settling true m a) (t ∷ ts) ≡ (suffix_at levels m a.left (t ∷ ts) >>= λ s rest. reading levels (settling (is_unsettled (shape_of s)) m (with_suffix a s)) rest)
+unsettled_by levels m a t ts h (IsCall c k) =
+    ap (λ (o : Outcome Chained). (o >>= λ b mid. reading levels (then_index m b) mid) >>= λ d mid. reading levels (lua.variable_suffixes m d) mid)
+    (unrolls levels (λ b t. calls_class m t) (λ b t. expressions.suffix_extra b t) (λ b t. expressions.suffix_opens m (expressions.suffix_of t.symbol)) (λ t x b. expressions.suffix m (expressions.suffix_of t.symbol) t x b) (sample symbols.Dot) a (t ∷ ts) c
+    ∙ ap (λ (o : Outcome Chained). o >>= λ y next. reading levels (more_calls m y) next) (suffix_turn_of levels (λ t. calls_class m t) m a (t ∷ ts) c h)
+    ∙ bind_again (suffix_at levels m a.left (t ∷ ts)) (λ s rest. Took (with_suffix a s) rest) (λ y next. reading levels (more_calls m y) next))
+    ∙ ap (λ (o : Outcome Chained). o >>= λ d mid. reading levels (lua.variable_suffixes m d) mid) (bind_again (suffix_at levels m a.left (t ∷ ts)) (λ s rest. reading levels (more_calls m (with_suffix a s)) rest) (λ b mid. reading levels (then_index m b) mid))
+    ∙ bind_again (suffix_at levels m a.left (t ∷ ts)) (λ s rest. reading levels (more_calls m (with_suffix a s)) rest >>= λ b mid. reading levels (then_index m b) mid) (λ d mid. reading levels (lua.variable_suffixes m d) mid)
+    ∙ bind_where (suffix_at levels m a.left (t ∷ ts)) (λ s rest. reading levels (settling true m (with_suffix a s)) rest) (λ s rest. reading levels (settling (is_unsettled (shape_of s)) m (with_suffix a s)) rest)
+    (λ s rest e. ap (λ (x : Shape). reading levels (settling (is_unsettled x) m (with_suffix a s)) rest) (sym (k.is_so s rest e)))
+unsettled_by levels m a t ts h (IsIndex c i k) =
+    ap (λ (o : Outcome Chained). (o >>= λ b mid. reading levels (then_index m b) mid) >>= λ d mid. reading levels (lua.variable_suffixes m d) mid)
+    (ends levels (λ b t. calls_class m t) (λ b t. expressions.suffix_extra b t) (λ b t. expressions.suffix_opens m (expressions.suffix_of t.symbol)) (λ t x b. expressions.suffix m (expressions.suffix_of t.symbol) t x b) a (t ∷ ts) c)
+    ∙ ap (λ (o : Outcome Chained). o >>= λ d mid. reading levels (lua.variable_suffixes m d) mid) (suffix_turn_of levels (λ t. index_class m t) m a (t ∷ ts) i h)
+    ∙ bind_again (suffix_at levels m a.left (t ∷ ts)) (λ s rest. Took (with_suffix a s) rest) (λ d mid. reading levels (lua.variable_suffixes m d) mid)
+    ∙ bind_where (suffix_at levels m a.left (t ∷ ts)) (λ s rest. reading levels (settling false m (with_suffix a s)) rest) (λ s rest. reading levels (settling (is_unsettled (shape_of s)) m (with_suffix a s)) rest)
+    (λ s rest e. ap (λ (x : Shape). reading levels (settling (is_unsettled x) m (with_suffix a s)) rest) (sym (k.is_so s rest e)))
+
+-- behind a variable
+settled_by : (levels : ℕ) (m : Mode) (a : Chained) (t : Token) (ts : List Token) → is_of (λ t. expressions.is_suffix m t) t ≡ true →
+    reading levels (settling false m a) (t ∷ ts) ≡ (suffix_at levels m a.left (t ∷ ts) >>= λ s rest. reading levels (settling (is_unsettled (shape_of s)) m (with_suffix a s)) rest)
+settled_by levels m a t ts h =
+    unrolls levels (λ b t. expressions.is_suffix m t) (λ b t. expressions.suffix_extra b t) (λ b t. expressions.suffix_opens m (expressions.suffix_of t.symbol)) (λ t x b. bind (expressions.suffix m (expressions.suffix_of t.symbol) t x b) λ d. lua.settled m d.shape d) (sample symbols.Dot) a (t ∷ ts) h
+    ∙ ap (λ (o : Outcome Chained). o >>= λ y next. reading levels (lua.variable_suffixes m y) next)
+    (sym (bind_again first (λ x mid. reading levels (expressions.suffix m (expressions.suffix_of x.0.symbol) x.0 x.1 a) mid) (λ d mid. reading levels (lua.settled m d.shape d) mid))
+    ∙ ap (λ (o : Outcome Chained). o >>= λ d mid. reading levels (lua.settled m d.shape d) mid) (suffix_turn_of levels (λ t. expressions.is_suffix m t) m a (t ∷ ts) h h)
+    ∙ bind_again (suffix_at levels m a.left (t ∷ ts)) (λ s rest. Took (with_suffix a s) rest) (λ d mid. reading levels (lua.settled m d.shape d) mid))
+    ∙ bind_again (suffix_at levels m a.left (t ∷ ts)) (λ s rest. reading levels (lua.settled m (shape_of s) (with_suffix a s)) rest) (λ y next. reading levels (lua.variable_suffixes m y) next)
+    ∙ bind_same (suffix_at levels m a.left (t ∷ ts)) (λ s rest. reading levels (lua.settled m (shape_of s) (with_suffix a s)) rest >>= λ y next. reading levels (lua.variable_suffixes m y) next) (λ s rest. reading levels (settling (is_unsettled (shape_of s)) m (with_suffix a s)) rest) (λ s rest. goes s rest)
+  where
+    first : Outcome (Token × Tree)
+    first = reading levels (token (λ t. expressions.is_suffix m t) (λ t. expressions.suffix_extra a t) (λ t. expressions.suffix_opens m (expressions.suffix_of t.symbol)) (sample symbols.Dot)) (t ∷ ts)
+
+    goes : (s : Suffixed) (rest : List Token) → (reading levels (lua.settled m (shape_of s) (with_suffix a s)) rest >>= λ y next. reading levels (lua.variable_suffixes m y) next) ≡ reading levels (settling (is_unsettled (shape_of s)) m (with_suffix a s)) rest
+    goes (suffixed.Calls place x) rest = refl
+    goes (suffixed.CallsMethod place n x) rest = refl
+    goes (suffixed.Indexes place x) rest = refl
+    goes (suffixed.Selects place x) rest = refl
+
+pub settle_goes : (levels : ℕ) (m : Mode) (a : Chained) (b : Bool) (ts : List Token) → begins (λ t. expressions.is_suffix m t) ts ≡ true →
+    reading levels (settling b m a) ts ≡ (suffix_at levels m a.left ts >>= λ s rest. reading levels (settling (is_unsettled (shape_of s)) m (with_suffix a s)) rest)
+settle_goes levels m a b [] h = absurd cc
+settle_goes levels m a true (t ∷ ts) h = unsettled_by levels m a t ts h (kind_by levels m a.left t.symbol t.text t.place t.first_on_line ts h)
+settle_goes levels m a false (t ∷ ts) h = settled_by levels m a t ts h
+
+narrower : (x y : Token → Bool) (ts : List Token) → begins y ts ≡ false → begins (λ t. x t && y t) ts ≡ false
+narrower x y [] h = refl
+narrower x y (t ∷ ts) h = by (symbols_bad t) (x t) (y t) h
+  where
+    symbols_bad : Token → Bool
+    symbols_bad t = is_bad t.symbol
+
+    by : (b c d : Bool) → cond b false d ≡ false → cond b false (c && d) ≡ false
+    by true c d h = refl
+    by false true d h = h
+    by false false d h = refl
+
+pub settle_ends : (levels : ℕ) (m : Mode) (a : Chained) (ts : List Token) → begins (λ t. expressions.is_suffix m t) ts ≡ false → reading levels (settling false m a) ts ≡ Took a ts
+settle_ends levels m a ts h = ends levels (λ b t. expressions.is_suffix m t) (λ b t. expressions.suffix_extra b t) (λ b t. expressions.suffix_opens m (expressions.suffix_of t.symbol)) (λ t x b. bind (expressions.suffix m (expressions.suffix_of t.symbol) t x b) λ d. lua.settled m d.shape d) a ts h
+
+pub settle_refuses : (levels : ℕ) (m : Mode) (a : Chained) (ts : List Token) → begins (λ t. expressions.is_suffix m t) ts ≡ false → reading levels (settling true m a) ts ≡ unexpected ts
+settle_refuses levels m a ts h =
+    ap (λ (o : Outcome Chained). (o >>= λ b mid. reading levels (then_index m b) mid) >>= λ d mid. reading levels (lua.variable_suffixes m d) mid)
+    (ends levels (λ b t. calls_class m t) (λ b t. expressions.suffix_extra b t) (λ b t. expressions.suffix_opens m (expressions.suffix_of t.symbol)) (λ t x b. expressions.suffix m (expressions.suffix_of t.symbol) t x b) a ts (narrower (λ t. among lua.call_symbols t) (λ t. expressions.is_suffix m t) ts h))
+    ∙ ap (λ (o : Outcome (Token × Tree)). (o >>= λ x mid. reading levels (expressions.suffix m (expressions.suffix_of x.0.symbol) x.0 x.1 a) mid) >>= λ d mid. reading levels (lua.variable_suffixes m d) mid)
+    (refuses levels (λ t. index_class m t) (λ t. expressions.suffix_extra a t) (λ t. expressions.suffix_opens m (expressions.suffix_of t.symbol)) (sample symbols.Dot) ts (narrower (λ t. among lua.index_symbols t) (λ t. expressions.is_suffix m t) ts h))
+    ∙ go ts
+  where
+    go : (ts : List Token) → ((unexpected {A = Token × Tree} ts >>= λ x mid. reading levels (expressions.suffix m (expressions.suffix_of x.0.symbol) x.0 x.1 a) mid) >>= λ d mid. reading levels (lua.variable_suffixes m d) mid) ≡ unexpected ts
+    go [] = refl
+    go (t ∷ ts) = refl
+
+paren_settles : (levels : ℕ) (m : Mode) (ts : List Token) → (paren_at levels m ts >>= λ b mid. reading levels (settling true m b) mid) ≡ (paren_at levels m ts >>= λ b mid. settle_at levels m b mid)
+unfolding paren_at settle_at
+paren_settles levels m ts =
+    bind_again (open_at symbols.OpenParen levels ts) (λ t a. part_at (levels - 1) (Expression m) a >>= λ x b. sign_at symbols.CloseParen b >>= λ y rest. Took (chained (trees.Paren t.place x) chain shapes.Other) rest) (λ b mid. reading levels (settling true m b) mid)
+    ∙ bind_same (open_at symbols.OpenParen levels ts) _ _ (λ t a. inner t (part_at (levels - 1) (Expression m) a))
+    ∙ sym (bind_again (open_at symbols.OpenParen levels ts) (λ t a. part_at (levels - 1) (Expression m) a >>= λ x b. sign_at symbols.CloseParen b >>= λ y rest. Took (chained (trees.Paren t.place x) chain shapes.Other) rest) (λ b mid. settle_at levels m b mid))
+  where
+    last : (t : Token) (x : Tree) (o : Outcome Token) → ((o >>= λ y rest. Took (chained (trees.Paren t.place x) chain shapes.Other) rest) >>= λ b mid. reading levels (settling true m b) mid) ≡ ((o >>= λ y rest. Took (chained (trees.Paren t.place x) chain shapes.Other) rest) >>= λ b mid. settle_at levels m b mid)
+    last t x (Took y rest) = refl
+    last t x (Stop kind rest) = refl
+
+    inner : (t : Token) (o : Outcome Tree) → ((o >>= λ x b. sign_at symbols.CloseParen b >>= λ y rest. Took (chained (trees.Paren t.place x) chain shapes.Other) rest) >>= λ b mid. reading levels (settling true m b) mid)
+        ≡ ((o >>= λ x b. sign_at symbols.CloseParen b >>= λ y rest. Took (chained (trees.Paren t.place x) chain shapes.Other) rest) >>= λ b mid. settle_at levels m b mid)
+    inner t (Took x b) = last t x (sign_at symbols.CloseParen b)
+    inner t (Stop kind rest) = refl
+
+pub variable_agrees : (levels : ℕ) (m : Mode) (ts : List Token) → reading levels (lua.variable m) ts ≡ variable_at levels m ts
+unfolding variable_at base_at settle_at
+variable_agrees levels m ts = by (begins (is symbols.OpenParen) ts)
+  where
+    name_goes : (o : Outcome Tree) → (o >>= λ n mid. reading levels (lua.variable_suffixes m (chained n chain shapes.Name)) mid >>= λ a rest. Took a.tree rest) ≡ ((o >>= λ n rest. Took (chained n chain shapes.Name) rest) >>= λ b mid. settle_at levels m b mid >>= λ a rest. Took a.tree rest)
+    name_goes (Took n mid) = refl
+    name_goes (Stop kind rest) = refl
+
+    by : (b : Bool) → cond b (reading levels (bind (expressions.paren m) λ b. bind (lua.to_variable m b) λ d. bind (lua.variable_suffixes m d) λ a. give a.tree) ts) (reading levels (bind name λ n. bind (lua.variable_suffixes m (chained n chain shapes.Name)) λ a. give a.tree) ts)
+        ≡ (cond b (paren_at levels m ts) (name_at ts >>= λ n rest. Took (chained n chain shapes.Name) rest) >>= λ b mid. settle_at levels m b mid >>= λ a rest. Took a.tree rest)
+    by true =
+        ap (λ (o : Outcome Chained). o >>= λ b mid. reading levels (bind (lua.to_variable m b) λ d. bind (lua.variable_suffixes m d) λ a. give a.tree) mid) (paren_agrees levels m ts)
+        ∙ bind_same (paren_at levels m ts) (λ b mid. reading levels (bind (lua.to_variable m b) λ d. bind (lua.variable_suffixes m d) λ a. give a.tree) mid) (λ b mid. reading levels (settling true m b) mid >>= λ a rest. Took a.tree rest) (λ b mid. sym (bind_again (reading levels (lua.to_variable m b) mid) (λ d us. reading levels (lua.variable_suffixes m d) us) (λ a rest. Took a.tree rest)))
+        ∙ sym (bind_again (paren_at levels m ts) (λ b mid. reading levels (settling true m b) mid) (λ a rest. Took a.tree rest))
+        ∙ ap (λ (o : Outcome Chained). o >>= λ a rest. Took a.tree rest) (paren_settles levels m ts)
+        ∙ bind_again (paren_at levels m ts) (λ b mid. settle_at levels m b mid) (λ a rest. Took a.tree rest)
+    by false = ap (λ (o : Outcome Tree). o >>= λ n mid. reading levels (lua.variable_suffixes m (chained n chain shapes.Name)) mid >>= λ a rest. Took a.tree rest) (name_agrees levels ts) ∙ name_goes (name_at ts)
+
+-- ---- loops and choices
+
+loop_agrees : (levels : ℕ) (c : Context) (ts : List Token) → reading levels (lua.loop c) ts ≡ loop_at levels c ts
+unfolding loop_at
+loop_agrees levels c ts =
+    open_then levels symbols.Do (Statements (looped c)) (λ x. bind (sign symbols.End) λ y. give x.1) (λ t x b. sign_at symbols.End b >>= λ y rest. Took x rest) (λ t x b. sign_then levels symbols.End (λ y. give x) (λ y rest. Took x rest) (λ y us. refl) b) ts
+
+-- a condition and its block, behind other arms
+arm_agrees : (levels : ℕ) (c : Context) (before : Tree) (ts : List Token) → reading levels (lua.arm language c before) ts ≡ (arm_at levels c ts >>= λ x rest. Took (More before x) rest)
+unfolding arm_at
+arm_agrees levels c before ts =
+    then levels (expressions.expression language c.mode) (λ e. bind (opening symbols.Then (Statements c)) λ x. give (More before (trees.Arm e x.1))) (λ us. part_at levels (Expression c.mode) us) (λ e a. open_at symbols.Then levels a >>= λ t b. part_at (levels - 1) (Statements c) b >>= λ x rest. Took (More before (trees.Arm e x)) rest)
+    (λ us. expression_agrees levels c.mode us) (λ e a. open_then levels symbols.Then (Statements c) (λ x. give (More before (trees.Arm e x.1))) (λ t x rest. Took (More before (trees.Arm e x)) rest) (λ t x us. refl) a) ts
+    ∙ sym (bind_again (part_at levels (Expression c.mode) ts) (λ e a. open_at symbols.Then levels a >>= λ t b. part_at (levels - 1) (Statements c) b >>= λ x rest. Took (trees.Arm e x) rest) (λ x rest. Took (More before x) rest)
+    ∙ bind_same (part_at levels (Expression c.mode) ts) _ (λ e a. open_at symbols.Then levels a >>= λ t b. part_at (levels - 1) (Statements c) b >>= λ x rest. Took (More before (trees.Arm e x)) rest)
+    (λ e a. bind_again (open_at symbols.Then levels a) (λ t b. part_at (levels - 1) (Statements c) b >>= λ x rest. Took (trees.Arm e x) rest) (λ x rest. Took (More before x) rest)
+    ∙ bind_same (open_at symbols.Then levels a) _ (λ t b. part_at (levels - 1) (Statements c) b >>= λ x rest. Took (More before (trees.Arm e x)) rest) (λ t b. bind_again (part_at (levels - 1) (Statements c) b) (λ x rest. Took (trees.Arm e x) rest) (λ x rest. Took (More before x) rest))))
+
+pub arm_turn : (levels : ℕ) (c : Context) (before : Tree) (ts : List Token) →
+    reading levels (bind (token (λ t. is symbols.Elseif t) (λ t. Plain) (λ t. None) (sample symbols.Elseif)) λ x. lua.arm language c before) ts ≡ ((sign_at symbols.Elseif ts >>= λ y a. arm_at levels c a) >>= λ x rest. Took (More before x) rest)
+arm_turn levels c before ts =
+    sign_then levels symbols.Elseif (λ x. lua.arm language c before) (λ t a. arm_at levels c a >>= λ x rest. Took (More before x) rest) (λ t a. arm_agrees levels c before a) ts
+    ∙ sym (bind_again (sign_at symbols.Elseif ts) (λ y a. arm_at levels c a) (λ x rest. Took (More before x) rest))
+
+otherwise_agrees : (levels : ℕ) (c : Context) (ts : List Token) → reading levels (lua.otherwise language c) ts ≡ otherwise_at levels c ts
+unfolding otherwise_at
+otherwise_agrees levels c ts =
+    either_is (begins (is symbols.Else) ts) (reading levels (bind (opening symbols.Else (Statements c)) λ x. give (Just x.1)) ts) (Took Nothing ts) (open_at symbols.Else levels ts >>= λ t a. part_at (levels - 1) (Statements c) a >>= λ x rest. Took (Just x) rest) (Took Nothing ts)
+    (open_then levels symbols.Else (Statements c) (λ x. give (Just x.1)) (λ t x rest. Took (Just x) rest) (λ t x us. refl) ts) refl
+
+step_agrees : (levels : ℕ) (m : Mode) (ts : List Token) → reading levels (lua.step language m) ts ≡ step_at levels m ts
+unfolding step_at
+step_agrees levels m ts =
+    either_is (begins (is symbols.Comma) ts) (reading levels (bind (sign symbols.Comma) λ y. bind (expressions.expression language m) λ e. give (Just e)) ts) (Took Nothing ts) (sign_at symbols.Comma ts >>= λ y a. part_at levels (Expression m) a >>= λ e rest. Took (Just e) rest) (Took Nothing ts)
+    (sign_then levels symbols.Comma (λ y. bind (expressions.expression language m) λ e. give (Just e)) (λ y a. part_at levels (Expression m) a >>= λ e rest. Took (Just e) rest)
+    (λ y a. then levels (expressions.expression language m) (λ e. give (Just e)) (λ us. part_at levels (Expression m) us) (λ e rest. Took (Just e) rest) (λ us. expression_agrees levels m us) (λ e us. refl) a) ts) refl
+
+numeric_agrees : (levels : ℕ) (c : Context) (t : Token) (n : Tree) (ts : List Token) → reading levels (lua.numeric_for language c t n) ts ≡ (numeric_at levels c ts >>= λ r rest. Took (trees.NumericFor t.place n r.from r.limit r.step r.block) rest)
+unfolding numeric_at
+numeric_agrees levels c t n ts =
+    sign_then levels symbols.Equal (λ x'. bind {A = Tree} {B = Tree} (expressions.expression language c.mode) (λ a. bind {A = Token × Tree} {B = Tree} (sign symbols.Comma) (λ z. bind {A = Tree} {B = Tree} (expressions.expression language c.mode) (λ b. bind {A = Tree} {B = Tree} (lua.step language c.mode) (λ s. bind {A = Tree} {B = Tree} (lua.loop c) (λ x''. give {A = Tree} (trees.NumericFor t.place n a b s x''))))))) (λ y a. part_at levels (Expression c.mode) a >>= λ from b. sign_at symbols.Comma b >>= λ z d. part_at levels (Expression c.mode) d >>= λ limit f. step_at levels c.mode f >>= λ s g. loop_at levels c g >>= λ x rest. made from limit s x rest)
+    (λ y a. then levels (expressions.expression language c.mode) (λ x'. bind {A = Token × Tree} {B = Tree} (sign symbols.Comma) (λ z. bind {A = Tree} {B = Tree} (expressions.expression language c.mode) (λ b. bind {A = Tree} {B = Tree} (lua.step language c.mode) (λ s. bind {A = Tree} {B = Tree} (lua.loop c) (λ x''. give {A = Tree} (trees.NumericFor t.place n x' b s x'')))))) (λ us. part_at levels (Expression c.mode) us) (λ from b. sign_at symbols.Comma b >>= λ z d. part_at levels (Expression c.mode) d >>= λ limit f. step_at levels c.mode f >>= λ s g. loop_at levels c g >>= λ x rest. made from limit s x rest) (λ us. expression_agrees levels c.mode us)
+    (λ from b. sign_then levels symbols.Comma (λ x'. bind {A = Tree} {B = Tree} (expressions.expression language c.mode) (λ b'. bind {A = Tree} {B = Tree} (lua.step language c.mode) (λ s. bind {A = Tree} {B = Tree} (lua.loop c) (λ x''. give {A = Tree} (trees.NumericFor t.place n from b' s x''))))) (λ z d. part_at levels (Expression c.mode) d >>= λ limit f. step_at levels c.mode f >>= λ s g. loop_at levels c g >>= λ x rest. made from limit s x rest)
+    (λ z d. then levels (expressions.expression language c.mode) (λ x'. bind {A = Tree} {B = Tree} (lua.step language c.mode) (λ s. bind {A = Tree} {B = Tree} (lua.loop c) (λ x''. give {A = Tree} (trees.NumericFor t.place n from x' s x'')))) (λ us. part_at levels (Expression c.mode) us) (λ limit f. step_at levels c.mode f >>= λ s g. loop_at levels c g >>= λ x rest. made from limit s x rest) (λ us. expression_agrees levels c.mode us)
+    (λ limit f. then levels (lua.step language c.mode) (λ s. bind (lua.loop c) λ x. give (trees.NumericFor t.place n from limit s x)) (λ us. step_at levels c.mode us) (λ s g. loop_at levels c g >>= λ x rest. made from limit s x rest) (λ us. step_agrees levels c.mode us)
+    (λ s g. then levels (lua.loop c) (λ x. give (trees.NumericFor t.place n from limit s x)) (λ us. loop_at levels c us) (λ x rest. made from limit s x rest) (λ us. loop_agrees levels c us) (λ x us. refl) g) f) d) b) a) ts
+    ∙ sym (bind_again (sign_at symbols.Equal ts) _ _ ∙ bind_same (sign_at symbols.Equal ts) _ _ (λ y a. bind_again (part_at levels (Expression c.mode) a) _ _ ∙ bind_same (part_at levels (Expression c.mode) a) _ _ (λ from b. bind_again (sign_at symbols.Comma b) _ _ ∙ bind_same (sign_at symbols.Comma b) _ _
+    (λ z d. bind_again (part_at levels (Expression c.mode) d) _ _ ∙ bind_same (part_at levels (Expression c.mode) d) _ _ (λ limit f. bind_again (step_at levels c.mode f) _ _ ∙ bind_same (step_at levels c.mode f) _ _ (λ s g. bind_again (loop_at levels c g) _ _))))))
+  where
+    made : Tree → Tree → Tree → Tree → List Token → Outcome Tree
+    made from limit s x rest = Took (trees.NumericFor t.place n from limit s x) rest
+
+generic_agrees : (levels : ℕ) (c : Context) (t : Token) (ns : Tree) (ts : List Token) →
+    reading levels (bind (sign symbols.In) λ y. bind (expressions.expressions language c.mode) λ es. bind (lua.loop c) λ x. give (trees.GenericFor t.place ns es x)) ts ≡ (generic_at levels c ts >>= λ r rest. Took (trees.GenericFor t.place ns r.values r.block) rest)
+unfolding generic_at
+generic_agrees levels c t ns ts =
+    sign_then levels symbols.In (λ y. bind (expressions.expressions language c.mode) λ es. bind (lua.loop c) λ x. give (trees.GenericFor t.place ns es x)) (λ y a. expressions_at levels c.mode a >>= λ es b. loop_at levels c b >>= λ x rest. Took (trees.GenericFor t.place ns es x) rest)
+    (λ y a. then levels (expressions.expressions language c.mode) (λ es. bind (lua.loop c) λ x. give (trees.GenericFor t.place ns es x)) (λ us. expressions_at levels c.mode us) (λ es b. loop_at levels c b >>= λ x rest. Took (trees.GenericFor t.place ns es x) rest) (λ us. expressions_agree levels c.mode us)
+    (λ es b. then levels (lua.loop c) (λ x. give (trees.GenericFor t.place ns es x)) (λ us. loop_at levels c us) (λ x rest. Took (trees.GenericFor t.place ns es x) rest) (λ us. loop_agrees levels c us) (λ x us. refl) b) a) ts
+    ∙ sym (bind_again (sign_at symbols.In ts) (λ y a. expressions_at levels c.mode a >>= λ es b. loop_at levels c b >>= λ x rest. Took (generic es x) rest) (λ r rest. Took (trees.GenericFor t.place ns r.values r.block) rest)
+    ∙ bind_same (sign_at symbols.In ts) (λ y a. (expressions_at levels c.mode a >>= λ es b. loop_at levels c b >>= λ x rest. Took (generic es x) rest) >>= λ r rest. Took (trees.GenericFor t.place ns r.values r.block) rest) (λ y a. expressions_at levels c.mode a >>= λ es b. loop_at levels c b >>= λ x rest. Took (trees.GenericFor t.place ns es x) rest)
+    (λ y a. bind_again (expressions_at levels c.mode a) (λ es b. loop_at levels c b >>= λ x rest. Took (generic es x) rest) (λ r rest. Took (trees.GenericFor t.place ns r.values r.block) rest)
+    ∙ bind_same (expressions_at levels c.mode a) (λ es b. (loop_at levels c b >>= λ x rest. Took (generic es x) rest) >>= λ r rest. Took (trees.GenericFor t.place ns r.values r.block) rest) (λ es b. loop_at levels c b >>= λ x rest. Took (trees.GenericFor t.place ns es x) rest)
+    (λ es b. bind_again (loop_at levels c b) (λ x rest. Took (generic es x) rest) (λ r rest. Took (trees.GenericFor t.place ns r.values r.block) rest))))
+
+-- ---- declarations
+
+values_agree : (levels : ℕ) (m : Mode) (ts : List Token) → reading levels (bind (sign symbols.Equal) λ y. expressions.expressions language m) ts ≡ values_at levels m ts
+unfolding values_at
+values_agree levels m ts = sign_then levels symbols.Equal (λ y. expressions.expressions language m) (λ y a. expressions_at levels m a) (λ y us. expressions_agree levels m us) ts
+
+initial_values_agree : (levels : ℕ) (m : Mode) (ts : List Token) → reading levels (lua.initial_values language m) ts ≡ initial_values_at levels m ts
+unfolding initial_values_at
+initial_values_agree levels m ts = either_is (begins (is symbols.Equal) ts) (reading levels (bind (sign symbols.Equal) λ y. expressions.expressions language m) ts) (Took Nothing ts) (values_at levels m ts) (Took Nothing ts) (values_agree levels m ts) refl
+
+local_function_agrees : (levels : ℕ) (place : Place) (ts : List Token) →
+    reading levels (bind (sign symbols.Function) λ y. bind name λ n. bind (opening symbols.OpenParen FunctionBody) λ b. give (trees.LocalFunction place n b.1)) ts ≡ local_function_at levels place ts
+unfolding local_function_at
+local_function_agrees levels place ts =
+    sign_then levels symbols.Function (λ y. bind name λ n. bind (opening symbols.OpenParen FunctionBody) λ b. give (trees.LocalFunction place n b.1)) (λ y a. name_at a >>= λ n b. open_at symbols.OpenParen levels b >>= λ z d. part_at (levels - 1) FunctionBody d >>= λ x rest. Took (trees.LocalFunction place n x) rest)
+    (λ y a. then levels name (λ n. bind (opening symbols.OpenParen FunctionBody) λ b. give (trees.LocalFunction place n b.1)) (λ us. name_at us) (λ n b. open_at symbols.OpenParen levels b >>= λ z d. part_at (levels - 1) FunctionBody d >>= λ x rest. Took (trees.LocalFunction place n x) rest) (λ us. name_agrees levels us)
+    (λ n b. open_then levels symbols.OpenParen FunctionBody (λ b. give (trees.LocalFunction place n b.1)) (λ t x rest. Took (trees.LocalFunction place n x) rest) (λ t x us. refl) b) a) ts
+
+local_names_agree : (levels : ℕ) (m : Mode) (place : Place) (ts : List Token) →
+    reading levels (bind names λ ns. bind (lua.initial_values language m) λ es. give (trees.Local place ns es)) ts ≡ local_names_at levels m place ts
+unfolding local_names_at
+local_names_agree levels m place ts =
+    then levels names (λ ns. bind (lua.initial_values language m) λ es. give (trees.Local place ns es)) (λ us. names_at levels us) (λ ns a. initial_values_at levels m a >>= λ es rest. Took (trees.Local place ns es) rest) (λ us. names_agree levels us)
+    (λ ns a. then levels (lua.initial_values language m) (λ es. give (trees.Local place ns es)) (λ us. initial_values_at levels m us) (λ es rest. Took (trees.Local place ns es) rest) (λ us. initial_values_agree levels m us) (λ es us. refl) a) ts
+
+-- each token that has a place in both languages has it in the joint one
+kept_by : (b c : Bool) → cond b false (c && true) ≡ cond b false c
+kept_by true c = refl
+kept_by false true = refl
+kept_by false false = refl
+
+begins_local_terra_is : (ts : List Token) → begins (λ t. lua.begins_local_terra language t) ts ≡ begins (among definition_symbols) ts
+begins_local_terra_is [] = refl
+begins_local_terra_is (t ∷ ts) = kept_by (is_bad t.symbol) (among definition_symbols t)
+
+abbrev pub token_with : Symbol → List ℕ → Place → Bool → Token
+token_with symbol text place first = record { symbol = symbol; text = text; place = place; first_on_line = first }
+
+begins_expression_by : (symbol : Symbol) (text : List ℕ) (place : Place) (first : Bool) → is_of (λ t. lua.begins_expression language t) (token_with symbol text place first) ≡ is_of (among first_symbols) (token_with symbol text place first)
+begins_expression_by (symbols.Bad kind) text place first = refl
+begins_expression_by _ text place first = refl
+
+begins_expression_is : (ts : List Token) → begins (λ t. lua.begins_expression language t) ts ≡ begins (among first_symbols) ts
+begins_expression_is [] = refl
+begins_expression_is (t ∷ ts) = begins_expression_by t.symbol t.text t.place t.first_on_line
+
+returned_values_agree : (levels : ℕ) (m : Mode) (ts : List Token) → reading levels (lua.returned_values language m) ts ≡ returned_values_at levels m ts
+unfolding returned_values_at
+returned_values_agree levels m ts =
+    ap (λ (b : Bool). cond b (reading levels (expressions.expressions language m) ts) (Took Nothing ts)) (begins_expression_is ts)
+    ∙ either_is (begins (among first_symbols) ts) (reading levels (expressions.expressions language m) ts) (Took Nothing ts) (expressions_at levels m ts) (Took Nothing ts) (expressions_agree levels m ts) refl
+
+-- ---- calls and assignments
+
+target_agrees : (levels : ℕ) (m : Mode) (place : Place) (shape : Shape) (e : Tree) (t : Token) (ts : List Token) → t.place ≡ place →
+    reading levels (lua.call_or_assignment language m t shape e) ts ≡ cond (is_call shape) (Took (trees.Perform place e) ts) (more_targets_at levels m (More Nothing e) ts >>= λ targets c. values_at levels m c >>= λ es rest. Took (trees.Assign place targets es) rest)
+unfolding more_targets_at
+target_agrees levels m place shape e t ts p = by shape
+  where
+    assigns : reading levels (lua.assignment language m t e) ts ≡ (more_targets_at levels m (More Nothing e) ts >>= λ targets c. values_at levels m c >>= λ es rest. Took (trees.Assign place targets es) rest)
+    assigns =
+        then levels (listed_behind (lua.variable m) (More Nothing e)) (λ targets. bind (sign symbols.Equal) λ y. bind (expressions.expressions language m) λ es. give (trees.Assign t.place targets es)) (λ us. more_targets_at levels m (More Nothing e) us) (λ targets c. values_at levels m c >>= λ es rest. Took (trees.Assign place targets es) rest) (λ us. refl)
+        (λ targets c. sym (bind_again (reading levels (sign symbols.Equal) c) (λ y us. reading levels (expressions.expressions language m) us) (λ es rest. Took (trees.Assign t.place targets es) rest))
+        ∙ ap (λ (o : Outcome Tree). o >>= λ es rest. Took (trees.Assign t.place targets es) rest) (values_agree levels m c)
+        ∙ ap (λ (q : Place). values_at levels m c >>= λ es rest. Took (trees.Assign q targets es) rest) p) ts
+
+    by : (shape : Shape) → reading levels (lua.call_or_assignment language m t shape e) ts ≡ cond (is_call shape) (Took (trees.Perform place e) ts) (more_targets_at levels m (More Nothing e) ts >>= λ targets c. values_at levels m c >>= λ es rest. Took (trees.Assign place targets es) rest)
+    by shapes.Call = ap (λ (q : Place). Took (trees.Perform q e) ts) p
+    by shapes.Name = assigns
+    by shapes.Variable = assigns
+    by shapes.Escape = assigns
+    by shapes.Other = assigns
+
+-- one suffix and then others are suffixes, where one is next
+next_suffix_then : (levels : ℕ) (m : Mode) (a : Chained) (ts : List Token) → reading levels (bind (lua.next_suffix m a) λ b. expressions.suffixes m b) ts ≡ cond (not (begins (λ t. expressions.is_suffix m t) ts)) (unexpected ts) (suffixes_at levels m a ts)
+unfolding suffixes_at
+next_suffix_then levels m a ts = by (begins (λ t. expressions.is_suffix m t) ts) refl
+  where
+    go : (ts : List Token) → ((unexpected {A = Token × Tree} ts >>= λ x mid. reading levels (expressions.suffix m (expressions.suffix_of x.0.symbol) x.0 x.1 a) mid) >>= λ d mid. reading levels (expressions.suffixes m d) mid) ≡ unexpected ts
+    go [] = refl
+    go (t ∷ ts) = refl
+
+    by : (b : Bool) → begins (λ t. expressions.is_suffix m t) ts ≡ b → reading levels (bind (lua.next_suffix m a) λ b. expressions.suffixes m b) ts ≡ cond (not b) (unexpected ts) (suffixes_at levels m a ts)
+    by true h = sym (unrolls levels (λ b t. expressions.is_suffix m t) (λ b t. expressions.suffix_extra b t) (λ b t. expressions.suffix_opens m (expressions.suffix_of t.symbol)) (λ t x b. expressions.suffix m (expressions.suffix_of t.symbol) t x b) (sample symbols.Dot) a ts h)
+    by false h =
+        ap (λ (o : Outcome (Token × Tree)). (o >>= λ x mid. reading levels (expressions.suffix m (expressions.suffix_of x.0.symbol) x.0 x.1 a) mid) >>= λ d mid. reading levels (expressions.suffixes m d) mid)
+        (refuses levels (λ t. expressions.is_suffix m t) (λ t. expressions.suffix_extra a t) (λ t. expressions.suffix_opens m (expressions.suffix_of t.symbol)) (sample symbols.Dot) ts h)
+        ∙ go ts
+
+-- ---- statements by their first token
+
+-- what a statement has behind its first token
+abbrev behind : ℕ → Context → Token → List Token → Outcome Tree
+behind levels c t mid = opened_at levels (lua.statement_opens c (lua.statement_of t.symbol)) mid >>= λ x rest. reading levels (lua.statement language c (lua.statement_of t.symbol) t x) rest
+
+-- what such a call or assignment has behind its prefix expression
+abbrev target_behind : ℕ → Mode → Place → Chained → List Token → Outcome Tree
+target_behind levels m place a b =
+    cond (is_call a.shape) (Took (trees.Perform place a.tree) b) (more_targets_at levels m (More Nothing a.tree) b >>= λ targets c. values_at levels m c >>= λ es rest. Took (trees.Assign place targets es) rest)
+
+name_statement : (levels : ℕ) (c : Context) (text : List ℕ) (place : Place) (first : Bool) (ts : List Token) (b : Option SyntaxKind) →
+    let t : Token = token_with symbols.Name text place first in
+    (used_here b t ts >>= λ u mid. behind levels c t mid)
+    ≡ ((((used_here b t ts >>= λ t rest. Took (trees.Name t.place t.text) rest) >>= λ n rest. Took (chained n chain shapes.Name) rest) >>= λ d rest. cond (is_other d.shape && not (begins (λ t. expressions.is_suffix c.mode t) rest)) (unexpected rest) (suffixes_at levels c.mode d rest)) >>= λ a b. target_behind levels c.mode place a b)
+unfolding suffixes_at
+name_statement levels c text place first ts (Some kind) = refl
+name_statement levels c text place first ts None =
+    let t : Token = token_with symbols.Name text place first in
+    bind_same (reading levels (expressions.suffixes c.mode (chained (trees.Name place text) chain shapes.Name)) ts) (λ a rest. reading levels (lua.call_or_assignment language c.mode t a.shape a.tree) rest) (λ a b. target_behind levels c.mode place a b) (λ a rest. target_agrees levels c.mode place a.shape a.tree t rest refl)
+
+paren_statement : (levels : ℕ) (c : Context) (text : List ℕ) (place : Place) (first : Bool) (ts : List Token) (b : Option SyntaxKind) →
+    let t : Token = token_with symbols.OpenParen text place first in
+    (used_here b t ts >>= λ u mid. behind levels c t mid)
+    ≡ (((used_here b t ts >>= λ t a. part_at (levels - 1) (Expression c.mode) a >>= λ x b. sign_at symbols.CloseParen b >>= λ y rest. Took (chained (trees.Paren t.place x) chain shapes.Other) rest) >>= λ d rest. cond (is_other d.shape && not (begins (λ t. expressions.is_suffix c.mode t) rest)) (unexpected rest) (suffixes_at levels c.mode d rest)) >>= λ a b. target_behind levels c.mode place a b)
+paren_statement levels c text place first ts (Some kind) = refl
+paren_statement levels c text place first ts None = inner (part_at (levels - 1) (Expression c.mode) ts)
+  where
+    t : Token
+    t = token_with symbols.OpenParen text place first
+
+    last : (x : Tree) (rest : List Token) → reading levels (bind (lua.next_suffix c.mode (chained (trees.Paren place x) chain shapes.Other)) λ b. bind (expressions.suffixes c.mode b) λ a. lua.call_or_assignment language c.mode t a.shape a.tree) rest
+        ≡ (cond (not (begins (λ t. expressions.is_suffix c.mode t) rest)) (unexpected rest) (suffixes_at levels c.mode (chained (trees.Paren place x) chain shapes.Other) rest) >>= λ a b. target_behind levels c.mode place a b)
+    last x rest =
+        sym (bind_again (reading levels (lua.next_suffix c.mode (chained (trees.Paren place x) chain shapes.Other)) rest) (λ b mid. reading levels (expressions.suffixes c.mode b) mid) (λ a mid. reading levels (lua.call_or_assignment language c.mode t a.shape a.tree) mid))
+        ∙ ap (λ (o : Outcome Chained). o >>= λ a mid. reading levels (lua.call_or_assignment language c.mode t a.shape a.tree) mid) (next_suffix_then levels c.mode (chained (trees.Paren place x) chain shapes.Other) rest)
+        ∙ bind_same (cond (not (begins (λ t. expressions.is_suffix c.mode t) rest)) (unexpected rest) (suffixes_at levels c.mode (chained (trees.Paren place x) chain shapes.Other) rest)) (λ a mid. reading levels (lua.call_or_assignment language c.mode t a.shape a.tree) mid) (λ a b. target_behind levels c.mode place a b) (λ a mid. target_agrees levels c.mode place a.shape a.tree t mid refl)
+
+    close : (x : Tree) (o : Outcome Token) → (o >>= λ y rest. reading levels (bind (lua.next_suffix c.mode (chained (trees.Paren place x) chain shapes.Other)) λ b. bind (expressions.suffixes c.mode b) λ a. lua.call_or_assignment language c.mode t a.shape a.tree) rest)
+        ≡ (((o >>= λ y rest. Took (chained (trees.Paren place x) chain shapes.Other) rest) >>= λ d rest. cond (is_other d.shape && not (begins (λ t. expressions.is_suffix c.mode t) rest)) (unexpected rest) (suffixes_at levels c.mode d rest)) >>= λ a b. target_behind levels c.mode place a b)
+    close x (Took y rest) = last x rest
+    close x (Stop kind rest) = refl
+
+    inner : (o : Outcome Tree) → (o >>= λ x rest. reading levels (lua.statement language c lua.FromParen t x) rest)
+        ≡ (((o >>= λ x b. sign_at symbols.CloseParen b >>= λ y rest. Took (chained (trees.Paren place x) chain shapes.Other) rest) >>= λ d rest. cond (is_other d.shape && not (begins (λ t. expressions.is_suffix c.mode t) rest)) (unexpected rest) (suffixes_at levels c.mode d rest)) >>= λ a b. target_behind levels c.mode place a b)
+    inner (Took x rest) =
+        sign_then levels symbols.CloseParen (λ y. bind (lua.next_suffix c.mode (chained (trees.Paren place x) chain shapes.Other)) λ b. bind (expressions.suffixes c.mode b) λ a. lua.call_or_assignment language c.mode t a.shape a.tree) (λ y us. reading levels (bind (lua.next_suffix c.mode (chained (trees.Paren place x) chain shapes.Other)) λ b. bind (expressions.suffixes c.mode b) λ a. lua.call_or_assignment language c.mode t a.shape a.tree) us) (λ y us. refl) rest
+        ∙ close x (sign_at symbols.CloseParen rest)
+    inner (Stop kind rest) = refl
+
+if_behind : (levels : ℕ) (c : Context) (place : Place) (ts : List Token) →
+    reading levels (bind (lua.arm language c Nothing) λ first. bind (lua.arms language c first) λ all. bind (lua.otherwise language c) λ o. bind (sign symbols.End) λ y. give (trees.If place all o)) ts
+    ≡ (arms_at levels c ts >>= λ all b. otherwise_at levels c b >>= λ o d. sign_at symbols.End d >>= λ y rest. Took (trees.If place all o) rest)
+unfolding arms_at more_arms_at
+if_behind levels c place ts =
+    ap (λ (o : Outcome Tree). o >>= λ first a. reading levels (bind (lua.arms language c first) λ all. bind (lua.otherwise language c) λ o. bind (sign symbols.End) λ y. give (trees.If place all o)) a) (arm_agrees levels c Nothing ts)
+    ∙ bind_again (arm_at levels c ts) (λ x rest. Took (More Nothing x) rest) (λ first a. reading levels (bind (lua.arms language c first) λ all. bind (lua.otherwise language c) λ o. bind (sign symbols.End) λ y. give (trees.If place all o)) a)
+    ∙ bind_same (arm_at levels c ts) (λ x a. reading levels (bind (lua.arms language c (More Nothing x)) λ all. bind (lua.otherwise language c) λ o. bind (sign symbols.End) λ y. give (trees.If place all o)) a) (λ x a. more_arms_at levels c (More Nothing x) a >>= λ all b. otherwise_at levels c b >>= λ o d. sign_at symbols.End d >>= λ y rest. Took (trees.If place all o) rest)
+    (λ x a. then levels (lua.arms language c (More Nothing x)) (λ all. bind (lua.otherwise language c) λ o. bind (sign symbols.End) λ y. give (trees.If place all o)) (λ us. more_arms_at levels c (More Nothing x) us) (λ all b. otherwise_at levels c b >>= λ o d. sign_at symbols.End d >>= λ y rest. Took (trees.If place all o) rest) (λ us. refl)
+    (λ all b. then levels (lua.otherwise language c) (λ o. bind (sign symbols.End) λ y. give (trees.If place all o)) (λ us. otherwise_at levels c us) (λ o d. sign_at symbols.End d >>= λ y rest. Took (trees.If place all o) rest) (λ us. otherwise_agrees levels c us)
+    (λ o d. sign_then levels symbols.End (λ y. give (trees.If place all o)) (λ y rest. Took (trees.If place all o) rest) (λ y us. refl) d) b) a)
+    ∙ sym (bind_again (arm_at levels c ts) (λ x a. more_arms_at levels c (More Nothing x) a) (λ all b. otherwise_at levels c b >>= λ o d. sign_at symbols.End d >>= λ y rest. Took (trees.If place all o) rest))
+
+for_behind : (levels : ℕ) (c : Context) (t : Token) (ts : List Token) →
+    reading levels (bind name λ n. when (is symbols.Equal) (lua.numeric_for language c t n) (lua.generic_for language c t n)) ts
+    ≡ (name_at ts >>= λ n b. cond (begins (is symbols.Equal) b) (numeric_at levels c b >>= λ r rest. Took (trees.NumericFor t.place n r.from r.limit r.step r.block) rest)
+    (more_names_at levels (More Nothing n) b >>= λ ns d. generic_at levels c d >>= λ r rest. Took (trees.GenericFor t.place ns r.values r.block) rest))
+unfolding more_names_at
+for_behind levels c t ts =
+    then levels name (λ n. when (is symbols.Equal) (lua.numeric_for language c t n) (lua.generic_for language c t n)) (λ us. name_at us)
+    (λ n b. cond (begins (is symbols.Equal) b) (numeric_at levels c b >>= λ r rest. Took (trees.NumericFor t.place n r.from r.limit r.step r.block) rest) (more_names_at levels (More Nothing n) b >>= λ ns d. generic_at levels c d >>= λ r rest. Took (trees.GenericFor t.place ns r.values r.block) rest))
+    (λ us. name_agrees levels us)
+    (λ n b. either_is (begins (is symbols.Equal) b) (reading levels (lua.numeric_for language c t n) b) (reading levels (lua.generic_for language c t n) b) (numeric_at levels c b >>= λ r rest. Took (trees.NumericFor t.place n r.from r.limit r.step r.block) rest) (more_names_at levels (More Nothing n) b >>= λ ns d. generic_at levels c d >>= λ r rest. Took (trees.GenericFor t.place ns r.values r.block) rest)
+    (numeric_agrees levels c t n b)
+    (then levels (listed_behind name (More Nothing n)) (λ ns. bind (sign symbols.In) λ y. bind (expressions.expressions language c.mode) λ es. bind (lua.loop c) λ x. give (trees.GenericFor t.place ns es x)) (λ us. more_names_at levels (More Nothing n) us) (λ ns d. generic_at levels c d >>= λ r rest. Took (trees.GenericFor t.place ns r.values r.block) rest) (λ us. refl) (λ ns d. generic_agrees levels c t ns d) b)) ts
+
+local_behind : (levels : ℕ) (c : Context) (t : Token) (ts : List Token) →
+    reading levels (lua.statement language c lua.FromLocal t Nothing) ts
+    ≡ cond (begins (is symbols.Function) ts) (local_function_at levels t.place ts) (cond (begins (among definition_symbols) ts) (local_terra_at levels c.mode t.place ts) (local_names_at levels c.mode t.place ts))
+local_behind levels c t ts =
+    either_is (begins (is symbols.Function) ts) (reading levels (bind (sign symbols.Function) λ y. bind name λ n. bind (opening symbols.OpenParen FunctionBody) λ b. give (trees.LocalFunction t.place n b.1)) ts)
+    (cond (begins (λ t. lua.begins_local_terra language t) ts) (reading levels (lua.local_terra language c t) ts) (reading levels (bind names λ ns. bind (lua.initial_values language c.mode) λ es. give (trees.Local t.place ns es)) ts))
+    (local_function_at levels t.place ts) (cond (begins (among definition_symbols) ts) (local_terra_at levels c.mode t.place ts) (local_names_at levels c.mode t.place ts))
+    (local_function_agrees levels t.place ts)
+    (ap (λ (b : Bool). cond b (reading levels (lua.local_terra language c t) ts) (reading levels (bind names λ ns. bind (lua.initial_values language c.mode) λ es. give (trees.Local t.place ns es)) ts)) (begins_local_terra_is ts)
+    ∙ either_is (begins (among definition_symbols) ts) (reading levels (lua.local_terra language c t) ts) (reading levels (bind names λ ns. bind (lua.initial_values language c.mode) λ es. give (trees.Local t.place ns es)) ts)
+    (local_terra_at levels c.mode t.place ts) (local_names_at levels c.mode t.place ts) (local_terra_agrees levels c t ts) (local_names_agree levels c.mode t.place ts))
+
+statement_by : (levels : ℕ) (c : Context) (symbol : Symbol) (text : List ℕ) (place : Place) (first : Bool) (ts : List Token) → is_of (λ t. lua.is_statement language c t) (token_with symbol text place first) ≡ true →
+    (used_here (barred (opens_any (lua.statement_opens c (lua.statement_of symbol))) levels Plain (token_with symbol text place first)) (token_with symbol text place first) ts >>= λ u mid. behind levels c (token_with symbol text place first) mid)
+    ≡ statement_at levels c (token_with symbol text place first ∷ ts)
+unfolding statement_at do_at while_at repeat_at if_at for_at function_statement_at local_at return_at break_at emit_at call_or_assignment_at applied_at base_at paren_at name_at sign_at open_at used
+statement_by levels c symbols.Do text place first ts h =
+    let t : Token = token_with symbols.Do text place first in
+    use_same (barred true levels Plain t) t ts (λ u mid. behind levels c t mid) (λ t a. part_at (levels - 1) (Statements c) a >>= λ x b. sign_at symbols.End b >>= λ y rest. Took (trees.Do t.place x) rest)
+    (bind_same (part_at (levels - 1) (Statements c) ts) (λ x rest. reading levels (bind (sign symbols.End) λ y. give (trees.Do place x)) rest) (λ x b. sign_at symbols.End b >>= λ y rest. Took (trees.Do place x) rest) (λ x b. sign_then levels symbols.End (λ y. give (trees.Do place x)) (λ y rest. Took (trees.Do place x) rest) (λ y us. refl) b))
+statement_by levels c symbols.While text place first ts h =
+    let t : Token = token_with symbols.While text place first in
+    use_same (barred false levels Plain t) t ts (λ u mid. behind levels c t mid) (λ t a. part_at levels (Expression c.mode) a >>= λ e b. loop_at levels c b >>= λ x rest. Took (trees.While t.place e x) rest)
+    (then levels (expressions.expression language c.mode) (λ e. bind (lua.loop c) λ x. give (trees.While place e x)) (λ us. part_at levels (Expression c.mode) us) (λ e b. loop_at levels c b >>= λ x rest. Took (trees.While place e x) rest) (λ us. expression_agrees levels c.mode us)
+    (λ e b. then levels (lua.loop c) (λ x. give (trees.While place e x)) (λ us. loop_at levels c us) (λ x rest. Took (trees.While place e x) rest) (λ us. loop_agrees levels c us) (λ x us. refl) b) ts)
+statement_by levels c symbols.Repeat text place first ts h =
+    let t : Token = token_with symbols.Repeat text place first in
+    use_same (barred true levels Plain t) t ts (λ u mid. behind levels c t mid) (λ t a. part_at (levels - 1) (Statements (looped c)) a >>= λ x b. sign_at symbols.Until b >>= λ y d. part_at levels (Expression c.mode) d >>= λ e rest. Took (trees.Repeat t.place x e) rest)
+    (bind_same (part_at (levels - 1) (Statements (looped c)) ts) (λ x rest. reading levels (bind (sign symbols.Until) λ y. bind (expressions.expression language c.mode) λ e. give (trees.Repeat place x e)) rest) (λ x b. sign_at symbols.Until b >>= λ y d. part_at levels (Expression c.mode) d >>= λ e rest. Took (trees.Repeat place x e) rest)
+    (λ x b. sign_then levels symbols.Until (λ y. bind (expressions.expression language c.mode) λ e. give (trees.Repeat place x e)) (λ y d. part_at levels (Expression c.mode) d >>= λ e rest. Took (trees.Repeat place x e) rest)
+    (λ y d. then levels (expressions.expression language c.mode) (λ e. give (trees.Repeat place x e)) (λ us. part_at levels (Expression c.mode) us) (λ e rest. Took (trees.Repeat place x e) rest) (λ us. expression_agrees levels c.mode us) (λ e us. refl) d) b))
+statement_by levels c symbols.If text place first ts h =
+    let t : Token = token_with symbols.If text place first in
+    use_same (barred false levels Plain t) t ts (λ u mid. behind levels c t mid) (λ t a. arms_at levels c a >>= λ all b. otherwise_at levels c b >>= λ o d. sign_at symbols.End d >>= λ y rest. Took (trees.If t.place all o) rest) (if_behind levels c place ts)
+statement_by levels c symbols.For text place first ts h =
+    let t : Token = token_with symbols.For text place first in
+    use_same (barred false levels Plain t) t ts (λ u mid. behind levels c t mid)
+    (λ t a. name_at a >>= λ n b. cond (begins (is symbols.Equal) b) (numeric_at levels c b >>= λ r rest. Took (trees.NumericFor t.place n r.from r.limit r.step r.block) rest) (more_names_at levels (More Nothing n) b >>= λ ns d. generic_at levels c d >>= λ r rest. Took (trees.GenericFor t.place ns r.values r.block) rest))
+    (for_behind levels c t ts)
+statement_by levels c symbols.Function text place first ts h =
+    let t : Token = token_with symbols.Function text place first in
+    use_same (barred false levels Plain t) t ts (λ u mid. behind levels c t mid) (λ t a. path_at levels a >>= λ p b. open_at symbols.OpenParen levels b >>= λ z d. part_at (levels - 1) FunctionBody d >>= λ x rest. Took (trees.DefineFunction t.place p x) rest)
+    (then levels lua.path (λ p. bind (opening symbols.OpenParen FunctionBody) λ b. give (trees.DefineFunction place p b.1)) (λ us. path_at levels us) (λ p b. open_at symbols.OpenParen levels b >>= λ z d. part_at (levels - 1) FunctionBody d >>= λ x rest. Took (trees.DefineFunction place p x) rest) (λ us. path_agrees levels us)
+    (λ p b. open_then levels symbols.OpenParen FunctionBody (λ b. give (trees.DefineFunction place p b.1)) (λ t x rest. Took (trees.DefineFunction place p x) rest) (λ t x us. refl) b) ts)
+statement_by levels c symbols.Local text place first ts h =
+    let t : Token = token_with symbols.Local text place first in
+    use_same (barred false levels Plain t) t ts (λ u mid. behind levels c t mid) (λ t a. cond (begins (is symbols.Function) a) (local_function_at levels t.place a) (cond (begins (among definition_symbols) a) (local_terra_at levels c.mode t.place a) (local_names_at levels c.mode t.place a))) (local_behind levels c t ts)
+statement_by levels c symbols.Return text place first ts h =
+    let t : Token = token_with symbols.Return text place first in
+    use_same (barred false levels Plain t) t ts (λ u mid. behind levels c t mid) (λ t a. returned_values_at levels c.mode a >>= λ es rest. Took (trees.Return t.place es) rest)
+    (then levels (lua.returned_values language c.mode) (λ es. give (trees.Return place es)) (λ us. returned_values_at levels c.mode us) (λ es rest. Took (trees.Return place es) rest) (λ us. returned_values_agree levels c.mode us) (λ es us. refl) ts)
+statement_by levels c symbols.Break text place first ts h =
+    let t : Token = token_with symbols.Break text place first in
+    use_same (barred false levels Plain t) t ts (λ u mid. behind levels c t mid) (λ t rest. Took (trees.Break t.place) rest) refl
+statement_by levels c symbols.Emit text place first ts h =
+    let t : Token = token_with symbols.Emit text place first in
+    use_same (barred false levels Plain t) t ts (λ u mid. behind levels c t mid) (λ t a. part_at levels (Expression c.mode) a >>= λ e rest. Took (trees.Emit t.place e) rest)
+    (then levels (expressions.expression language c.mode) (λ e. give (trees.Emit place e)) (λ us. part_at levels (Expression c.mode) us) (λ e rest. Took (trees.Emit place e) rest) (λ us. expression_agrees levels c.mode us) (λ e us. refl) ts)
+statement_by levels c symbols.Terra text place first ts h = define_terra_is levels c (token_with symbols.Terra text place first) ts refl
+statement_by levels c symbols.Struct text place first ts h = define_struct_is levels c (token_with symbols.Struct text place first) ts refl
+statement_by levels c symbols.Name text place first ts h = name_statement levels c text place first ts (barred false levels Plain (token_with symbols.Name text place first))
+statement_by levels c symbols.OpenParen text place first ts h = paren_statement levels c text place first ts (barred true levels Plain (token_with symbols.OpenParen text place first))
+statement_by levels c _ text place first ts h = absurd cc
+
+-- ---- blocks
+
+semicolon_agrees : (levels : ℕ) (v : Sequence) (ts : List Token) → reading levels (bind semicolon λ y. give v) ts ≡ cond (begins (is symbols.Semicolon) ts) (sign_at symbols.Semicolon ts >>= λ y rest. Took v rest) (Took v ts)
+semicolon_agrees levels v ts = by (begins (is symbols.Semicolon) ts)
+  where
+    go : (o : Outcome Token) → (((o >>= λ t rest. Took (both t Nothing) rest) >>= λ y rest. Took Nothing rest) >>= λ y rest. Took v rest) ≡ (o >>= λ y rest. Took v rest)
+    go (Took t rest) = refl
+    go (Stop kind rest) = refl
+
+    by : (b : Bool) → (cond b (reading levels (sign symbols.Semicolon) ts >>= λ y rest. Took Nothing rest) (Took Nothing ts) >>= λ y rest. Took v rest) ≡ cond b (sign_at symbols.Semicolon ts >>= λ y rest. Took v rest) (Took v ts)
+    by true = ap (λ (o : Outcome (Token × Tree)). (o >>= λ y rest. Took Nothing rest) >>= λ y rest. Took v rest) (sign_is levels symbols.Semicolon ts) ∙ go (sign_at symbols.Semicolon ts)
+    by false = refl
+
+ends_by : (symbol : Symbol) (text : List ℕ) (place : Place) (first : Bool) (ts : List Token) → lua.ends_block (lua.statement_of symbol) ≡ begins (among last_symbols) (token_with symbol text place first ∷ ts)
+ends_by symbols.Return text place first ts = refl
+ends_by symbols.Break text place first ts = refl
+ends_by _ text place first ts = refl
+
+wider : (b x y : Bool) → cond b false (x && y) ≡ true → cond b false x ≡ true
+wider true x y h = absurd cc
+wider false true y h = refl
+wider false false y h = absurd cc
+
+pub block_turn : (levels : ℕ) (c : Context) (tree : Tree) (ended : Bool) (piece : Token) (ts : List Token) → begins (λ t. goes_on c ended t) ts ≡ true →
+    reading levels (bind (token (λ t. goes_on c ended t) (λ t. Plain) (λ t. lua.statement_opens c (lua.statement_of t.symbol)) piece) λ x. bind (lua.statement language c (lua.statement_of x.0.symbol) x.0 x.1) λ s. bind semicolon λ y. give (sequence (More tree s) (lua.ends_block (lua.statement_of x.0.symbol)))) ts
+    ≡ (next_statement_at levels c ts >>= λ s rest. Took (sequence (More tree s.statements) s.ended) rest)
+unfolding next_statement_at
+block_turn levels c tree ended piece [] h = absurd cc
+block_turn levels c tree ended piece (t ∷ ts) h =
+    ap (λ (o : Outcome (Token × Tree)). o >>= λ x mid. step x mid) (token_is levels (λ t. goes_on c ended t) (λ t. Plain) (λ t. lua.statement_opens c (lua.statement_of t.symbol)) piece t ts)
+    ∙ ap (λ (o : Outcome Token). (o >>= λ u mid. opened_at levels (lua.statement_opens c (lua.statement_of t.symbol)) mid >>= λ x rest. Took (both u x) rest) >>= λ x mid. step x mid) (used_use (λ t. goes_on c ended t) (opens_any (lua.statement_opens c (lua.statement_of t.symbol))) levels Plain t ts h)
+    ∙ turn_of (barred (opens_any (lua.statement_opens c (lua.statement_of t.symbol))) levels Plain t)
+    ∙ ap (λ (o : Outcome Tree). o >>= λ s rest. semi s rest) (statement_by levels c t.symbol t.text t.place t.first_on_line ts (wider (is_bad t.symbol) (lua.is_statement language c t) (not ended) h))
+    ∙ bind_same (statement_at levels c (t ∷ ts)) (λ s rest. semi s rest) (λ s a. said s a >>= λ s rest. Took (sequence (More tree s.statements) s.ended) rest) (λ s a. same s a)
+    ∙ sym (bind_again (statement_at levels c (t ∷ ts)) (λ s a. said s a) (λ s rest. Took (sequence (More tree s.statements) s.ended) rest))
+  where
+    step : Token × Tree → List Token → Outcome Sequence
+    step x mid = reading levels (bind (lua.statement language c (lua.statement_of x.0.symbol) x.0 x.1) λ s. bind semicolon λ y. give (sequence (More tree s) (lua.ends_block (lua.statement_of x.0.symbol)))) mid
+
+    semi : Tree → List Token → Outcome Sequence
+    semi s rest = reading levels (bind semicolon λ y. give (sequence (More tree s) (lua.ends_block (lua.statement_of t.symbol)))) rest
+
+    said : Tree → List Token → Outcome Sequence
+    said s a = cond (begins (is symbols.Semicolon) a) (sign_at symbols.Semicolon a >>= λ y rest. Took (sequence s (begins (among last_symbols) (t ∷ ts))) rest) (Took (sequence s (begins (among last_symbols) (t ∷ ts))) a)
+
+    turn_of : (b : Option SyntaxKind) → ((used_here b t ts >>= λ u mid. opened_at levels (lua.statement_opens c (lua.statement_of t.symbol)) mid >>= λ x rest. Took (both u x) rest) >>= λ x mid. step x mid)
+        ≡ ((used_here b t ts >>= λ u mid. behind levels c t mid) >>= λ s rest. semi s rest)
+    turn_of None =
+        bind_again (opened_at levels (lua.statement_opens c (lua.statement_of t.symbol)) ts) (λ x rest. Took (both t x) rest) (λ x mid. step x mid)
+        ∙ sym (bind_again (opened_at levels (lua.statement_opens c (lua.statement_of t.symbol)) ts) (λ x rest. reading levels (lua.statement language c (lua.statement_of t.symbol) t x) rest) (λ s rest. semi s rest))
+    turn_of (Some kind) = refl
+
+    go : (s : Tree) (e : Bool) (o : Outcome Token) → (o >>= λ y rest. Took (sequence (More tree s) e) rest) ≡ ((o >>= λ y rest. Took (sequence s e) rest) >>= λ s rest. Took (sequence (More tree s.statements) s.ended) rest)
+    go s e (Took y rest) = refl
+    go s e (Stop kind rest) = refl
+
+    by : (b e : Bool) (s : Tree) (a : List Token) → cond b (sign_at symbols.Semicolon a >>= λ y rest. Took (sequence (More tree s) e) rest) (Took (sequence (More tree s) e) a)
+        ≡ (cond b (sign_at symbols.Semicolon a >>= λ y rest. Took (sequence s e) rest) (Took (sequence s e) a) >>= λ s rest. Took (sequence (More tree s.statements) s.ended) rest)
+    by true e s a = go s e (sign_at symbols.Semicolon a)
+    by false e s a = refl
+
+    same : (s : Tree) (a : List Token) → semi s a ≡ (said s a >>= λ s rest. Took (sequence (More tree s.statements) s.ended) rest)
+    same s a =
+        semicolon_agrees levels (sequence (More tree s) (lua.ends_block (lua.statement_of t.symbol))) a
+        ∙ ap (λ (e : Bool). cond (begins (is symbols.Semicolon) a) (sign_at symbols.Semicolon a >>= λ y rest. Took (sequence (More tree s) e) rest) (Took (sequence (More tree s) e) a)) (ends_by t.symbol t.text t.place t.first_on_line ts)
+        ∙ by (begins (is symbols.Semicolon) a) (begins (among last_symbols) (t ∷ ts)) s a
+
+-- ---- functions
+
+parameter_agrees : (levels : ℕ) (before : Tree) (ts : List Token) → reading levels (lua.parameter before) ts ≡ (parameter_at ts >>= λ o rest. Took (with_parameter before o) rest)
+unfolding parameter_at
+parameter_agrees levels before ts = by (begins (is symbols.Ellipsis) ts)
+  where
+    go : (o : Outcome Token) → (o >>= λ y rest. Took (parameters_of before true) rest) ≡ ((o >>= λ y rest. Took None rest) >>= λ o rest. Took (with_parameter before o) rest)
+    go (Took t rest) = refl
+    go (Stop kind rest) = refl
+
+    named : (o : Outcome Tree) → (o >>= λ n rest. Took (parameters_of (More before n) false) rest) ≡ ((o >>= λ n rest. Took (Some n) rest) >>= λ o rest. Took (with_parameter before o) rest)
+    named (Took n rest) = refl
+    named (Stop kind rest) = refl
+
+    by : (b : Bool) → cond b (reading levels (bind (sign symbols.Ellipsis) λ y. give (parameters_of before true)) ts) (reading levels (bind name λ n. give (parameters_of (More before n) false)) ts)
+        ≡ (cond b (sign_at symbols.Ellipsis ts >>= λ y rest. Took None rest) (name_at ts >>= λ n rest. Took (Some n) rest) >>= λ o rest. Took (with_parameter before o) rest)
+    by true = sign_then levels symbols.Ellipsis (λ y. give (parameters_of before true)) (λ y rest. Took (parameters_of before true) rest) (λ y us. refl) ts ∙ go (sign_at symbols.Ellipsis ts)
+    by false = ap (λ (o : Outcome Tree). o >>= λ n rest. Took (parameters_of (More before n) false) rest) (name_agrees levels ts) ∙ named (name_at ts)
+
+pub parameter_turn : (levels : ℕ) (before : Tree) (variadic : Bool) (ts : List Token) → not variadic ≡ true →
+    reading levels (bind (token (λ t. is symbols.Comma t && not variadic) (λ t. Plain) (λ t. None) (sample symbols.Comma)) λ x. lua.parameter before) ts
+    ≡ ((sign_at symbols.Comma ts >>= λ y a. parameter_at a) >>= λ o rest. Took (with_parameter before o) rest)
+unfolding sign_at
+parameter_turn levels before true ts h = absurd cc
+parameter_turn levels before false ts h =
+    ap (λ (o : Outcome (Token × Tree)). o >>= λ x mid. reading levels (lua.parameter before) mid) (plain_is levels (λ t. is symbols.Comma t && true) Plain (sample symbols.Comma) ts ∙ ap (λ (o : Outcome Token). o >>= λ t rest. Took (both t Nothing) rest) (plainly ts))
+    ∙ go (used (is symbols.Comma) false 0 Plain ts)
+  where
+    and_true : (a : Bool) → (a && true) ≡ a
+    and_true true = refl
+    and_true false = refl
+
+    plainly : (ts : List Token) → used (λ t. is symbols.Comma t && true) false 0 Plain ts ≡ used (is symbols.Comma) false 0 Plain ts
+    plainly ts = used_classes (λ t. is symbols.Comma t && true) (is symbols.Comma) false 0 Plain (λ t. and_true (is symbols.Comma t)) ts
+
+    go : (o : Outcome Token) → ((o >>= λ t rest. Took (both t Nothing) rest) >>= λ x mid. reading levels (lua.parameter before) mid) ≡ ((o >>= λ y a. parameter_at a) >>= λ o rest. Took (with_parameter before o) rest)
+    go (Took t rest) = parameter_agrees levels before rest
+    go (Stop kind rest) = refl
+
+parameters_agree : (levels : ℕ) (ts : List Token) → reading levels lua.parameters ts ≡ parameters_at levels ts
+unfolding parameters_at more_parameters_at
+parameters_agree levels ts =
+    either_is (begins (is symbols.CloseParen) ts) (Took (parameters_of Nothing false) ts) (reading levels (bind (lua.parameter Nothing) λ p. more_parameters p) ts) (Took (parameters_of Nothing false) ts) (parameter_at ts >>= λ o rest. more_parameters_at levels (with_parameter Nothing o).names (with_parameter Nothing o).variadic rest)
+    refl
+    (ap (λ (o : Outcome Parameters). o >>= λ p rest. reading levels (more_parameters p) rest) (parameter_agrees levels Nothing ts)
+    ∙ bind_again (parameter_at ts) (λ o rest. Took (with_parameter Nothing o) rest) (λ p rest. reading levels (more_parameters p) rest))
+
+pub body_agrees : (levels : ℕ) (ts : List Token) → part_at levels FunctionBody ts ≡ body_at levels ts
+unfolding body_at part_at
+body_agrees levels ts =
+    then levels lua.parameters (λ p. bind (sign symbols.CloseParen) λ y. bind (lua.block language (fresh (body_mode p.variadic))) λ b. bind (sign symbols.End) λ z. give (trees.Body p.names p.variadic b)) (λ us. parameters_at levels us)
+    (λ p a. sign_at symbols.CloseParen a >>= λ y b. part_at levels (Statements (fresh (body_mode p.variadic))) b >>= λ x d. sign_at symbols.End d >>= λ z rest. Took (trees.Body p.names p.variadic x) rest) (λ us. parameters_agree levels us)
+    (λ p a. sign_then levels symbols.CloseParen (λ y. bind (lua.block language (fresh (body_mode p.variadic))) λ b. bind (sign symbols.End) λ z. give (trees.Body p.names p.variadic b)) (λ y b. part_at levels (Statements (fresh (body_mode p.variadic))) b >>= λ x d. sign_at symbols.End d >>= λ z rest. Took (trees.Body p.names p.variadic x) rest)
+    (λ y b. then levels (lua.block language (fresh (body_mode p.variadic))) (λ x. bind (sign symbols.End) λ z. give (trees.Body p.names p.variadic x)) (λ us. part_at levels (Statements (fresh (body_mode p.variadic))) us) (λ x d. sign_at symbols.End d >>= λ z rest. Took (trees.Body p.names p.variadic x) rest) (λ us. refl)
+    (λ x d. sign_then levels symbols.End (λ z. give (trees.Body p.names p.variadic x)) (λ z rest. Took (trees.Body p.names p.variadic x) rest) (λ z us. refl) d) b) a) ts

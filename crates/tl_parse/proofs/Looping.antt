@@ -1,0 +1,99 @@
+-- Lists of nodes within functions that read more than the list.
+use Rattle.std.proofs.Common.{◌≡◌, ℕ, Bool, true, false, cond, List, [], ◌∷◌, ◌++◌, sym, ap, ◌∙◌}
+use Rattle.tl_base.specs.declared.place.Place.{Place}
+use Rattle.tl_base.specs.declared.ids.NodeId.{NodeId}
+use Rattle.tl_tree.specs.declared.mode.Mode.{Mode}
+use Rattle.tl_tree.specs.declared.mode.Context.{Context}
+use Rattle.tl_tree.specs.declared.mode.Shape.{Shape}
+use Rattle.tl_tree.specs.declared.symbol.Symbol.TheVariants as symbols
+use Rattle.tl_tree.specs.Tokens.{Token, is}
+use Rattle.tl_tree.specs.Tree.{Tree, Nothing, More, Assign, NumericFor, GenericFor, Perform, Body, Statements, FunctionBody}
+use Rattle.tl_tree.specs.Item.{Item}
+use Rattle.tl_tree.specs.Nodes.{laid, last_of}
+use Rattle.tl_tree.specs.Grammar.{Outcome, Took, ◌>>=◌, begins}
+use Rattle.tl_tree.specs.Forms.{Chained, chained}
+use Rattle.tl_tree.specs.LuaStatements.{fresh, body_mode, Parameters, parameters_of}
+use Rattle.tl_parse.specs.Parsing.{tokens_left, items_of, end_of, Ready, Fails}
+use Rattle.tl_parse.specs.Using.{part_at, sign_at}
+use Rattle.tl_parse.specs.Expressions.{name_at, applied_at}
+use Rattle.tl_parse.specs.Statements.{first_place, is_call, more_targets_at, next_target_at, values_at, call_or_assignment_at, numeric_at, generic_at, for_at, parameters_at, body_at}
+use Rattle.tl_parse.specs.Paths.{next_name_at, more_names_at}
+use Rattle.tl_parse.specs.Going.{Listing}
+use Rattle.tl_parse.specs.declared.error.SyntaxError.{SyntaxError}
+use Rattle.tl_parse.specs.declared.parser.Parser.{Parser}
+use Rattle.tl_parse.proofs.Failing.{fails_bind, fails_from}
+use Rattle.tl_parse.proofs.StatementTurns.{targets_go, names_go, body_part}
+
+pub listing_first : (start now : Parser) (o : Outcome Tree) (more : Tree → List Token → Outcome Tree) (e : Tree) (n : NodeId) (numbers : List NodeId) → o ≡ more (More Nothing e) (tokens_left now) → end_of now ≡ end_of start → Ready now → items_of now ≡ (laid e (items_of start)).items → n ≡ last_of (items_of now) → numbers ≡ n ∷ [] → Listing start now o more numbers
+listing_first start now o more e n numbers goes finish ready items is_last list =
+    record {
+      tree = More Nothing e;
+      goes_on = goes;
+      finish = finish;
+      ready = ready;
+      items = items;
+      list = list ∙ ap (λ (x : NodeId). x ∷ []) (is_last ∙ ap (λ (i : List Item). last_of i) items);
+    }
+
+pub listing_next : (start now new : Parser) (o : Outcome Tree) (more : Tree → List Token → Outcome Tree) (e : Tree) (n : NodeId) (numbers longer : List NodeId) (s : Listing start now o more numbers) → more s.tree (tokens_left now) ≡ more (More s.tree e) (tokens_left new) → end_of new ≡ end_of now → Ready new → items_of new ≡ (laid e (items_of now)).items → n ≡ last_of (items_of new) → longer ≡ numbers ++ n ∷ [] → Listing start new o more longer
+listing_next start now new o more e n numbers longer s goes finish ready items is_last list =
+    let all : items_of new ≡ (laid e (laid s.tree (items_of start)).items).items = items ∙ ap (λ (i : List Item). (laid e i).items) s.items in
+    record {
+      tree = More s.tree e;
+      goes_on = s.goes_on ∙ goes;
+      finish = finish ∙ s.finish;
+      ready = ready;
+      items = all;
+      list = list ∙ ap (λ (x : NodeId). numbers ++ x ∷ []) (is_last ∙ ap (λ (i : List Item). last_of i) all) ∙ ap (λ (ns : List NodeId). ns ++ last_of (laid e (laid s.tree (items_of start)).items).items ∷ []) s.list;
+    }
+
+-- ---- targets
+
+pub targets_begin : (levels : ℕ) (m : Mode) (ts us : List Token) (tree : Tree) (left : ℕ) (shape : Shape) → applied_at levels m true ts ≡ Took (chained tree left shape) us → is_call shape ≡ false →
+    call_or_assignment_at levels m ts ≡ (more_targets_at levels m (More Nothing tree) us >>= λ targets c. values_at levels m c >>= λ es rest. Took (Assign (first_place ts) targets es) rest)
+unfolding call_or_assignment_at
+targets_begin levels m ts us tree left shape took isnt =
+    ap (λ (o : Outcome Chained). o >>= λ a b. chosen a.tree (is_call a.shape) b) took ∙ ap (λ (b : Bool). chosen tree b us) isnt
+  where
+    chosen : Tree → Bool → List Token → Outcome Tree
+    chosen e b us = cond b (Took (Perform (first_place ts) e) us) (more_targets_at levels m (More Nothing e) us >>= λ targets c. values_at levels m c >>= λ es rest. Took (Assign (first_place ts) targets es) rest)
+
+pub targets_next : (levels : ℕ) (m : Mode) (place : Place) (before e : Tree) (ts us : List Token) → begins (is symbols.Comma) ts ≡ true → next_target_at levels m ts ≡ Took e us →
+    (more_targets_at levels m before ts >>= λ targets c. values_at levels m c >>= λ es rest. Took (Assign place targets es) rest) ≡ (more_targets_at levels m (More before e) us >>= λ targets c. values_at levels m c >>= λ es rest. Took (Assign place targets es) rest)
+targets_next levels m place before e ts us h took =
+    ap (λ (o : Outcome Tree). o >>= λ targets c. values_at levels m c >>= λ es rest. Took (Assign place targets es) rest)
+    (targets_go levels m before ts h ∙ ap (λ (o : Outcome Tree). o >>= λ e rest. more_targets_at levels m (More before e) rest) took)
+
+-- ---- names of a `for`
+
+pub names_begin : (levels : ℕ) (c : Context) (ts us vs : List Token) (t : Token) (n : Tree) → sign_at symbols.For ts ≡ Took t us → name_at us ≡ Took n vs → begins (is symbols.Equal) vs ≡ false →
+    for_at levels c ts ≡ (more_names_at levels (More Nothing n) vs >>= λ ns d. generic_at levels c d >>= λ r rest. Took (GenericFor t.place ns r.values r.block) rest)
+unfolding for_at
+names_begin levels c ts us vs t n sign named isnt =
+    ap (λ (o : Outcome Token). o >>= λ t a. name_at a >>= λ n b. chosen t.place n (begins (is symbols.Equal) b) b) sign
+    ∙ ap (λ (o : Outcome Tree). o >>= λ n b. chosen t.place n (begins (is symbols.Equal) b) b) named
+    ∙ ap (λ (b : Bool). chosen t.place n b vs) isnt
+  where
+    chosen : Place → Tree → Bool → List Token → Outcome Tree
+    chosen place n b us =
+        cond b (numeric_at levels c us >>= λ r rest. Took (NumericFor place n r.from r.limit r.step r.block) rest) (more_names_at levels (More Nothing n) us >>= λ ns d. generic_at levels c d >>= λ r rest. Took (GenericFor place ns r.values r.block) rest)
+
+pub names_next : (levels : ℕ) (c : Context) (place : Place) (before e : Tree) (ts us : List Token) → begins (is symbols.Comma) ts ≡ true → next_name_at ts ≡ Took e us →
+    (more_names_at levels before ts >>= λ ns d. generic_at levels c d >>= λ r rest. Took (GenericFor place ns r.values r.block) rest) ≡ (more_names_at levels (More before e) us >>= λ ns d. generic_at levels c d >>= λ r rest. Took (GenericFor place ns r.values r.block) rest)
+names_next levels c place before e ts us h took =
+    ap (λ (o : Outcome Tree). o >>= λ ns d. generic_at levels c d >>= λ r rest. Took (GenericFor place ns r.values r.block) rest)
+    (names_go levels before ts h ∙ ap (λ (o : Outcome Tree). o >>= λ e rest. more_names_at levels (More before e) rest) took)
+
+-- ---- the block of a function
+
+pub body_fails : (start now : Parser) (levels : ℕ) (ts : List Token) (names : Tree) (variadic : Bool) (t : Token) (c : Context) (e : SyntaxError) → parameters_at levels (tokens_left start) ≡ Took (parameters_of names variadic) ts → sign_at symbols.CloseParen ts ≡ Took t (tokens_left now) → c ≡ fresh (body_mode variadic) → end_of now ≡ end_of start →
+    Fails now (part_at levels (Statements c) (tokens_left now)) e → Fails start (part_at levels FunctionBody (tokens_left start)) e
+unfolding body_at
+body_fails start now levels ts names variadic t c e took sign same finish f =
+    fails_from start now (part_at levels FunctionBody (tokens_left start)) (part_at levels (Statements c) (tokens_left now) >>= λ x d. sign_at symbols.End d >>= λ z rest. Took (Body names variadic x) rest) e
+    (body_part levels (tokens_left start)
+    ∙ ap (λ (o : Outcome Parameters). o >>= λ p a. sign_at symbols.CloseParen a >>= λ y b. part_at levels (Statements (fresh (body_mode p.variadic))) b >>= λ x d. sign_at symbols.End d >>= λ z rest. Took (Body p.names p.variadic x) rest) took
+    ∙ ap (λ (o : Outcome Token). o >>= λ y b. part_at levels (Statements (fresh (body_mode variadic))) b >>= λ x d. sign_at symbols.End d >>= λ z rest. Took (Body names variadic x) rest) sign
+    ∙ ap (λ (k : Context). part_at levels (Statements k) (tokens_left now) >>= λ x d. sign_at symbols.End d >>= λ z rest. Took (Body names variadic x) rest) (sym same))
+    finish
+    (fails_bind now (part_at levels (Statements c) (tokens_left now)) (λ x d. sign_at symbols.End d >>= λ z rest. Took (Body names variadic x) rest) e f)

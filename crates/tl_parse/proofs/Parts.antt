@@ -1,0 +1,53 @@
+-- What reading the parts of Lua expressions gives.
+use Rattle.std.proofs.Common.{◌≡◌, ℕ, cond, List, refl, ap}
+use Rattle.tl_tree.specs.declared.mode.Mode.{Mode}
+use Rattle.tl_tree.specs.declared.symbol.Symbol.TheVariants as symbols
+use Rattle.tl_tree.specs.Tokens.{Token, is}
+use Rattle.tl_tree.specs.Tree.{Tree, Nothing, More, Expression, Operand, Concatenation, Arguments, Fields}
+use Rattle.tl_tree.specs.Grammar.{Outcome, Took, ◌>>=◌, begins}
+use Rattle.tl_tree.specs.Forms.{Chained, chain}
+use Rattle.tl_parse.specs.Using.{part_at}
+use Rattle.tl_parse.specs.Expressions.{arguments_at, expressions_at, more_expressions_at, unary_at, concatenation_at, chained_at, binary_at, inner_at, more_fields_at, fields_at}
+use Rattle.tl_parse.specs.declared.expressions.Precedence.TheVariants as precedences
+use Rattle.tl_parse.proofs.Agreeing.{unary_agrees, product_agrees, concatenation_agrees, comparison_agrees, conjunction_agrees, chained_agrees, field_agrees}
+
+pub expression_part : (levels : ℕ) (m : Mode) (ts : List Token) → part_at levels (Expression m) ts ≡ (chained_at levels m ts >>= λ a rest. Took a.tree rest)
+unfolding part_at
+expression_part levels m ts = ap (λ (o : Outcome Chained). o >>= λ a rest. Took a.tree rest) (chained_agrees levels m ts)
+
+pub operand_part : (levels : ℕ) (m : Mode) (ts : List Token) → part_at levels (Operand m) ts ≡ (unary_at levels m chain ts >>= λ a rest. Took a.tree rest)
+unfolding part_at
+operand_part levels m ts = ap (λ (o : Outcome Chained). o >>= λ a rest. Took a.tree rest) (unary_agrees levels m chain ts)
+
+pub concatenation_part : (levels : ℕ) (m : Mode) (ts : List Token) → part_at levels (Concatenation m) ts ≡ (concatenation_at levels m chain ts >>= λ a rest. Took a.tree rest)
+unfolding part_at
+concatenation_part levels m ts = ap (λ (o : Outcome Chained). o >>= λ a rest. Took a.tree rest) (concatenation_agrees levels m chain ts)
+
+pub arguments_part : (levels : ℕ) (m : Mode) (ts : List Token) → part_at levels (Arguments m) ts ≡ arguments_at levels m ts
+unfolding part_at arguments_at expressions_at more_expressions_at
+arguments_part levels m ts = refl
+
+pub fields_part : (levels : ℕ) (m : Mode) (ts : List Token) → part_at levels (Fields m) ts ≡ fields_at levels m ts
+unfolding part_at fields_at more_fields_at
+fields_part levels m ts =
+    ap (λ (o : Outcome Tree). cond (begins (is symbols.CloseBrace) ts) (Took Nothing ts) (o >>= λ f rest. more_fields_at levels m (More Nothing f) rest)) (field_agrees levels m ts)
+
+pub inner_product : (levels : ℕ) (m : Mode) (left : ℕ) (ts : List Token) → inner_at levels precedences.Product m left ts ≡ unary_at levels m left ts
+unfolding inner_at
+inner_product levels m left ts = unary_agrees levels m left ts
+
+pub inner_sum : (levels : ℕ) (m : Mode) (left : ℕ) (ts : List Token) → inner_at levels precedences.Sum m left ts ≡ binary_at levels precedences.Product m left ts
+unfolding inner_at
+inner_sum levels m left ts = product_agrees levels m left ts
+
+pub inner_comparison : (levels : ℕ) (m : Mode) (left : ℕ) (ts : List Token) → inner_at levels precedences.Comparison m left ts ≡ concatenation_at levels m left ts
+unfolding inner_at
+inner_comparison levels m left ts = concatenation_agrees levels m left ts
+
+pub inner_conjunction : (levels : ℕ) (m : Mode) (left : ℕ) (ts : List Token) → inner_at levels precedences.Conjunction m left ts ≡ binary_at levels precedences.Comparison m left ts
+unfolding inner_at
+inner_conjunction levels m left ts = comparison_agrees levels m left ts
+
+pub inner_disjunction : (levels : ℕ) (m : Mode) (left : ℕ) (ts : List Token) → inner_at levels precedences.Disjunction m left ts ≡ binary_at levels precedences.Conjunction m left ts
+unfolding inner_at
+inner_disjunction levels m left ts = conjunction_agrees levels m left ts

@@ -1,0 +1,226 @@
+-- The repetitions in Lua statements, turn by turn, and what reading their parts gives.
+use Rattle.std.proofs.Common.{◌≡◌, ℕ, ◌<◌, Bool, true, false, cond, List, [], ◌∷◌, length, Option, None, refl, ap, ◌∙◌}
+use Rattle.std.specs.Prelude.{◌&&◌, not}
+use Rattle.tl_base.specs.declared.place.Place.{Place}
+use Rattle.tl_lex.specs.Lexing.{answers_left}
+use Rattle.tl_tree.specs.declared.mode.Mode.{Mode}
+use Rattle.tl_tree.specs.declared.mode.Shape.{Shape}
+use Rattle.tl_tree.specs.declared.mode.Context.{Context}
+use Rattle.tl_tree.specs.declared.symbol.Symbol.{Symbol}
+use Rattle.tl_tree.specs.declared.symbol.Symbol.TheVariants as symbols
+use Rattle.tl_tree.specs.Symbols.{is_bad}
+use Rattle.tl_tree.specs.Tokens.{Token, is, among, sample, tokens_in}
+use Rattle.tl_tree.specs.declared.mode.Extra.TheVariants.{Plain}
+use Rattle.tl_tree.specs.Tree.{Tree, Nothing, More, Name, Statements, FunctionBody}
+use Rattle.tl_tree.specs.Grammar.{give, bind, Outcome, Took, ◌>>=◌, begins, is_of, unexpected, down}
+use Rattle.tl_tree.specs.Forms.{sign, name, semicolon, listed_behind, Chained, chained}
+use Rattle.tl_tree.specs.LuaExpressions as expressions
+use Rattle.tl_tree.specs.LuaStatements as lua
+use Rattle.tl_tree.specs.LuaStatements.{Sequence, sequence, parameters_of}
+use Rattle.tl_parse.specs.Parsing.{tokens_left, token_of, with_token_by, HasNext}
+use Rattle.tl_parse.specs.Using.{language, reading, part_at, sign_at}
+use Rattle.tl_parse.specs.Expressions.{name_at, attached, shape_of, suffix_at}
+use Rattle.tl_parse.specs.Statements.{first_place, is_unsettled, settling, settle_at, variable_at, more_targets_at, next_target_at, arm_at, more_arms_at, next_arm_at, goes_on, block_at, more_statements_at, next_statement_at, more_parameters_at, parameter_at, next_parameter_at, with_parameter, body_at}
+use Rattle.tl_parse.specs.Paths.{more_names_at, next_name_at, behind_sign_at, path_names_at}
+use Rattle.tl_parse.specs.declared.parser.Parser.{Parser}
+use Rattle.tl_parse.proofs.Uses.{bind_same, repeats, ends, shorter_turn}
+use Rattle.tl_parse.proofs.Agreeing.{name_agrees}
+use Rattle.tl_parse.proofs.Turns.{list_goes, list_ends, list_shorter}
+use Rattle.tl_parse.proofs.Paths.{path_turn}
+use Rattle.tl_parse.proofs.AgreeingStatements.{token_with, arm_turn, settle_goes, settle_ends, settle_refuses, variable_agrees, block_turn, parameter_turn, body_agrees}
+
+-- ---- the next token
+
+pub next_place : (p : Parser) → HasNext (tokens_left p) → p.current.place ≡ first_place (tokens_left p)
+unfolding tokens_left
+next_place p h = go p.current.is_end (is_bad p.current.symbol) h
+  where
+    go : (e b : Bool) → HasNext (with_token_by e b (token_of p.current) (tokens_in (answers_left p.lexer)).tokens) → p.current.place ≡ first_place (with_token_by e b (token_of p.current) (tokens_in (answers_left p.lexer)).tokens)
+    go true b h = absurd h
+    go false true h = refl
+    go false false h = refl
+
+-- the tokens that begin a statement wherever one stands
+abbrev pub plain_statements : List Symbol
+plain_statements =
+    symbols.Name ∷ symbols.OpenParen ∷ symbols.Do ∷ symbols.While ∷ symbols.Repeat ∷ symbols.If ∷ symbols.For ∷ symbols.Function ∷ symbols.Local ∷ symbols.Return
+    ∷ symbols.Terra ∷ symbols.Struct ∷ []
+
+goes_on_break : (x e : Bool) → (x && not e) ≡ cond e false x
+goes_on_break true true = refl
+goes_on_break true false = refl
+goes_on_break false true = refl
+goes_on_break false false = refl
+
+goes_on_never : (e : Bool) → false ≡ cond e false false
+goes_on_never true = refl
+goes_on_never false = refl
+
+goes_on_by : (c : Context) (ended : Bool) (symbol : Symbol) (text : List ℕ) (place : Place) (first : Bool) →
+    is_of (λ t. goes_on c ended t) (token_with symbol text place first) ≡ cond ended false (cond (is_of (is symbols.Break) (token_with symbol text place first)) c.in_loop (cond (is_of (is symbols.Emit) (token_with symbol text place first)) c.emits (is_of (among plain_statements) (token_with symbol text place first))))
+goes_on_by c ended symbols.Break text place first = goes_on_break c.in_loop ended
+goes_on_by c ended symbols.Emit text place first = goes_on_break c.emits ended
+goes_on_by c ended symbols.Name text place first = goes_on_break true ended
+goes_on_by c ended symbols.OpenParen text place first = goes_on_break true ended
+goes_on_by c ended symbols.Do text place first = goes_on_break true ended
+goes_on_by c ended symbols.While text place first = goes_on_break true ended
+goes_on_by c ended symbols.Repeat text place first = goes_on_break true ended
+goes_on_by c ended symbols.If text place first = goes_on_break true ended
+goes_on_by c ended symbols.For text place first = goes_on_break true ended
+goes_on_by c ended symbols.Function text place first = goes_on_break true ended
+goes_on_by c ended symbols.Local text place first = goes_on_break true ended
+goes_on_by c ended symbols.Return text place first = goes_on_break true ended
+goes_on_by c ended symbols.Terra text place first = goes_on_break true ended
+goes_on_by c ended symbols.Struct text place first = goes_on_break true ended
+goes_on_by c ended _ text place first = goes_on_never ended
+
+pub goes_on_is : (c : Context) (ended : Bool) (ts : List Token) → begins (λ t. goes_on c ended t) ts ≡ cond ended false (cond (begins (is symbols.Break) ts) c.in_loop (cond (begins (is symbols.Emit) ts) c.emits (begins (among plain_statements) ts)))
+goes_on_is c ended [] = goes_on_never ended
+goes_on_is c ended (t ∷ ts) = goes_on_by c ended t.symbol t.text t.place t.first_on_line
+
+-- ---- names and paths
+
+pub names_go : (levels : ℕ) (before : Tree) (ts : List Token) → begins (is symbols.Comma) ts ≡ true → more_names_at levels before ts ≡ (next_name_at ts >>= λ e rest. more_names_at levels (More before e) rest)
+unfolding more_names_at next_name_at
+names_go levels before ts h =
+    list_goes levels name before ts h
+    ∙ ap (λ (o : Outcome Tree). o >>= λ e rest. reading levels (listed_behind name (More before e)) rest) (bind_same (sign_at symbols.Comma ts) (λ y rest. reading levels name rest) (λ y rest. name_at rest) (λ y rest. name_agrees levels rest))
+
+pub names_end : (levels : ℕ) (before : Tree) (ts : List Token) → begins (is symbols.Comma) ts ≡ false → more_names_at levels before ts ≡ Took before ts
+unfolding more_names_at
+names_end levels before ts h = list_ends levels name before ts h
+
+pub name_shorter : (x : Tree) (ts rest : List Token) → next_name_at ts ≡ Took x rest → length rest < length ts
+unfolding next_name_at
+name_shorter x ts rest e = list_shorter 0 name x ts rest (bind_same (sign_at symbols.Comma ts) (λ y rest. reading 0 name rest) (λ y rest. name_at rest) (λ y rest. name_agrees 0 rest) ∙ e)
+
+pub path_goes : (levels : ℕ) (before : Tree) (ts : List Token) → begins (is symbols.Dot) ts ≡ true → path_names_at levels before ts ≡ (behind_sign_at symbols.Dot ts >>= λ e rest. path_names_at levels (More before e) rest)
+unfolding path_names_at
+path_goes levels before ts h =
+    repeats levels (λ b t. is symbols.Dot t) (λ b t. Plain) (λ b t. None) (λ t x b. bind (sign symbols.Name) λ n. give (More b (Name t.place n.0.text))) (sample symbols.Dot) before (behind_sign_at symbols.Dot ts) (λ e. More before e) ts h (path_turn levels before ts)
+
+pub path_ends : (levels : ℕ) (before : Tree) (ts : List Token) → begins (is symbols.Dot) ts ≡ false → path_names_at levels before ts ≡ Took before ts
+unfolding path_names_at
+path_ends levels before ts h = ends levels (λ b t. is symbols.Dot t) (λ b t. Plain) (λ b t. None) (λ t x b. bind (sign symbols.Name) λ n. give (More b (Name t.place n.0.text))) before ts h
+
+pub path_shorter : (x : Tree) (ts rest : List Token) → behind_sign_at symbols.Dot ts ≡ Took x rest → length rest < length ts
+path_shorter x ts rest e =
+    shorter_turn 0 (λ t. is symbols.Dot t) (λ t. Plain) (λ t. None) (sample symbols.Dot) (λ x. bind (sign symbols.Name) λ n. give (More Nothing (Name x.0.place n.0.text))) (behind_sign_at symbols.Dot ts) (λ e. More Nothing e) x ts rest (path_turn 0 Nothing ts) e
+
+-- ---- targets
+
+pub settles_on : (levels : ℕ) (m : Mode) (tree : Tree) (left : ℕ) (shape : Shape) (ts : List Token) → begins (λ t. expressions.is_suffix m t) ts ≡ true → settle_at levels m (chained tree left shape) ts ≡ (suffix_at levels m left ts >>= λ s rest. settle_at levels m (chained (attached s tree) (down left) (shape_of s)) rest)
+unfolding settle_at
+settles_on levels m tree left shape ts h = settle_goes levels m (chained tree left shape) (is_unsettled shape) ts h
+
+settles_by : (levels : ℕ) (m : Mode) (a : Chained) (b : Bool) (ts : List Token) → begins (λ t. expressions.is_suffix m t) ts ≡ false → b ≡ false → reading levels (settling b m a) ts ≡ Took a ts
+settles_by levels m a true ts h k = absurd cc
+settles_by levels m a false ts h k = settle_ends levels m a ts h
+
+pub settles : (levels : ℕ) (m : Mode) (tree : Tree) (left : ℕ) (shape : Shape) (ts : List Token) → begins (λ t. expressions.is_suffix m t) ts ≡ false → is_unsettled shape ≡ false → settle_at levels m (chained tree left shape) ts ≡ Took (chained tree left shape) ts
+unfolding settle_at
+settles levels m tree left shape ts h k = settles_by levels m (chained tree left shape) (is_unsettled shape) ts h k
+
+unsettled_by : (levels : ℕ) (m : Mode) (a : Chained) (b : Bool) (ts : List Token) → begins (λ t. expressions.is_suffix m t) ts ≡ false → b ≡ true → reading levels (settling b m a) ts ≡ unexpected ts
+unsettled_by levels m a true ts h k = settle_refuses levels m a ts h
+unsettled_by levels m a false ts h k = absurd cc
+
+pub unsettled : (levels : ℕ) (m : Mode) (tree : Tree) (left : ℕ) (shape : Shape) (ts : List Token) → begins (λ t. expressions.is_suffix m t) ts ≡ false → is_unsettled shape ≡ true → settle_at levels m (chained tree left shape) ts ≡ unexpected ts
+unfolding settle_at
+unsettled levels m tree left shape ts h k = unsettled_by levels m (chained tree left shape) (is_unsettled shape) ts h k
+
+pub targets_go : (levels : ℕ) (m : Mode) (before : Tree) (ts : List Token) → begins (is symbols.Comma) ts ≡ true → more_targets_at levels m before ts ≡ (next_target_at levels m ts >>= λ e rest. more_targets_at levels m (More before e) rest)
+unfolding more_targets_at next_target_at
+targets_go levels m before ts h =
+    list_goes levels (lua.variable m) before ts h
+    ∙ ap (λ (o : Outcome Tree). o >>= λ e rest. reading levels (listed_behind (lua.variable m) (More before e)) rest) (bind_same (sign_at symbols.Comma ts) (λ y rest. reading levels (lua.variable m) rest) (λ y rest. variable_at levels m rest) (λ y rest. variable_agrees levels m rest))
+
+pub targets_end : (levels : ℕ) (m : Mode) (before : Tree) (ts : List Token) → begins (is symbols.Comma) ts ≡ false → more_targets_at levels m before ts ≡ Took before ts
+unfolding more_targets_at
+targets_end levels m before ts h = list_ends levels (lua.variable m) before ts h
+
+pub target_shorter : (levels : ℕ) (m : Mode) (x : Tree) (ts rest : List Token) → next_target_at levels m ts ≡ Took x rest → length rest < length ts
+unfolding next_target_at
+target_shorter levels m x ts rest e = list_shorter levels (lua.variable m) x ts rest (bind_same (sign_at symbols.Comma ts) (λ y rest. reading levels (lua.variable m) rest) (λ y rest. variable_at levels m rest) (λ y rest. variable_agrees levels m rest) ∙ e)
+
+-- ---- arms
+
+pub arms_go : (levels : ℕ) (c : Context) (before : Tree) (ts : List Token) → begins (is symbols.Elseif) ts ≡ true → more_arms_at levels c before ts ≡ (next_arm_at levels c ts >>= λ e rest. more_arms_at levels c (More before e) rest)
+unfolding more_arms_at next_arm_at
+arms_go levels c before ts h =
+    repeats levels (λ b t. is symbols.Elseif t) (λ b t. Plain) (λ b t. None) (λ t x b. lua.arm language c b) (sample symbols.Elseif) before (sign_at symbols.Elseif ts >>= λ y a. arm_at levels c a) (λ e. More before e) ts h (arm_turn levels c before ts)
+
+pub arms_end : (levels : ℕ) (c : Context) (before : Tree) (ts : List Token) → begins (is symbols.Elseif) ts ≡ false → more_arms_at levels c before ts ≡ Took before ts
+unfolding more_arms_at
+arms_end levels c before ts h = ends levels (λ b t. is symbols.Elseif t) (λ b t. Plain) (λ b t. None) (λ t x b. lua.arm language c b) before ts h
+
+pub arm_shorter : (levels : ℕ) (c : Context) (x : Tree) (ts rest : List Token) → next_arm_at levels c ts ≡ Took x rest → length rest < length ts
+unfolding next_arm_at
+arm_shorter levels c x ts rest e =
+    shorter_turn levels (λ t. is symbols.Elseif t) (λ t. Plain) (λ t. None) (sample symbols.Elseif) (λ x. lua.arm language c Nothing) (sign_at symbols.Elseif ts >>= λ y a. arm_at levels c a) (λ e. More Nothing e) x ts rest (arm_turn levels c Nothing ts) e
+
+-- ---- blocks
+
+pub block_part : (levels : ℕ) (c : Context) (ts : List Token) → part_at levels (Statements c) ts ≡ block_at levels c ts
+unfolding part_at block_at more_statements_at
+block_part levels c ts = refl
+
+pub block_goes : (levels : ℕ) (c : Context) (tree : Tree) (ended : Bool) (ts : List Token) → begins (λ t. goes_on c ended t) ts ≡ true → more_statements_at levels c tree ended ts ≡ (next_statement_at levels c ts >>= λ s rest. more_statements_at levels c (More tree s.statements) s.ended rest)
+unfolding more_statements_at
+block_goes levels c tree ended ts h =
+    repeats levels (λ a t. goes_on c a.ended t) (λ a t. Plain) (λ a t. lua.statement_opens c (lua.statement_of t.symbol))
+    (λ t x a. bind (lua.statement language c (lua.statement_of t.symbol) t x) λ s. bind semicolon λ y. give (sequence (More a.statements s) (lua.ends_block (lua.statement_of t.symbol)))) (sample symbols.Break) (sequence tree ended)
+    (next_statement_at levels c ts) (λ s. sequence (More tree s.statements) s.ended) ts h (block_turn levels c tree ended (sample symbols.Break) ts h)
+
+pub block_ends : (levels : ℕ) (c : Context) (tree : Tree) (ended : Bool) (ts : List Token) → begins (λ t. goes_on c ended t) ts ≡ false → more_statements_at levels c tree ended ts ≡ Took (sequence tree ended) ts
+unfolding more_statements_at
+block_ends levels c tree ended ts h =
+    ends levels (λ a t. goes_on c a.ended t) (λ a t. Plain) (λ a t. lua.statement_opens c (lua.statement_of t.symbol))
+    (λ t x a. bind (lua.statement language c (lua.statement_of t.symbol) t x) λ s. bind semicolon λ y. give (sequence (More a.statements s) (lua.ends_block (lua.statement_of t.symbol)))) (sequence tree ended) ts h
+
+pub statement_shorter : (levels : ℕ) (c : Context) (ended : Bool) (x : Sequence) (ts rest : List Token) → begins (λ t. goes_on c ended t) ts ≡ true → next_statement_at levels c ts ≡ Took x rest → length rest < length ts
+statement_shorter levels c ended x ts rest h e =
+    shorter_turn levels (λ t. goes_on c ended t) (λ t. Plain) (λ t. lua.statement_opens c (lua.statement_of t.symbol)) (sample symbols.Break)
+    (λ x. bind (lua.statement language c (lua.statement_of x.0.symbol) x.0 x.1) λ s. bind semicolon λ y. give (sequence (More Nothing s) (lua.ends_block (lua.statement_of x.0.symbol))))
+    (next_statement_at levels c ts) (λ s. sequence (More Nothing s.statements) s.ended) x ts rest (block_turn levels c Nothing ended (sample symbols.Break) ts h) e
+
+-- ---- functions
+
+comma_class : (ts : List Token) → begins (λ t. is symbols.Comma t && true) ts ≡ begins (is symbols.Comma) ts
+comma_class [] = refl
+comma_class (t ∷ ts) = by (is_bad t.symbol) (is symbols.Comma t)
+  where
+    by : (b c : Bool) → cond b false (c && true) ≡ cond b false c
+    by true c = refl
+    by false true = refl
+    by false false = refl
+
+never : (ts : List Token) → begins (λ t. is symbols.Comma t && false) ts ≡ false
+never [] = refl
+never (t ∷ ts) = by (is_bad t.symbol) (is symbols.Comma t)
+  where
+    by : (b c : Bool) → cond b false (c && false) ≡ false
+    by true c = refl
+    by false true = refl
+    by false false = refl
+
+pub parameters_go : (levels : ℕ) (names : Tree) (ts : List Token) → begins (is symbols.Comma) ts ≡ true → more_parameters_at levels names false ts ≡ (next_parameter_at ts >>= λ o rest. more_parameters_at levels (with_parameter names o).names (with_parameter names o).variadic rest)
+unfolding more_parameters_at next_parameter_at
+parameters_go levels names ts h =
+    repeats levels (λ a t. is symbols.Comma t && not a.variadic) (λ a t. Plain) (λ a t. None) (λ t x a. lua.parameter a.names) (sample symbols.Comma) (parameters_of names false) (sign_at symbols.Comma ts >>= λ y a. parameter_at a) (λ o. with_parameter names o) ts (comma_class ts ∙ h) (parameter_turn levels names false ts refl)
+
+pub parameters_end : (levels : ℕ) (names : Tree) (ts : List Token) → begins (is symbols.Comma) ts ≡ false → more_parameters_at levels names false ts ≡ Took (parameters_of names false) ts
+unfolding more_parameters_at
+parameters_end levels names ts h = ends levels (λ a t. is symbols.Comma t && not a.variadic) (λ a t. Plain) (λ a t. None) (λ t x a. lua.parameter a.names) (parameters_of names false) ts (comma_class ts ∙ h)
+
+pub parameters_stop : (levels : ℕ) (names : Tree) (ts : List Token) → more_parameters_at levels names true ts ≡ Took (parameters_of names true) ts
+unfolding more_parameters_at
+parameters_stop levels names ts = ends levels (λ a t. is symbols.Comma t && not a.variadic) (λ a t. Plain) (λ a t. None) (λ t x a. lua.parameter a.names) (parameters_of names true) ts (never ts)
+
+pub parameter_shorter : (x : Option Tree) (ts rest : List Token) → next_parameter_at ts ≡ Took x rest → length rest < length ts
+unfolding next_parameter_at
+parameter_shorter x ts rest e =
+    shorter_turn 0 (λ t. is symbols.Comma t && true) (λ t. Plain) (λ t. None) (sample symbols.Comma) (λ x. lua.parameter Nothing) (sign_at symbols.Comma ts >>= λ y a. parameter_at a) (λ o. with_parameter Nothing o) x ts rest (parameter_turn 0 Nothing false ts refl) e
+
+pub body_part : (levels : ℕ) (ts : List Token) → part_at levels FunctionBody ts ≡ body_at levels ts
+body_part levels ts = body_agrees levels ts

@@ -1,0 +1,66 @@
+-- What reading the parts of Terra expressions gives.
+use Rattle.std.proofs.Common.{◌≡◌, ℕ, List, refl, ap}
+use Rattle.tl_tree.specs.declared.mode.Mode.{Mode}
+use Rattle.tl_tree.specs.Tokens.{Token}
+use Rattle.tl_tree.specs.Tree.{Nothing, TerraExpression, TerraOperand, TerraArguments, Initialisers, Entries}
+use Rattle.tl_tree.specs.Grammar.{Outcome, Took, ◌>>=◌}
+use Rattle.tl_tree.specs.Forms.{Chained, chain}
+use Rattle.tl_parse.specs.Using.{part_at}
+use Rattle.tl_parse.specs.TerraExpressions.{terra_exponent_at, terra_unary_at, terra_inner_at, terra_first_at, terra_binary_at, more_terra_expressions_at, terra_expressions_at, terra_arguments_at, initialisers_at}
+use Rattle.tl_parse.specs.Entries.{more_entries_at}
+use Rattle.tl_parse.specs.declared.terra_expressions.TerraPrecedence.{TerraPrecedence}
+use Rattle.tl_parse.specs.declared.terra_expressions.TerraPrecedence.TheVariants as precedences
+use Rattle.tl_parse.proofs.TerraAgreeing.{terra_exponent_agrees, terra_unary_agrees, terra_product_agrees, terra_sum_agrees, terra_shift_agrees, terra_comparison_agrees, terra_conjunction_agrees, terra_disjunction_agrees, initialisers_agree}
+
+pub terra_expression_part : (levels : ℕ) (ts : List Token) → part_at levels TerraExpression ts ≡ (terra_binary_at levels precedences.Disjunction chain ts >>= λ a rest. Took a.tree rest)
+unfolding part_at
+terra_expression_part levels ts = ap (λ (o : Outcome Chained). o >>= λ a rest. Took a.tree rest) (terra_disjunction_agrees levels chain ts)
+
+pub terra_operand_part : (levels : ℕ) (ts : List Token) → part_at levels TerraOperand ts ≡ (terra_unary_at levels chain ts >>= λ a rest. Took a.tree rest)
+unfolding part_at
+terra_operand_part levels ts = ap (λ (o : Outcome Chained). o >>= λ a rest. Took a.tree rest) (terra_unary_agrees levels chain ts)
+
+pub terra_arguments_part : (levels : ℕ) (ts : List Token) → part_at levels TerraArguments ts ≡ terra_arguments_at levels ts
+unfolding part_at terra_arguments_at terra_expressions_at more_terra_expressions_at
+terra_arguments_part levels ts = refl
+
+pub initialisers_part : (levels : ℕ) (ts : List Token) → part_at levels Initialisers ts ≡ initialisers_at levels ts
+unfolding part_at
+initialisers_part levels ts = initialisers_agree levels ts
+
+pub entries_part : (levels : ℕ) (m : Mode) (ts : List Token) → part_at levels (Entries m) ts ≡ more_entries_at levels m Nothing ts
+unfolding part_at more_entries_at
+entries_part levels m ts = refl
+
+pub inner_power : (levels left : ℕ) (ts : List Token) → terra_inner_at levels precedences.Power left ts ≡ terra_exponent_at levels left ts
+unfolding terra_inner_at
+inner_power levels left ts = terra_exponent_agrees levels left ts
+
+pub inner_product : (levels left : ℕ) (ts : List Token) → terra_inner_at levels precedences.Product left ts ≡ terra_unary_at levels left ts
+unfolding terra_inner_at
+inner_product levels left ts = terra_unary_agrees levels left ts
+
+pub inner_sum : (levels left : ℕ) (ts : List Token) → terra_inner_at levels precedences.Sum left ts ≡ terra_binary_at levels precedences.Product left ts
+unfolding terra_inner_at
+inner_sum levels left ts = terra_product_agrees levels left ts
+
+pub inner_shift : (levels left : ℕ) (ts : List Token) → terra_inner_at levels precedences.Shift left ts ≡ terra_binary_at levels precedences.Sum left ts
+unfolding terra_inner_at
+inner_shift levels left ts = terra_sum_agrees levels left ts
+
+pub inner_comparison : (levels left : ℕ) (ts : List Token) → terra_inner_at levels precedences.Comparison left ts ≡ terra_binary_at levels precedences.Shift left ts
+unfolding terra_inner_at
+inner_comparison levels left ts = terra_shift_agrees levels left ts
+
+pub inner_conjunction : (levels left : ℕ) (ts : List Token) → terra_inner_at levels precedences.Conjunction left ts ≡ terra_binary_at levels precedences.Comparison left ts
+unfolding terra_inner_at
+inner_conjunction levels left ts = terra_comparison_agrees levels left ts
+
+pub inner_disjunction : (levels left : ℕ) (ts : List Token) → terra_inner_at levels precedences.Disjunction left ts ≡ terra_binary_at levels precedences.Conjunction left ts
+unfolding terra_inner_at
+inner_disjunction levels left ts = terra_conjunction_agrees levels left ts
+
+pub first_others : (p : TerraPrecedence) (levels left : ℕ) (ts : List Token) → (p ≡ precedences.Power → ⊥) → terra_first_at levels p left ts ≡ terra_inner_at levels p left ts
+unfolding terra_first_at
+first_others precedences.Power levels left ts h = absurd (h refl)
+first_others _ levels left ts h = refl

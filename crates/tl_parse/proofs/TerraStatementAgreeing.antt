@@ -1,0 +1,438 @@
+-- What reading each name of the grammar of Terra statements gives is what its grammar gives.
+use Rattle.std.proofs.Common.{◌≡◌, ℕ, ◌-◌, Bool, true, false, cond, List, [], ◌∷◌, Option, Some, None, refl, sym, ap, ◌∙◌}
+use Rattle.std.specs.Prelude.{◌&&◌, not}
+use Rattle.tl_base.specs.declared.place.Place.{Place}
+use Rattle.tl_lex.specs.declared.SyntaxKind.{SyntaxKind}
+use Rattle.tl_tree.specs.declared.mode.Mode.TheVariants as modes
+use Rattle.tl_tree.specs.declared.mode.Shape.{Shape}
+use Rattle.tl_tree.specs.declared.mode.Shape.TheVariants as shapes
+use Rattle.tl_tree.specs.declared.mode.Extra.TheVariants.{Plain}
+use Rattle.tl_tree.specs.declared.node.UnaryOperator.{UnaryOperator}
+use Rattle.tl_tree.specs.declared.node.UnaryOperator.TheVariants as unary
+use Rattle.tl_tree.specs.declared.symbol.Symbol.{Symbol}
+use Rattle.tl_tree.specs.declared.symbol.Symbol.TheVariants as symbols
+use Rattle.tl_tree.specs.Tokens.{Token, is, among}
+use Rattle.tl_tree.specs.Tree.{Tree, Nothing, More, Just, Name, TerraUnary, TerraParen, Escape, TerraAssign, Splice, TerraDo, TerraWhile, TerraRepeat, TerraIf, TerraFor, Var, EscapeBlock, TerraReturn, TerraBreak, Arm, Parameter, SpliceParameter, Variable, Part, Expression, Statements, TerraExpression, TerraOperand, TerraStatements}
+use Rattle.tl_tree.specs.Grammar.{Grammar, give, bind, when, Outcome, Took, Stop, ◌>>=◌, begins, is_of}
+use Rattle.tl_tree.specs.Forms.{sign, opening, listed, listed_behind, name, Chained, chained, chain, operand, operators, unary_of, comparisons, additive, multiplicative}
+use Rattle.tl_tree.specs.TerraExpressions.{shifts, terra_prefix_symbols}
+use Rattle.tl_tree.specs.TerraExpressions as expressions
+use Rattle.tl_tree.specs.TerraStatements as terra
+use Rattle.tl_tree.proofs.Unrolling.{bind_again}
+use Rattle.tl_parse.specs.Using.{reading, part_at, used, barred, sign_at, open_at, prefix_at}
+use Rattle.tl_parse.specs.Expressions.{name_at}
+use Rattle.tl_parse.specs.Statements.{last_symbols}
+use Rattle.tl_parse.specs.TerraExpressions.{escape_at, terra_name_at, terra_paren_at, terra_base_at, terra_suffixes_at, terra_applied_at, terra_prefixed_at, terra_unary_at, terra_binary_at, more_terra_expressions_at, terra_expressions_at}
+use Rattle.tl_parse.specs.TerraStatements.{written_type_at, terra_loop_at, terra_arm_at, more_terra_arms_at, terra_arms_at, terra_otherwise_at, terra_step_at, terra_variable_at, more_terra_variables_at, terra_variables_at, terra_initial_values_at, terra_returned_values_at, terra_target_at, terra_assignment_at, assignment_symbols, terra_statement_behind_at, terra_simple_statement_at, terra_do_at, terra_while_at, terra_repeat_at, terra_if_at, terra_for_at, terra_var_at, escape_block_at, terra_return_at, terra_break_at, terra_statement_at, terra_parameter_at, more_terra_parameters_at, terra_parameters_at}
+use Rattle.tl_parse.specs.declared.terra_expressions.TerraPrecedence.TheVariants as precedences
+use Rattle.tl_parse.proofs.Uses.{bind_same, opens_any, opened_at}
+use Rattle.tl_parse.proofs.Following.{sign_then, open_then, then, either_is}
+use Rattle.tl_parse.proofs.Turns.{used_here, used_use}
+use Rattle.tl_parse.proofs.Agreeing.{name_agrees}
+use Rattle.tl_parse.proofs.TerraAgreeing.{escape_agrees, terra_name_agrees, terra_unary_agrees, terra_expression_agrees}
+
+-- ---- one form after the other
+
+-- what is read, and then goes on
+pub after : {A B C : Type 0} (o : Outcome A) (k : A → List Token → Outcome B) (f : B → List Token → Outcome C) (m : A → List Token → Outcome C) → ((a : A) (us : List Token) → (k a us >>= λ b vs. f b vs) ≡ m a us) → ((o >>= λ a us. k a us) >>= λ b vs. f b vs) ≡ (o >>= λ a us. m a us)
+after o k f m same = bind_again o (λ a us. k a us) (λ b vs. f b vs) ∙ bind_same o (λ a us. k a us >>= λ b vs. f b vs) (λ a us. m a us) same
+
+-- a value that is made of what is read
+pub then_give : {A B : Type 0} (levels : ℕ) (g : Grammar A) (make : A → B) (g_at : List Token → Outcome A) → ((us : List Token) → reading levels g us ≡ g_at us) → (ts : List Token) → reading levels (bind g λ e. give (make e)) ts ≡ (g_at ts >>= λ e rest. Took (make e) rest)
+then_give {A} levels g make g_at same ts = ap (λ (o : Outcome A). o >>= λ e rest. Took (make e) rest) (same ts)
+
+pub sign_give : {A : Type 0} (levels : ℕ) (s : Symbol) (v : A) (ts : List Token) → reading levels (bind (sign s) λ y. give v) ts ≡ (sign_at s ts >>= λ y rest. Took v rest)
+sign_give levels s v ts = sign_then levels s (λ y. give v) (λ y rest. Took v rest) (λ y us. refl) ts
+
+-- a sign, and what is behind it, if the sign is there
+pub optional : (levels : ℕ) (s : Symbol) (g : Grammar Tree) (g_at : List Token → Outcome Tree) → ((us : List Token) → reading levels g us ≡ g_at us) → (ts : List Token) →
+    reading levels (when (is s) (bind (sign s) λ y. bind g λ e. give (Just e)) (give Nothing)) ts ≡ cond (begins (is s) ts) (sign_at s ts >>= λ y a. g_at a >>= λ e rest. Took (Just e) rest) (Took Nothing ts)
+optional levels s g g_at same ts =
+    either_is (begins (is s) ts) (reading levels (bind (sign s) λ y. bind g λ e. give (Just e)) ts) (Took Nothing ts) (sign_at s ts >>= λ y a. g_at a >>= λ e rest. Took (Just e) rest) (Took Nothing ts)
+    (sign_then levels s (λ y. bind g λ e. give (Just e)) (λ y a. g_at a >>= λ e rest. Took (Just e) rest) (λ y us. then_give levels g (λ e. Just e) g_at same us) ts) refl
+
+-- ---- parts of statements
+
+pub type_agrees : (levels : ℕ) (ts : List Token) → reading levels terra.terra_type ts ≡ part_at levels (Expression modes.Types) ts
+unfolding part_at
+type_agrees levels ts = refl
+
+pub written_type_agrees : (levels : ℕ) (ts : List Token) → reading levels terra.written_type ts ≡ written_type_at levels ts
+unfolding written_type_at
+written_type_agrees levels ts = optional levels symbols.Colon terra.terra_type (λ us. part_at levels (Expression modes.Types) us) (λ us. type_agrees levels us) ts
+
+pub terra_loop_agrees : (levels : ℕ) (ts : List Token) → reading levels terra.terra_loop ts ≡ terra_loop_at levels ts
+unfolding terra_loop_at
+terra_loop_agrees levels ts =
+    open_then levels symbols.Do TerraStatements (λ x. bind (sign symbols.End) λ y. give x.1) (λ t x us. sign_at symbols.End us >>= λ y rest. Took x rest) (λ t x us. sign_give levels symbols.End x us) ts
+
+pub terra_arm_agrees : (levels : ℕ) (a : Tree) (ts : List Token) → reading levels (terra.terra_arm a) ts ≡ (terra_arm_at levels ts >>= λ e rest. Took (More a e) rest)
+unfolding terra_arm_at
+terra_arm_agrees levels a ts =
+    then levels expressions.terra_expression (λ e. bind (opening symbols.Then TerraStatements) λ x. give (More a (Arm e x.1))) (λ us. part_at levels TerraExpression us)
+    (λ e us. open_at symbols.Then levels us >>= λ t b. part_at (levels - 1) TerraStatements b >>= λ x rest. Took (More a (Arm e x)) rest) (λ us. terra_expression_agrees levels us)
+    (λ e us. open_then levels symbols.Then TerraStatements (λ x. give (More a (Arm e x.1))) (λ t x rest. Took (More a (Arm e x)) rest) (λ t x vs. refl) us) ts
+    ∙ sym (after (part_at levels TerraExpression ts) (λ e us. open_at symbols.Then levels us >>= λ t b. part_at (levels - 1) TerraStatements b >>= λ x rest. Took (Arm e x) rest) (λ e rest. Took (More a e) rest)
+    (λ e us. open_at symbols.Then levels us >>= λ t b. part_at (levels - 1) TerraStatements b >>= λ x rest. Took (More a (Arm e x)) rest)
+    (λ e us. after (open_at symbols.Then levels us) (λ t b. part_at (levels - 1) TerraStatements b >>= λ x rest. Took (Arm e x) rest) (λ e rest. Took (More a e) rest) (λ t b. part_at (levels - 1) TerraStatements b >>= λ x rest. Took (More a (Arm e x)) rest)
+    (λ t vs. bind_again (part_at (levels - 1) TerraStatements vs) (λ x rest. Took (Arm e x) rest) (λ e rest. Took (More a e) rest))))
+
+pub terra_otherwise_agrees : (levels : ℕ) (ts : List Token) → reading levels terra.terra_otherwise ts ≡ terra_otherwise_at levels ts
+unfolding terra_otherwise_at
+terra_otherwise_agrees levels ts =
+    either_is (begins (is symbols.Else) ts) (reading levels (bind (opening symbols.Else TerraStatements) λ x. give (Just x.1)) ts) (Took Nothing ts) (open_at symbols.Else levels ts >>= λ t a. part_at (levels - 1) TerraStatements a >>= λ x rest. Took (Just x) rest) (Took Nothing ts)
+    (open_then levels symbols.Else TerraStatements (λ x. give (Just x.1)) (λ t x rest. Took (Just x) rest) (λ t x us. refl) ts) refl
+
+pub terra_step_agrees : (levels : ℕ) (ts : List Token) → reading levels terra.terra_step ts ≡ terra_step_at levels ts
+unfolding terra_step_at
+terra_step_agrees levels ts = optional levels symbols.Comma expressions.terra_expression (λ us. part_at levels TerraExpression us) (λ us. terra_expression_agrees levels us) ts
+
+pub terra_variable_agrees : (levels : ℕ) (ts : List Token) → reading levels terra.terra_variable ts ≡ terra_variable_at levels ts
+unfolding terra_variable_at
+terra_variable_agrees levels ts =
+    then levels expressions.terra_name (λ n. bind terra.written_type λ e. give (Variable n e)) (λ us. terra_name_at levels us) (λ n us. written_type_at levels us >>= λ e rest. Took (Variable n e) rest) (λ us. terra_name_agrees levels us)
+    (λ n us. then_give levels terra.written_type (λ e. Variable n e) (λ vs. written_type_at levels vs) (λ vs. written_type_agrees levels vs) us) ts
+
+pub terra_variables_agree : (levels : ℕ) (ts : List Token) → reading levels (listed terra.terra_variable) ts ≡ terra_variables_at levels ts
+unfolding terra_variables_at more_terra_variables_at
+terra_variables_agree levels ts =
+    then levels terra.terra_variable (λ e. listed_behind terra.terra_variable (More Nothing e)) (λ us. terra_variable_at levels us) (λ e us. more_terra_variables_at levels (More Nothing e) us) (λ us. terra_variable_agrees levels us) (λ e us. refl) ts
+
+pub terra_expressions_agree : (levels : ℕ) (ts : List Token) → reading levels expressions.terra_expressions ts ≡ terra_expressions_at levels ts
+unfolding terra_expressions_at more_terra_expressions_at
+terra_expressions_agree levels ts =
+    then levels expressions.terra_expression (λ e. listed_behind expressions.terra_expression (More Nothing e)) (λ us. part_at levels TerraExpression us) (λ e us. more_terra_expressions_at levels (More Nothing e) us) (λ us. terra_expression_agrees levels us) (λ e us. refl) ts
+
+pub terra_initial_values_agree : (levels : ℕ) (ts : List Token) → reading levels terra.terra_initial_values ts ≡ terra_initial_values_at levels ts
+unfolding terra_initial_values_at
+terra_initial_values_agree levels ts =
+    either_is (begins (is symbols.Equal) ts) (reading levels (bind (sign symbols.Equal) λ y. expressions.terra_expressions) ts) (Took Nothing ts) (sign_at symbols.Equal ts >>= λ y a. terra_expressions_at levels a) (Took Nothing ts)
+    (sign_then levels symbols.Equal (λ y. expressions.terra_expressions) (λ y a. terra_expressions_at levels a) (λ y us. terra_expressions_agree levels us) ts) refl
+
+pub terra_returned_values_agree : (levels : ℕ) (ts : List Token) → reading levels terra.terra_returned_values ts ≡ terra_returned_values_at levels ts
+unfolding terra_returned_values_at
+terra_returned_values_agree levels ts =
+    either_is (begins (among terra.terra_expression_symbols) ts) (reading levels expressions.terra_expressions ts) (Took Nothing ts) (terra_expressions_at levels ts) (Took Nothing ts) (terra_expressions_agree levels ts) refl
+
+-- ---- functions and quotes
+
+pub terra_parameter_agrees : (levels : ℕ) (ts : List Token) → reading levels terra.terra_parameter ts ≡ terra_parameter_at levels ts
+unfolding terra_parameter_at
+terra_parameter_agrees levels ts =
+    either_is (begins (is symbols.OpenBracket) ts) (reading levels (bind expressions.escape λ e. give (SpliceParameter e)) ts) (reading levels (bind name λ n. bind (sign symbols.Colon) λ y. bind terra.terra_type λ e. give (Parameter n e)) ts)
+    (escape_at levels ts >>= λ e rest. Took (SpliceParameter e) rest) (name_at ts >>= λ n a. sign_at symbols.Colon a >>= λ y b. part_at levels (Expression modes.Types) b >>= λ e rest. Took (Parameter n e) rest)
+    (then_give levels expressions.escape (λ e. SpliceParameter e) (λ us. escape_at levels us) (λ us. escape_agrees levels us) ts)
+    (then levels name (λ n. bind (sign symbols.Colon) λ y. bind terra.terra_type λ e. give (Parameter n e)) (λ us. name_at us) (λ n a. sign_at symbols.Colon a >>= λ y b. part_at levels (Expression modes.Types) b >>= λ e rest. Took (Parameter n e) rest) (λ us. name_agrees levels us)
+    (λ n us. sign_then levels symbols.Colon (λ y. bind terra.terra_type λ e. give (Parameter n e)) (λ y b. part_at levels (Expression modes.Types) b >>= λ e rest. Took (Parameter n e) rest)
+    (λ y vs. then_give levels terra.terra_type (λ e. Parameter n e) (λ ws. part_at levels (Expression modes.Types) ws) (λ ws. type_agrees levels ws) vs) us) ts)
+
+pub terra_parameters_agree : (levels : ℕ) (ts : List Token) → reading levels terra.terra_parameters ts ≡ terra_parameters_at levels ts
+unfolding terra_parameters_at more_terra_parameters_at
+terra_parameters_agree levels ts =
+    either_is (begins (is symbols.CloseParen) ts) (Took Nothing ts) (reading levels (listed terra.terra_parameter) ts) (Took Nothing ts) (terra_parameter_at levels ts >>= λ p rest. more_terra_parameters_at levels (More Nothing p) rest) refl
+    (then levels terra.terra_parameter (λ e. listed_behind terra.terra_parameter (More Nothing e)) (λ us. terra_parameter_at levels us) (λ e us. more_terra_parameters_at levels (More Nothing e) us) (λ us. terra_parameter_agrees levels us) (λ e us. refl) ts)
+
+-- ---- assignments, calls and splices
+
+pub terra_assignment_agrees : (levels : ℕ) (t : Token) (e : Tree) (ts : List Token) → reading levels (terra.terra_assignment t e) ts ≡ terra_assignment_at levels t.place (More Nothing e) ts
+unfolding terra_assignment_at more_terra_expressions_at
+terra_assignment_agrees levels t e ts =
+    then levels (listed_behind expressions.terra_expression (More Nothing e)) (λ targets. bind (sign symbols.Equal) λ y. bind expressions.terra_expressions λ es. give (TerraAssign t.place targets es)) (λ us. more_terra_expressions_at levels (More Nothing e) us)
+    (λ targets a. sign_at symbols.Equal a >>= λ y b. terra_expressions_at levels b >>= λ es rest. Took (TerraAssign t.place targets es) rest) (λ us. refl)
+    (λ targets us. sign_then levels symbols.Equal (λ y. bind expressions.terra_expressions λ es. give (TerraAssign t.place targets es)) (λ y b. terra_expressions_at levels b >>= λ es rest. Took (TerraAssign t.place targets es) rest)
+    (λ y vs. then_give levels expressions.terra_expressions (λ es. TerraAssign t.place targets es) (λ ws. terra_expressions_at levels ws) (λ ws. terra_expressions_agree levels ws) vs) us) ts
+
+splice_or : (b : Bool) (x y z : Outcome Tree) → x ≡ y → cond b x z ≡ cond (true && not b) z y
+splice_or true x y z e = e
+splice_or false x y z e = refl
+
+simple_by : (levels : ℕ) (t : Token) (tree : Tree) (left : ℕ) (shape : Shape) (ts : List Token) → reading levels (terra.terra_simple_statement t shape tree) ts ≡ terra_statement_behind_at levels t.place (chained tree left shape) ts
+unfolding terra_statement_behind_at
+simple_by levels t tree left shapes.Call ts = refl
+simple_by levels t tree left shapes.Escape ts =
+    splice_or (begins (among assignment_symbols) ts) (reading levels (terra.terra_assignment t tree) ts) (terra_assignment_at levels t.place (More Nothing tree) ts) (Took (Splice t.place tree) ts) (terra_assignment_agrees levels t tree ts)
+simple_by levels t tree left shapes.Name ts = terra_assignment_agrees levels t tree ts
+simple_by levels t tree left shapes.Variable ts = terra_assignment_agrees levels t tree ts
+simple_by levels t tree left shapes.Other ts = terra_assignment_agrees levels t tree ts
+
+simple_behind_agrees : (levels : ℕ) (t : Token) (b : Chained) (ts : List Token) → reading levels (terra.terra_simple_behind t b) ts ≡ (terra_suffixes_at levels b ts >>= λ a rest. terra_statement_behind_at levels t.place a rest)
+unfolding terra_suffixes_at
+simple_behind_agrees levels t b ts =
+    then levels (expressions.terra_suffixes b) (λ a. terra.terra_simple_statement t a.shape a.tree) (λ us. terra_suffixes_at levels b us) (λ a rest. terra_statement_behind_at levels t.place a rest) (λ us. refl) (λ a us. simple_by levels t a.tree a.left a.shape us) ts
+
+-- ---- the first token of a statement
+
+use_same : {A : Type 0} (b : Option SyntaxKind) (t : Token) (ts : List Token) (f g : Token → List Token → Outcome A) → f t ts ≡ g t ts → (used_here b t ts >>= λ u mid. f u mid) ≡ (used_here b t ts >>= λ u mid. g u mid)
+use_same None t ts f g h = h
+use_same (Some kind) t ts f g h = refl
+
+sign_first : (s : Symbol) (t : Token) (ts : List Token) → is_of (is s) t ≡ true → sign_at s (t ∷ ts) ≡ Took t ts
+unfolding sign_at
+sign_first s t ts h = used_use (is s) false 0 Plain t ts h
+
+open_first : (s : Symbol) (levels : ℕ) (t : Token) (ts : List Token) → is_of (is s) t ≡ true → open_at s levels (t ∷ ts) ≡ used_here (barred true levels Plain t) t ts
+unfolding open_at
+open_first s levels t ts h = used_use (is s) true levels Plain t ts h
+
+-- a statement whose first token opens a part
+pub opened_form : (levels : ℕ) (s : Symbol) (part : Part) (t : Token) (ts : List Token) (h : Tree → Grammar Tree) (k : Token → Tree → List Token → Outcome Tree) → is_of (is s) t ≡ true → ((x : Tree) (us : List Token) → reading levels (h x) us ≡ k t x us) →
+    (used_here (barred true levels Plain t) t ts >>= λ u mid. part_at (levels - 1) part mid >>= λ x rest. reading levels (h x) rest) ≡ (open_at s levels (t ∷ ts) >>= λ u a. part_at (levels - 1) part a >>= λ x b. k u x b)
+opened_form levels s part t ts h k first same =
+    use_same (barred true levels Plain t) t ts (λ u mid. part_at (levels - 1) part mid >>= λ x rest. reading levels (h x) rest) (λ u a. part_at (levels - 1) part a >>= λ x b. k u x b)
+    (bind_same (part_at (levels - 1) part ts) (λ x rest. reading levels (h x) rest) (λ x b. k t x b) same)
+    ∙ ap (λ (o : Outcome Token). o >>= λ u a. part_at (levels - 1) part a >>= λ x b. k u x b) (sym (open_first s levels t ts first))
+
+-- a statement whose first token opens none
+pub signed_form : (levels : ℕ) (s : Symbol) (t : Token) (ts : List Token) (g : Grammar Tree) (k : Token → List Token → Outcome Tree) → is_of (is s) t ≡ true → reading levels g ts ≡ k t ts → reading levels g ts ≡ (sign_at s (t ∷ ts) >>= λ u a. k u a)
+signed_form levels s t ts g k first same = same ∙ ap (λ (o : Outcome Token). o >>= λ u a. k u a) (sym (sign_first s t ts first))
+
+-- ---- statements that a word begins
+
+do_is : (levels : ℕ) (t : Token) (ts : List Token) → is_of (is symbols.Do) t ≡ true → (used_here (barred true levels Plain t) t ts >>= λ u mid. part_at (levels - 1) TerraStatements mid >>= λ x rest. reading levels (terra.terra_statement terra.FromDo t x) rest) ≡ terra_do_at levels (t ∷ ts)
+unfolding terra_do_at
+do_is levels t ts h =
+    opened_form levels symbols.Do TerraStatements t ts (λ x. terra.terra_statement terra.FromDo t x) (λ u x b. sign_at symbols.End b >>= λ y rest. Took (TerraDo u.place x) rest) h (λ x us. sign_give levels symbols.End (TerraDo t.place x) us)
+
+repeat_is : (levels : ℕ) (t : Token) (ts : List Token) → is_of (is symbols.Repeat) t ≡ true → (used_here (barred true levels Plain t) t ts >>= λ u mid. part_at (levels - 1) TerraStatements mid >>= λ x rest. reading levels (terra.terra_statement terra.FromRepeat t x) rest) ≡ terra_repeat_at levels (t ∷ ts)
+unfolding terra_repeat_at
+repeat_is levels t ts h =
+    opened_form levels symbols.Repeat TerraStatements t ts (λ x. terra.terra_statement terra.FromRepeat t x) (λ u x b. sign_at symbols.Until b >>= λ y d. part_at levels TerraExpression d >>= λ e rest. Took (TerraRepeat u.place x e) rest) h
+    (λ x us. sign_then levels symbols.Until (λ y. bind expressions.terra_expression λ e. give (TerraRepeat t.place x e)) (λ y d. part_at levels TerraExpression d >>= λ e rest. Took (TerraRepeat t.place x e) rest)
+    (λ y vs. then_give levels expressions.terra_expression (λ e. TerraRepeat t.place x e) (λ ws. part_at levels TerraExpression ws) (λ ws. terra_expression_agrees levels ws) vs) us)
+
+escape_is : (levels : ℕ) (t : Token) (ts : List Token) → is_of (is symbols.Escape) t ≡ true → (used_here (barred true levels Plain t) t ts >>= λ u mid. part_at (levels - 1) (Statements terra.emitting) mid >>= λ x rest. reading levels (terra.terra_statement terra.FromEscape t x) rest) ≡ escape_block_at levels (t ∷ ts)
+unfolding escape_block_at
+escape_is levels t ts h =
+    opened_form levels symbols.Escape (Statements terra.emitting) t ts (λ x. terra.terra_statement terra.FromEscape t x) (λ u x b. sign_at symbols.End b >>= λ y rest. Took (EscapeBlock u.place x) rest) h (λ x us. sign_give levels symbols.End (EscapeBlock t.place x) us)
+
+while_is : (levels : ℕ) (t : Token) (ts : List Token) → is_of (is symbols.While) t ≡ true → reading levels (terra.terra_statement terra.FromWhile t Nothing) ts ≡ terra_while_at levels (t ∷ ts)
+unfolding terra_while_at
+while_is levels t ts h =
+    signed_form levels symbols.While t ts (terra.terra_statement terra.FromWhile t Nothing) (λ u a. part_at levels TerraExpression a >>= λ e b. terra_loop_at levels b >>= λ x rest. Took (TerraWhile u.place e x) rest) h
+    (then levels expressions.terra_expression (λ e. bind terra.terra_loop λ b. give (TerraWhile t.place e b)) (λ us. part_at levels TerraExpression us) (λ e b. terra_loop_at levels b >>= λ x rest. Took (TerraWhile t.place e x) rest) (λ us. terra_expression_agrees levels us)
+    (λ e us. then_give levels terra.terra_loop (λ b. TerraWhile t.place e b) (λ vs. terra_loop_at levels vs) (λ vs. terra_loop_agrees levels vs) us) ts)
+
+-- arms, and what is behind them
+arms_then : (levels : ℕ) (h : Tree → Grammar Tree) (k : Tree → List Token → Outcome Tree) → ((all : Tree) (us : List Token) → reading levels (h all) us ≡ k all us) → (ts : List Token) →
+    reading levels (bind (terra.terra_arm Nothing) λ first. bind (terra.terra_arms first) λ all. h all) ts ≡ (terra_arms_at levels ts >>= λ all b. k all b)
+unfolding terra_arms_at more_terra_arms_at
+arms_then levels h k same ts =
+    ap (λ (o : Outcome Tree). o >>= λ first mid. reading levels (bind (terra.terra_arms first) λ all. h all) mid) (terra_arm_agrees levels Nothing ts)
+    ∙ bind_again (terra_arm_at levels ts) (λ e rest. Took (More Nothing e) rest) (λ first mid. reading levels (bind (terra.terra_arms first) λ all. h all) mid)
+    ∙ bind_same (terra_arm_at levels ts) (λ e mid. reading levels (bind (terra.terra_arms (More Nothing e)) λ all. h all) mid) (λ e mid. more_terra_arms_at levels (More Nothing e) mid >>= λ all b. k all b)
+    (λ e us. then levels (terra.terra_arms (More Nothing e)) (λ all. h all) (λ vs. more_terra_arms_at levels (More Nothing e) vs) (λ all b. k all b) (λ vs. refl) same us)
+    ∙ sym (bind_again (terra_arm_at levels ts) (λ e rest. more_terra_arms_at levels (More Nothing e) rest) (λ all b. k all b))
+
+if_is : (levels : ℕ) (t : Token) (ts : List Token) → is_of (is symbols.If) t ≡ true → reading levels (terra.terra_statement terra.FromIf t Nothing) ts ≡ terra_if_at levels (t ∷ ts)
+unfolding terra_if_at
+if_is levels t ts h =
+    signed_form levels symbols.If t ts (terra.terra_statement terra.FromIf t Nothing) (λ u a. terra_arms_at levels a >>= λ all b. terra_otherwise_at levels b >>= λ o d. sign_at symbols.End d >>= λ y rest. Took (TerraIf u.place all o) rest) h
+    (arms_then levels (λ all. bind terra.terra_otherwise λ o. bind (sign symbols.End) λ y. give (TerraIf t.place all o)) (λ all b. terra_otherwise_at levels b >>= λ o d. sign_at symbols.End d >>= λ y rest. Took (TerraIf t.place all o) rest)
+    (λ all us. then levels terra.terra_otherwise (λ o. bind (sign symbols.End) λ y. give (TerraIf t.place all o)) (λ vs. terra_otherwise_at levels vs) (λ o d. sign_at symbols.End d >>= λ y rest. Took (TerraIf t.place all o) rest) (λ vs. terra_otherwise_agrees levels vs)
+    (λ o vs. sign_give levels symbols.End (TerraIf t.place all o) vs) us) ts)
+
+for_is : (levels : ℕ) (t : Token) (ts : List Token) → is_of (is symbols.For) t ≡ true → reading levels (terra.terra_statement terra.FromFor t Nothing) ts ≡ terra_for_at levels (t ∷ ts)
+unfolding terra_for_at
+for_is levels t ts h =
+    signed_form levels symbols.For t ts (terra.terra_statement terra.FromFor t Nothing)
+    (λ u a. terra_name_at levels a >>= λ n b. sign_at symbols.Equal b >>= λ y d. part_at levels TerraExpression d >>= λ from e. sign_at symbols.Comma e >>= λ z f. part_at levels TerraExpression f >>= λ limit g. terra_step_at levels g >>= λ s i. terra_loop_at levels i >>= λ x rest. Took (TerraFor u.place n from limit s x) rest) h
+    (then levels expressions.terra_name (λ n. bind (sign symbols.Equal) λ y. bind expressions.terra_expression λ a. bind (sign symbols.Comma) λ z. bind expressions.terra_expression λ b. bind terra.terra_step λ s. bind terra.terra_loop λ d. give (TerraFor t.place n a b s d)) (λ us. terra_name_at levels us)
+    (λ n b. sign_at symbols.Equal b >>= λ y d. part_at levels TerraExpression d >>= λ from e. sign_at symbols.Comma e >>= λ z f. part_at levels TerraExpression f >>= λ limit g. terra_step_at levels g >>= λ s i. terra_loop_at levels i >>= λ x rest. Took (TerraFor t.place n from limit s x) rest) (λ us. terra_name_agrees levels us)
+    (λ n us. sign_then levels symbols.Equal (λ y. bind expressions.terra_expression λ a. bind (sign symbols.Comma) λ z. bind expressions.terra_expression λ b. bind terra.terra_step λ s. bind terra.terra_loop λ d. give (TerraFor t.place n a b s d))
+    (λ y d. part_at levels TerraExpression d >>= λ from e. sign_at symbols.Comma e >>= λ z f. part_at levels TerraExpression f >>= λ limit g. terra_step_at levels g >>= λ s i. terra_loop_at levels i >>= λ x rest. Took (TerraFor t.place n from limit s x) rest)
+    (λ y us. then levels expressions.terra_expression (λ a. bind (sign symbols.Comma) λ z. bind expressions.terra_expression λ b. bind terra.terra_step λ s. bind terra.terra_loop λ d. give (TerraFor t.place n a b s d)) (λ vs. part_at levels TerraExpression vs)
+    (λ from e. sign_at symbols.Comma e >>= λ z f. part_at levels TerraExpression f >>= λ limit g. terra_step_at levels g >>= λ s i. terra_loop_at levels i >>= λ x rest. Took (TerraFor t.place n from limit s x) rest) (λ vs. terra_expression_agrees levels vs)
+    (λ from us. sign_then levels symbols.Comma (λ z. bind expressions.terra_expression λ b. bind terra.terra_step λ s. bind terra.terra_loop λ d. give (TerraFor t.place n from b s d))
+    (λ z f. part_at levels TerraExpression f >>= λ limit g. terra_step_at levels g >>= λ s i. terra_loop_at levels i >>= λ x rest. Took (TerraFor t.place n from limit s x) rest)
+    (λ z us. then levels expressions.terra_expression (λ b. bind terra.terra_step λ s. bind terra.terra_loop λ d. give (TerraFor t.place n from b s d)) (λ vs. part_at levels TerraExpression vs)
+    (λ limit g. terra_step_at levels g >>= λ s i. terra_loop_at levels i >>= λ x rest. Took (TerraFor t.place n from limit s x) rest) (λ vs. terra_expression_agrees levels vs)
+    (λ limit us. then levels terra.terra_step (λ s. bind terra.terra_loop λ d. give (TerraFor t.place n from limit s d)) (λ vs. terra_step_at levels vs) (λ s i. terra_loop_at levels i >>= λ x rest. Took (TerraFor t.place n from limit s x) rest) (λ vs. terra_step_agrees levels vs)
+    (λ s us. then_give levels terra.terra_loop (λ d. TerraFor t.place n from limit s d) (λ vs. terra_loop_at levels vs) (λ vs. terra_loop_agrees levels vs) us) us) us) us) us) us) ts)
+
+var_is : (levels : ℕ) (t : Token) (ts : List Token) → is_of (is symbols.Var) t ≡ true → reading levels (terra.terra_statement terra.FromVar t Nothing) ts ≡ terra_var_at levels (t ∷ ts)
+unfolding terra_var_at
+var_is levels t ts h =
+    signed_form levels symbols.Var t ts (terra.terra_statement terra.FromVar t Nothing) (λ u a. terra_variables_at levels a >>= λ vs b. terra_initial_values_at levels b >>= λ es rest. Took (Var u.place vs es) rest) h
+    (then levels (listed terra.terra_variable) (λ vs. bind terra.terra_initial_values λ es. give (Var t.place vs es)) (λ us. terra_variables_at levels us) (λ vs b. terra_initial_values_at levels b >>= λ es rest. Took (Var t.place vs es) rest) (λ us. terra_variables_agree levels us)
+    (λ vs us. then_give levels terra.terra_initial_values (λ es. Var t.place vs es) (λ ws. terra_initial_values_at levels ws) (λ ws. terra_initial_values_agree levels ws) us) ts)
+
+return_is : (levels : ℕ) (t : Token) (ts : List Token) → is_of (is symbols.Return) t ≡ true → reading levels (terra.terra_statement terra.FromReturn t Nothing) ts ≡ terra_return_at levels (t ∷ ts)
+unfolding terra_return_at
+return_is levels t ts h =
+    signed_form levels symbols.Return t ts (terra.terra_statement terra.FromReturn t Nothing) (λ u a. terra_returned_values_at levels a >>= λ es rest. Took (TerraReturn u.place es) rest) h
+    (then_give levels terra.terra_returned_values (λ es. TerraReturn t.place es) (λ us. terra_returned_values_at levels us) (λ us. terra_returned_values_agree levels us) ts)
+
+break_is : (levels : ℕ) (t : Token) (ts : List Token) → is_of (is symbols.Break) t ≡ true → reading levels (terra.terra_statement terra.FromBreak t Nothing) ts ≡ terra_break_at (t ∷ ts)
+unfolding terra_break_at
+break_is levels t ts h = signed_form levels symbols.Break t ts (terra.terra_statement terra.FromBreak t Nothing) (λ u rest. Took (TerraBreak u.place) rest) h refl
+
+-- ---- assignments, calls and splices, by their first token
+
+name_is : (levels : ℕ) (t : Token) (ts : List Token) → is_of (is symbols.Name) t ≡ true → begins (is symbols.At) (t ∷ ts) ≡ false → begins (is symbols.OpenParen) (t ∷ ts) ≡ false → begins (is symbols.OpenBracket) (t ∷ ts) ≡ false →
+    reading levels (terra.terra_statement terra.FromName t Nothing) ts ≡ terra_simple_statement_at levels (t ∷ ts)
+unfolding terra_simple_statement_at terra_target_at terra_applied_at terra_base_at name_at
+name_is levels t ts h no_at no_paren no_bracket =
+    simple_behind_agrees levels t (chained (Name t.place t.text) chain shapes.Name) ts
+    ∙ sym (ap (λ (b : Bool). cond b (part_at levels TerraExpression (t ∷ ts) >>= λ e rest. Took (chained e chain shapes.Other) rest) (cond (begins (is symbols.OpenParen) (t ∷ ts)) (terra_paren_at levels (t ∷ ts)) (cond (begins (is symbols.OpenBracket) (t ∷ ts)) bracket named) >>= λ b rest. terra_suffixes_at levels b rest) >>= λ a rest. terra_statement_behind_at levels t.place a rest) no_at
+    ∙ ap (λ (b : Bool). (cond b (terra_paren_at levels (t ∷ ts)) (cond (begins (is symbols.OpenBracket) (t ∷ ts)) bracket named) >>= λ b rest. terra_suffixes_at levels b rest) >>= λ a rest. terra_statement_behind_at levels t.place a rest) no_paren
+    ∙ ap (λ (b : Bool). (cond b bracket named >>= λ b rest. terra_suffixes_at levels b rest) >>= λ a rest. terra_statement_behind_at levels t.place a rest) no_bracket
+    ∙ ap (λ (o : Outcome Token). (((o >>= λ t rest. Took (Name t.place t.text) rest) >>= λ n rest. Took (chained n chain shapes.Name) rest) >>= λ b rest. terra_suffixes_at levels b rest) >>= λ a rest. terra_statement_behind_at levels t.place a rest) (sign_first symbols.Name t ts h))
+  where
+    bracket : Outcome Chained
+    bracket = escape_at levels (t ∷ ts) >>= λ e rest. Took (chained e chain shapes.Escape) rest
+
+    named : Outcome Chained
+    named = name_at (t ∷ ts) >>= λ n rest. Took (chained n chain shapes.Name) rest
+
+-- a part and a sign behind it make the first part of a statement
+enclosed : (levels : ℕ) (opener closer : Symbol) (part : Part) (t : Token) (ts : List Token) (make : Place → Tree → Tree) (shape : Shape) → is_of (is opener) t ≡ true →
+    (used_here (barred true levels Plain t) t ts >>= λ u mid. part_at (levels - 1) part mid >>= λ x rest. reading levels (bind (sign closer) λ y. terra.terra_simple_behind t (chained (make t.place x) chain shape)) rest)
+    ≡ (((open_at opener levels (t ∷ ts) >>= λ u a. part_at (levels - 1) part a >>= λ x b. sign_at closer b >>= λ y rest. Took (chained (make u.place x) chain shape) rest) >>= λ b rest. terra_suffixes_at levels b rest) >>= λ a rest. terra_statement_behind_at levels t.place a rest)
+enclosed levels opener closer part t ts make shape h =
+    opened_form levels opener part t ts (λ x. bind (sign closer) λ y. terra.terra_simple_behind t (chained (make t.place x) chain shape)) (λ u x b. sign_at closer b >>= λ y rest. behind (chained (make u.place x) chain shape) rest) h
+    (λ x us. sign_then levels closer (λ y. terra.terra_simple_behind t (chained (make t.place x) chain shape)) (λ y rest. behind (chained (make t.place x) chain shape) rest) (λ y vs. simple_behind_agrees levels t (chained (make t.place x) chain shape) vs) us)
+    ∙ sym (bind_again (open_at opener levels (t ∷ ts) >>= λ u a. part_at (levels - 1) part a >>= λ x b. sign_at closer b >>= λ y rest. Took (chained (make u.place x) chain shape) rest) (λ b rest. terra_suffixes_at levels b rest) (λ a rest. terra_statement_behind_at levels t.place a rest)
+    ∙ after (open_at opener levels (t ∷ ts)) (λ u a. part_at (levels - 1) part a >>= λ x b. sign_at closer b >>= λ y rest. Took (chained (make u.place x) chain shape) rest) (λ b rest. behind b rest) (λ u a. part_at (levels - 1) part a >>= λ x b. sign_at closer b >>= λ y rest. behind (chained (make u.place x) chain shape) rest)
+    (λ u us. after (part_at (levels - 1) part us) (λ x b. sign_at closer b >>= λ y rest. Took (chained (make u.place x) chain shape) rest) (λ b rest. behind b rest) (λ x b. sign_at closer b >>= λ y rest. behind (chained (make u.place x) chain shape) rest)
+    (λ x vs. bind_again (sign_at closer vs) (λ y rest. Took (chained (make u.place x) chain shape) rest) (λ b rest. behind b rest))))
+  where
+    behind : Chained → List Token → Outcome Tree
+    behind b rest = terra_suffixes_at levels b rest >>= λ a next. terra_statement_behind_at levels t.place a next
+
+paren_is : (levels : ℕ) (t : Token) (ts : List Token) → is_of (is symbols.OpenParen) t ≡ true → begins (is symbols.At) (t ∷ ts) ≡ false →
+    (used_here (barred true levels Plain t) t ts >>= λ u mid. part_at (levels - 1) TerraExpression mid >>= λ x rest. reading levels (terra.terra_statement terra.FromParen t x) rest) ≡ terra_simple_statement_at levels (t ∷ ts)
+unfolding terra_simple_statement_at terra_target_at terra_applied_at terra_base_at terra_paren_at
+paren_is levels t ts h no_at =
+    enclosed levels symbols.OpenParen symbols.CloseParen TerraExpression t ts (λ p x. TerraParen p x) shapes.Other h
+    ∙ sym (ap (λ (b : Bool). cond b (part_at levels TerraExpression (t ∷ ts) >>= λ e rest. Took (chained e chain shapes.Other) rest) (cond (begins (is symbols.OpenParen) (t ∷ ts)) inner other >>= λ b rest. terra_suffixes_at levels b rest) >>= λ a rest. terra_statement_behind_at levels t.place a rest) no_at
+    ∙ ap (λ (b : Bool). (cond b inner other >>= λ b rest. terra_suffixes_at levels b rest) >>= λ a rest. terra_statement_behind_at levels t.place a rest) h)
+  where
+    inner : Outcome Chained
+    inner = open_at symbols.OpenParen levels (t ∷ ts) >>= λ u a. part_at (levels - 1) TerraExpression a >>= λ x b. sign_at symbols.CloseParen b >>= λ y rest. Took (chained (TerraParen u.place x) chain shapes.Other) rest
+
+    other : Outcome Chained
+    other = cond (begins (is symbols.OpenBracket) (t ∷ ts)) (escape_at levels (t ∷ ts) >>= λ e rest. Took (chained e chain shapes.Escape) rest) (name_at (t ∷ ts) >>= λ n rest. Took (chained n chain shapes.Name) rest)
+
+-- what is made of an escape
+escaped : (levels : ℕ) (ts : List Token) → (escape_at levels ts >>= λ e rest. Took (chained e chain shapes.Escape) rest)
+    ≡ (open_at symbols.OpenBracket levels ts >>= λ u a. part_at (levels - 1) (Expression modes.Plain) a >>= λ x b. sign_at symbols.CloseBracket b >>= λ y rest. Took (chained (Escape u.place x) chain shapes.Escape) rest)
+unfolding escape_at
+escaped levels ts =
+    after (open_at symbols.OpenBracket levels ts) (λ u a. part_at (levels - 1) (Expression modes.Plain) a >>= λ x b. sign_at symbols.CloseBracket b >>= λ y rest. Took (Escape u.place x) rest) (λ e rest. Took (chained e chain shapes.Escape) rest)
+    (λ u a. part_at (levels - 1) (Expression modes.Plain) a >>= λ x b. sign_at symbols.CloseBracket b >>= λ y rest. Took (chained (Escape u.place x) chain shapes.Escape) rest)
+    (λ u us. after (part_at (levels - 1) (Expression modes.Plain) us) (λ x b. sign_at symbols.CloseBracket b >>= λ y rest. Took (Escape u.place x) rest) (λ e rest. Took (chained e chain shapes.Escape) rest) (λ x b. sign_at symbols.CloseBracket b >>= λ y rest. Took (chained (Escape u.place x) chain shapes.Escape) rest)
+    (λ x vs. bind_again (sign_at symbols.CloseBracket vs) (λ y rest. Took (Escape u.place x) rest) (λ e rest. Took (chained e chain shapes.Escape) rest)))
+
+bracket_is : (levels : ℕ) (t : Token) (ts : List Token) → is_of (is symbols.OpenBracket) t ≡ true → begins (is symbols.At) (t ∷ ts) ≡ false → begins (is symbols.OpenParen) (t ∷ ts) ≡ false →
+    (used_here (barred true levels Plain t) t ts >>= λ u mid. part_at (levels - 1) (Expression modes.Plain) mid >>= λ x rest. reading levels (terra.terra_statement terra.FromBracket t x) rest) ≡ terra_simple_statement_at levels (t ∷ ts)
+unfolding terra_simple_statement_at terra_target_at terra_applied_at terra_base_at
+bracket_is levels t ts h no_at no_paren =
+    enclosed levels symbols.OpenBracket symbols.CloseBracket (Expression modes.Plain) t ts (λ p x. Escape p x) shapes.Escape h
+    ∙ sym (ap (λ (b : Bool). cond b (part_at levels TerraExpression (t ∷ ts) >>= λ e rest. Took (chained e chain shapes.Other) rest) (cond (begins (is symbols.OpenParen) (t ∷ ts)) (terra_paren_at levels (t ∷ ts)) (cond (begins (is symbols.OpenBracket) (t ∷ ts)) inner named) >>= λ b rest. terra_suffixes_at levels b rest) >>= λ a rest. terra_statement_behind_at levels t.place a rest) no_at
+    ∙ ap (λ (b : Bool). (cond b (terra_paren_at levels (t ∷ ts)) (cond (begins (is symbols.OpenBracket) (t ∷ ts)) inner named) >>= λ b rest. terra_suffixes_at levels b rest) >>= λ a rest. terra_statement_behind_at levels t.place a rest) no_paren
+    ∙ ap (λ (b : Bool). (cond b inner named >>= λ b rest. terra_suffixes_at levels b rest) >>= λ a rest. terra_statement_behind_at levels t.place a rest) h
+    ∙ ap (λ (o : Outcome Chained). (o >>= λ b rest. terra_suffixes_at levels b rest) >>= λ a rest. terra_statement_behind_at levels t.place a rest) (escaped levels (t ∷ ts)))
+  where
+    inner : Outcome Chained
+    inner = escape_at levels (t ∷ ts) >>= λ e rest. Took (chained e chain shapes.Escape) rest
+
+    named : Outcome Chained
+    named = name_at (t ∷ ts) >>= λ n rest. Took (chained n chain shapes.Name) rest
+
+-- readings one after the other
+chain_of_4 : (o : Outcome Chained) (f2 f3 f4 f5 : Chained → List Token → Outcome Chained) → ((((o >>= f2) >>= f3) >>= f4) >>= f5) ≡ (o >>= λ d r2. f2 d r2 >>= λ e r3. f3 e r3 >>= λ f r4. f4 f r4 >>= λ g r5. f5 g r5)
+chain_of_4 (Stop kind rest) f2 f3 f4 f5 = refl
+chain_of_4 (Took b r) f2 f3 f4 f5 = bind_again (f2 b r >>= f3) f4 f5 ∙ bind_again (f2 b r) f3 (λ f r4. f4 f r4 >>= f5)
+
+chain_of : (o : Outcome Chained) (f1 f2 f3 f4 f5 : Chained → List Token → Outcome Chained) → (((((o >>= f1) >>= f2) >>= f3) >>= f4) >>= f5) ≡ (o >>= λ b r1. f1 b r1 >>= λ d r2. f2 d r2 >>= λ e r3. f3 e r3 >>= λ f r4. f4 f r4 >>= λ g r5. f5 g r5)
+chain_of (Stop kind rest) f1 f2 f3 f4 f5 = refl
+chain_of (Took b r) f1 f2 f3 f4 f5 = chain_of_4 (f1 b r) f2 f3 f4 f5
+
+-- an expression whose first operand is read, and what is behind it
+expression_from : (levels : ℕ) (ts : List Token) → reading levels (expressions.terra_disjunction chain) ts ≡ (reading levels (expressions.terra_unary chain) ts >>= λ a rest. reading levels (expressions.terra_expression_behind a) rest)
+expression_from levels ts = go (reading levels (expressions.terra_unary chain) ts)
+  where
+    go : (o : Outcome Chained) →
+        ((((((o >>= λ a r. reading levels (operators multiplicative (λ n. expressions.terra_unary n) expressions.terra_operation a) r)
+        >>= λ a r. reading levels (operators additive (λ n. expressions.terra_product n) expressions.terra_operation a) r)
+        >>= λ a r. reading levels (operators shifts (λ n. expressions.terra_sum n) expressions.terra_operation a) r)
+        >>= λ a r. reading levels (operators comparisons (λ n. expressions.terra_shift n) expressions.terra_operation a) r)
+        >>= λ a r. reading levels (operators (symbols.And ∷ []) (λ n. expressions.terra_comparison n) expressions.terra_operation a) r)
+        >>= λ a r. reading levels (operators (symbols.Or ∷ []) (λ n. expressions.terra_conjunction n) expressions.terra_operation a) r)
+        ≡ (o >>= λ a rest. reading levels (expressions.terra_expression_behind a) rest)
+    go (Stop kind rest) = refl
+    go (Took a mid) =
+        let product : Outcome Chained = reading levels (operators multiplicative (λ n. expressions.terra_unary n) expressions.terra_operation a) mid in
+        let add : Chained → List Token → Outcome Chained = λ a r. reading levels (operators additive (λ n. expressions.terra_product n) expressions.terra_operation a) r in
+        let shift : Chained → List Token → Outcome Chained = λ a r. reading levels (operators shifts (λ n. expressions.terra_sum n) expressions.terra_operation a) r in
+        let compare : Chained → List Token → Outcome Chained = λ a r. reading levels (operators comparisons (λ n. expressions.terra_shift n) expressions.terra_operation a) r in
+        let both_of : Chained → List Token → Outcome Chained = λ a r. reading levels (operators (symbols.And ∷ []) (λ n. expressions.terra_comparison n) expressions.terra_operation a) r in
+        let either_of : Chained → List Token → Outcome Chained = λ a r. reading levels (operators (symbols.Or ∷ []) (λ n. expressions.terra_conjunction n) expressions.terra_operation a) r in
+        chain_of product add shift compare both_of either_of
+
+-- an assignment whose first target begins with a prefix operator
+at_behind : (levels : ℕ) (t : Token) (a : Chained) (ts : List Token) → reading levels (bind (expressions.terra_expression_behind a) λ c. terra.terra_assignment t c.tree) ts ≡ (reading levels (expressions.terra_expression_behind a) ts >>= λ c rest. terra_assignment_at levels t.place (More Nothing c.tree) rest)
+at_behind levels t a ts =
+    then levels (expressions.terra_expression_behind a) (λ c. terra.terra_assignment t c.tree) (λ us. reading levels (expressions.terra_expression_behind a) us) (λ c rest. terra_assignment_at levels t.place (More Nothing c.tree) rest) (λ us. refl) (λ c us. terra_assignment_agrees levels t c.tree us) ts
+
+prefixed_first : (levels : ℕ) (t : Token) (ts : List Token) → is_of (among terra_prefix_symbols) t ≡ true →
+    reading levels (expressions.terra_unary chain) (t ∷ ts) ≡ (used_here (barred true levels Plain t) t ts >>= λ u mid. part_at (levels - 1) TerraOperand mid >>= λ x rest. Took (operand chain (TerraUnary u.place (unary_of u.symbol) x)) rest)
+unfolding terra_unary_at terra_prefixed_at prefix_at
+prefixed_first levels t ts h =
+    terra_unary_agrees levels chain (t ∷ ts)
+    ∙ ap (λ (b : Bool). cond b (used (among terra_prefix_symbols) true levels Plain (t ∷ ts) >>= λ u mid. part_at (levels - 1) TerraOperand mid >>= λ x rest. Took (operand chain (TerraUnary u.place (unary_of u.symbol) x)) rest) (terra_binary_at levels precedences.Power chain (t ∷ ts))) h
+    ∙ ap (λ (o : Outcome Token). o >>= λ u mid. part_at (levels - 1) TerraOperand mid >>= λ x rest. Took (operand chain (TerraUnary u.place (unary_of u.symbol) x)) rest) (used_use (among terra_prefix_symbols) true levels Plain t ts h)
+
+at_is : (levels : ℕ) (t : Token) (ts : List Token) → is_of (is symbols.At) t ≡ true → is_of (among terra_prefix_symbols) t ≡ true → unary_of t.symbol ≡ unary.Dereference →
+    (used_here (barred true levels Plain t) t ts >>= λ u mid. part_at (levels - 1) TerraOperand mid >>= λ x rest. reading levels (terra.terra_statement terra.FromAt t x) rest) ≡ terra_simple_statement_at levels (t ∷ ts)
+unfolding terra_simple_statement_at terra_target_at terra_statement_behind_at
+at_is levels t ts h is_prefix same_operator =
+    use_same (barred true levels Plain t) t ts (λ u mid. part_at (levels - 1) TerraOperand mid >>= λ x rest. reading levels (terra.terra_statement terra.FromAt t x) rest) (λ u mid. part_at (levels - 1) TerraOperand mid >>= λ x rest. goes (operand chain (TerraUnary u.place (unary_of u.symbol) x)) rest)
+    (bind_same (part_at (levels - 1) TerraOperand ts) (λ x rest. reading levels (terra.terra_statement terra.FromAt t x) rest) (λ x rest. goes (operand chain (TerraUnary t.place (unary_of t.symbol) x)) rest)
+    (λ x us. at_behind levels t (operand chain (TerraUnary t.place unary.Dereference x)) us ∙ sym (ap (λ (o : UnaryOperator). goes (operand chain (TerraUnary t.place o x)) us) same_operator)))
+    ∙ sym (ap (λ (b : Bool). cond b (part_at levels TerraExpression (t ∷ ts) >>= λ e rest. Took (chained e chain shapes.Other) rest) (terra_applied_at levels (t ∷ ts)) >>= λ a rest. terra_statement_behind_at levels t.place a rest) h
+    ∙ bind_again (part_at levels TerraExpression (t ∷ ts)) (λ e rest. Took (chained e chain shapes.Other) rest) (λ a rest. terra_statement_behind_at levels t.place a rest)
+    ∙ ap (λ (o : Outcome Tree). o >>= λ e rest. terra_assignment_at levels t.place (More Nothing e) rest) (sym (terra_expression_agrees levels (t ∷ ts)))
+    ∙ bind_again (reading levels (expressions.terra_disjunction chain) (t ∷ ts)) (λ a rest. Took a.tree rest) (λ e rest. terra_assignment_at levels t.place (More Nothing e) rest)
+    ∙ ap (λ (o : Outcome Chained). o >>= λ a rest. terra_assignment_at levels t.place (More Nothing a.tree) rest) (expression_from levels (t ∷ ts))
+    ∙ bind_again (reading levels (expressions.terra_unary chain) (t ∷ ts)) (λ a rest. reading levels (expressions.terra_expression_behind a) rest) (λ a rest. terra_assignment_at levels t.place (More Nothing a.tree) rest)
+    ∙ ap (λ (o : Outcome Chained). o >>= λ a rest. goes a rest) (prefixed_first levels t ts is_prefix)
+    ∙ after (used_here (barred true levels Plain t) t ts) (λ u mid. part_at (levels - 1) TerraOperand mid >>= λ x rest. Took (operand chain (TerraUnary u.place (unary_of u.symbol) x)) rest) (λ a rest. goes a rest) (λ u mid. part_at (levels - 1) TerraOperand mid >>= λ x rest. goes (operand chain (TerraUnary u.place (unary_of u.symbol) x)) rest)
+    (λ u us. bind_again (part_at (levels - 1) TerraOperand us) (λ x rest. Took (operand chain (TerraUnary u.place (unary_of u.symbol) x)) rest) (λ a rest. goes a rest)))
+  where
+    goes : Chained → List Token → Outcome Tree
+    goes a rest = reading levels (expressions.terra_expression_behind a) rest >>= λ c next. terra_assignment_at levels t.place (More Nothing c.tree) next
+
+-- ---- statements
+
+-- what the first token of a statement opens
+abbrev pub statement_opens : Symbol → Option Part
+statement_opens s = terra.terra_statement_opens (terra.terra_statement_of s)
+
+pub statement_by : (levels : ℕ) (symbol : Symbol) (text : List ℕ) (place : Place) (first : Bool) (ts : List Token) → is_of (among terra.terra_statement_symbols) (record { symbol = symbol; text = text; place = place; first_on_line = first }) ≡ true →
+    (let t : Token = record { symbol = symbol; text = text; place = place; first_on_line = first } in
+    used_here (barred (opens_any (statement_opens t.symbol)) levels Plain t) t ts >>= λ u mid. opened_at levels (statement_opens t.symbol) mid >>= λ x rest. reading levels (terra.terra_statement (terra.terra_statement_of t.symbol) t x) rest)
+    ≡ terra_statement_at levels (record { symbol = symbol; text = text; place = place; first_on_line = first } ∷ ts)
+unfolding terra_statement_at
+statement_by levels symbols.Name text place first ts h = name_is levels (record { symbol = symbols.Name; text = text; place = place; first_on_line = first }) ts refl refl refl refl
+statement_by levels symbols.OpenParen text place first ts h = paren_is levels (record { symbol = symbols.OpenParen; text = text; place = place; first_on_line = first }) ts refl refl
+statement_by levels symbols.OpenBracket text place first ts h = bracket_is levels (record { symbol = symbols.OpenBracket; text = text; place = place; first_on_line = first }) ts refl refl refl
+statement_by levels symbols.At text place first ts h = at_is levels (record { symbol = symbols.At; text = text; place = place; first_on_line = first }) ts refl refl refl
+statement_by levels symbols.Do text place first ts h = do_is levels (record { symbol = symbols.Do; text = text; place = place; first_on_line = first }) ts refl
+statement_by levels symbols.While text place first ts h = while_is levels (record { symbol = symbols.While; text = text; place = place; first_on_line = first }) ts refl
+statement_by levels symbols.Repeat text place first ts h = repeat_is levels (record { symbol = symbols.Repeat; text = text; place = place; first_on_line = first }) ts refl
+statement_by levels symbols.If text place first ts h = if_is levels (record { symbol = symbols.If; text = text; place = place; first_on_line = first }) ts refl
+statement_by levels symbols.For text place first ts h = for_is levels (record { symbol = symbols.For; text = text; place = place; first_on_line = first }) ts refl
+statement_by levels symbols.Var text place first ts h = var_is levels (record { symbol = symbols.Var; text = text; place = place; first_on_line = first }) ts refl
+statement_by levels symbols.Escape text place first ts h = escape_is levels (record { symbol = symbols.Escape; text = text; place = place; first_on_line = first }) ts refl
+statement_by levels symbols.Return text place first ts h = return_is levels (record { symbol = symbols.Return; text = text; place = place; first_on_line = first }) ts refl
+statement_by levels symbols.Break text place first ts h = break_is levels (record { symbol = symbols.Break; text = text; place = place; first_on_line = first }) ts refl
+statement_by levels _ text place first ts h = absurd cc
+
+-- `return` and `break` end a block
+pub ends_is : (symbol : Symbol) (text : List ℕ) (place : Place) (first : Bool) (ts : List Token) → is_of (among terra.terra_statement_symbols) (record { symbol = symbol; text = text; place = place; first_on_line = first }) ≡ true →
+    terra.ends_terra_block (terra.terra_statement_of symbol) ≡ begins (among last_symbols) (record { symbol = symbol; text = text; place = place; first_on_line = first } ∷ ts)
+ends_is (symbols.Bad kind) text place first ts h = absurd cc
+ends_is symbols.Return text place first ts h = refl
+ends_is symbols.Break text place first ts h = refl
+ends_is _ text place first ts h = refl

@@ -1,0 +1,68 @@
+-- What reading the parts of Terra statements gives.
+use Rattle.std.proofs.Common.{◌≡◌, ℕ, Bool, true, false, cond, List, refl, sym, ◌∙◌}
+use Rattle.tl_tree.specs.declared.symbol.Symbol.TheVariants as symbols
+use Rattle.tl_tree.specs.Tokens.{Token, is}
+use Rattle.tl_tree.specs.Tree.{Tree, Nothing, Just, TerraBody, Quoted, TerraExpression, TerraStatements, TerraFunctionBody, QuotedCode}
+use Rattle.tl_tree.specs.Grammar.{give, bind, when, Took, ◌>>=◌, begins}
+use Rattle.tl_tree.specs.Forms.{sign}
+use Rattle.tl_tree.specs.TerraExpressions as expressions
+use Rattle.tl_tree.specs.TerraStatements as terra
+use Rattle.tl_tree.proofs.Unrolling.{bind_again}
+use Rattle.tl_parse.specs.Using.{reading, part_at, sign_at}
+use Rattle.tl_parse.specs.TerraStatements.{more_terra_statements_at, terra_block_at, written_type_at, terra_parameters_at, terra_function_body_at, quoted_expression_at, quoted_code_at}
+use Rattle.tl_parse.proofs.Following.{sign_then, then}
+use Rattle.tl_parse.proofs.TerraAgreeing.{terra_expression_agrees}
+use Rattle.tl_parse.proofs.TerraStatementAgreeing.{then_give, sign_give, written_type_agrees, terra_parameters_agree}
+
+pub terra_block_part : (levels : ℕ) (ts : List Token) → part_at levels TerraStatements ts ≡ terra_block_at levels ts
+unfolding part_at terra_block_at more_terra_statements_at
+terra_block_part levels ts = refl
+
+block_agrees : (levels : ℕ) (ts : List Token) → reading levels terra.terra_block ts ≡ part_at levels TerraStatements ts
+unfolding part_at
+block_agrees levels ts = refl
+
+function_body_agrees : (levels : ℕ) (ts : List Token) → reading levels terra.terra_function_body ts ≡ terra_function_body_at levels ts
+unfolding terra_function_body_at
+function_body_agrees levels ts =
+    then levels terra.terra_parameters (λ ps. bind (sign symbols.CloseParen) λ y. bind terra.written_type λ r. bind terra.terra_block λ b. bind (sign symbols.End) λ z. give (TerraBody ps r b)) (λ us. terra_parameters_at levels us)
+    (λ ps a. sign_at symbols.CloseParen a >>= λ y b. written_type_at levels b >>= λ r d. part_at levels TerraStatements d >>= λ x e. sign_at symbols.End e >>= λ z rest. Took (TerraBody ps r x) rest) (λ us. terra_parameters_agree levels us)
+    (λ ps us. sign_then levels symbols.CloseParen (λ y. bind terra.written_type λ r. bind terra.terra_block λ b. bind (sign symbols.End) λ z. give (TerraBody ps r b)) (λ y b. written_type_at levels b >>= λ r d. part_at levels TerraStatements d >>= λ x e. sign_at symbols.End e >>= λ z rest. Took (TerraBody ps r x) rest)
+    (λ y us. then levels terra.written_type (λ r. bind terra.terra_block λ b. bind (sign symbols.End) λ z. give (TerraBody ps r b)) (λ vs. written_type_at levels vs) (λ r d. part_at levels TerraStatements d >>= λ x e. sign_at symbols.End e >>= λ z rest. Took (TerraBody ps r x) rest) (λ vs. written_type_agrees levels vs)
+    (λ r us. then levels terra.terra_block (λ b. bind (sign symbols.End) λ z. give (TerraBody ps r b)) (λ vs. part_at levels TerraStatements vs) (λ x e. sign_at symbols.End e >>= λ z rest. Took (TerraBody ps r x) rest) (λ vs. block_agrees levels vs)
+    (λ x us. sign_give levels symbols.End (TerraBody ps r x) us) us) us) us) ts
+
+function_body_is : (levels : ℕ) (ts : List Token) → part_at levels TerraFunctionBody ts ≡ reading levels terra.terra_function_body ts
+unfolding part_at
+function_body_is levels ts = refl
+
+pub terra_function_body_part : (levels : ℕ) (ts : List Token) → part_at levels TerraFunctionBody ts ≡ terra_function_body_at levels ts
+terra_function_body_part levels ts = function_body_is levels ts ∙ function_body_agrees levels ts
+
+-- a block, and the expression behind it
+behind_block : (levels : ℕ) (b : Tree) (ts : List Token) →
+    reading levels (when (is symbols.In) (bind (sign symbols.In) λ y. bind expressions.terra_expression λ e. give (Quoted b (Just e))) (give (Quoted b Nothing))) ts ≡ (quoted_expression_at levels ts >>= λ e rest. Took (Quoted b e) rest)
+unfolding quoted_expression_at
+behind_block levels b ts = by (begins (is symbols.In) ts)
+  where
+    by : (c : Bool) → cond c (reading levels (bind (sign symbols.In) λ y. bind expressions.terra_expression λ e. give (Quoted b (Just e))) ts) (Took (Quoted b Nothing) ts)
+        ≡ (cond c (sign_at symbols.In ts >>= λ y a. part_at levels TerraExpression a >>= λ e rest. Took (Just e) rest) (Took Nothing ts) >>= λ e rest. Took (Quoted b e) rest)
+    by false = refl
+    by true =
+        sign_then levels symbols.In (λ y. bind expressions.terra_expression λ e. give (Quoted b (Just e))) (λ y a. (part_at levels TerraExpression a >>= λ e rest. Took (Just e) rest) >>= λ e rest. Took (Quoted b e) rest)
+        (λ y us. then_give levels expressions.terra_expression (λ e. Quoted b (Just e)) (λ vs. part_at levels TerraExpression vs) (λ vs. terra_expression_agrees levels vs) us
+        ∙ sym (bind_again (part_at levels TerraExpression us) (λ e rest. Took (Just e) rest) (λ e rest. Took (Quoted b e) rest))) ts
+        ∙ sym (bind_again (sign_at symbols.In ts) (λ y a. part_at levels TerraExpression a >>= λ e rest. Took (Just e) rest) (λ e rest. Took (Quoted b e) rest))
+
+quoted_code_agrees : (levels : ℕ) (ts : List Token) → reading levels terra.quoted_code ts ≡ quoted_code_at levels ts
+unfolding quoted_code_at
+quoted_code_agrees levels ts =
+    then levels terra.terra_block (λ b. when (is symbols.In) (bind (sign symbols.In) λ y. bind expressions.terra_expression λ e. give (Quoted b (Just e))) (give (Quoted b Nothing))) (λ us. part_at levels TerraStatements us)
+    (λ b a. quoted_expression_at levels a >>= λ e rest. Took (Quoted b e) rest) (λ us. block_agrees levels us) (λ b us. behind_block levels b us) ts
+
+quoted_code_is : (levels : ℕ) (ts : List Token) → part_at levels QuotedCode ts ≡ reading levels terra.quoted_code ts
+unfolding part_at
+quoted_code_is levels ts = refl
+
+pub quoted_code_part : (levels : ℕ) (ts : List Token) → part_at levels QuotedCode ts ≡ quoted_code_at levels ts
+quoted_code_part levels ts = quoted_code_is levels ts ∙ quoted_code_agrees levels ts

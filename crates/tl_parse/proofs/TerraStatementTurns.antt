@@ -1,0 +1,197 @@
+-- The repetitions of Terra statements, turn by turn.
+use Rattle.std.proofs.Common.{◌≡◌, ℕ, ◌<◌, Bool, true, false, cond, List, [], ◌∷◌, length, Option, Some, None, refl, sym, ap, ◌∙◌}
+use Rattle.std.specs.Prelude.{◌&&◌, not}
+use Rattle.tl_base.specs.declared.place.Place.{Place}
+use Rattle.tl_lex.specs.declared.SyntaxKind.{SyntaxKind}
+use Rattle.tl_tree.specs.declared.mode.Extra.TheVariants.{Plain}
+use Rattle.tl_tree.specs.declared.symbol.Symbol.TheVariants as symbols
+use Rattle.tl_tree.specs.Symbols.{is_bad}
+use Rattle.tl_tree.specs.Tokens.{Token, is, among, sample}
+use Rattle.tl_tree.specs.Tree as trees
+use Rattle.tl_tree.specs.Tree.{Tree, Nothing, More}
+use Rattle.tl_tree.specs.Grammar.{Grammar, give, token, bind, Outcome, Took, Stop, ◌>>=◌, begins, is_of}
+use Rattle.tl_tree.specs.Forms.{sign, semicolon, listed_behind}
+use Rattle.tl_tree.specs.LuaStatements.{Sequence, sequence}
+use Rattle.tl_tree.specs.TerraStatements as terra
+use Rattle.tl_tree.proofs.Unrolling.{bind_again}
+use Rattle.tl_parse.specs.Using.{reading, barred, sign_at}
+use Rattle.tl_parse.specs.TerraExpressions.{next_terra_expression_at, more_terra_expressions_at, terra_expressions_at}
+use Rattle.tl_parse.specs.TerraStatements.{terra_arm_at, next_terra_arm_at, more_terra_arms_at, terra_variable_at, next_terra_variable_at, more_terra_variables_at, terra_assignment_at, terra_statement_at, next_terra_statement_at, terra_goes_on, more_terra_statements_at, terra_parameter_at, next_terra_parameter_at, more_terra_parameters_at}
+use Rattle.tl_parse.proofs.Uses.{both, bind_same, opened_at, opens_any, token_is, repeats, ends, shorter_turn}
+use Rattle.tl_parse.proofs.Following.{sign_then}
+use Rattle.tl_parse.proofs.Turns.{list_goes, list_ends, list_shorter, used_here, used_use}
+use Rattle.tl_parse.proofs.TerraTurns.{terra_expressions_go, terra_expressions_end, terra_expression_shorter}
+use Rattle.tl_parse.proofs.TerraStatementAgreeing.{sign_give, terra_arm_agrees, terra_variable_agrees, terra_parameter_agrees, statement_opens, statement_by, ends_is}
+
+-- ---- arms
+
+arm_turn : (levels : ℕ) (before : Tree) (ts : List Token) →
+    reading levels (bind (token (λ t. is symbols.Elseif t) (λ t. Plain) (λ t. None) (sample symbols.Elseif)) λ x. terra.terra_arm before) ts ≡ (next_terra_arm_at levels ts >>= λ e rest. Took (More before e) rest)
+unfolding next_terra_arm_at
+arm_turn levels before ts =
+    sign_then levels symbols.Elseif (λ x. terra.terra_arm before) (λ y us. terra_arm_at levels us >>= λ e rest. Took (More before e) rest) (λ y us. terra_arm_agrees levels before us) ts
+    ∙ sym (bind_again (sign_at symbols.Elseif ts) (λ y us. terra_arm_at levels us) (λ e rest. Took (More before e) rest))
+
+pub terra_arms_go : (levels : ℕ) (before : Tree) (ts : List Token) → begins (is symbols.Elseif) ts ≡ true → more_terra_arms_at levels before ts ≡ (next_terra_arm_at levels ts >>= λ e rest. more_terra_arms_at levels (More before e) rest)
+unfolding more_terra_arms_at
+terra_arms_go levels before ts h =
+    repeats levels (λ b t. is symbols.Elseif t) (λ b t. Plain) (λ b t. None) (λ t x b. terra.terra_arm b) (sample symbols.Elseif) before (next_terra_arm_at levels ts) (λ e. More before e) ts h (arm_turn levels before ts)
+
+pub terra_arms_end : (levels : ℕ) (before : Tree) (ts : List Token) → begins (is symbols.Elseif) ts ≡ false → more_terra_arms_at levels before ts ≡ Took before ts
+unfolding more_terra_arms_at
+terra_arms_end levels before ts h = ends levels (λ b t. is symbols.Elseif t) (λ b t. Plain) (λ b t. None) (λ t x b. terra.terra_arm b) before ts h
+
+pub terra_arm_shorter : (levels : ℕ) (x : Tree) (ts rest : List Token) → next_terra_arm_at levels ts ≡ Took x rest → length rest < length ts
+terra_arm_shorter levels x ts rest e =
+    shorter_turn levels (λ t. is symbols.Elseif t) (λ t. Plain) (λ t. None) (sample symbols.Elseif) (λ x. terra.terra_arm Nothing) (next_terra_arm_at levels ts) (λ e. More Nothing e) x ts rest (arm_turn levels Nothing ts) e
+
+-- ---- lists
+
+list_goes_with : (levels : ℕ) (x : Grammar Tree) (x_at : List Token → Outcome Tree) → ((us : List Token) → reading levels x us ≡ x_at us) → (before : Tree) (ts : List Token) → begins (is symbols.Comma) ts ≡ true →
+    reading levels (listed_behind x before) ts ≡ ((sign_at symbols.Comma ts >>= λ y rest. x_at rest) >>= λ e rest. reading levels (listed_behind x (More before e)) rest)
+list_goes_with levels x x_at same before ts h =
+    list_goes levels x before ts h
+    ∙ ap (λ (o : Outcome Tree). o >>= λ e rest. reading levels (listed_behind x (More before e)) rest) (bind_same (sign_at symbols.Comma ts) (λ y rest. reading levels x rest) (λ y rest. x_at rest) (λ y us. same us))
+
+list_shorter_with : (levels : ℕ) (x : Grammar Tree) (x_at : List Token → Outcome Tree) → ((us : List Token) → reading levels x us ≡ x_at us) → (e : Tree) (ts rest : List Token) → (sign_at symbols.Comma ts >>= λ y rest. x_at rest) ≡ Took e rest → length rest < length ts
+list_shorter_with levels x x_at same e ts rest h =
+    list_shorter levels x e ts rest (bind_same (sign_at symbols.Comma ts) (λ y rest. reading levels x rest) (λ y rest. x_at rest) (λ y us. same us) ∙ h)
+
+pub terra_variables_go : (levels : ℕ) (before : Tree) (ts : List Token) → begins (is symbols.Comma) ts ≡ true → more_terra_variables_at levels before ts ≡ (next_terra_variable_at levels ts >>= λ e rest. more_terra_variables_at levels (More before e) rest)
+unfolding more_terra_variables_at next_terra_variable_at
+terra_variables_go levels before ts h = list_goes_with levels terra.terra_variable (λ us. terra_variable_at levels us) (λ us. terra_variable_agrees levels us) before ts h
+
+pub terra_variables_end : (levels : ℕ) (before : Tree) (ts : List Token) → begins (is symbols.Comma) ts ≡ false → more_terra_variables_at levels before ts ≡ Took before ts
+unfolding more_terra_variables_at
+terra_variables_end levels before ts h = list_ends levels terra.terra_variable before ts h
+
+pub terra_variable_shorter : (levels : ℕ) (x : Tree) (ts rest : List Token) → next_terra_variable_at levels ts ≡ Took x rest → length rest < length ts
+unfolding next_terra_variable_at
+terra_variable_shorter levels x ts rest e = list_shorter_with levels terra.terra_variable (λ us. terra_variable_at levels us) (λ us. terra_variable_agrees levels us) x ts rest e
+
+pub terra_parameters_go : (levels : ℕ) (before : Tree) (ts : List Token) → begins (is symbols.Comma) ts ≡ true → more_terra_parameters_at levels before ts ≡ (next_terra_parameter_at levels ts >>= λ e rest. more_terra_parameters_at levels (More before e) rest)
+unfolding more_terra_parameters_at next_terra_parameter_at
+terra_parameters_go levels before ts h = list_goes_with levels terra.terra_parameter (λ us. terra_parameter_at levels us) (λ us. terra_parameter_agrees levels us) before ts h
+
+pub terra_parameters_end : (levels : ℕ) (before : Tree) (ts : List Token) → begins (is symbols.Comma) ts ≡ false → more_terra_parameters_at levels before ts ≡ Took before ts
+unfolding more_terra_parameters_at
+terra_parameters_end levels before ts h = list_ends levels terra.terra_parameter before ts h
+
+pub terra_parameter_shorter : (levels : ℕ) (x : Tree) (ts rest : List Token) → next_terra_parameter_at levels ts ≡ Took x rest → length rest < length ts
+unfolding next_terra_parameter_at
+terra_parameter_shorter levels x ts rest e = list_shorter_with levels terra.terra_parameter (λ us. terra_parameter_at levels us) (λ us. terra_parameter_agrees levels us) x ts rest e
+
+-- ---- targets
+
+pub terra_targets_go : (levels : ℕ) (place : Place) (before : Tree) (ts : List Token) → begins (is symbols.Comma) ts ≡ true → terra_assignment_at levels place before ts ≡ (next_terra_expression_at levels ts >>= λ e rest. terra_assignment_at levels place (More before e) rest)
+unfolding terra_assignment_at
+terra_targets_go levels place before ts h =
+    ap (λ (o : Outcome Tree). o >>= λ targets a. sign_at symbols.Equal a >>= λ y b. terra_expressions_at levels b >>= λ es rest. Took (trees.TerraAssign place targets es) rest) (terra_expressions_go levels before ts h)
+    ∙ bind_again (next_terra_expression_at levels ts) (λ e rest. more_terra_expressions_at levels (More before e) rest) (λ targets a. sign_at symbols.Equal a >>= λ y b. terra_expressions_at levels b >>= λ es rest. Took (trees.TerraAssign place targets es) rest)
+
+pub terra_targets_end : (levels : ℕ) (place : Place) (before : Tree) (ts : List Token) → begins (is symbols.Comma) ts ≡ false → terra_assignment_at levels place before ts ≡ (sign_at symbols.Equal ts >>= λ y b. terra_expressions_at levels b >>= λ es rest. Took (trees.TerraAssign place before es) rest)
+unfolding terra_assignment_at
+terra_targets_end levels place before ts h =
+    ap (λ (o : Outcome Tree). o >>= λ targets a. sign_at symbols.Equal a >>= λ y b. terra_expressions_at levels b >>= λ es rest. Took (trees.TerraAssign place targets es) rest) (terra_expressions_end levels before ts h)
+
+pub terra_target_shorter : (levels : ℕ) (x : Tree) (ts rest : List Token) → next_terra_expression_at levels ts ≡ Took x rest → length rest < length ts
+terra_target_shorter levels x ts rest e = terra_expression_shorter levels x ts rest e
+
+-- ---- blocks
+
+open_class : (ended : Bool) (t : Token) → ended ≡ false → (among terra.terra_statement_symbols t && not ended) ≡ among terra.terra_statement_symbols t
+open_class false t h = both_true (among terra.terra_statement_symbols t)
+  where
+    both_true : (b : Bool) → (b && true) ≡ b
+    both_true true = refl
+    both_true false = refl
+open_class true t h = absurd cc
+
+ended_class : (ended : Bool) (t : Token) → ended ≡ true → (among terra.terra_statement_symbols t && not ended) ≡ false
+ended_class true t h = never (among terra.terra_statement_symbols t)
+  where
+    never : (b : Bool) → (b && false) ≡ false
+    never true = refl
+    never false = refl
+ended_class false t h = absurd cc
+
+pub ended_stays : (ended : Bool) (ts : List Token) → ended ≡ true → false ≡ begins (λ t. terra_goes_on ended t) ts
+ended_stays ended [] h = refl
+ended_stays ended (t ∷ ts) h = sym (ap (λ (b : Bool). cond (is_bad t.symbol) false b) (ended_class ended t h) ∙ go (is_bad t.symbol))
+  where
+    go : (b : Bool) → cond b false false ≡ false
+    go true = refl
+    go false = refl
+
+pub open_goes_on : (ended : Bool) (ts : List Token) → ended ≡ false → begins (among terra.terra_statement_symbols) ts ≡ begins (λ t. terra_goes_on ended t) ts
+open_goes_on ended [] h = refl
+open_goes_on ended (t ∷ ts) h = sym (ap (λ (b : Bool). cond (is_bad t.symbol) false b) (open_class ended t h))
+
+-- a token that goes on with a block begins a statement
+begins_one : (ended : Bool) (t : Token) → is_of (λ t. terra_goes_on ended t) t ≡ true → is_of (among terra.terra_statement_symbols) t ≡ true
+begins_one ended t h = go (is_bad t.symbol) (among terra.terra_statement_symbols t) ended h
+  where
+    go : (b c e : Bool) → cond b false (c && not e) ≡ true → cond b false c ≡ true
+    go true c e h = absurd cc
+    go false true e h = refl
+    go false false e h = absurd cc
+
+-- a statement, its `;`, and whether it ends the block
+line_behind : (levels : ℕ) (tree : Tree) (ended : Bool) (o : Outcome Tree) →
+    (o >>= λ s mid. reading levels (bind semicolon λ y. give (sequence (More tree s) ended)) mid)
+    ≡ ((o >>= λ s a. cond (begins (is symbols.Semicolon) a) (sign_at symbols.Semicolon a >>= λ y rest. Took (sequence s ended) rest) (Took (sequence s ended) a)) >>= λ s rest. Took (sequence (More tree s.statements) s.ended) rest)
+line_behind levels tree ended (Stop kind rest) = refl
+line_behind levels tree ended (Took s mid) = by (begins (is symbols.Semicolon) mid)
+  where
+    by : (b : Bool) → (cond b (reading levels (bind (sign symbols.Semicolon) λ y. give Nothing) mid) (Took Nothing mid) >>= λ y rest. Took (sequence (More tree s) ended) rest)
+        ≡ (cond b (sign_at symbols.Semicolon mid >>= λ y rest. Took (sequence s ended) rest) (Took (sequence s ended) mid) >>= λ s rest. Took (sequence (More tree s.statements) s.ended) rest)
+    by false = refl
+    by true =
+        ap (λ (o : Outcome Tree). o >>= λ y rest. Took (sequence (More tree s) ended) rest) (sign_give levels symbols.Semicolon Nothing mid)
+        ∙ bind_again (sign_at symbols.Semicolon mid) (λ y rest. Took Nothing rest) (λ y rest. Took (sequence (More tree s) ended) rest)
+        ∙ sym (bind_again (sign_at symbols.Semicolon mid) (λ y rest. Took (sequence s ended) rest) (λ s rest. Took (sequence (More tree s.statements) s.ended) rest))
+
+-- what a turn does behind a statement's first token and what that opens
+abbrev step_of : Token → Tree → Tree → Grammar Sequence
+step_of t x tree = bind (terra.terra_statement (terra.terra_statement_of t.symbol) t x) λ s. bind semicolon λ y. give (sequence (More tree s) (terra.ends_terra_block (terra.terra_statement_of t.symbol)))
+
+block_token : (levels : ℕ) (tree : Tree) (ended : Bool) (t : Token) (ts : List Token) → is_of (λ t. terra_goes_on ended t) t ≡ true →
+    reading levels (bind (token (λ t. terra_goes_on ended t) (λ t. Plain) (λ t. statement_opens t.symbol) (sample symbols.Break)) λ x. step_of x.0 x.1 tree) (t ∷ ts)
+    ≡ ((used_here (barred (opens_any (statement_opens t.symbol)) levels Plain t) t ts >>= λ u mid. opened_at levels (statement_opens t.symbol) mid >>= λ x rest. reading levels (terra.terra_statement (terra.terra_statement_of t.symbol) t x) rest)
+    >>= λ s mid. reading levels (bind semicolon λ y. give (sequence (More tree s) (terra.ends_terra_block (terra.terra_statement_of t.symbol)))) mid)
+block_token levels tree ended t ts h =
+    ap (λ (o : Outcome (Token × Tree)). o >>= λ x mid. reading levels (step_of x.0 x.1 tree) mid) (token_is levels (λ t. terra_goes_on ended t) (λ t. Plain) (λ t. statement_opens t.symbol) (sample symbols.Break) t ts)
+    ∙ ap (λ (o : Outcome Token). (o >>= λ u mid. opened_at levels (statement_opens t.symbol) mid >>= λ x rest. Took (both u x) rest) >>= λ x mid. reading levels (step_of x.0 x.1 tree) mid) (used_use (λ t. terra_goes_on ended t) (opens_any (statement_opens t.symbol)) levels Plain t ts h)
+    ∙ by (barred (opens_any (statement_opens t.symbol)) levels Plain t)
+  where
+    by : (b : Option SyntaxKind) →
+        ((used_here b t ts >>= λ u mid. opened_at levels (statement_opens t.symbol) mid >>= λ x rest. Took (both u x) rest) >>= λ x mid. reading levels (step_of x.0 x.1 tree) mid)
+        ≡ ((used_here b t ts >>= λ u mid. opened_at levels (statement_opens t.symbol) mid >>= λ x rest. reading levels (terra.terra_statement (terra.terra_statement_of t.symbol) t x) rest)
+        >>= λ s mid. reading levels (bind semicolon λ y. give (sequence (More tree s) (terra.ends_terra_block (terra.terra_statement_of t.symbol)))) mid)
+    by (Some kind) = refl
+    by None =
+        bind_again (opened_at levels (statement_opens t.symbol) ts) (λ x rest. Took (both t x) rest) (λ x mid. reading levels (step_of x.0 x.1 tree) mid)
+        ∙ sym (bind_again (opened_at levels (statement_opens t.symbol) ts) (λ x rest. reading levels (terra.terra_statement (terra.terra_statement_of t.symbol) t x) rest) (λ s mid. reading levels (bind semicolon λ y. give (sequence (More tree s) (terra.ends_terra_block (terra.terra_statement_of t.symbol)))) mid))
+
+block_turn : (levels : ℕ) (tree : Tree) (ended : Bool) (ts : List Token) → begins (λ t. terra_goes_on ended t) ts ≡ true →
+    reading levels (bind (token (λ t. terra_goes_on ended t) (λ t. Plain) (λ t. statement_opens t.symbol) (sample symbols.Break)) λ x. step_of x.0 x.1 tree) ts ≡ (next_terra_statement_at levels ts >>= λ s rest. Took (sequence (More tree s.statements) s.ended) rest)
+unfolding next_terra_statement_at
+block_turn levels tree ended [] h = absurd cc
+block_turn levels tree ended (t ∷ ts) h =
+    block_token levels tree ended t ts h
+    ∙ ap (λ (o : Outcome Tree). o >>= λ s mid. reading levels (bind semicolon λ y. give (sequence (More tree s) (terra.ends_terra_block (terra.terra_statement_of t.symbol)))) mid) (statement_by levels t.symbol t.text t.place t.first_on_line ts (begins_one ended t h))
+    ∙ line_behind levels tree (terra.ends_terra_block (terra.terra_statement_of t.symbol)) (terra_statement_at levels (t ∷ ts))
+    ∙ ap (λ (e : Bool). (terra_statement_at levels (t ∷ ts) >>= λ s a. cond (begins (is symbols.Semicolon) a) (sign_at symbols.Semicolon a >>= λ y rest. Took (sequence s e) rest) (Took (sequence s e) a)) >>= λ s rest. Took (sequence (More tree s.statements) s.ended) rest) (ends_is t.symbol t.text t.place t.first_on_line ts (begins_one ended t h))
+
+pub terra_block_goes : (levels : ℕ) (tree : Tree) (ended : Bool) (ts : List Token) → begins (λ t. terra_goes_on ended t) ts ≡ true → more_terra_statements_at levels tree ended ts ≡ (next_terra_statement_at levels ts >>= λ s rest. more_terra_statements_at levels (More tree s.statements) s.ended rest)
+unfolding more_terra_statements_at
+terra_block_goes levels tree ended ts h =
+    repeats levels (λ a t. terra_goes_on a.ended t) (λ a t. Plain) (λ a t. statement_opens t.symbol) (λ t x a. step_of t x a.statements) (sample symbols.Break) (sequence tree ended) (next_terra_statement_at levels ts) (λ s. sequence (More tree s.statements) s.ended) ts h (block_turn levels tree ended ts h)
+
+pub terra_block_ends : (levels : ℕ) (tree : Tree) (ended : Bool) (ts : List Token) → begins (λ t. terra_goes_on ended t) ts ≡ false → more_terra_statements_at levels tree ended ts ≡ Took (sequence tree ended) ts
+unfolding more_terra_statements_at
+terra_block_ends levels tree ended ts h = ends levels (λ a t. terra_goes_on a.ended t) (λ a t. Plain) (λ a t. statement_opens t.symbol) (λ t x a. step_of t x a.statements) (sequence tree ended) ts h
+
+pub terra_statement_shorter : (levels : ℕ) (ended : Bool) (x : Sequence) (ts rest : List Token) → begins (λ t. terra_goes_on ended t) ts ≡ true → next_terra_statement_at levels ts ≡ Took x rest → length rest < length ts
+terra_statement_shorter levels ended x ts rest h e =
+    shorter_turn levels (λ t. terra_goes_on ended t) (λ t. Plain) (λ t. statement_opens t.symbol) (sample symbols.Break) (λ x. step_of x.0 x.1 Nothing) (next_terra_statement_at levels ts) (λ s. sequence (More Nothing s.statements) s.ended) x ts rest (block_turn levels Nothing ended ts h) e

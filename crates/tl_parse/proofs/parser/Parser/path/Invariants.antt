@@ -1,0 +1,14 @@
+use Rattle.std.proofs.Common.{List, length}
+use Rattle.tl_tree.specs.Tokens.{Token}
+use Rattle.tl_tree.specs.Tree.{Tree, Path}
+use Rattle.tl_tree.specs.Grammar.{Took, ◌>>=◌}
+use Rattle.tl_parse.specs.Parsing.{tokens_left}
+use Rattle.tl_parse.specs.Paths.{path_at, path_names_at, path_method_at}
+use Rattle.tl_parse.specs.Going.{Listing}
+use Rattle.tl_parse.proofs.parser.Parser.path.Given as goal
+
+abbrev pub invariant-more : goal.invariant-more
+invariant-more l = Listing l.fn.self l.self (path_at l.fn.levels (tokens_left l.fn.self)) (λ (before : Tree) (ts : List Token). path_names_at l.fn.levels before ts >>= λ ns b. path_method_at b >>= λ o rest. Took (Path ns o) rest) l.list
+
+abbrev pub decreases-more : goal.decreases-more
+decreases-more l = length (tokens_left l.self)

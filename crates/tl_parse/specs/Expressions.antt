@@ -1,0 +1,268 @@
+-- What reading each name of the grammar of Lua expressions gives, from left to right. `proofs/Agreeing.antt` shows that it is what the
+-- grammar of the name gives.
+use Rattle.std.specs.Prelude.{ℕ, ◌-◌, Bool, true, false, not, ◌&&◌, List, [], ◌∷◌, if◌then◌else◌, Option, Some, None}
+use Rattle.tl_base.specs.declared.place.Place.{Place}
+use Rattle.tl_tree.specs.declared.symbol.Symbol.{Symbol}
+use Rattle.tl_tree.specs.declared.symbol.Symbol.TheVariants as symbols
+use Rattle.tl_tree.specs.declared.mode.Mode.{Mode}
+use Rattle.tl_tree.specs.declared.mode.Mode.TheVariants as modes
+use Rattle.tl_tree.specs.declared.mode.Shape.{Shape}
+use Rattle.tl_tree.specs.declared.mode.Shape.TheVariants as shapes
+use Rattle.tl_tree.specs.Tokens.{Token, among, is}
+use Rattle.tl_tree.specs.Tree.{Tree, Nothing, More, Name, Numeral, Literal, Nil, False, True, Varargs, Function, Table, Unary, Paren, Index, Select, Call, Method, NamedField, KeyedField, Part, Expression, Operand, Concatenation, Arguments, Fields, FunctionBody}
+use Rattle.tl_tree.specs.Grammar.{Grammar, Outcome, Took, ◌>>=◌, begins, down, unexpected}
+use Rattle.tl_tree.specs.Forms.{listed_behind, separated_behind, Chained, chained, chain, operand, in_chain, unary_of, comparisons, additive, multiplicative, operators}
+use Rattle.tl_tree.specs.LuaExpressions as lua
+use Rattle.tl_tree.specs.LuaExpressions.{is_varargs}
+use Rattle.tl_parse.specs.Using.{language, reading, part_at, sign_at, open_at, prefix_at, operator_at, raise_at, call_at, number_at, sign_among_at}
+use Rattle.tl_parse.specs.TerraCode.{terra_code_at}
+use Rattle.tl_parse.specs.declared.expressions.Precedence.{Precedence}
+use Rattle.tl_parse.specs.declared.expressions.Precedence.TheVariants as precedences
+
+unfoldable pub name_at : List Token → Outcome Tree
+name_at ts = sign_at symbols.Name ts >>= λ t rest. Took (Name t.place t.text) rest
+
+-- ---- lists of expressions
+
+unfoldable pub more_expressions_at : ℕ → Mode → Tree → List Token → Outcome Tree
+more_expressions_at levels m before ts = reading levels (listed_behind (lua.expression language m) before) ts
+
+unfoldable pub next_expression_at : ℕ → Mode → List Token → Outcome Tree
+next_expression_at levels m ts = sign_at symbols.Comma ts >>= λ y mid. part_at levels (Expression m) mid
+
+unfoldable pub expressions_at : ℕ → Mode → List Token → Outcome Tree
+expressions_at levels m ts = part_at levels (Expression m) ts >>= λ e mid. more_expressions_at levels m (More Nothing e) mid
+
+unfoldable pub arguments_at : ℕ → Mode → List Token → Outcome Tree
+arguments_at levels m ts = if begins (is symbols.CloseParen) ts then Took Nothing ts else expressions_at levels m ts
+
+-- ---- prefix expressions
+
+unfoldable pub paren_at : ℕ → Mode → List Token → Outcome Chained
+paren_at levels m ts =
+    open_at symbols.OpenParen levels ts >>= λ t a. part_at (levels - 1) (Expression m) a >>= λ x b. sign_at symbols.CloseParen b >>= λ y rest.
+    Took (chained (Paren t.place x) chain shapes.Other) rest
+
+unfoldable pub base_at : ℕ → Mode → List Token → Outcome Chained
+base_at levels m ts =
+    if begins (is symbols.OpenParen) ts then paren_at levels m ts else (name_at ts >>= λ n rest. Took (chained n chain shapes.Name) rest)
+
+-- a suffix without what is before it: the arguments of a call, a key, a name, a method's name and arguments, each with its place
+pub data Suffixed : Type 0 where
+  Calls Indexes Selects : Place → Tree → Suffixed
+  CallsMethod : Place → Tree → Tree → Suffixed
+
+abbrev pub attached : Suffixed → Tree → Tree
+attached (Calls place x) a = Call place a x
+attached (Indexes place x) a = Index place a x
+attached (Selects place x) a = Select place a x
+attached (CallsMethod place n x) a = Method place a n x
+
+abbrev pub shape_of : Suffixed → Shape
+shape_of (Indexes place x) = shapes.Variable
+shape_of (Selects place x) = shapes.Variable
+shape_of _ = shapes.Call
+
+unfoldable pub call_suffix_at : ℕ → Mode → ℕ → List Token → Outcome Suffixed
+call_suffix_at levels m left ts =
+    call_at levels left ts >>= λ t a. part_at (levels - 1) (Arguments m) a >>= λ x b. sign_at symbols.CloseParen b >>= λ y rest. Took (Calls t.place x) rest
+
+unfoldable pub index_suffix_at : ℕ → Mode → ℕ → List Token → Outcome Suffixed
+index_suffix_at levels m left ts =
+    raise_at symbols.OpenBracket levels left ts >>= λ t a. part_at (levels - 1) (Expression m) a >>= λ x b. sign_at symbols.CloseBracket b >>= λ y rest. Took (Indexes t.place x) rest
+
+unfoldable pub select_suffix_at : ℕ → List Token → Outcome Suffixed
+select_suffix_at left ts = operator_at (symbols.Dot ∷ []) left ts >>= λ t a. name_at a >>= λ n rest. Took (Selects t.place n) rest
+
+-- the arguments behind a method's name
+unfoldable pub method_arguments_at : ℕ → Mode → List Token → Outcome Tree
+method_arguments_at levels m ts =
+    if begins (is symbols.OpenParen) ts then (open_at symbols.OpenParen levels ts >>= λ t a. part_at (levels - 1) (Arguments m) a >>= λ x b. sign_at symbols.CloseParen b >>= λ y rest. Took x rest)
+    else (if begins (is symbols.OpenBrace) ts then (open_at symbols.OpenBrace levels ts >>= λ t a. part_at (levels - 1) (Fields m) a >>= λ x b. sign_at symbols.CloseBrace b >>= λ y rest. Took (More Nothing (Table t.place x)) rest)
+    else (sign_at symbols.Literal ts >>= λ t rest. Took (More Nothing (Literal t.place t.text)) rest))
+
+unfoldable pub method_suffix_at : ℕ → Mode → ℕ → List Token → Outcome Suffixed
+method_suffix_at levels m left ts =
+    operator_at (symbols.Colon ∷ []) left ts >>= λ t a. name_at a >>= λ n b. method_arguments_at levels m b >>= λ x rest. Took (CallsMethod t.place n x) rest
+
+unfoldable pub table_suffix_at : ℕ → Mode → ℕ → List Token → Outcome Suffixed
+table_suffix_at levels m left ts =
+    raise_at symbols.OpenBrace levels left ts >>= λ t a. part_at (levels - 1) (Fields m) a >>= λ x b. sign_at symbols.CloseBrace b >>= λ y rest.
+    Took (Calls t.place (More Nothing (Table t.place x))) rest
+
+unfoldable pub literal_suffix_at : ℕ → List Token → Outcome Suffixed
+literal_suffix_at left ts = operator_at (symbols.Literal ∷ []) left ts >>= λ t rest. Took (Calls t.place (More Nothing (Literal t.place t.text))) rest
+
+unfoldable pub suffix_at : ℕ → Mode → ℕ → List Token → Outcome Suffixed
+suffix_at levels m left ts =
+    if begins (is symbols.OpenParen) ts then call_suffix_at levels m left ts
+    else (if begins (is symbols.OpenBracket) ts then index_suffix_at levels m left ts
+    else (if begins (is symbols.Dot) ts then select_suffix_at left ts
+    else (if begins (is symbols.Colon) ts then method_suffix_at levels m left ts
+    else (if begins (is symbols.OpenBrace) ts then table_suffix_at levels m left ts
+    else literal_suffix_at left ts))))
+
+unfoldable pub suffixes_at : ℕ → Mode → Chained → List Token → Outcome Chained
+suffixes_at levels m a ts = reading levels (lua.suffixes m a) ts
+
+-- the shape of brackets alone
+abbrev pub is_other : Shape → Bool
+is_other shapes.Other = true
+is_other _ = false
+
+-- A prefix expression. Where it is to be a statement or a target, brackets alone are none.
+unfoldable pub applied_at : ℕ → Mode → Bool → List Token → Outcome Chained
+applied_at levels m bare ts =
+    base_at levels m ts >>= λ b rest. if bare && (is_other b.shape && not (begins (lua.is_suffix m) rest)) then unexpected rest else suffixes_at levels m b rest
+
+unfoldable pub prefixed_at : ℕ → Mode → ℕ → List Token → Outcome Chained
+prefixed_at levels m left ts = applied_at levels m false ts >>= λ a rest. Took (in_chain left a) rest
+
+-- ---- other operands
+
+unfoldable pub number_tree_at : List Token → Outcome Tree
+number_tree_at ts = number_at ts >>= λ t rest. Took (Numeral t.place t.text) rest
+
+unfoldable pub literal_at : List Token → Outcome Tree
+literal_at ts = sign_at symbols.Literal ts >>= λ t rest. Took (Literal t.place t.text) rest
+
+-- a word or sign that is an expression
+abbrev pub constant : Symbol → Place → Tree
+constant symbols.Nil place = Nil place
+constant symbols.False place = False place
+constant symbols.True place = True place
+constant _ place = Varargs place
+
+unfoldable pub constant_at : Symbol → List Token → Outcome Tree
+constant_at s ts = sign_at s ts >>= λ t rest. Took (constant s t.place) rest
+
+unfoldable pub function_at : ℕ → List Token → Outcome Tree
+function_at levels ts =
+    sign_at symbols.Function ts >>= λ f a. open_at symbols.OpenParen levels a >>= λ t b. part_at (levels - 1) FunctionBody b >>= λ x rest. Took (Function f.place x) rest
+
+unfoldable pub table_at : ℕ → Mode → List Token → Outcome Tree
+table_at levels m ts =
+    open_at symbols.OpenBrace levels ts >>= λ t a. part_at (levels - 1) (Fields m) a >>= λ x b. sign_at symbols.CloseBrace b >>= λ y rest. Took (Table t.place x) rest
+
+-- an operand that is no prefix expression
+unfoldable pub simple_at : ℕ → Mode → List Token → Outcome Tree
+simple_at levels m ts =
+    if begins (is symbols.Numeral) ts then number_tree_at ts
+    else (if begins (is symbols.Literal) ts then literal_at ts
+    else (if begins (is symbols.Nil) ts then constant_at symbols.Nil ts
+    else (if begins (is symbols.False) ts then constant_at symbols.False ts
+    else (if begins (is symbols.True) ts then constant_at symbols.True ts
+    else (if begins (is symbols.Ellipsis) ts then constant_at symbols.Ellipsis ts
+    else (if begins (is symbols.Function) ts then function_at levels ts
+    else (if begins (among lua.terra_symbols) ts then terra_code_at levels m ts
+    else table_at levels m ts)))))))
+
+abbrev pub is_types : Mode → Bool
+is_types modes.Types = true
+is_types _ = false
+
+abbrev pub is_variadic : Mode → Bool
+is_variadic modes.Variadic = true
+is_variadic _ = false
+
+-- the tokens that begin such an operand
+abbrev pub simple_symbols : List Symbol
+simple_symbols = symbols.Numeral ∷ symbols.Literal ∷ symbols.Nil ∷ symbols.False ∷ symbols.True ∷ symbols.Function ∷ symbols.OpenBrace ∷ symbols.Terra ∷ symbols.Struct ∷ symbols.Quote ∷ symbols.Backtick ∷ []
+
+unfoldable pub is_simple : Mode → List Token → Bool
+is_simple m ts = if begins (among simple_symbols) ts then true else begins (is_varargs m) ts
+
+unfoldable pub primary_at : ℕ → Mode → ℕ → List Token → Outcome Chained
+primary_at levels m left ts =
+    if is_simple m ts then (simple_at levels m ts >>= λ e rest. Took (operand left e) rest) else prefixed_at levels m left ts
+
+-- ---- operators
+
+-- an operator that groups to the right, behind an operand
+unfoldable pub right_at : ℕ → Symbol → Part → Chained → List Token → Outcome Chained
+right_at levels s part a ts =
+    if begins (is s) ts then (raise_at s levels a.left ts >>= λ t b. part_at (levels - 1) part b >>= λ x rest. Took (operand (down a.left) (lua.operation t a.tree x)) rest)
+    else Took a ts
+
+unfoldable pub power_at : ℕ → Mode → ℕ → List Token → Outcome Chained
+power_at levels m left ts = primary_at levels m left ts >>= λ a rest. right_at levels symbols.Caret (Operand m) a rest
+
+unfoldable pub unary_at : ℕ → Mode → ℕ → List Token → Outcome Chained
+unary_at levels m left ts =
+    if begins (among lua.prefix_symbols) ts then
+    (prefix_at lua.prefix_symbols levels ts >>= λ t a. part_at (levels - 1) (Operand m) a >>= λ x rest. Took (operand left (Unary t.place (unary_of t.symbol) x)) rest)
+    else power_at levels m left ts
+
+-- the operators of a precedence
+abbrev pub symbols_of : Precedence → List Symbol
+symbols_of precedences.Product = multiplicative
+symbols_of precedences.Sum = additive
+symbols_of precedences.Comparison = comparisons
+symbols_of precedences.Conjunction = symbols.And ∷ []
+symbols_of precedences.Disjunction = symbols.Or ∷ []
+
+-- their operands
+abbrev pub inner_of : Precedence → Mode → ℕ → Grammar Chained
+inner_of precedences.Product m left = lua.unary language m left
+inner_of precedences.Sum m left = lua.product language m left
+inner_of precedences.Comparison m left = lua.concatenation language m left
+inner_of precedences.Conjunction m left = lua.comparison language m left
+inner_of precedences.Disjunction m left = lua.conjunction language m left
+
+unfoldable pub inner_at : ℕ → Precedence → Mode → ℕ → List Token → Outcome Chained
+inner_at levels p m left ts = reading levels (inner_of p m left) ts
+
+unfoldable pub more_at : ℕ → Precedence → Mode → Chained → List Token → Outcome Chained
+more_at levels p m a ts = reading levels (operators (symbols_of p) (λ left. inner_of p m left) lua.operation a) ts
+
+-- an operator and its right operand
+unfoldable pub one_more_at : ℕ → Precedence → Mode → ℕ → List Token → Outcome (Token × Chained)
+one_more_at levels p m left ts = operator_at (symbols_of p) left ts >>= λ t a. inner_at levels p m (down left) a >>= λ b rest. Took (t, b) rest
+
+unfoldable pub binary_at : ℕ → Precedence → Mode → ℕ → List Token → Outcome Chained
+binary_at levels p m left ts = inner_at levels p m left ts >>= λ a rest. more_at levels p m a rest
+
+unfoldable pub concatenation_at : ℕ → Mode → ℕ → List Token → Outcome Chained
+concatenation_at levels m left ts = binary_at levels precedences.Sum m left ts >>= λ a rest. right_at levels symbols.DoubleDot (Concatenation m) a rest
+
+unfoldable pub chained_at : ℕ → Mode → List Token → Outcome Chained
+chained_at levels m ts = binary_at levels precedences.Disjunction m chain ts >>= λ a rest. right_at levels symbols.Arrow (Expression m) a rest
+
+-- ---- fields of tables
+
+abbrev pub is_name : Shape → Bool
+is_name shapes.Name = true
+is_name _ = false
+
+unfoldable pub field_behind_at : ℕ → Mode → Chained → List Token → Outcome Tree
+field_behind_at levels m e ts =
+    if is_name e.shape then (if begins (is symbols.Equal) ts then (sign_at symbols.Equal ts >>= λ y a. part_at levels (Expression m) a >>= λ v rest. Took (NamedField e.tree v) rest) else Took e.tree ts)
+    else Took e.tree ts
+
+unfoldable pub keyed_field_at : ℕ → Mode → List Token → Outcome Tree
+keyed_field_at levels m ts =
+    open_at symbols.OpenBracket levels ts >>= λ t a. part_at (levels - 1) (Expression m) a >>= λ k b. sign_at symbols.CloseBracket b >>= λ y c. sign_at symbols.Equal c >>= λ z d.
+    part_at levels (Expression m) d >>= λ v rest. Took (KeyedField k v) rest
+
+unfoldable pub field_at : ℕ → Mode → List Token → Outcome Tree
+field_at levels m ts =
+    if begins (is symbols.OpenBracket) ts then keyed_field_at levels m ts else (chained_at levels m ts >>= λ e rest. field_behind_at levels m e rest)
+
+abbrev pub separators : List Symbol
+separators = symbols.Comma ∷ symbols.Semicolon ∷ []
+
+unfoldable pub more_fields_at : ℕ → Mode → Tree → List Token → Outcome Tree
+more_fields_at levels m before ts = reading levels (separated_behind (lua.field language m) before) ts
+
+-- a separator, and a field if one follows
+unfoldable pub next_field_at : ℕ → Mode → List Token → Outcome (Option Tree)
+next_field_at levels m ts =
+    sign_among_at separators ts >>= λ y a. if begins (is symbols.CloseBrace) a then Took None a else (field_at levels m a >>= λ f rest. Took (Some f) rest)
+
+abbrev pub more_if : Tree → Option Tree → Tree
+more_if before None = before
+more_if before (Some x) = More before x
+
+unfoldable pub fields_at : ℕ → Mode → List Token → Outcome Tree
+fields_at levels m ts =
+    if begins (is symbols.CloseBrace) ts then Took Nothing ts else (field_at levels m ts >>= λ f rest. more_fields_at levels m (More Nothing f) rest)

@@ -1,0 +1,145 @@
+-- How far the loops have come, and what one turn of them adds.
+use Rattle.std.specs.Prelude.{◌≡◌, ℕ, Bool, List}
+use Rattle.tl_base.specs.declared.ids.NodeId.{NodeId}
+use Rattle.tl_tree.specs.declared.mode.Mode.{Mode}
+use Rattle.tl_tree.specs.Tokens.{Token}
+use Rattle.tl_tree.specs.declared.mode.Context.{Context}
+use Rattle.tl_tree.specs.Tree.{Tree, Block}
+use Rattle.tl_tree.specs.Item.{Item}
+use Rattle.tl_tree.specs.Nodes.{laid, last, last_of, if_any}
+use Rattle.tl_tree.specs.Grammar.{Outcome, Took, ◌>>=◌, down}
+use Rattle.tl_tree.specs.Forms.{Chained, chained}
+use Rattle.tl_tree.specs.LuaStatements.{Sequence, sequence, Parameters, parameters_of}
+use Rattle.tl_parse.specs.Statements.{Numeric, Generic, settle_at, more_statements_at, more_parameters_at}
+use Rattle.tl_parse.specs.declared.statements.Numeric as code_statements
+use Rattle.tl_parse.specs.Parsing.{token_of, tokens_left, items_of, end_of, Ready}
+use Rattle.tl_parse.specs.Expressions.{Suffixed, attached, shape_of, suffixes_at, more_at}
+use Rattle.tl_parse.specs.declared.expressions.Precedence.{Precedence}
+use Rattle.tl_parse.specs.declared.expressions.Precedence.TheVariants as precedences
+use Rattle.tl_parse.specs.declared.parser.Parser.{Parser}
+use Rattle.tl_parse.specs.declared.parser.Next as code
+use Rattle.tl_parse.specs.declared.parser.Operand.{Operand}
+
+-- an operator and its right operand
+pub record TookOperation (old new : Parser) (o : Outcome (Token × Chained)) (t : code.Next) (r : Operand) : Type 0 where
+  pub tree : Tree
+  pub took : o ≡ Took (token_of t, chained tree r.left r.shape) (tokens_left new)
+  pub finish : end_of new ≡ end_of old
+  pub ready : Ready new
+  pub items : items_of new ≡ (laid tree (items_of old)).items
+  pub is_last : r.node ≡ last_of (items_of new)
+
+-- A suffix is added to what is before it, whose nodes were laid last.
+pub record TookSuffix (old new : Parser) (o : Outcome Suffixed) (a r : Operand) : Type 0 where
+  pub suffix : Suffixed
+  pub took : o ≡ Took suffix (tokens_left new)
+  pub finish : end_of new ≡ end_of old
+  pub ready : Ready new
+  pub left : r.left ≡ down a.left
+  pub shape : r.shape ≡ shape_of suffix
+  pub items : (tree : Tree) (before : List Item) → items_of old ≡ (laid tree before).items → a.node ≡ last_of (items_of old) → items_of new ≡ (laid (attached suffix tree) before).items
+  pub is_last : r.node ≡ last_of (items_of new)
+
+-- An operand and operators behind it are a tree so far, and the rest is read from here as from the beginning.
+pub record Binding (levels : ℕ) (p : Precedence) (m : Mode) (start now : Parser) (o : Outcome Chained) (a : Operand) : Type 0 where
+  pub tree : Tree
+  pub goes_on : o ≡ more_at levels p m (chained tree a.left a.shape) (tokens_left now)
+  pub finish : end_of now ≡ end_of start
+  pub ready : Ready now
+  pub items : items_of now ≡ (laid tree (items_of start)).items
+  pub is_last : a.node ≡ last_of (items_of now)
+
+-- a prefix expression so far
+pub record Applying (levels : ℕ) (m : Mode) (start now : Parser) (o : Outcome Chained) (a : Operand) : Type 0 where
+  pub tree : Tree
+  pub goes_on : o ≡ suffixes_at levels m (chained tree a.left a.shape) (tokens_left now)
+  pub finish : end_of now ≡ end_of start
+  pub ready : Ready now
+  pub items : items_of now ≡ (laid tree (items_of start)).items
+  pub is_last : a.node ≡ last_of (items_of now)
+
+-- a list so far
+pub record Listing (start now : Parser) (o : Outcome Tree) (more : Tree → List Token → Outcome Tree) (numbers : List NodeId) : Type 0 where
+  pub tree : Tree
+  pub goes_on : o ≡ more tree (tokens_left now)
+  pub finish : end_of now ≡ end_of start
+  pub ready : Ready now
+  pub items : items_of now ≡ (laid tree (items_of start)).items
+  pub list : numbers ≡ (laid tree (items_of start)).numbers
+
+-- how far a precedence is from the highest
+abbrev pub rank_of : Precedence → ℕ
+rank_of precedences.Product = 18
+rank_of precedences.Sum = 21
+rank_of precedences.Comparison = 25
+rank_of precedences.Conjunction = 28
+rank_of precedences.Disjunction = 31
+
+-- ---- statements
+
+-- what a numeric `for` has behind its name
+pub record TookNumeric (old new : Parser) (o : Outcome Numeric) (r : code_statements.Numeric) : Type 0 where
+  pub trees : Numeric
+  pub took : o ≡ Took trees (tokens_left new)
+  pub finish : end_of new ≡ end_of old
+  pub ready : Ready new
+  pub items : items_of new ≡ (laid trees.block (laid trees.step (laid trees.limit (laid trees.from (items_of old)).items).items).items).items
+  pub from_is : r.from ≡ last (laid trees.from (items_of old))
+  pub limit_is : r.limit ≡ last (laid trees.limit (laid trees.from (items_of old)).items)
+  pub step_is : r.step ≡ if_any (laid trees.step (laid trees.limit (laid trees.from (items_of old)).items).items)
+  pub block_is : r.block ≡ last_of (items_of new)
+
+-- what a generic `for` has behind its names
+pub record TookGeneric (old new : Parser) (o : Outcome Generic) (values : List NodeId) (block : NodeId) : Type 0 where
+  pub trees : Generic
+  pub took : o ≡ Took trees (tokens_left new)
+  pub finish : end_of new ≡ end_of old
+  pub ready : Ready new
+  pub items : items_of new ≡ (laid trees.block (laid trees.values (items_of old)).items).items
+  pub values_are : values ≡ (laid trees.values (items_of old)).numbers
+  pub block_is : block ≡ last_of (items_of new)
+
+-- the names of parameters, and whether `...` is one more
+pub record TookParameters (old new : Parser) (o : Outcome Parameters) (numbers : List NodeId) (variadic : Bool) : Type 0 where
+  pub tree : Tree
+  pub took : o ≡ Took (parameters_of tree variadic) (tokens_left new)
+  pub finish : end_of new ≡ end_of old
+  pub ready : Ready new
+  pub items : items_of new ≡ (laid tree (items_of old)).items
+  pub list : numbers ≡ (laid tree (items_of old)).numbers
+
+-- parameters so far
+pub record Naming (levels : ℕ) (start now : Parser) (o : Outcome Parameters) (numbers : List NodeId) (variadic : Bool) : Type 0 where
+  pub tree : Tree
+  pub goes_on : o ≡ more_parameters_at levels tree variadic (tokens_left now)
+  pub finish : end_of now ≡ end_of start
+  pub ready : Ready now
+  pub items : items_of now ≡ (laid tree (items_of start)).items
+  pub list : numbers ≡ (laid tree (items_of start)).numbers
+
+-- a statement, and whether it ends its block
+pub record TookStatement (old new : Parser) (o : Outcome Sequence) (number : NodeId) (ends : Bool) : Type 0 where
+  pub tree : Tree
+  pub took : o ≡ Took (sequence tree ends) (tokens_left new)
+  pub finish : end_of new ≡ end_of old
+  pub ready : Ready new
+  pub items : items_of new ≡ (laid tree (items_of old)).items
+  pub is_last : number ≡ last_of (items_of new)
+
+-- the statements of a block so far
+pub record Sequencing (levels : ℕ) (c : Context) (start now : Parser) (o : Outcome Tree) (numbers : List NodeId) (ended : Bool) : Type 0 where
+  pub tree : Tree
+  pub goes_on : o ≡ (more_statements_at levels c tree ended (tokens_left now) >>= λ a rest. Took (Block a.statements) rest)
+  pub finish : end_of now ≡ end_of start
+  pub ready : Ready now
+  pub items : items_of now ≡ (laid tree (items_of start)).items
+  pub list : numbers ≡ (laid tree (items_of start)).numbers
+
+-- a target so far
+pub record Settling (levels : ℕ) (m : Mode) (start now : Parser) (o : Outcome Tree) (a : Operand) : Type 0 where
+  pub tree : Tree
+  pub goes_on : o ≡ (settle_at levels m (chained tree a.left a.shape) (tokens_left now) >>= λ a rest. Took a.tree rest)
+  pub finish : end_of now ≡ end_of start
+  pub ready : Ready now
+  pub items : items_of now ≡ (laid tree (items_of start)).items
+  pub is_last : a.node ≡ last_of (items_of now)

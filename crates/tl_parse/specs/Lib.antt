@@ -1,0 +1,17 @@
+pub mod Parsing
+pub mod Using
+pub mod Looking
+pub mod Taking
+pub mod Expressions
+pub mod Statements
+pub mod Going
+pub mod Joining
+pub mod TerraExpressions
+pub mod TerraCode
+pub mod Entries
+pub mod TerraGoing
+pub mod TerraStatements
+pub mod TerraDefinitions
+pub mod TerraLines
+pub mod Paths
+pub mod Whole

@@ -1,0 +1,236 @@
+-- What reading each name of the grammar of Terra expressions gives, from left to right. `proofs/TerraParts.antt` and
+-- `proofs/TerraTurns.antt` show that it is what the grammar of the name gives.
+use Rattle.std.specs.Prelude.{ℕ, ◌-◌, Bool, true, false, List, [], ◌∷◌, if◌then◌else◌, Option, Some, None}
+use Rattle.tl_base.specs.declared.place.Place.{Place}
+use Rattle.tl_tree.specs.declared.symbol.Symbol.{Symbol}
+use Rattle.tl_tree.specs.declared.symbol.Symbol.TheVariants as symbols
+use Rattle.tl_tree.specs.declared.mode.Mode.TheVariants as modes
+use Rattle.tl_tree.specs.declared.mode.Extra.TheVariants.{TerraNumber}
+use Rattle.tl_tree.specs.declared.mode.Shape.{Shape}
+use Rattle.tl_tree.specs.declared.mode.Shape.TheVariants as shapes
+use Rattle.tl_tree.specs.Tokens.{Token, among, is}
+use Rattle.tl_tree.specs.Tree.{Tree, Nothing, More, Numeral, NamedField, TerraNil, TerraFalse, TerraTrue, TerraUnary, TerraParen, Escape, TerraIndex, TerraSelect, TerraCall, TerraMethod, Construct, Expression, TerraExpression, TerraOperand, TerraArguments, Initialisers}
+use Rattle.tl_tree.specs.Grammar.{Grammar, Outcome, Took, ◌>>=◌, begins, down}
+use Rattle.tl_tree.specs.Forms.{listed_behind, separated_behind, Chained, chained, chain, operand, in_chain, unary_of, comparisons, additive, multiplicative, operators}
+use Rattle.tl_tree.specs.TerraExpressions as terra
+use Rattle.tl_tree.specs.TerraExpressions.{terra_numerals, terra_prefix_symbols, shifts}
+use Rattle.tl_parse.specs.Using.{reading, part_at, used, sign_at, open_at, prefix_at, operator_at, raise_at, call_at, sign_among_at}
+use Rattle.tl_parse.specs.Expressions.{name_at, literal_at, is_name, separators}
+use Rattle.tl_parse.specs.declared.terra_expressions.TerraPrecedence.{TerraPrecedence}
+use Rattle.tl_parse.specs.declared.terra_expressions.TerraPrecedence.TheVariants as precedences
+
+-- ---- names, and what may follow them
+
+unfoldable pub escape_at : ℕ → List Token → Outcome Tree
+escape_at levels ts =
+    open_at symbols.OpenBracket levels ts >>= λ t a. part_at (levels - 1) (Expression modes.Plain) a >>= λ x b. sign_at symbols.CloseBracket b >>= λ y rest.
+    Took (Escape t.place x) rest
+
+unfoldable pub terra_name_at : ℕ → List Token → Outcome Tree
+terra_name_at levels ts = if begins (is symbols.OpenBracket) ts then escape_at levels ts else name_at ts
+
+unfoldable pub terra_paren_at : ℕ → List Token → Outcome Chained
+terra_paren_at levels ts =
+    open_at symbols.OpenParen levels ts >>= λ t a. part_at (levels - 1) TerraExpression a >>= λ x b. sign_at symbols.CloseParen b >>= λ y rest.
+    Took (chained (TerraParen t.place x) chain shapes.Other) rest
+
+unfoldable pub terra_base_at : ℕ → List Token → Outcome Chained
+terra_base_at levels ts =
+    if begins (is symbols.OpenParen) ts then terra_paren_at levels ts
+    else (if begins (is symbols.OpenBracket) ts then (escape_at levels ts >>= λ e rest. Took (chained e chain shapes.Escape) rest)
+    else (name_at ts >>= λ n rest. Took (chained n chain shapes.Name) rest))
+
+-- a suffix without what is before it: the arguments of a call, a key, a name, a method's name and arguments, or initialisers, each with its place
+pub data TerraSuffixed : Type 0 where
+  Calls Indexes Selects Constructs : Place → Tree → TerraSuffixed
+  CallsMethod : Place → Tree → Tree → TerraSuffixed
+
+abbrev pub terra_attached : TerraSuffixed → Tree → Tree
+terra_attached (Calls place x) a = TerraCall place a x
+terra_attached (Indexes place x) a = TerraIndex place a x
+terra_attached (Selects place x) a = TerraSelect place a x
+terra_attached (Constructs place x) a = Construct place a x
+terra_attached (CallsMethod place n x) a = TerraMethod place a n x
+
+abbrev pub terra_shape_of : TerraSuffixed → Shape
+terra_shape_of (Indexes place x) = shapes.Variable
+terra_shape_of (Selects place x) = shapes.Variable
+terra_shape_of (Constructs place x) = shapes.Other
+terra_shape_of _ = shapes.Call
+
+unfoldable pub terra_call_suffix_at : ℕ → ℕ → List Token → Outcome TerraSuffixed
+terra_call_suffix_at levels left ts =
+    call_at levels left ts >>= λ t a. part_at (levels - 1) TerraArguments a >>= λ x b. sign_at symbols.CloseParen b >>= λ y rest. Took (Calls t.place x) rest
+
+unfoldable pub terra_index_suffix_at : ℕ → ℕ → List Token → Outcome TerraSuffixed
+terra_index_suffix_at levels left ts =
+    raise_at symbols.OpenBracket levels left ts >>= λ t a. part_at (levels - 1) TerraExpression a >>= λ x b. sign_at symbols.CloseBracket b >>= λ y rest. Took (Indexes t.place x) rest
+
+unfoldable pub terra_select_suffix_at : ℕ → ℕ → List Token → Outcome TerraSuffixed
+terra_select_suffix_at levels left ts = operator_at (symbols.Dot ∷ []) left ts >>= λ t a. terra_name_at levels a >>= λ n rest. Took (Selects t.place n) rest
+
+unfoldable pub terra_method_suffix_at : ℕ → ℕ → List Token → Outcome TerraSuffixed
+terra_method_suffix_at levels left ts =
+    operator_at (symbols.Colon ∷ []) left ts >>= λ t a. terra_name_at levels a >>= λ n b. open_at symbols.OpenParen levels b >>= λ u c. part_at (levels - 1) TerraArguments c >>= λ x d.
+    sign_at symbols.CloseParen d >>= λ y rest. Took (CallsMethod t.place n x) rest
+
+unfoldable pub construct_suffix_at : ℕ → ℕ → List Token → Outcome TerraSuffixed
+construct_suffix_at levels left ts =
+    raise_at symbols.OpenBrace levels left ts >>= λ t a. part_at (levels - 1) Initialisers a >>= λ x b. sign_at symbols.CloseBrace b >>= λ y rest. Took (Constructs t.place x) rest
+
+unfoldable pub terra_suffix_at : ℕ → ℕ → List Token → Outcome TerraSuffixed
+terra_suffix_at levels left ts =
+    if begins (is symbols.OpenParen) ts then terra_call_suffix_at levels left ts
+    else (if begins (is symbols.OpenBracket) ts then terra_index_suffix_at levels left ts
+    else (if begins (is symbols.Dot) ts then terra_select_suffix_at levels left ts
+    else (if begins (is symbols.Colon) ts then terra_method_suffix_at levels left ts
+    else construct_suffix_at levels left ts)))
+
+unfoldable pub terra_suffixes_at : ℕ → Chained → List Token → Outcome Chained
+terra_suffixes_at levels a ts = reading levels (terra.terra_suffixes a) ts
+
+-- a `tsuf`
+unfoldable pub terra_applied_at : ℕ → List Token → Outcome Chained
+terra_applied_at levels ts = terra_base_at levels ts >>= λ b rest. terra_suffixes_at levels b rest
+
+-- ---- other operands
+
+-- a numeral of Terra code
+unfoldable pub terra_number_at : List Token → Outcome Token
+terra_number_at ts = used (among terra_numerals) false 0 TerraNumber ts
+
+unfoldable pub terra_number_tree_at : List Token → Outcome Tree
+terra_number_tree_at ts = terra_number_at ts >>= λ t rest. Took (Numeral t.place t.text) rest
+
+-- a word that is an expression
+abbrev pub terra_constant : Symbol → Place → Tree
+terra_constant symbols.Nil place = TerraNil place
+terra_constant symbols.False place = TerraFalse place
+terra_constant _ place = TerraTrue place
+
+unfoldable pub terra_constant_at : Symbol → List Token → Outcome Tree
+terra_constant_at s ts = sign_at s ts >>= λ t rest. Took (terra_constant s t.place) rest
+
+-- an operand that is no `tsuf`
+unfoldable pub terra_simple_at : List Token → Outcome Tree
+terra_simple_at ts =
+    if begins (among terra_numerals) ts then terra_number_tree_at ts
+    else (if begins (is symbols.Literal) ts then literal_at ts
+    else (if begins (is symbols.Nil) ts then terra_constant_at symbols.Nil ts
+    else (if begins (is symbols.False) ts then terra_constant_at symbols.False ts
+    else terra_constant_at symbols.True ts)))
+
+-- the tokens that begin such an operand
+abbrev pub terra_simple_symbols : List Symbol
+terra_simple_symbols =
+    symbols.Numeral ∷ symbols.LongNumeral ∷ symbols.UnsignedNumeral ∷ symbols.Literal ∷ symbols.Nil ∷ symbols.False ∷ symbols.True ∷ []
+
+unfoldable pub terra_primary_at : ℕ → ℕ → List Token → Outcome Chained
+terra_primary_at levels left ts =
+    if begins (among terra_simple_symbols) ts then (terra_simple_at ts >>= λ e rest. Took (operand left e) rest)
+    else (terra_applied_at levels ts >>= λ a rest. Took (in_chain left a) rest)
+
+-- ---- operators
+
+-- a prefix operator with its operand
+unfoldable pub terra_prefixed_at : ℕ → ℕ → List Token → Outcome Chained
+terra_prefixed_at levels left ts =
+    prefix_at terra_prefix_symbols levels ts >>= λ t a. part_at (levels - 1) TerraOperand a >>= λ x rest. Took (operand left (TerraUnary t.place (unary_of t.symbol) x)) rest
+
+-- the right operand of `^`
+unfoldable pub terra_exponent_at : ℕ → ℕ → List Token → Outcome Chained
+terra_exponent_at levels left ts = if begins (among terra_prefix_symbols) ts then terra_prefixed_at levels left ts else terra_primary_at levels left ts
+
+-- the operators of a precedence
+abbrev pub terra_symbols_of : TerraPrecedence → List Symbol
+terra_symbols_of precedences.Power = symbols.Caret ∷ []
+terra_symbols_of precedences.Product = multiplicative
+terra_symbols_of precedences.Sum = additive
+terra_symbols_of precedences.Shift = shifts
+terra_symbols_of precedences.Comparison = comparisons
+terra_symbols_of precedences.Conjunction = symbols.And ∷ []
+terra_symbols_of precedences.Disjunction = symbols.Or ∷ []
+
+-- their right operands
+abbrev pub terra_inner_of : TerraPrecedence → ℕ → Grammar Chained
+terra_inner_of precedences.Power left = terra.terra_exponent left
+terra_inner_of precedences.Product left = terra.terra_unary left
+terra_inner_of precedences.Sum left = terra.terra_product left
+terra_inner_of precedences.Shift left = terra.terra_sum left
+terra_inner_of precedences.Comparison left = terra.terra_shift left
+terra_inner_of precedences.Conjunction left = terra.terra_comparison left
+terra_inner_of precedences.Disjunction left = terra.terra_conjunction left
+
+unfoldable pub terra_inner_at : ℕ → TerraPrecedence → ℕ → List Token → Outcome Chained
+terra_inner_at levels p left ts = reading levels (terra_inner_of p left) ts
+
+-- Their first operands are the same, but for that of `^`, which has no prefix operator.
+unfoldable pub terra_first_at : ℕ → TerraPrecedence → ℕ → List Token → Outcome Chained
+terra_first_at levels precedences.Power left ts = terra_primary_at levels left ts
+terra_first_at levels precedences.Product left ts = terra_inner_at levels precedences.Product left ts
+terra_first_at levels precedences.Sum left ts = terra_inner_at levels precedences.Sum left ts
+terra_first_at levels precedences.Shift left ts = terra_inner_at levels precedences.Shift left ts
+terra_first_at levels precedences.Comparison left ts = terra_inner_at levels precedences.Comparison left ts
+terra_first_at levels precedences.Conjunction left ts = terra_inner_at levels precedences.Conjunction left ts
+terra_first_at levels precedences.Disjunction left ts = terra_inner_at levels precedences.Disjunction left ts
+
+unfoldable pub terra_more_at : ℕ → TerraPrecedence → Chained → List Token → Outcome Chained
+terra_more_at levels p a ts = reading levels (operators (terra_symbols_of p) (λ left. terra_inner_of p left) terra.terra_operation a) ts
+
+-- an operator and its right operand
+unfoldable pub terra_one_more_at : ℕ → TerraPrecedence → ℕ → List Token → Outcome (Token × Chained)
+terra_one_more_at levels p left ts = operator_at (terra_symbols_of p) left ts >>= λ t a. terra_inner_at levels p (down left) a >>= λ b rest. Took (t, b) rest
+
+unfoldable pub terra_binary_at : ℕ → TerraPrecedence → ℕ → List Token → Outcome Chained
+terra_binary_at levels p left ts = terra_first_at levels p left ts >>= λ a rest. terra_more_at levels p a rest
+
+unfoldable pub terra_unary_at : ℕ → ℕ → List Token → Outcome Chained
+terra_unary_at levels left ts = if begins (among terra_prefix_symbols) ts then terra_prefixed_at levels left ts else terra_binary_at levels precedences.Power left ts
+
+-- ---- lists of expressions
+
+unfoldable pub more_terra_expressions_at : ℕ → Tree → List Token → Outcome Tree
+more_terra_expressions_at levels before ts = reading levels (listed_behind terra.terra_expression before) ts
+
+unfoldable pub next_terra_expression_at : ℕ → List Token → Outcome Tree
+next_terra_expression_at levels ts = sign_at symbols.Comma ts >>= λ y mid. part_at levels TerraExpression mid
+
+unfoldable pub terra_expressions_at : ℕ → List Token → Outcome Tree
+terra_expressions_at levels ts = part_at levels TerraExpression ts >>= λ e mid. more_terra_expressions_at levels (More Nothing e) mid
+
+unfoldable pub terra_arguments_at : ℕ → List Token → Outcome Tree
+terra_arguments_at levels ts = if begins (is symbols.CloseParen) ts then Took Nothing ts else terra_expressions_at levels ts
+
+-- ---- initialisers
+
+unfoldable pub named_initialiser_at : ℕ → List Token → Outcome Tree
+named_initialiser_at levels ts = name_at ts >>= λ n a. sign_at symbols.Equal a >>= λ y b. part_at levels TerraExpression b >>= λ v rest. Took (NamedField n v) rest
+
+-- initialisers behind the first, where they are named or aren't
+abbrev pub initialiser_of : Bool → Grammar Tree
+initialiser_of true = terra.named_initialiser
+initialiser_of false = terra.terra_expression
+
+unfoldable pub initialiser_at : ℕ → Bool → List Token → Outcome Tree
+initialiser_at levels named ts = if named then named_initialiser_at levels ts else part_at levels TerraExpression ts
+
+unfoldable pub more_initialisers_at : ℕ → Bool → Tree → List Token → Outcome Tree
+more_initialisers_at levels named before ts = reading levels (separated_behind (initialiser_of named) before) ts
+
+-- a separator, and an initialiser if one follows
+unfoldable pub next_initialiser_at : ℕ → Bool → List Token → Outcome (Option Tree)
+next_initialiser_at levels named ts =
+    sign_among_at separators ts >>= λ y a. if begins (is symbols.CloseBrace) a then Took None a else (initialiser_at levels named a >>= λ f rest. Took (Some f) rest)
+
+-- The first initialiser, and whether it is named: a name alone before "=" is.
+unfoldable pub initialiser_behind_at : ℕ → Chained → List Token → Outcome (Tree × Bool)
+initialiser_behind_at levels e ts =
+    if is_name e.shape then (if begins (is symbols.Equal) ts then (sign_at symbols.Equal ts >>= λ y a. part_at levels TerraExpression a >>= λ v rest. Took (NamedField e.tree v, true) rest) else Took (e.tree, false) ts)
+    else Took (e.tree, false) ts
+
+unfoldable pub first_initialiser_at : ℕ → List Token → Outcome (Tree × Bool)
+first_initialiser_at levels ts = terra_binary_at levels precedences.Disjunction chain ts >>= λ e rest. initialiser_behind_at levels e rest
+
+unfoldable pub initialisers_at : ℕ → List Token → Outcome Tree
+initialisers_at levels ts =
+    if begins (is symbols.CloseBrace) ts then Took Nothing ts else (first_initialiser_at levels ts >>= λ f rest. more_initialisers_at levels f.1 (More Nothing f.0) rest)

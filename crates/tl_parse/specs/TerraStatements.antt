@@ -1,0 +1,203 @@
+-- What reading each name of the grammar of Terra statements gives, from left to right.
+use Rattle.std.specs.Prelude.{ℕ, ◌-◌, Bool, true, false, not, ◌&&◌, List, [], ◌∷◌, if◌then◌else◌}
+use Rattle.tl_base.specs.declared.place.Place.{Place}
+use Rattle.tl_tree.specs.declared.symbol.Symbol.{Symbol}
+use Rattle.tl_tree.specs.declared.symbol.Symbol.TheVariants as symbols
+use Rattle.tl_tree.specs.declared.mode.Mode.TheVariants as modes
+use Rattle.tl_tree.specs.declared.mode.Extra.TheVariants.{Plain}
+use Rattle.tl_tree.specs.declared.mode.Shape.{Shape}
+use Rattle.tl_tree.specs.declared.mode.Shape.TheVariants as shapes
+use Rattle.tl_tree.specs.Tokens.{Token, among, is}
+use Rattle.tl_tree.specs.Tree.{Tree, Nothing, More, Just, TerraAssign, TerraPerform, Splice, TerraDo, TerraWhile, TerraRepeat, TerraIf, TerraFor, Var, EscapeBlock, TerraReturn, TerraBreak, Block, Arm, Quoted, TerraBody, Parameter, SpliceParameter, Variable, Expression, Statements, TerraExpression, TerraStatements}
+use Rattle.tl_tree.specs.Grammar.{Grammar, give, bind, many, Outcome, Took, ◌>>=◌, begins}
+use Rattle.tl_tree.specs.Forms.{semicolon, listed_behind, Chained, chained, chain}
+use Rattle.tl_tree.specs.LuaStatements.{Sequence, sequence}
+use Rattle.tl_tree.specs.TerraStatements as terra
+use Rattle.tl_parse.specs.Using.{reading, part_at, sign_at, open_at}
+use Rattle.tl_parse.specs.Expressions.{name_at}
+use Rattle.tl_parse.specs.Statements.{first_place, is_call, last_symbols}
+use Rattle.tl_parse.specs.TerraExpressions.{escape_at, terra_name_at, terra_expressions_at, more_terra_expressions_at, terra_applied_at}
+
+-- ---- parts of statements
+
+unfoldable pub written_type_at : ℕ → List Token → Outcome Tree
+written_type_at levels ts =
+    if begins (is symbols.Colon) ts then (sign_at symbols.Colon ts >>= λ y a. part_at levels (Expression modes.Types) a >>= λ e rest. Took (Just e) rest) else Took Nothing ts
+
+unfoldable pub terra_loop_at : ℕ → List Token → Outcome Tree
+terra_loop_at levels ts = open_at symbols.Do levels ts >>= λ t a. part_at (levels - 1) TerraStatements a >>= λ x b. sign_at symbols.End b >>= λ y rest. Took x rest
+
+unfoldable pub terra_arm_at : ℕ → List Token → Outcome Tree
+terra_arm_at levels ts =
+    part_at levels TerraExpression ts >>= λ e a. open_at symbols.Then levels a >>= λ t b. part_at (levels - 1) TerraStatements b >>= λ x rest. Took (Arm e x) rest
+
+unfoldable pub next_terra_arm_at : ℕ → List Token → Outcome Tree
+next_terra_arm_at levels ts = sign_at symbols.Elseif ts >>= λ y a. terra_arm_at levels a
+
+unfoldable pub more_terra_arms_at : ℕ → Tree → List Token → Outcome Tree
+more_terra_arms_at levels before ts = reading levels (terra.terra_arms before) ts
+
+unfoldable pub terra_arms_at : ℕ → List Token → Outcome Tree
+terra_arms_at levels ts = terra_arm_at levels ts >>= λ a rest. more_terra_arms_at levels (More Nothing a) rest
+
+unfoldable pub terra_otherwise_at : ℕ → List Token → Outcome Tree
+terra_otherwise_at levels ts =
+    if begins (is symbols.Else) ts then (open_at symbols.Else levels ts >>= λ t a. part_at (levels - 1) TerraStatements a >>= λ x rest. Took (Just x) rest) else Took Nothing ts
+
+unfoldable pub terra_step_at : ℕ → List Token → Outcome Tree
+terra_step_at levels ts =
+    if begins (is symbols.Comma) ts then (sign_at symbols.Comma ts >>= λ y a. part_at levels TerraExpression a >>= λ e rest. Took (Just e) rest) else Took Nothing ts
+
+unfoldable pub terra_variable_at : ℕ → List Token → Outcome Tree
+terra_variable_at levels ts = terra_name_at levels ts >>= λ n a. written_type_at levels a >>= λ e rest. Took (Variable n e) rest
+
+unfoldable pub next_terra_variable_at : ℕ → List Token → Outcome Tree
+next_terra_variable_at levels ts = sign_at symbols.Comma ts >>= λ y a. terra_variable_at levels a
+
+unfoldable pub more_terra_variables_at : ℕ → Tree → List Token → Outcome Tree
+more_terra_variables_at levels before ts = reading levels (listed_behind terra.terra_variable before) ts
+
+unfoldable pub terra_variables_at : ℕ → List Token → Outcome Tree
+terra_variables_at levels ts = terra_variable_at levels ts >>= λ v rest. more_terra_variables_at levels (More Nothing v) rest
+
+unfoldable pub terra_initial_values_at : ℕ → List Token → Outcome Tree
+terra_initial_values_at levels ts =
+    if begins (is symbols.Equal) ts then (sign_at symbols.Equal ts >>= λ y a. terra_expressions_at levels a) else Took Nothing ts
+
+unfoldable pub terra_returned_values_at : ℕ → List Token → Outcome Tree
+terra_returned_values_at levels ts = if begins (among terra.terra_expression_symbols) ts then terra_expressions_at levels ts else Took Nothing ts
+
+-- ---- assignments, calls and splices
+
+abbrev pub is_escape : Shape → Bool
+is_escape shapes.Escape = true
+is_escape _ = false
+
+-- the first expression of a statement that no word begins
+unfoldable pub terra_target_at : ℕ → List Token → Outcome Chained
+terra_target_at levels ts =
+    if begins (is symbols.At) ts then (part_at levels TerraExpression ts >>= λ e rest. Took (chained e chain shapes.Other) rest) else terra_applied_at levels ts
+
+-- more targets and the values behind a list of targets
+unfoldable pub terra_assignment_at : ℕ → Place → Tree → List Token → Outcome Tree
+terra_assignment_at levels place before ts =
+    more_terra_expressions_at levels before ts >>= λ targets a. sign_at symbols.Equal a >>= λ y b. terra_expressions_at levels b >>= λ es rest.
+    Took (TerraAssign place targets es) rest
+
+abbrev pub assignment_symbols : List Symbol
+assignment_symbols = symbols.Equal ∷ symbols.Comma ∷ []
+
+unfoldable pub terra_statement_behind_at : ℕ → Place → Chained → List Token → Outcome Tree
+terra_statement_behind_at levels place a ts =
+    if is_call a.shape then Took (TerraPerform place a.tree) ts
+    else (if is_escape a.shape && not (begins (among assignment_symbols) ts) then Took (Splice place a.tree) ts
+    else terra_assignment_at levels place (More Nothing a.tree) ts)
+
+unfoldable pub terra_simple_statement_at : ℕ → List Token → Outcome Tree
+terra_simple_statement_at levels ts = terra_target_at levels ts >>= λ a rest. terra_statement_behind_at levels (first_place ts) a rest
+
+-- ---- statements that a word begins
+
+unfoldable pub terra_do_at : ℕ → List Token → Outcome Tree
+terra_do_at levels ts =
+    open_at symbols.Do levels ts >>= λ t a. part_at (levels - 1) TerraStatements a >>= λ x b. sign_at symbols.End b >>= λ y rest. Took (TerraDo t.place x) rest
+
+unfoldable pub terra_while_at : ℕ → List Token → Outcome Tree
+terra_while_at levels ts = sign_at symbols.While ts >>= λ t a. part_at levels TerraExpression a >>= λ e b. terra_loop_at levels b >>= λ x rest. Took (TerraWhile t.place e x) rest
+
+unfoldable pub terra_repeat_at : ℕ → List Token → Outcome Tree
+terra_repeat_at levels ts =
+    open_at symbols.Repeat levels ts >>= λ t a. part_at (levels - 1) TerraStatements a >>= λ x b. sign_at symbols.Until b >>= λ y d.
+    part_at levels TerraExpression d >>= λ e rest. Took (TerraRepeat t.place x e) rest
+
+unfoldable pub terra_if_at : ℕ → List Token → Outcome Tree
+terra_if_at levels ts =
+    sign_at symbols.If ts >>= λ t a. terra_arms_at levels a >>= λ all b. terra_otherwise_at levels b >>= λ o d. sign_at symbols.End d >>= λ y rest.
+    Took (TerraIf t.place all o) rest
+
+unfoldable pub terra_for_at : ℕ → List Token → Outcome Tree
+terra_for_at levels ts =
+    sign_at symbols.For ts >>= λ t a. terra_name_at levels a >>= λ n b. sign_at symbols.Equal b >>= λ y d. part_at levels TerraExpression d >>= λ first e.
+    sign_at symbols.Comma e >>= λ z f. part_at levels TerraExpression f >>= λ limit g. terra_step_at levels g >>= λ s h. terra_loop_at levels h >>= λ x rest.
+    Took (TerraFor t.place n first limit s x) rest
+
+unfoldable pub terra_var_at : ℕ → List Token → Outcome Tree
+terra_var_at levels ts =
+    sign_at symbols.Var ts >>= λ t a. terra_variables_at levels a >>= λ vs b. terra_initial_values_at levels b >>= λ es rest. Took (Var t.place vs es) rest
+
+unfoldable pub escape_block_at : ℕ → List Token → Outcome Tree
+escape_block_at levels ts =
+    open_at symbols.Escape levels ts >>= λ t a. part_at (levels - 1) (Statements terra.emitting) a >>= λ x b. sign_at symbols.End b >>= λ y rest.
+    Took (EscapeBlock t.place x) rest
+
+unfoldable pub terra_return_at : ℕ → List Token → Outcome Tree
+terra_return_at levels ts = sign_at symbols.Return ts >>= λ t a. terra_returned_values_at levels a >>= λ es rest. Took (TerraReturn t.place es) rest
+
+unfoldable pub terra_break_at : List Token → Outcome Tree
+terra_break_at ts = sign_at symbols.Break ts >>= λ t rest. Took (TerraBreak t.place) rest
+
+-- ---- blocks
+
+unfoldable pub terra_statement_at : ℕ → List Token → Outcome Tree
+terra_statement_at levels ts =
+    if begins (is symbols.Do) ts then terra_do_at levels ts
+    else (if begins (is symbols.While) ts then terra_while_at levels ts
+    else (if begins (is symbols.Repeat) ts then terra_repeat_at levels ts
+    else (if begins (is symbols.If) ts then terra_if_at levels ts
+    else (if begins (is symbols.For) ts then terra_for_at levels ts
+    else (if begins (is symbols.Var) ts then terra_var_at levels ts
+    else (if begins (is symbols.Escape) ts then escape_block_at levels ts
+    else (if begins (is symbols.Return) ts then terra_return_at levels ts
+    else (if begins (is symbols.Break) ts then terra_break_at ts
+    else terra_simple_statement_at levels ts))))))))
+
+-- a statement, and whether it ends its block
+unfoldable pub next_terra_statement_at : ℕ → List Token → Outcome Sequence
+next_terra_statement_at levels ts =
+    terra_statement_at levels ts >>= λ s a.
+    if begins (is symbols.Semicolon) a then (sign_at symbols.Semicolon a >>= λ y rest. Took (sequence s (begins (among last_symbols) ts)) rest) else Took (sequence s (begins (among last_symbols) ts)) a
+
+-- May a token be the first of one more statement of a block?
+abbrev pub terra_goes_on : Bool → Token → Bool
+terra_goes_on ended t = among terra.terra_statement_symbols t && not ended
+
+-- the statements behind those so far
+abbrev pub more_terra_statements : Sequence → Grammar Sequence
+more_terra_statements a =
+    many (λ a t. terra_goes_on a.ended t) (λ a t. Plain) (λ a t. terra.terra_statement_opens (terra.terra_statement_of t.symbol))
+    (λ t x a. bind (terra.terra_statement (terra.terra_statement_of t.symbol) t x) λ s. bind semicolon λ y. give (sequence (More a.statements s) (terra.ends_terra_block (terra.terra_statement_of t.symbol)))) a
+
+unfoldable pub more_terra_statements_at : ℕ → Tree → Bool → List Token → Outcome Sequence
+more_terra_statements_at levels tree ended ts = reading levels (more_terra_statements (sequence tree ended)) ts
+
+unfoldable pub terra_block_at : ℕ → List Token → Outcome Tree
+terra_block_at levels ts = more_terra_statements_at levels Nothing false ts >>= λ a rest. Took (Block a.statements) rest
+
+-- ---- functions and quotes
+
+unfoldable pub terra_parameter_at : ℕ → List Token → Outcome Tree
+terra_parameter_at levels ts =
+    if begins (is symbols.OpenBracket) ts then (escape_at levels ts >>= λ e rest. Took (SpliceParameter e) rest)
+    else (name_at ts >>= λ n a. sign_at symbols.Colon a >>= λ y b. part_at levels (Expression modes.Types) b >>= λ e rest. Took (Parameter n e) rest)
+
+unfoldable pub next_terra_parameter_at : ℕ → List Token → Outcome Tree
+next_terra_parameter_at levels ts = sign_at symbols.Comma ts >>= λ y a. terra_parameter_at levels a
+
+unfoldable pub more_terra_parameters_at : ℕ → Tree → List Token → Outcome Tree
+more_terra_parameters_at levels before ts = reading levels (listed_behind terra.terra_parameter before) ts
+
+unfoldable pub terra_parameters_at : ℕ → List Token → Outcome Tree
+terra_parameters_at levels ts =
+    if begins (is symbols.CloseParen) ts then Took Nothing ts else (terra_parameter_at levels ts >>= λ p rest. more_terra_parameters_at levels (More Nothing p) rest)
+
+unfoldable pub terra_function_body_at : ℕ → List Token → Outcome Tree
+terra_function_body_at levels ts =
+    terra_parameters_at levels ts >>= λ ps a. sign_at symbols.CloseParen a >>= λ y b. written_type_at levels b >>= λ r d. part_at levels TerraStatements d >>= λ x e.
+    sign_at symbols.End e >>= λ z rest. Took (TerraBody ps r x) rest
+
+unfoldable pub quoted_expression_at : ℕ → List Token → Outcome Tree
+quoted_expression_at levels ts =
+    if begins (is symbols.In) ts then (sign_at symbols.In ts >>= λ y a. part_at levels TerraExpression a >>= λ e rest. Took (Just e) rest) else Took Nothing ts
+
+unfoldable pub quoted_code_at : ℕ → List Token → Outcome Tree
+quoted_code_at levels ts = part_at levels TerraStatements ts >>= λ x a. quoted_expression_at levels a >>= λ e rest. Took (Quoted x e) rest

@@ -1,0 +1,71 @@
+-- The uses of single tokens.
+use Rattle.std.specs.Prelude.{ℕ, Bool, true, false, List, [], ◌∷◌, if◌then◌else◌, Option, Some, None}
+use Rattle.tl_lex.specs.declared.SyntaxKind.{SyntaxKind}
+use Rattle.tl_lex.specs.declared.SyntaxKind.TheVariants as why
+use Rattle.tl_tree.specs.declared.symbol.Symbol.{Symbol}
+use Rattle.tl_tree.specs.declared.symbol.Symbol.TheVariants as symbols
+use Rattle.tl_tree.specs.declared.mode.Extra.{Extra}
+use Rattle.tl_tree.specs.declared.mode.Extra.TheVariants.{Plain, Continues, Calls, LuaNumber, TerraNumber}
+use Rattle.tl_tree.specs.Tokens.{Token, among, is}
+use Rattle.tl_tree.specs.Tree.{Tree, Part, FunctionBody}
+use Rattle.tl_tree.specs.Grammar.{Grammar, Outcome, Took, Stop, blame, run, below, bar, is_of, unless}
+use Rattle.tl_tree.specs.Forms.{Language, Joint}
+use Rattle.tl_tree.specs.Syntax.{syntax_of}
+
+-- the language that the code reads
+abbrev pub language : Language
+language = Joint
+
+-- reading a grammar, with so many levels left
+abbrev pub reading : {A : Type 0} → ℕ → Grammar A → List Token → Outcome A
+reading levels g ts = run levels (λ part us. below (syntax_of language) levels part us) g ts
+
+-- reading a part, with so many levels left in it
+unfoldable pub part_at : ℕ → Part → List Token → Outcome Tree
+part_at levels part ts = reading levels (syntax_of language part) ts
+
+-- the limits on a token that opens a level or doesn't
+abbrev pub barred : Bool → ℕ → Extra → Token → Option SyntaxKind
+barred opens levels extra t = bar (record { opens = if opens then Some FunctionBody else None; levels = levels; extra = extra }) t
+
+-- A token of a class, which may open a level where so many are left, and what else it does.
+unfoldable pub used : (Token → Bool) → Bool → ℕ → Extra → List Token → Outcome Token
+used class opens levels extra [] = Stop why.Unexpected []
+used class opens levels extra (t ∷ ts) = if is_of class t then unless (barred opens levels extra t) (t ∷ ts) (Took t ts) else Stop (blame t.symbol) (t ∷ ts)
+
+-- a token with this symbol
+unfoldable pub sign_at : Symbol → List Token → Outcome Token
+sign_at s ts = used (is s) false 0 Plain ts
+
+-- a token with one of these symbols
+unfoldable pub sign_among_at : List Symbol → List Token → Outcome Token
+sign_among_at ss ts = used (among ss) false 0 Plain ts
+
+-- a token with a symbol that opens a level
+unfoldable pub open_at : Symbol → ℕ → List Token → Outcome Token
+open_at s levels ts = used (is s) true levels Plain ts
+
+-- a token with one of these symbols that opens a level
+unfoldable pub prefix_at : List Symbol → ℕ → List Token → Outcome Token
+prefix_at ss levels ts = used (among ss) true levels Plain ts
+
+-- the same where it continues a chain
+unfoldable pub operator_at : List Symbol → ℕ → List Token → Outcome Token
+operator_at ss left ts = used (among ss) false 0 (Continues left) ts
+
+-- a token with this symbol that opens a level and continues a chain
+unfoldable pub raise_at : Symbol → ℕ → ℕ → List Token → Outcome Token
+raise_at s levels left ts = used (is s) true levels (Continues left) ts
+
+-- a bracket that calls what is before it
+unfoldable pub call_at : ℕ → ℕ → List Token → Outcome Token
+call_at levels left ts = used (is symbols.OpenParen) true levels (Calls left) ts
+
+-- a number of Lua code
+unfoldable pub number_at : List Token → Outcome Token
+number_at ts = used (is symbols.Numeral) false 0 LuaNumber ts
+
+abbrev pub is_number : Extra → Bool
+is_number LuaNumber = true
+is_number TerraNumber = true
+is_number _ = false

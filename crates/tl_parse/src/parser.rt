@@ -1,0 +1,642 @@
+// The parser: the token before it, and the nodes that it made.
+ghost use Rattle.std.specs.Prelude.{◌≡◌, ℕ, ◌+◌, ◌-◌, ◌<◌, ◌≤◌, length, true, false, List, [], ◌∷◌, ◌++◌, ◌&&◌, map, IfOk, IfErr};
+ghost use Rattle.tl_tree.specs.Nodes.{item_of};
+ghost use Rattle.tl_tree.specs.declared.symbol.Symbol.TheVariants as symbols;
+ghost use Rattle.tl_tree.specs.Forms as forms;
+ghost use Rattle.tl_tree.specs.LuaExpressions as lua;
+ghost use Rattle.tl_tree.specs.TerraExpressions as terra;
+ghost use Rattle.tl_tree.specs.Numbers.{largest_terra};
+ghost use Rattle.tl_parse.specs.TerraExpressions.{terra_number_at};
+ghost use Rattle.tl_parse.specs.Expressions.{is_simple, is_types, is_variadic};
+ghost use Rattle.tl_parse.specs.Joining.{Joined};
+ghost use Rattle.tl_parse.specs.Statements.{first_place, goes_on};
+ghost use Rattle.tl_lex.specs.Lexing.{answers_left};
+ghost use Rattle.tl_lex.specs.Laws.{EndsOnce};
+ghost use Rattle.tl_tree.specs.Symbols.{number_of, is_bad, has};
+ghost use Rattle.tl_tree.specs.Tokens.{Token, among, is, tokens_in};
+ghost use Rattle.tl_tree.specs.Grammar.{begins, blame, calls, chain_too_long};
+ghost use Rattle.tl_parse.specs.Looking.{is_end, IsNext, BeginsAt, Advanced};
+ghost use Rattle.tl_parse.specs.Parsing.{tokens_left, end_of, Ready, items_of, Refuses, Pushed, HasNext, Fails, TookToken, token_of, with_token};
+ghost use Rattle.tl_parse.specs.Using.{is_number, sign_at, open_at, sign_among_at, prefix_at, operator_at, raise_at, call_at, number_at};
+ghost use Rattle.tl_parse.specs.Taking.{bar_of, Uses, Barred};
+
+use crate::error::SyntaxError;
+use crate::numerals::is_above;
+use crate::symbols::{has, number_of};
+use std::alloc::Global;
+use tl_base::{NodeId, Place};
+use tl_lex::laws::one_division;
+use tl_lex::{LONGEST_TEXT, LexError, Lexer, SyntaxKind, TokenKind};
+use tl_tree::{
+    BinaryOperator, Context, Expression, Extra, Mode, Node, NodeList, Shape, Symbol, symbol_of,
+};
+
+/// How many tokens may continue a chain.
+pub(crate) const CHAIN: u32 = 1000;
+
+/// The largest number of Lua code.
+const LARGEST_NUMBER: u64 = 99_999_999_999_999;
+
+/// The largest number of Terra code without a suffix.
+const LARGEST_INT: u64 = 2_147_483_647;
+
+/// The largest number with the suffix `LL`.
+const LARGEST_LONG: u64 = 9_223_372_036_854_775_807;
+
+static TERRA_SUFFIX: [Symbol; 5] = [
+    Symbol::OpenParen,
+    Symbol::OpenBracket,
+    Symbol::Dot,
+    Symbol::Colon,
+    Symbol::OpenBrace,
+];
+
+static TERRA_NUMERAL: [Symbol; 3] = [
+    Symbol::Numeral,
+    Symbol::LongNumeral,
+    Symbol::UnsignedNumeral,
+];
+
+static SUFFIX: [Symbol; 6] = [
+    Symbol::OpenParen,
+    Symbol::OpenBracket,
+    Symbol::Dot,
+    Symbol::Colon,
+    Symbol::OpenBrace,
+    Symbol::Literal,
+];
+
+static SIMPLE: [Symbol; 11] = [
+    Symbol::Numeral,
+    Symbol::Literal,
+    Symbol::Nil,
+    Symbol::False,
+    Symbol::True,
+    Symbol::Function,
+    Symbol::OpenBrace,
+    Symbol::Terra,
+    Symbol::Struct,
+    Symbol::Quote,
+    Symbol::Backtick,
+];
+
+static STATEMENT: [Symbol; 12] = [
+    Symbol::Name,
+    Symbol::OpenParen,
+    Symbol::Do,
+    Symbol::While,
+    Symbol::Repeat,
+    Symbol::If,
+    Symbol::For,
+    Symbol::Function,
+    Symbol::Local,
+    Symbol::Return,
+    Symbol::Terra,
+    Symbol::Struct,
+];
+
+/// A token as the grammar sees it, or the end.
+#[derive(Clone, Copy, Debug)]
+pub(crate) struct Next<'a> {
+    pub(crate) symbol: Symbol,
+    pub(crate) text: &'a str,
+    pub(crate) place: Place,
+    pub(crate) first_on_line: bool,
+    is_end: bool,
+}
+
+/// An operand or a prefix expression: its node, how many more tokens may continue its chain, and what it is.
+#[derive(Clone, Copy, Debug)]
+pub(crate) struct Operand {
+    pub(crate) node: NodeId,
+    pub(crate) left: u32,
+    pub(crate) shape: Shape,
+}
+
+/// Reads tokens from left to right, one ahead, and keeps the nodes that it made.
+#[derive(Debug, Drop)]
+pub(crate) struct Parser<'a> {
+    lexer: Lexer<'a>,
+    current: Next<'a>,
+    nodes: Vec<Node<'a>>,
+    alloc: Global,
+}
+
+impl<'a> Next<'a> {
+    /// The answer of the lexer as a token.
+    fn new(answer: Result<tl_lex::Token<'a>, LexError>) -> Next<'a>
+        ensures { IsNext answer.entry result }
+    {
+        match answer {
+            Ok(token) => Next {
+                symbol: symbol_of(token.kind, token.text),
+                text: token.text,
+                place: token.place,
+                first_on_line: token.first_on_line,
+                is_end: is_end(token.kind),
+            },
+            Err(error) => Next {
+                symbol: Symbol::Bad(error.kind),
+                text: "",
+                place: error.place,
+                first_on_line: error.place.word == 1,
+                is_end: false,
+            },
+        }
+    }
+}
+
+/// Why a token is refused with which the grammar does not go on.
+fn blame(symbol: Symbol) -> SyntaxKind
+    ensures { result ≡ blame symbol }
+{
+    match symbol {
+        Symbol::Bad(kind) => kind,
+        _ => SyntaxKind::Unexpected,
+    }
+}
+
+fn is_spent(extra: Extra) -> bool
+    ensures { result ≡ chain_too_long extra }
+{
+    match extra {
+        Extra::Continues(left) | Extra::Calls(left) => left == 0,
+        _ => false,
+    }
+}
+
+fn calls(extra: Extra) -> bool
+    ensures { result ≡ calls extra }
+{
+    match extra {
+        Extra::Calls(_) => true,
+        _ => false,
+    }
+}
+
+/// Why the limits refuse a use of a token, if they do.
+fn bar(opens: bool, levels: u32, extra: Extra, first_on_line: bool) -> Option<SyntaxKind>
+    ensures { result ≡ bar_of opens levels extra first_on_line }
+{
+    if (opens && levels == 0) || is_spent(extra) {
+        Some(SyntaxKind::TooDeep)
+    } else if calls(extra) && first_on_line {
+        Some(SyntaxKind::Ambiguous)
+    } else {
+        None
+    }
+}
+
+fn is_end(kind: TokenKind) -> bool
+    ensures { result ≡ is_end kind }
+{
+    match kind {
+        TokenKind::End => true,
+        _ => false,
+    }
+}
+
+impl<'a> Parser<'a> {
+    /// A parser before the first token of a text.
+    #[tactic(auto, using(crate::proofs::Looking::begins_at))]
+    pub(crate) fn new(alloc: Global, text: &'a str) -> Parser<'a>
+        requires { length text.now ≤ LONGEST_TEXT }
+        ensures { BeginsAt text.now result }
+    {
+        one_division(text);
+        let mut lexer = Lexer::new(text);
+        let current = Next::new(lexer.next_token());
+        Parser {
+            lexer,
+            current,
+            nodes: Vec::new(alloc),
+            alloc,
+        }
+    }
+
+    /// The nodes that it made.
+    #[tactic(auto, unfolding(crate::specs::Parsing::items_of))]
+    pub(crate) fn into_nodes(self) -> Vec<Node<'a>>
+        ensures { map item_of result.items ≡ items_of self.entry }
+    {
+        let Parser {
+            lexer: _,
+            current: _,
+            nodes,
+            alloc: _,
+        } = self;
+        nodes
+    }
+
+    /// Is the next token this one?
+    #[tactic(auto, using(crate::proofs::Looking::next_is_so), unfolding(crate::specs::Parsing::tokens_left))]
+    pub(crate) fn next_is(&self, symbol: Symbol) -> bool
+        requires { is_bad symbol ≡ false }
+        ensures { result ≡ begins (is symbol) (tokens_left self.now) }
+    {
+        !self.current.is_end && number_of(symbol) == number_of(self.current.symbol)
+    }
+
+    /// Is the next token one of these?
+    #[tactic(auto, using(crate::proofs::Looking::next_is_among), unfolding(crate::specs::Parsing::tokens_left))]
+    pub(crate) fn next_is_among(&self, symbols: &[Symbol]) -> bool
+        requires { has symbols.now 65 ≡ false }
+        ensures { result ≡ begins (among symbols.now) (tokens_left self.now) }
+    {
+        !self.current.is_end && has(symbols, number_of(self.current.symbol))
+    }
+
+    /// Is there no next token?
+    #[tactic(auto, using(crate::proofs::Looking::some_left), unfolding(crate::specs::Parsing::tokens_left))]
+    pub(crate) fn at_end(&self) -> bool
+        ensures end { result ≡ true → tokens_left self.now ≡ [] }
+        ensures more { result ≡ false → tokens_left self.now ≡ [] → ⊥ }
+    {
+        self.current.is_end
+    }
+
+    /// The refusal of the next token, where the grammar does not go on with it.
+    #[tactic(auto, using(crate::proofs::Looking::blames), unfolding(crate::specs::Parsing::tokens_left, crate::specs::Parsing::Ready))]
+    pub(crate) fn refusal(&self) -> SyntaxError
+        requires { Ready self.now }
+        ensures { Refuses self.now result }
+    {
+        let place = self.current.place;
+        let kind = if self.current.is_end {
+            SyntaxKind::Unexpected
+        } else {
+            blame(self.current.symbol)
+        };
+        SyntaxError::Refused { kind, place }
+    }
+
+    /// Adds a node.
+    #[tactic(auto, unfolding(crate::specs::Parsing::tokens_left, crate::specs::Parsing::end_of, crate::specs::Parsing::Ready, crate::specs::Parsing::items_of))]
+    pub(crate) fn push(&mut self, node: Node<'a>) -> Result<NodeId, SyntaxError>
+        ensures ok { IfOk result (λ id. Pushed self.old self.new node.entry id) }
+        ensures err { IfErr result (λ e. e ≡ SyntaxError.NoMemory) }
+    {
+        self.nodes.push(node)?;
+        Ok(NodeId((self.nodes.len() - 1) as u64))
+    }
+
+    /// Takes the next token.
+    #[tactic(auto, using(crate::proofs::Looking::advanced))]
+    fn next(&mut self) -> Next<'a>
+        requires next { HasNext (tokens_left self.old) }
+        requires ready { Ready self.old }
+        ensures { Advanced self.old self.new result }
+    {
+        let token = self.current;
+        self.current = Next::new(self.lexer.next_token());
+        token
+    }
+
+    /// Takes the next token, where the limits allow its use.
+    #[tactic(auto, using(crate::proofs::Taking::takes, crate::proofs::Taking::bars, crate::proofs::Taking::barred_next_is, crate::proofs::Taking::next_place))]
+    fn advance(&mut self, opens: bool, levels: u32, extra: Extra) -> Result<Next<'a>, SyntaxError>
+        requires next { HasNext (tokens_left self.old) }
+        requires ready { Ready self.old }
+        requires sized { is_number extra ≡ false }
+        ensures ok { IfOk result (λ t. Uses opens levels extra self.old self.new t) }
+        ensures err { IfErr result (λ e. Barred opens levels extra self.old e) }
+    {
+        match bar(opens, levels, extra, self.current.first_on_line) {
+            Some(kind) => Err(SyntaxError::Refused {
+                kind,
+                place: self.current.place,
+            }),
+            None => Ok(self.next()),
+        }
+    }
+
+    /// Takes this token, which has no other use.
+    #[tactic(auto, using(crate::proofs::Taking::taken, crate::proofs::Taking::barred_there, crate::proofs::Taking::refused_there, crate::proofs::Taking::next_of), unfolding(crate::specs::Using::sign_at))]
+    pub(crate) fn take(&mut self, symbol: Symbol) -> Result<Next<'a>, SyntaxError>
+        requires first { is_bad symbol ≡ false }
+        requires ready { Ready self.old }
+        ensures ok { IfOk result (λ t. TookToken self.old self.new (sign_at symbol (tokens_left self.old)) t) }
+        ensures err { IfErr result (λ e. Fails self.old (sign_at symbol (tokens_left self.old)) e) }
+    {
+        if self.next_is(symbol) {
+            Ok(read!(self.advance(false, 0, Extra::Plain)))
+        } else {
+            Err(self.refusal())
+        }
+    }
+
+    /// Takes this token, which opens a level of nesting where so many are left.
+    #[tactic(auto, using(crate::proofs::Taking::taken, crate::proofs::Taking::barred_there, crate::proofs::Taking::refused_there, crate::proofs::Taking::next_of, crate::proofs::Taking::level_left), unfolding(crate::specs::Using::open_at))]
+    pub(crate) fn open(&mut self, symbol: Symbol, levels: u32) -> Result<Next<'a>, SyntaxError>
+        requires first { is_bad symbol ≡ false }
+        requires ready { Ready self.old }
+        ensures ok { IfOk result (λ t. TookToken self.old self.new (open_at symbol levels (tokens_left self.old)) t) }
+        ensures level { IfOk result (λ _. 0 < levels) }
+        ensures err { IfErr result (λ e. Fails self.old (open_at symbol levels (tokens_left self.old)) e) }
+    {
+        if self.next_is(symbol) {
+            Ok(read!(self.advance(true, levels, Extra::Plain)))
+        } else {
+            Err(self.refusal())
+        }
+    }
+
+    /// Takes one of these tokens, which has no other use.
+    #[tactic(auto, using(crate::proofs::Taking::taken, crate::proofs::Taking::barred_there, crate::proofs::Taking::refused_there, crate::proofs::Taking::next_of), unfolding(crate::specs::Using::sign_among_at))]
+    pub(crate) fn take_among(&mut self, symbols: &[Symbol]) -> Result<Next<'a>, SyntaxError>
+        requires first { has symbols.now 65 ≡ false }
+        requires ready { Ready self.old }
+        ensures ok { IfOk result (λ t. TookToken self.old self.new (sign_among_at symbols.now (tokens_left self.old)) t) }
+        ensures err { IfErr result (λ e. Fails self.old (sign_among_at symbols.now (tokens_left self.old)) e) }
+    {
+        if self.next_is_among(symbols) {
+            Ok(read!(self.advance(false, 0, Extra::Plain)))
+        } else {
+            Err(self.refusal())
+        }
+    }
+
+    /// Takes one of these tokens, which opens a level of nesting where so many are left.
+    #[tactic(auto, using(crate::proofs::Taking::taken, crate::proofs::Taking::barred_there, crate::proofs::Taking::refused_there, crate::proofs::Taking::next_of, crate::proofs::Taking::level_left), unfolding(crate::specs::Using::prefix_at))]
+    pub(crate) fn open_among(
+        &mut self,
+        symbols: &[Symbol],
+        levels: u32,
+    ) -> Result<Next<'a>, SyntaxError>
+        requires first { has symbols.now 65 ≡ false }
+        requires ready { Ready self.old }
+        ensures ok { IfOk result (λ t. TookToken self.old self.new (prefix_at symbols.now levels (tokens_left self.old)) t) }
+        ensures level { IfOk result (λ _. 0 < levels) }
+        ensures err { IfErr result (λ e. Fails self.old (prefix_at symbols.now levels (tokens_left self.old)) e) }
+    {
+        if self.next_is_among(symbols) {
+            Ok(read!(self.advance(true, levels, Extra::Plain)))
+        } else {
+            Err(self.refusal())
+        }
+    }
+
+    /// Takes one of these tokens, which continues a chain that so many may continue.
+    #[tactic(auto, using(crate::proofs::Taking::taken, crate::proofs::Taking::barred_there, crate::proofs::Taking::refused_there, crate::proofs::Taking::next_of, crate::proofs::Taking::chain_left), unfolding(crate::specs::Using::operator_at))]
+    pub(crate) fn operator(
+        &mut self,
+        symbols: &[Symbol],
+        left: u32,
+    ) -> Result<Next<'a>, SyntaxError>
+        requires first { has symbols.now 65 ≡ false }
+        requires ready { Ready self.old }
+        ensures ok { IfOk result (λ t. TookToken self.old self.new (operator_at symbols.now left (tokens_left self.old)) t) }
+        ensures chain { IfOk result (λ _. 0 < left) }
+        ensures err { IfErr result (λ e. Fails self.old (operator_at symbols.now left (tokens_left self.old)) e) }
+    {
+        if self.next_is_among(symbols) {
+            Ok(read!(self.advance(false, 0, Extra::Continues(left))))
+        } else {
+            Err(self.refusal())
+        }
+    }
+
+    /// Takes this token, which opens a level and continues a chain.
+    #[tactic(auto, using(crate::proofs::Taking::taken, crate::proofs::Taking::barred_there, crate::proofs::Taking::refused_there, crate::proofs::Taking::next_of, crate::proofs::Taking::level_left, crate::proofs::Taking::chain_left), unfolding(crate::specs::Using::raise_at))]
+    pub(crate) fn raise(
+        &mut self,
+        symbol: Symbol,
+        levels: u32,
+        left: u32,
+    ) -> Result<Next<'a>, SyntaxError>
+        requires first { is_bad symbol ≡ false }
+        requires ready { Ready self.old }
+        ensures ok { IfOk result (λ t. TookToken self.old self.new (raise_at symbol levels left (tokens_left self.old)) t) }
+        ensures level { IfOk result (λ _. 0 < levels) }
+        ensures chain { IfOk result (λ _. 0 < left) }
+        ensures err { IfErr result (λ e. Fails self.old (raise_at symbol levels left (tokens_left self.old)) e) }
+    {
+        if self.next_is(symbol) {
+            Ok(read!(self.advance(true, levels, Extra::Continues(left))))
+        } else {
+            Err(self.refusal())
+        }
+    }
+
+    /// Takes the bracket that calls what is before it.
+    #[tactic(auto, using(crate::proofs::Taking::taken, crate::proofs::Taking::barred_there, crate::proofs::Taking::refused_there, crate::proofs::Taking::next_of, crate::proofs::Taking::level_left, crate::proofs::Taking::calls_left), unfolding(crate::specs::Using::call_at))]
+    pub(crate) fn open_call(&mut self, levels: u32, left: u32) -> Result<Next<'a>, SyntaxError>
+        requires ready { Ready self.old }
+        ensures ok { IfOk result (λ t. TookToken self.old self.new (call_at levels left (tokens_left self.old)) t) }
+        ensures level { IfOk result (λ _. 0 < levels) }
+        ensures chain { IfOk result (λ _. 0 < left) }
+        ensures err { IfErr result (λ e. Fails self.old (call_at levels left (tokens_left self.old)) e) }
+    {
+        if self.next_is(Symbol::OpenParen) {
+            Ok(read!(self.advance(true, levels, Extra::Calls(left))))
+        } else {
+            Err(self.refusal())
+        }
+    }
+
+    /// Takes a number of Lua code.
+    #[tactic(auto, using(crate::proofs::Numbers::taken_number, crate::proofs::Numbers::too_large, crate::proofs::Numbers::barred_number, crate::proofs::Taking::refused_there, crate::proofs::Taking::next_of), unfolding(crate::specs::Using::number_at))]
+    pub(crate) fn take_number(&mut self) -> Result<Next<'a>, SyntaxError>
+        requires ready { Ready self.old }
+        ensures ok { IfOk result (λ t. TookToken self.old self.new (number_at (tokens_left self.old)) t) }
+        ensures err { IfErr result (λ e. Fails self.old (number_at (tokens_left self.old)) e) }
+    {
+        if !self.next_is(Symbol::Numeral) {
+            return Err(self.refusal());
+        }
+        if is_above(self.current.text, LARGEST_NUMBER) {
+            return Err(SyntaxError::Refused {
+                kind: SyntaxKind::BadNumber,
+                place: self.current.place,
+            });
+        }
+        Ok(read!(self.advance(false, 0, Extra::Plain)))
+    }
+
+    /// Takes a number of Terra code.
+    #[tactic(auto, using(crate::proofs::TerraNumbers::taken_terra_number, crate::proofs::TerraNumbers::too_large_for_terra, crate::proofs::TerraNumbers::barred_terra_number, crate::proofs::Taking::refused_there, crate::proofs::Taking::next_of), unfolding(crate::specs::TerraExpressions::terra_number_at))]
+    pub(crate) fn take_terra_number(&mut self) -> Result<Next<'a>, SyntaxError>
+        requires { Ready self.old }
+        ensures ok { IfOk result (λ t. TookToken self.old self.new (terra_number_at (tokens_left self.old)) t) }
+        ensures err { IfErr result (λ e. Fails self.old (terra_number_at (tokens_left self.old)) e) }
+    {
+        if !self.next_is_among(&TERRA_NUMERAL) {
+            return Err(self.refusal());
+        }
+        if is_above(self.current.text, largest_terra(self.current.symbol)) {
+            return Err(SyntaxError::Refused {
+                kind: SyntaxKind::BadNumber,
+                place: self.current.place,
+            });
+        }
+        Ok(read!(self.advance(false, 0, Extra::Plain)))
+    }
+
+    /// Does the next token follow a prefix expression of Terra code, and belong to it?
+    #[tactic(auto, using(crate::proofs::TerraLooking::barred_terra_suffix, crate::proofs::TerraLooking::free_terra_suffix))]
+    pub(crate) fn next_is_terra_suffix(&self) -> bool
+        ensures { result ≡ begins (λ t. terra.is_terra_suffix t) (tokens_left self.now) }
+    {
+        if self.next_is_barred(Mode::Types) {
+            return false;
+        }
+        self.next_is_among(&TERRA_SUFFIX)
+    }
+
+    /// Is the next token a `[` that is first on its line, in a type of Terra code?
+    fn next_is_barred(&self, mode: Mode) -> bool
+        ensures { result ≡ (is_types mode && (begins (is symbols.OpenBracket) (tokens_left self.now) && self.now.current.first_on_line)) }
+    {
+        is_types(mode) && self.next_is(Symbol::OpenBracket) && self.current.first_on_line
+    }
+
+    /// Does the next token follow a prefix expression, and belong to it?
+    #[tactic(auto, using(crate::proofs::Looking::barred_suffix, crate::proofs::Looking::free_suffix))]
+    pub(crate) fn next_is_suffix(&self, mode: Mode) -> bool
+        ensures { result ≡ begins (λ t. lua.is_suffix mode t) (tokens_left self.now) }
+    {
+        if self.next_is_barred(mode) {
+            return false;
+        }
+        self.next_is_among(&SUFFIX)
+    }
+
+    /// Does the next token begin an operand that is no prefix expression?
+    #[tactic(auto, using(crate::proofs::Looking::begins_varargs), unfolding(crate::specs::Expressions::is_simple))]
+    pub(crate) fn next_is_simple(&self, mode: Mode) -> bool
+        ensures { result ≡ is_simple mode (tokens_left self.now) }
+    {
+        self.next_is_among(&SIMPLE) || (is_variadic(mode) && self.next_is(Symbol::Ellipsis))
+    }
+
+    /// The place of the next token.
+    #[tactic(auto, using(crate::proofs::StatementTurns::next_place))]
+    pub(crate) fn next_place(&self) -> Place
+        requires { HasNext (tokens_left self.now) }
+        ensures { result ≡ first_place (tokens_left self.now) }
+    {
+        self.current.place
+    }
+
+    /// May the next token begin one more statement of a block, which has ended or hasn't?
+    #[tactic(auto, using(crate::proofs::StatementTurns::goes_on_is))]
+    pub(crate) fn next_goes_on(&self, context: Context, ended: bool) -> bool
+        ensures { result ≡ begins (λ t. goes_on context ended t) (tokens_left self.now) }
+    {
+        if ended {
+            return false;
+        }
+        if self.next_is(Symbol::Break) {
+            return context.in_loop;
+        }
+        if self.next_is(Symbol::Emit) {
+            return context.emits;
+        }
+        self.next_is_among(&STATEMENT)
+    }
+
+    /// No nodes.
+    pub(crate) fn no_nodes(&self) -> NodeList
+        ensures { result ≡ [] }
+    {
+        NodeList::new(self.alloc)
+    }
+
+    /// A list of one node.
+    pub(crate) fn one_node(&self, node: NodeId) -> Result<NodeList, SyntaxError>
+        ensures ok { IfOk result (λ list. list ≡ node ∷ []) }
+        ensures err { IfErr result (λ e. e ≡ SyntaxError.NoMemory) }
+    {
+        let mut list = NodeList::new(self.alloc);
+        read!(add(&mut list, node));
+        Ok(list)
+    }
+
+    /// Adds an operator with its operands, in a chain that so many tokens may continue.
+    pub(crate) fn operation(
+        &mut self,
+        token: Next<'a>,
+        a: Operand,
+        right: NodeId,
+        left: u32,
+    ) -> Result<Operand, SyntaxError>
+        ensures ok { IfOk result (λ r. Joined self.old self.new token.entry a right left r) }
+        ensures err { IfErr result (λ e. e ≡ SyntaxError.NoMemory) }
+    {
+        let node = read!(self.push(Node::Expression(
+            token.place,
+            Expression::Binary(binary_of(token.symbol), a.node, right)
+        )));
+        Ok(Operand {
+            node,
+            left,
+            shape: Shape::Other,
+        })
+    }
+}
+
+/// Adds a node to a list.
+pub(crate) fn add(list: &mut NodeList, node: NodeId) -> Result<(), SyntaxError>
+    ensures ok { IfOk result (λ _. list.new ≡ list.old ++ node ∷ []) }
+    ensures err { IfErr result (λ e. e ≡ SyntaxError.NoMemory) }
+{
+    match list.push(node) {
+        Ok(_) => Ok(()),
+        Err(_) => Err(SyntaxError::NoMemory),
+    }
+}
+
+fn is_types(mode: Mode) -> bool
+    ensures { result ≡ is_types mode }
+{
+    match mode {
+        Mode::Types => true,
+        _ => false,
+    }
+}
+
+fn is_variadic(mode: Mode) -> bool
+    ensures { result ≡ is_variadic mode }
+{
+    match mode {
+        Mode::Variadic => true,
+        _ => false,
+    }
+}
+
+/// The largest number that a numeral of Terra code may stand for.
+fn largest_terra(symbol: Symbol) -> u64
+    ensures { result ≡ largest_terra symbol }
+{
+    match symbol {
+        Symbol::LongNumeral => LARGEST_LONG,
+        Symbol::UnsignedNumeral => u64::MAX,
+        _ => LARGEST_INT,
+    }
+}
+
+/// The operator that a token is, between two operands.
+pub(crate) fn binary_of(symbol: Symbol) -> BinaryOperator
+    ensures { result ≡ forms.binary_of symbol }
+{
+    match symbol {
+        Symbol::Or => BinaryOperator::Or,
+        Symbol::And => BinaryOperator::And,
+        Symbol::Less => BinaryOperator::Less,
+        Symbol::Greater => BinaryOperator::Greater,
+        Symbol::LessEqual => BinaryOperator::LessEqual,
+        Symbol::GreaterEqual => BinaryOperator::GreaterEqual,
+        Symbol::NotEqual => BinaryOperator::NotEqual,
+        Symbol::DoubleEqual => BinaryOperator::Equal,
+        Symbol::DoubleDot => BinaryOperator::Concatenate,
+        Symbol::DoubleLess => BinaryOperator::ShiftLeft,
+        Symbol::DoubleGreater => BinaryOperator::ShiftRight,
+        Symbol::Plus => BinaryOperator::Add,
+        Symbol::Minus => BinaryOperator::Subtract,
+        Symbol::Star => BinaryOperator::Multiply,
+        Symbol::Slash => BinaryOperator::Divide,
+        Symbol::Percent => BinaryOperator::Modulo,
+        Symbol::Caret => BinaryOperator::Power,
+        _ => BinaryOperator::Arrow,
+    }
+}

@@ -1,0 +1,742 @@
+// Reading of Lua statements and functions (Lua 5.1 manual, sections 2.4 and 2.5.9).
+ghost use Rattle.std.specs.Prelude.{◌≡◌, ◌<◌, ◌≤◌, ◌-◌, ℕ, length, true, false, IfOk, IfErr, [], ◌∷◌};
+ghost use Rattle.tl_base.specs.declared.place.Place.{Place};
+ghost use Rattle.tl_tree.specs.Symbols.{has, is_bad};
+ghost use Rattle.tl_tree.specs.LuaStatements as lua;
+ghost use Rattle.tl_tree.specs.Tree as parts;
+ghost use Rattle.tl_tree.specs.Grammar.{begins};
+ghost use Rattle.tl_tree.specs.Tokens.{among};
+ghost use Rattle.tl_parse.specs.Parsing.{tokens_left, Ready, Fails, HasNext, TookTree, TookList, TookOption, TookMaybe};
+ghost use Rattle.tl_parse.specs.Using.{part_at};
+ghost use Rattle.tl_parse.specs.Statements.{first_place, is_unsettled, variable_at, next_target_at, is_call, values_at, call_or_assignment_at, do_at, loop_at, while_at, repeat_at, arm_at, next_arm_at, arms_at, otherwise_at, if_at, step_at, numeric_at, generic_at, for_at, function_statement_at, local_function_at, initial_values_at, local_names_at, local_at, returned_values_at, return_at, break_at, emit_at, statement_at, last_symbols, next_statement_at, goes_on, parameter_at, next_parameter_at, parameters_at};
+ghost use Rattle.tl_parse.specs.Paths.{names_at, next_name_at, behind_sign_at, path_method_at, path_at};
+ghost use Rattle.tl_parse.specs.Going.{TookNumeric, TookGeneric, TookParameters, TookStatement};
+
+use crate::error::SyntaxError;
+use crate::parser::{Parser, add};
+use tl_base::{NodeId, Place};
+use tl_tree::{Context, Mode, Node, NodeList, Piece, Shape, Statement, Symbol};
+
+/// What a numeric `for` has behind its name.
+#[derive(Debug, Drop)]
+pub(crate) struct Numeric {
+    from: NodeId,
+    limit: NodeId,
+    step: Option<NodeId>,
+    block: NodeId,
+}
+
+static EXPRESSION: [Symbol; 18] = [
+    Symbol::Name,
+    Symbol::Numeral,
+    Symbol::Literal,
+    Symbol::Nil,
+    Symbol::False,
+    Symbol::True,
+    Symbol::Ellipsis,
+    Symbol::Function,
+    Symbol::OpenParen,
+    Symbol::OpenBrace,
+    Symbol::Not,
+    Symbol::Hash,
+    Symbol::Minus,
+    Symbol::Ampersand,
+    Symbol::Terra,
+    Symbol::Struct,
+    Symbol::Quote,
+    Symbol::Backtick,
+];
+
+static DEFINITION: [Symbol; 2] = [Symbol::Terra, Symbol::Struct];
+
+static LAST: [Symbol; 2] = [Symbol::Return, Symbol::Break];
+
+/// Is it no variable?
+fn is_unsettled(shape: Shape) -> bool
+    ensures { result ≡ is_unsettled shape }
+{
+    match shape {
+        Shape::Call => true,
+        Shape::Other => true,
+        _ => false,
+    }
+}
+
+pub(crate) fn is_call(shape: Shape) -> bool
+    ensures { result ≡ is_call shape }
+{
+    match shape {
+        Shape::Call => true,
+        _ => false,
+    }
+}
+
+/// The context of the block of a loop.
+fn looped(context: Context) -> Context
+    ensures { result ≡ lua.looped context }
+{
+    Context {
+        mode: context.mode,
+        in_loop: true,
+        emits: context.emits,
+    }
+}
+
+/// The context of the block of a function.
+fn fresh(variadic: bool) -> Context
+    ensures { result ≡ lua.fresh (lua.body_mode variadic) }
+{
+    if variadic {
+        Context {
+            mode: Mode::Variadic,
+            in_loop: false,
+            emits: false,
+        }
+    } else {
+        Context {
+            mode: Mode::Plain,
+            in_loop: false,
+            emits: false,
+        }
+    }
+}
+
+impl<'a> Parser<'a> {
+    /// A `,` and a name.
+    #[tactic(auto, using(crate::proofs::Failing::fails_bind, crate::proofs::Failing::fails_after), unfolding(crate::specs::Paths::next_name_at))]
+    fn next_name(&mut self) -> Result<NodeId, SyntaxError>
+        requires { Ready self.old }
+        ensures ok { IfOk result (λ r. TookTree self.old self.new (next_name_at (tokens_left self.old)) r) }
+        ensures err { IfErr result (λ e. Fails self.old (next_name_at (tokens_left self.old)) e) }
+    {
+        read!(self.take(Symbol::Comma));
+        self.name()
+    }
+
+    /// Names with `,` between them.
+    #[tactic(auto, using(crate::proofs::Failing::fails_bind, crate::proofs::Failing::fails_after, crate::proofs::Failing::fails_from, crate::proofs::StatementTurns::names_go, crate::proofs::StatementTurns::names_end, crate::proofs::StatementTurns::name_shorter), unfolding(crate::specs::Paths::names_at))]
+    fn names(&mut self, levels: u32) -> Result<NodeList, SyntaxError>
+        requires { Ready self.old }
+        ensures ok { IfOk result (λ r. TookList self.old self.new (names_at levels (tokens_left self.old)) r) }
+        ensures err { IfErr result (λ e. Fails self.old (names_at levels (tokens_left self.old)) e) }
+    {
+        let mut list = self.no_nodes();
+        let first = read!(self.name());
+        read!(add(&mut list, first));
+        'more: while self.next_is(Symbol::Comma) {
+            let next = read!(self.next_name());
+            read!(add(&mut list, next));
+        }
+        Ok(list)
+    }
+
+    /// A sign and a name behind it, with the place of the sign.
+    #[tactic(auto, using(crate::proofs::Failing::fails_bind, crate::proofs::Failing::fails_after), unfolding(crate::specs::Paths::behind_sign_at))]
+    pub(crate) fn behind_sign(&mut self, symbol: Symbol) -> Result<NodeId, SyntaxError>
+        requires first { is_bad symbol ≡ false }
+        requires ready { Ready self.old }
+        ensures ok { IfOk result (λ r. TookTree self.old self.new (behind_sign_at symbol (tokens_left self.old)) r) }
+        ensures err { IfErr result (λ e. Fails self.old (behind_sign_at symbol (tokens_left self.old)) e) }
+    {
+        let token = read!(self.take(symbol));
+        let name = read!(self.take(Symbol::Name));
+        self.push(Node::Name(token.place, name.text))
+    }
+
+    /// The method's name of a path, if it has one.
+    #[tactic(auto, using(crate::proofs::Failing::fails_bind, crate::proofs::Failing::fails_after), unfolding(crate::specs::Paths::path_method_at))]
+    fn path_method(&mut self) -> Result<Option<NodeId>, SyntaxError>
+        requires { Ready self.old }
+        ensures ok { IfOk result (λ r. TookOption self.old self.new (path_method_at (tokens_left self.old)) r) }
+        ensures err { IfErr result (λ e. Fails self.old (path_method_at (tokens_left self.old)) e) }
+    {
+        if self.next_is(Symbol::Colon) {
+            let name = read!(self.behind_sign(Symbol::Colon));
+            return Ok(Some(name));
+        }
+        Ok(None)
+    }
+
+    /// A path of names.
+    #[tactic(auto, using(crate::proofs::Failing::fails_bind, crate::proofs::Failing::fails_after, crate::proofs::Failing::fails_from, crate::proofs::StatementTurns::path_goes, crate::proofs::StatementTurns::path_ends, crate::proofs::StatementTurns::path_shorter), unfolding(crate::specs::Paths::path_at))]
+    pub(crate) fn path(&mut self, levels: u32) -> Result<NodeId, SyntaxError>
+        requires { Ready self.old }
+        ensures ok { IfOk result (λ r. TookTree self.old self.new (path_at levels (tokens_left self.old)) r) }
+        ensures err { IfErr result (λ e. Fails self.old (path_at levels (tokens_left self.old)) e) }
+    {
+        let mut list = self.no_nodes();
+        let first = read!(self.name());
+        read!(add(&mut list, first));
+        'more: while self.next_is(Symbol::Dot) {
+            let next = read!(self.behind_sign(Symbol::Dot));
+            read!(add(&mut list, next));
+        }
+        let method = read!(self.path_method());
+        self.push(Node::Piece(Piece::Path(list, method)))
+    }
+
+    /// A target of an assignment.
+    #[cycle(parser)]
+    #[tactic(auto, using(crate::proofs::Failing::fails_bind, crate::proofs::Failing::fails_after, crate::proofs::Failing::fails_from, crate::proofs::Failing::fails_unexpected, crate::proofs::StatementTurns::settles_on, crate::proofs::StatementTurns::settles, crate::proofs::StatementTurns::unsettled), unfolding(crate::specs::Statements::variable_at))]
+    fn variable(&mut self, mode: Mode, levels: u32) -> Result<NodeId, SyntaxError>
+        requires { Ready self.old }
+        ensures ok { IfOk result (λ r. TookTree self.old self.new (variable_at levels mode (tokens_left self.old)) r) }
+        ensures err { IfErr result (λ e. Fails self.old (variable_at levels mode (tokens_left self.old)) e) }
+    {
+        let mut a = read!(self.base(mode, levels));
+        'more: while self.next_is_suffix(mode) {
+            a = read!(self.suffix(mode, levels, a));
+        }
+        if is_unsettled(a.shape) {
+            return Err(self.refusal());
+        }
+        Ok(a.node)
+    }
+
+    /// A `,` and a target.
+    #[cycle(parser)]
+    #[tactic(auto, using(crate::proofs::Failing::fails_bind, crate::proofs::Failing::fails_after), unfolding(crate::specs::Statements::next_target_at))]
+    fn next_target(&mut self, mode: Mode, levels: u32) -> Result<NodeId, SyntaxError>
+        requires { Ready self.old }
+        ensures ok { IfOk result (λ r. TookTree self.old self.new (next_target_at levels mode (tokens_left self.old)) r) }
+        ensures err { IfErr result (λ e. Fails self.old (next_target_at levels mode (tokens_left self.old)) e) }
+    {
+        read!(self.take(Symbol::Comma));
+        self.variable(mode, levels)
+    }
+
+    /// A `=` and values.
+    #[cycle(parser)]
+    #[tactic(auto, using(crate::proofs::Failing::fails_bind, crate::proofs::Failing::fails_after), unfolding(crate::specs::Statements::values_at))]
+    fn values(&mut self, mode: Mode, levels: u32) -> Result<NodeList, SyntaxError>
+        requires { Ready self.old }
+        ensures ok { IfOk result (λ r. TookList self.old self.new (values_at levels mode (tokens_left self.old)) r) }
+        ensures err { IfErr result (λ e. Fails self.old (values_at levels mode (tokens_left self.old)) e) }
+    {
+        read!(self.take(Symbol::Equal));
+        self.expressions(mode, levels)
+    }
+
+    /// A call, or targets and their values.
+    #[cycle(parser)]
+    #[tactic(auto, using(crate::proofs::Failing::fails_bind, crate::proofs::Failing::fails_after, crate::proofs::Failing::fails_from, crate::proofs::StatementTurns::targets_go, crate::proofs::StatementTurns::targets_end, crate::proofs::StatementTurns::target_shorter), unfolding(crate::specs::Statements::call_or_assignment_at))]
+    fn call_or_assignment(&mut self, mode: Mode, levels: u32) -> Result<NodeId, SyntaxError>
+        requires next { HasNext (tokens_left self.old) }
+        requires ready { Ready self.old }
+        ensures ok { IfOk result (λ r. TookTree self.old self.new (call_or_assignment_at levels mode (tokens_left self.old)) r) }
+        ensures err { IfErr result (λ e. Fails self.old (call_or_assignment_at levels mode (tokens_left self.old)) e) }
+    {
+        let place = self.next_place();
+        let a = read!(self.applied(mode, levels, true));
+        if is_call(a.shape) {
+            return self.push(Node::Statement(place, Statement::Call(a.node)));
+        }
+        let mut targets = self.no_nodes();
+        read!(add(&mut targets, a.node));
+        'more: while self.next_is(Symbol::Comma) {
+            let next = read!(self.next_target(mode, levels));
+            read!(add(&mut targets, next));
+        }
+        let values = read!(self.values(mode, levels));
+        self.push(Node::Statement(place, Statement::Assign(targets, values)))
+    }
+
+    /// A block as a statement.
+    #[cycle(parser)]
+    #[tactic(auto, using(crate::proofs::Failing::fails_bind, crate::proofs::Failing::fails_after), unfolding(crate::specs::Statements::do_at))]
+    fn do_statement(&mut self, context: Context, levels: u32) -> Result<NodeId, SyntaxError>
+        requires { Ready self.old }
+        ensures ok { IfOk result (λ r. TookTree self.old self.new (do_at levels context (tokens_left self.old)) r) }
+        ensures err { IfErr result (λ e. Fails self.old (do_at levels context (tokens_left self.old)) e) }
+    {
+        let token = read!(self.open(Symbol::Do, levels));
+        let block = read!(self.block(context, levels - 1));
+        read!(self.take(Symbol::End));
+        self.push(Node::Statement(token.place, Statement::Do(block)))
+    }
+
+    /// The block of a loop.
+    #[cycle(parser)]
+    #[tactic(auto, using(crate::proofs::Failing::fails_bind, crate::proofs::Failing::fails_after), unfolding(crate::specs::Statements::loop_at))]
+    fn loop_block(&mut self, context: Context, levels: u32) -> Result<NodeId, SyntaxError>
+        requires { Ready self.old }
+        ensures ok { IfOk result (λ r. TookTree self.old self.new (loop_at levels context (tokens_left self.old)) r) }
+        ensures err { IfErr result (λ e. Fails self.old (loop_at levels context (tokens_left self.old)) e) }
+    {
+        read!(self.open(Symbol::Do, levels));
+        let block = read!(self.block(looped(context), levels - 1));
+        read!(self.take(Symbol::End));
+        Ok(block)
+    }
+
+    /// A `while` loop.
+    #[cycle(parser)]
+    #[tactic(auto, using(crate::proofs::Failing::fails_bind, crate::proofs::Failing::fails_after), unfolding(crate::specs::Statements::while_at))]
+    fn while_statement(&mut self, context: Context, levels: u32) -> Result<NodeId, SyntaxError>
+        requires { Ready self.old }
+        ensures ok { IfOk result (λ r. TookTree self.old self.new (while_at levels context (tokens_left self.old)) r) }
+        ensures err { IfErr result (λ e. Fails self.old (while_at levels context (tokens_left self.old)) e) }
+    {
+        let token = read!(self.take(Symbol::While));
+        let condition = read!(self.expression(context.mode, levels));
+        let block = read!(self.loop_block(context, levels));
+        self.push(Node::Statement(token.place, Statement::While(condition, block)))
+    }
+
+    /// A `repeat` loop.
+    #[cycle(parser)]
+    #[tactic(auto, using(crate::proofs::Failing::fails_bind, crate::proofs::Failing::fails_after), unfolding(crate::specs::Statements::repeat_at))]
+    fn repeat_statement(&mut self, context: Context, levels: u32) -> Result<NodeId, SyntaxError>
+        requires { Ready self.old }
+        ensures ok { IfOk result (λ r. TookTree self.old self.new (repeat_at levels context (tokens_left self.old)) r) }
+        ensures err { IfErr result (λ e. Fails self.old (repeat_at levels context (tokens_left self.old)) e) }
+    {
+        let token = read!(self.open(Symbol::Repeat, levels));
+        let block = read!(self.block(looped(context), levels - 1));
+        read!(self.take(Symbol::Until));
+        let condition = read!(self.expression(context.mode, levels));
+        self.push(Node::Statement(token.place, Statement::Repeat(block, condition)))
+    }
+
+    /// A condition and its block.
+    #[cycle(parser)]
+    #[tactic(auto, using(crate::proofs::Failing::fails_bind, crate::proofs::Failing::fails_after), unfolding(crate::specs::Statements::arm_at))]
+    fn arm(&mut self, context: Context, levels: u32) -> Result<NodeId, SyntaxError>
+        requires { Ready self.old }
+        ensures ok { IfOk result (λ r. TookTree self.old self.new (arm_at levels context (tokens_left self.old)) r) }
+        ensures err { IfErr result (λ e. Fails self.old (arm_at levels context (tokens_left self.old)) e) }
+    {
+        let condition = read!(self.expression(context.mode, levels));
+        read!(self.open(Symbol::Then, levels));
+        let block = read!(self.block(context, levels - 1));
+        self.push(Node::Piece(Piece::Arm(condition, block)))
+    }
+
+    /// An `elseif` with its condition and block.
+    #[cycle(parser)]
+    #[tactic(auto, using(crate::proofs::Failing::fails_bind, crate::proofs::Failing::fails_after), unfolding(crate::specs::Statements::next_arm_at))]
+    fn next_arm(&mut self, context: Context, levels: u32) -> Result<NodeId, SyntaxError>
+        requires { Ready self.old }
+        ensures ok { IfOk result (λ r. TookTree self.old self.new (next_arm_at levels context (tokens_left self.old)) r) }
+        ensures err { IfErr result (λ e. Fails self.old (next_arm_at levels context (tokens_left self.old)) e) }
+    {
+        read!(self.take(Symbol::Elseif));
+        self.arm(context, levels)
+    }
+
+    /// The conditions of an `if` and their blocks.
+    #[cycle(parser)]
+    #[tactic(auto, using(crate::proofs::Failing::fails_bind, crate::proofs::Failing::fails_after, crate::proofs::Failing::fails_from, crate::proofs::StatementTurns::arms_go, crate::proofs::StatementTurns::arms_end, crate::proofs::StatementTurns::arm_shorter), unfolding(crate::specs::Statements::arms_at))]
+    fn arms(&mut self, context: Context, levels: u32) -> Result<NodeList, SyntaxError>
+        requires { Ready self.old }
+        ensures ok { IfOk result (λ r. TookList self.old self.new (arms_at levels context (tokens_left self.old)) r) }
+        ensures err { IfErr result (λ e. Fails self.old (arms_at levels context (tokens_left self.old)) e) }
+    {
+        let mut list = self.no_nodes();
+        let first = read!(self.arm(context, levels));
+        read!(add(&mut list, first));
+        'more: while self.next_is(Symbol::Elseif) {
+            let next = read!(self.next_arm(context, levels));
+            read!(add(&mut list, next));
+        }
+        Ok(list)
+    }
+
+    /// The block behind `else`, if there is one.
+    #[cycle(parser)]
+    #[tactic(auto, using(crate::proofs::Failing::fails_bind, crate::proofs::Failing::fails_after), unfolding(crate::specs::Statements::otherwise_at))]
+    fn otherwise(&mut self, context: Context, levels: u32) -> Result<Option<NodeId>, SyntaxError>
+        requires { Ready self.old }
+        ensures ok { IfOk result (λ r. TookOption self.old self.new (otherwise_at levels context (tokens_left self.old)) r) }
+        ensures err { IfErr result (λ e. Fails self.old (otherwise_at levels context (tokens_left self.old)) e) }
+    {
+        if self.next_is(Symbol::Else) {
+            read!(self.open(Symbol::Else, levels));
+            let block = read!(self.block(context, levels - 1));
+            return Ok(Some(block));
+        }
+        Ok(None)
+    }
+
+    /// An `if`.
+    #[cycle(parser)]
+    #[tactic(auto, using(crate::proofs::Failing::fails_bind, crate::proofs::Failing::fails_after), unfolding(crate::specs::Statements::if_at))]
+    fn if_statement(&mut self, context: Context, levels: u32) -> Result<NodeId, SyntaxError>
+        requires { Ready self.old }
+        ensures ok { IfOk result (λ r. TookTree self.old self.new (if_at levels context (tokens_left self.old)) r) }
+        ensures err { IfErr result (λ e. Fails self.old (if_at levels context (tokens_left self.old)) e) }
+    {
+        let token = read!(self.take(Symbol::If));
+        let arms = read!(self.arms(context, levels));
+        let otherwise = read!(self.otherwise(context, levels));
+        read!(self.take(Symbol::End));
+        self.push(Node::Statement(token.place, Statement::If(arms, otherwise)))
+    }
+
+    /// The step of a numeric `for`, if it has one.
+    #[cycle(parser)]
+    #[tactic(auto, using(crate::proofs::Failing::fails_bind, crate::proofs::Failing::fails_after), unfolding(crate::specs::Statements::step_at))]
+    fn step(&mut self, mode: Mode, levels: u32) -> Result<Option<NodeId>, SyntaxError>
+        requires { Ready self.old }
+        ensures ok { IfOk result (λ r. TookOption self.old self.new (step_at levels mode (tokens_left self.old)) r) }
+        ensures err { IfErr result (λ e. Fails self.old (step_at levels mode (tokens_left self.old)) e) }
+    {
+        if self.next_is(Symbol::Comma) {
+            read!(self.take(Symbol::Comma));
+            let step = read!(self.expression(mode, levels));
+            return Ok(Some(step));
+        }
+        Ok(None)
+    }
+
+    /// What a numeric `for` has behind its name.
+    #[cycle(parser)]
+    #[tactic(auto, using(crate::proofs::Failing::fails_bind, crate::proofs::Failing::fails_after), unfolding(crate::specs::Statements::numeric_at))]
+    fn numeric(&mut self, context: Context, levels: u32) -> Result<Numeric, SyntaxError>
+        requires { Ready self.old }
+        ensures ok { IfOk result (λ r. TookNumeric self.old self.new (numeric_at levels context (tokens_left self.old)) r) }
+        ensures err { IfErr result (λ e. Fails self.old (numeric_at levels context (tokens_left self.old)) e) }
+    {
+        read!(self.take(Symbol::Equal));
+        let from = read!(self.expression(context.mode, levels));
+        read!(self.take(Symbol::Comma));
+        let limit = read!(self.expression(context.mode, levels));
+        let step = read!(self.step(context.mode, levels));
+        let block = read!(self.loop_block(context, levels));
+        Ok(Numeric {
+            from,
+            limit,
+            step,
+            block,
+        })
+    }
+
+    /// What a generic `for` has behind its names.
+    #[cycle(parser)]
+    #[tactic(auto, using(crate::proofs::Failing::fails_bind, crate::proofs::Failing::fails_after), unfolding(crate::specs::Statements::generic_at))]
+    fn generic(&mut self, context: Context, levels: u32) -> Result<(NodeList, NodeId), SyntaxError>
+        requires { Ready self.old }
+        ensures ok { IfOk result (λ r. TookGeneric self.old self.new (generic_at levels context (tokens_left self.old)) r.0 r.1) }
+        ensures err { IfErr result (λ e. Fails self.old (generic_at levels context (tokens_left self.old)) e) }
+    {
+        read!(self.take(Symbol::In));
+        let values = read!(self.expressions(context.mode, levels));
+        let block = read!(self.loop_block(context, levels));
+        Ok((values, block))
+    }
+
+    /// A `for` loop.
+    #[cycle(parser)]
+    #[tactic(auto, using(crate::proofs::Failing::fails_bind, crate::proofs::Failing::fails_after, crate::proofs::Failing::fails_from, crate::proofs::StatementTurns::names_go, crate::proofs::StatementTurns::names_end, crate::proofs::StatementTurns::name_shorter), unfolding(crate::specs::Statements::for_at))]
+    fn for_statement(&mut self, context: Context, levels: u32) -> Result<NodeId, SyntaxError>
+        requires { Ready self.old }
+        ensures ok { IfOk result (λ r. TookTree self.old self.new (for_at levels context (tokens_left self.old)) r) }
+        ensures err { IfErr result (λ e. Fails self.old (for_at levels context (tokens_left self.old)) e) }
+    {
+        let token = read!(self.take(Symbol::For));
+        let name = read!(self.name());
+        if self.next_is(Symbol::Equal) {
+            let r = read!(self.numeric(context, levels));
+            return self.push(Node::Statement(
+                token.place,
+                Statement::NumericFor(name, r.from, r.limit, r.step, r.block),
+            ));
+        }
+        let mut names = self.no_nodes();
+        read!(add(&mut names, name));
+        'more: while self.next_is(Symbol::Comma) {
+            let next = read!(self.next_name());
+            read!(add(&mut names, next));
+        }
+        let (values, block) = read!(self.generic(context, levels));
+        self.push(Node::Statement(token.place, Statement::GenericFor(names, values, block)))
+    }
+
+    /// The definition of a function under a path.
+    #[cycle(parser)]
+    #[tactic(auto, using(crate::proofs::Failing::fails_bind, crate::proofs::Failing::fails_after), unfolding(crate::specs::Statements::function_statement_at))]
+    fn function_statement(&mut self, levels: u32) -> Result<NodeId, SyntaxError>
+        requires { Ready self.old }
+        ensures ok { IfOk result (λ r. TookTree self.old self.new (function_statement_at levels (tokens_left self.old)) r) }
+        ensures err { IfErr result (λ e. Fails self.old (function_statement_at levels (tokens_left self.old)) e) }
+    {
+        let token = read!(self.take(Symbol::Function));
+        let path = read!(self.path(levels));
+        read!(self.open(Symbol::OpenParen, levels));
+        let body = read!(self.function_body(levels - 1));
+        self.push(Node::Statement(token.place, Statement::Function(path, body)))
+    }
+
+    /// The definition of a local function, behind `local`.
+    #[cycle(parser)]
+    #[tactic(auto, using(crate::proofs::Failing::fails_bind, crate::proofs::Failing::fails_after), unfolding(crate::specs::Statements::local_function_at))]
+    fn local_function(&mut self, levels: u32, place: Place) -> Result<NodeId, SyntaxError>
+        requires { Ready self.old }
+        ensures ok { IfOk result (λ r. TookTree self.old self.new (local_function_at levels place (tokens_left self.old)) r) }
+        ensures err { IfErr result (λ e. Fails self.old (local_function_at levels place (tokens_left self.old)) e) }
+    {
+        read!(self.take(Symbol::Function));
+        let name = read!(self.name());
+        read!(self.open(Symbol::OpenParen, levels));
+        let body = read!(self.function_body(levels - 1));
+        self.push(Node::Statement(place, Statement::LocalFunction(name, body)))
+    }
+
+    /// The values of local variables, if they have any.
+    #[cycle(parser)]
+    #[tactic(auto, using(crate::proofs::Failing::fails_bind, crate::proofs::Failing::fails_after), unfolding(crate::specs::Statements::initial_values_at))]
+    fn initial_values(&mut self, mode: Mode, levels: u32) -> Result<NodeList, SyntaxError>
+        requires { Ready self.old }
+        ensures ok { IfOk result (λ r. TookList self.old self.new (initial_values_at levels mode (tokens_left self.old)) r) }
+        ensures err { IfErr result (λ e. Fails self.old (initial_values_at levels mode (tokens_left self.old)) e) }
+    {
+        if self.next_is(Symbol::Equal) {
+            return self.values(mode, levels);
+        }
+        Ok(self.no_nodes())
+    }
+
+    /// Names of local variables and their values, behind `local`.
+    #[cycle(parser)]
+    #[tactic(auto, using(crate::proofs::Failing::fails_bind, crate::proofs::Failing::fails_after), unfolding(crate::specs::Statements::local_names_at))]
+    fn local_names(&mut self, mode: Mode, levels: u32, place: Place) -> Result<NodeId, SyntaxError>
+        requires { Ready self.old }
+        ensures ok { IfOk result (λ r. TookTree self.old self.new (local_names_at levels mode place (tokens_left self.old)) r) }
+        ensures err { IfErr result (λ e. Fails self.old (local_names_at levels mode place (tokens_left self.old)) e) }
+    {
+        let names = read!(self.names(levels));
+        let values = read!(self.initial_values(mode, levels));
+        self.push(Node::Statement(place, Statement::Local(names, values)))
+    }
+
+    /// A local declaration.
+    #[cycle(parser)]
+    #[tactic(auto, using(crate::proofs::Failing::fails_bind, crate::proofs::Failing::fails_after), unfolding(crate::specs::Statements::local_at))]
+    fn local_statement(&mut self, context: Context, levels: u32) -> Result<NodeId, SyntaxError>
+        requires { Ready self.old }
+        ensures ok { IfOk result (λ r. TookTree self.old self.new (local_at levels context (tokens_left self.old)) r) }
+        ensures err { IfErr result (λ e. Fails self.old (local_at levels context (tokens_left self.old)) e) }
+    {
+        let token = read!(self.take(Symbol::Local));
+        if self.next_is(Symbol::Function) {
+            return self.local_function(levels, token.place);
+        }
+        if self.next_is_among(&DEFINITION) {
+            return self.local_terra(context.mode, token.place, levels);
+        }
+        self.local_names(context.mode, levels, token.place)
+    }
+
+    /// The values of a `return`.
+    #[cycle(parser)]
+    #[tactic(auto, using(crate::proofs::Failing::fails_bind, crate::proofs::Failing::fails_after), unfolding(crate::specs::Statements::returned_values_at))]
+    fn returned_values(&mut self, mode: Mode, levels: u32) -> Result<NodeList, SyntaxError>
+        requires { Ready self.old }
+        ensures ok { IfOk result (λ r. TookList self.old self.new (returned_values_at levels mode (tokens_left self.old)) r) }
+        ensures err { IfErr result (λ e. Fails self.old (returned_values_at levels mode (tokens_left self.old)) e) }
+    {
+        if self.next_is_among(&EXPRESSION) {
+            return self.expressions(mode, levels);
+        }
+        Ok(self.no_nodes())
+    }
+
+    /// A `return`.
+    #[cycle(parser)]
+    #[tactic(auto, using(crate::proofs::Failing::fails_bind, crate::proofs::Failing::fails_after), unfolding(crate::specs::Statements::return_at))]
+    fn return_statement(&mut self, mode: Mode, levels: u32) -> Result<NodeId, SyntaxError>
+        requires { Ready self.old }
+        ensures ok { IfOk result (λ r. TookTree self.old self.new (return_at levels mode (tokens_left self.old)) r) }
+        ensures err { IfErr result (λ e. Fails self.old (return_at levels mode (tokens_left self.old)) e) }
+    {
+        let token = read!(self.take(Symbol::Return));
+        let values = read!(self.returned_values(mode, levels));
+        self.push(Node::Statement(token.place, Statement::Return(values)))
+    }
+
+    /// A `break`.
+    #[tactic(auto, using(crate::proofs::Failing::fails_bind, crate::proofs::Failing::fails_after), unfolding(crate::specs::Statements::break_at))]
+    fn break_statement(&mut self) -> Result<NodeId, SyntaxError>
+        requires { Ready self.old }
+        ensures ok { IfOk result (λ r. TookTree self.old self.new (break_at (tokens_left self.old)) r) }
+        ensures err { IfErr result (λ e. Fails self.old (break_at (tokens_left self.old)) e) }
+    {
+        let token = read!(self.take(Symbol::Break));
+        self.push(Node::Statement(token.place, Statement::Break))
+    }
+
+    /// An `emit`.
+    #[cycle(parser)]
+    #[tactic(auto, using(crate::proofs::Failing::fails_bind, crate::proofs::Failing::fails_after), unfolding(crate::specs::Statements::emit_at))]
+    fn emit_statement(&mut self, mode: Mode, levels: u32) -> Result<NodeId, SyntaxError>
+        requires { Ready self.old }
+        ensures ok { IfOk result (λ r. TookTree self.old self.new (emit_at levels mode (tokens_left self.old)) r) }
+        ensures err { IfErr result (λ e. Fails self.old (emit_at levels mode (tokens_left self.old)) e) }
+    {
+        let token = read!(self.take(Symbol::Emit));
+        let value = read!(self.expression(mode, levels));
+        self.push(Node::Statement(token.place, Statement::Emit(value)))
+    }
+
+    /// A statement.
+    #[cycle(parser)]
+    #[tactic(auto, using(crate::proofs::Failing::fails_bind, crate::proofs::Failing::fails_after), unfolding(crate::specs::Statements::statement_at))]
+    fn statement(&mut self, context: Context, levels: u32) -> Result<NodeId, SyntaxError>
+        requires next { HasNext (tokens_left self.old) }
+        requires ready { Ready self.old }
+        ensures ok { IfOk result (λ r. TookTree self.old self.new (statement_at levels context (tokens_left self.old)) r) }
+        ensures err { IfErr result (λ e. Fails self.old (statement_at levels context (tokens_left self.old)) e) }
+    {
+        if self.next_is(Symbol::Do) {
+            return self.do_statement(context, levels);
+        }
+        if self.next_is(Symbol::While) {
+            return self.while_statement(context, levels);
+        }
+        if self.next_is(Symbol::Repeat) {
+            return self.repeat_statement(context, levels);
+        }
+        if self.next_is(Symbol::If) {
+            return self.if_statement(context, levels);
+        }
+        if self.next_is(Symbol::For) {
+            return self.for_statement(context, levels);
+        }
+        if self.next_is(Symbol::Function) {
+            return self.function_statement(levels);
+        }
+        if self.next_is(Symbol::Local) {
+            return self.local_statement(context, levels);
+        }
+        if self.next_is(Symbol::Return) {
+            return self.return_statement(context.mode, levels);
+        }
+        if self.next_is(Symbol::Break) {
+            return self.break_statement();
+        }
+        if self.next_is(Symbol::Emit) {
+            return self.emit_statement(context.mode, levels);
+        }
+        if self.next_is(Symbol::Terra) {
+            return self.define_terra(context.mode, levels);
+        }
+        if self.next_is(Symbol::Struct) {
+            return self.define_struct(context.mode, levels);
+        }
+        self.call_or_assignment(context.mode, levels)
+    }
+
+    /// A statement and the `;` behind it, and whether it ends its block.
+    #[cycle(parser)]
+    #[tactic(auto, using(crate::proofs::Failing::fails_bind, crate::proofs::Failing::fails_after), unfolding(crate::specs::Statements::next_statement_at))]
+    fn next_statement(
+        &mut self,
+        context: Context,
+        levels: u32,
+    ) -> Result<(NodeId, bool), SyntaxError>
+        requires next { HasNext (tokens_left self.old) }
+        requires ready { Ready self.old }
+        ensures ok { IfOk result (λ r. TookStatement self.old self.new (next_statement_at levels context (tokens_left self.old)) r.0 r.1) }
+        ensures err { IfErr result (λ e. Fails self.old (next_statement_at levels context (tokens_left self.old)) e) }
+    {
+        let ends = self.next_is_among(&LAST);
+        let node = read!(self.statement(context, levels));
+        if self.next_is(Symbol::Semicolon) {
+            read!(self.take(Symbol::Semicolon));
+            return Ok((node, ends));
+        }
+        Ok((node, ends))
+    }
+
+    /// The statements of a block.
+    #[cycle(parser)]
+    #[tactic(auto, using(crate::proofs::Failing::fails_bind, crate::proofs::Failing::fails_after, crate::proofs::Taking::next_of, crate::proofs::StatementTurns::block_part, crate::proofs::StatementTurns::block_goes, crate::proofs::StatementTurns::block_ends, crate::proofs::StatementTurns::statement_shorter, crate::proofs::Failing::fails_same, crate::proofs::Failing::fails_from), unfolding(crate::specs::Statements::block_at))]
+    pub(crate) fn block(&mut self, context: Context, levels: u32) -> Result<NodeId, SyntaxError>
+        requires { Ready self.old }
+        ensures ok { IfOk result (λ r. TookTree self.old self.new (part_at levels (parts.Statements context) (tokens_left self.old)) r) }
+        ensures err { IfErr result (λ e. Fails self.old (part_at levels (parts.Statements context) (tokens_left self.old)) e) }
+    {
+        let mut list = self.no_nodes();
+        let mut ended = false;
+        'more: while self.next_goes_on(context, ended) {
+            let (node, ends) = read!(self.next_statement(context, levels));
+            read!(add(&mut list, node));
+            ended = ends;
+        }
+        self.push(Node::Piece(Piece::Block(list)))
+    }
+
+    /// A parameter of a function, or `...`.
+    #[tactic(auto, using(crate::proofs::Failing::fails_bind, crate::proofs::Failing::fails_after), unfolding(crate::specs::Statements::parameter_at))]
+    fn parameter(&mut self) -> Result<Option<NodeId>, SyntaxError>
+        requires { Ready self.old }
+        ensures ok { IfOk result (λ r. TookMaybe self.old self.new (parameter_at (tokens_left self.old)) r) }
+        ensures err { IfErr result (λ e. Fails self.old (parameter_at (tokens_left self.old)) e) }
+    {
+        if self.next_is(Symbol::Ellipsis) {
+            read!(self.take(Symbol::Ellipsis));
+            return Ok(None);
+        }
+        let name = read!(self.name());
+        Ok(Some(name))
+    }
+
+    /// A `,` and a parameter.
+    #[tactic(auto, using(crate::proofs::Failing::fails_bind, crate::proofs::Failing::fails_after), unfolding(crate::specs::Statements::next_parameter_at))]
+    fn next_parameter(&mut self) -> Result<Option<NodeId>, SyntaxError>
+        requires { Ready self.old }
+        ensures ok { IfOk result (λ r. TookMaybe self.old self.new (next_parameter_at (tokens_left self.old)) r) }
+        ensures err { IfErr result (λ e. Fails self.old (next_parameter_at (tokens_left self.old)) e) }
+    {
+        read!(self.take(Symbol::Comma));
+        self.parameter()
+    }
+
+    /// The parameters of a function, up to a `)`, and whether `...` is one more.
+    #[tactic(auto, using(crate::proofs::Failing::fails_bind, crate::proofs::Failing::fails_after, crate::proofs::Failing::fails_from, crate::proofs::StatementTurns::parameters_go, crate::proofs::StatementTurns::parameters_end, crate::proofs::StatementTurns::parameters_stop, crate::proofs::StatementTurns::parameter_shorter), unfolding(crate::specs::Statements::parameters_at))]
+    fn parameters(&mut self, levels: u32) -> Result<(NodeList, bool), SyntaxError>
+        requires { Ready self.old }
+        ensures ok { IfOk result (λ r. TookParameters self.old self.new (parameters_at levels (tokens_left self.old)) r.0 r.1) }
+        ensures err { IfErr result (λ e. Fails self.old (parameters_at levels (tokens_left self.old)) e) }
+    {
+        let mut list = self.no_nodes();
+        if self.next_is(Symbol::CloseParen) {
+            return Ok((list, false));
+        }
+        let mut variadic = false;
+        match read!(self.parameter()) {
+            Some(name) => {
+                read!(add(&mut list, name));
+            }
+            None => {
+                variadic = true;
+            }
+        }
+        'more: while !variadic && self.next_is(Symbol::Comma) {
+            match read!(self.next_parameter()) {
+                Some(name) => {
+                    read!(add(&mut list, name));
+                }
+                None => {
+                    variadic = true;
+                }
+            }
+        }
+        Ok((list, variadic))
+    }
+
+    /// The parameters of a function, its block and its `end`.
+    #[cycle(parser)]
+    #[tactic(auto, using(crate::proofs::Failing::fails_bind, crate::proofs::Failing::fails_after, crate::proofs::StatementTurns::body_part, crate::proofs::Failing::fails_same), unfolding(crate::specs::Statements::body_at))]
+    pub(crate) fn function_body(&mut self, levels: u32) -> Result<NodeId, SyntaxError>
+        requires { Ready self.old }
+        ensures ok { IfOk result (λ r. TookTree self.old self.new (part_at levels parts.FunctionBody (tokens_left self.old)) r) }
+        ensures err { IfErr result (λ e. Fails self.old (part_at levels parts.FunctionBody (tokens_left self.old)) e) }
+    {
+        let (names, variadic) = read!(self.parameters(levels));
+        read!(self.take(Symbol::CloseParen));
+        let block = read!(self.block(fresh(variadic), levels));
+        read!(self.take(Symbol::End));
+        self.push(Node::Piece(Piece::Body(names, variadic, block)))
+    }
+}

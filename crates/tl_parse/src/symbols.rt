@@ -1,0 +1,92 @@
+// The symbols of tokens.
+ghost use Rattle.std.specs.Prelude.{◌≡◌};
+ghost use Rattle.tl_tree.specs.Symbols as spec;
+
+use tl_tree::Symbol;
+
+/// A number for each symbol.
+pub(crate) fn number_of(symbol: Symbol) -> u8
+    ensures { result ≡ spec.number_of symbol }
+{
+    match symbol {
+        Symbol::And => 0,
+        Symbol::Break => 1,
+        Symbol::Do => 2,
+        Symbol::Else => 3,
+        Symbol::Elseif => 4,
+        Symbol::End => 5,
+        Symbol::False => 6,
+        Symbol::For => 7,
+        Symbol::Function => 8,
+        Symbol::If => 9,
+        Symbol::In => 10,
+        Symbol::Local => 11,
+        Symbol::Nil => 12,
+        Symbol::Not => 13,
+        Symbol::Or => 14,
+        Symbol::Repeat => 15,
+        Symbol::Return => 16,
+        Symbol::Then => 17,
+        Symbol::True => 18,
+        Symbol::Until => 19,
+        Symbol::While => 20,
+        Symbol::Terra => 21,
+        Symbol::Quote => 22,
+        Symbol::Escape => 23,
+        Symbol::Emit => 24,
+        Symbol::Struct => 25,
+        Symbol::Var => 26,
+        Symbol::Plus => 27,
+        Symbol::Minus => 28,
+        Symbol::Star => 29,
+        Symbol::Slash => 30,
+        Symbol::Percent => 31,
+        Symbol::Caret => 32,
+        Symbol::Hash => 33,
+        Symbol::DoubleEqual => 34,
+        Symbol::NotEqual => 35,
+        Symbol::LessEqual => 36,
+        Symbol::GreaterEqual => 37,
+        Symbol::Less => 38,
+        Symbol::Greater => 39,
+        Symbol::Equal => 40,
+        Symbol::OpenParen => 41,
+        Symbol::CloseParen => 42,
+        Symbol::OpenBrace => 43,
+        Symbol::CloseBrace => 44,
+        Symbol::OpenBracket => 45,
+        Symbol::CloseBracket => 46,
+        Symbol::Semicolon => 47,
+        Symbol::Colon => 48,
+        Symbol::DoubleColon => 49,
+        Symbol::Comma => 50,
+        Symbol::Dot => 51,
+        Symbol::DoubleDot => 52,
+        Symbol::Ellipsis => 53,
+        Symbol::Arrow => 54,
+        Symbol::At => 55,
+        Symbol::Ampersand => 56,
+        Symbol::DoubleLess => 57,
+        Symbol::DoubleGreater => 58,
+        Symbol::Backtick => 59,
+        Symbol::Name => 60,
+        Symbol::Numeral => 61,
+        Symbol::LongNumeral => 62,
+        Symbol::UnsignedNumeral => 63,
+        Symbol::Literal => 64,
+        Symbol::Bad(_) => 65,
+        Symbol::Finish => 66,
+    }
+}
+
+/// Whether one of the symbols has this number.
+pub(crate) fn has(symbols: &[Symbol], number: u8) -> bool
+    ensures { result ≡ spec.has symbols.now number }
+{
+    for symbol in symbols {
+        if number_of(*symbol) == number {
+            return true;
+        }
+    }
+    false
+}

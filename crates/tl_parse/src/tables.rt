@@ -1,0 +1,106 @@
+// Reading of tables (Lua 5.1 manual, section 2.5.7).
+ghost use Rattle.std.specs.Prelude.{◌≡◌, ◌<◌, ◌≤◌, ◌-◌, ℕ, length, true, false, IfOk, IfErr, [], ◌∷◌};
+ghost use Rattle.tl_tree.specs.Tree as parts;
+ghost use Rattle.tl_parse.specs.Parsing.{tokens_left, Ready, Fails, TookTree, TookList, TookMaybe};
+ghost use Rattle.tl_parse.specs.Using.{part_at};
+ghost use Rattle.tl_parse.specs.Expressions.{table_at, keyed_field_at, field_at, next_field_at};
+
+use crate::error::SyntaxError;
+use crate::expressions::is_name;
+use crate::parser::{Parser, add};
+use tl_base::NodeId;
+use tl_tree::{Expression, Mode, Node, NodeList, Piece, Symbol};
+
+static SEPARATOR: [Symbol; 2] = [Symbol::Comma, Symbol::Semicolon];
+
+impl<'a> Parser<'a> {
+    /// A table.
+    #[cycle(parser)]
+    #[tactic(auto, using(crate::proofs::Failing::fails_bind, crate::proofs::Failing::fails_after), unfolding(crate::specs::Expressions::table_at))]
+    pub(crate) fn table(&mut self, mode: Mode, levels: u32) -> Result<NodeId, SyntaxError>
+        requires { Ready self.old }
+        ensures ok { IfOk result (λ r. TookTree self.old self.new (table_at levels mode (tokens_left self.old)) r) }
+        ensures err { IfErr result (λ e. Fails self.old (table_at levels mode (tokens_left self.old)) e) }
+    {
+        let token = read!(self.open(Symbol::OpenBrace, levels));
+        let fields = read!(self.fields(mode, levels - 1));
+        read!(self.take(Symbol::CloseBrace));
+        self.push(Node::Expression(token.place, Expression::Table(fields)))
+    }
+
+    /// A field with a key in brackets.
+    #[cycle(parser)]
+    #[tactic(auto, using(crate::proofs::Failing::fails_bind, crate::proofs::Failing::fails_after), unfolding(crate::specs::Expressions::keyed_field_at))]
+    fn keyed_field(&mut self, mode: Mode, levels: u32) -> Result<NodeId, SyntaxError>
+        requires { Ready self.old }
+        ensures ok { IfOk result (λ r. TookTree self.old self.new (keyed_field_at levels mode (tokens_left self.old)) r) }
+        ensures err { IfErr result (λ e. Fails self.old (keyed_field_at levels mode (tokens_left self.old)) e) }
+    {
+        read!(self.open(Symbol::OpenBracket, levels));
+        let key = read!(self.expression(mode, levels - 1));
+        read!(self.take(Symbol::CloseBracket));
+        read!(self.take(Symbol::Equal));
+        let value = read!(self.expression(mode, levels));
+        self.push(Node::Piece(Piece::KeyedField(key, value)))
+    }
+
+    /// A field of a table.
+    #[cycle(parser)]
+    #[tactic(auto, using(crate::proofs::Failing::fails_bind, crate::proofs::Failing::fails_after), unfolding(crate::specs::Expressions::field_at, crate::specs::Expressions::field_behind_at))]
+    fn field(&mut self, mode: Mode, levels: u32) -> Result<NodeId, SyntaxError>
+        requires { Ready self.old }
+        ensures ok { IfOk result (λ r. TookTree self.old self.new (field_at levels mode (tokens_left self.old)) r) }
+        ensures err { IfErr result (λ e. Fails self.old (field_at levels mode (tokens_left self.old)) e) }
+    {
+        if self.next_is(Symbol::OpenBracket) {
+            return self.keyed_field(mode, levels);
+        }
+        let e = read!(self.chained(mode, levels));
+        if is_name(e.shape) {
+            if self.next_is(Symbol::Equal) {
+                read!(self.take(Symbol::Equal));
+                let value = read!(self.expression(mode, levels));
+                return self.push(Node::Piece(Piece::NamedField(e.node, value)));
+            }
+        }
+        Ok(e.node)
+    }
+
+    /// A separator, and a field if one follows.
+    #[cycle(parser)]
+    #[tactic(auto, using(crate::proofs::Failing::fails_bind, crate::proofs::Failing::fails_after), unfolding(crate::specs::Expressions::next_field_at))]
+    fn next_field(&mut self, mode: Mode, levels: u32) -> Result<Option<NodeId>, SyntaxError>
+        requires { Ready self.old }
+        ensures ok { IfOk result (λ r. TookMaybe self.old self.new (next_field_at levels mode (tokens_left self.old)) r) }
+        ensures err { IfErr result (λ e. Fails self.old (next_field_at levels mode (tokens_left self.old)) e) }
+    {
+        read!(self.take_among(&SEPARATOR));
+        if self.next_is(Symbol::CloseBrace) {
+            return Ok(None);
+        }
+        let field = read!(self.field(mode, levels));
+        Ok(Some(field))
+    }
+
+    /// The fields of a table, up to a `}`.
+    #[cycle(parser)]
+    #[tactic(auto, using(crate::proofs::Failing::fails_bind, crate::proofs::Failing::fails_after, crate::proofs::Parts::fields_part, crate::proofs::Failing::fails_same, crate::proofs::Failing::fails_from, crate::proofs::Turns::fields_go, crate::proofs::Turns::fields_end, crate::proofs::Turns::field_shorter), unfolding(crate::specs::Expressions::fields_at))]
+    pub(crate) fn fields(&mut self, mode: Mode, levels: u32) -> Result<NodeList, SyntaxError>
+        requires { Ready self.old }
+        ensures ok { IfOk result (λ r. TookList self.old self.new (part_at levels (parts.Fields mode) (tokens_left self.old)) r) }
+        ensures err { IfErr result (λ e. Fails self.old (part_at levels (parts.Fields mode) (tokens_left self.old)) e) }
+    {
+        let mut list = self.no_nodes();
+        if self.next_is(Symbol::CloseBrace) {
+            return Ok(list);
+        }
+        let first = read!(self.field(mode, levels));
+        read!(add(&mut list, first));
+        'more: while self.next_is_among(&SEPARATOR) {
+            if let Some(next) = read!(self.next_field(mode, levels)) {
+                read!(add(&mut list, next));
+            }
+        }
+        Ok(list)
+    }
+}

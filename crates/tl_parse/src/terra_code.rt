@@ -1,0 +1,149 @@
+// Reading of the Terra code in Lua expressions.
+ghost use Rattle.std.specs.Prelude.{◌≡◌, ◌<◌, ◌≤◌, ◌-◌, ℕ, length, true, false, IfOk, IfErr, [], ◌∷◌};
+ghost use Rattle.tl_tree.specs.Tree as parts;
+ghost use Rattle.tl_parse.specs.Parsing.{tokens_left, Ready, Fails, TookTree, TookList};
+ghost use Rattle.tl_parse.specs.Using.{part_at};
+ghost use Rattle.tl_parse.specs.TerraCode.{terra_function_at, struct_body_at, struct_at, quote_at, backtick_at, terra_code_at};
+ghost use Rattle.tl_parse.specs.Entries.{separator_at, entry_at};
+ghost use Rattle.tl_parse.specs.TerraGoing.{TookNothing};
+
+use crate::error::SyntaxError;
+use crate::parser::{Parser, add};
+use tl_base::NodeId;
+use tl_tree::{Expression, Mode, Node, NodeList, Piece, Symbol};
+
+static SEPARATOR: [Symbol; 2] = [Symbol::Comma, Symbol::Semicolon];
+
+impl<'a> Parser<'a> {
+    /// A Terra function.
+    #[cycle(parser)]
+    #[tactic(auto, using(crate::proofs::Failing::fails_bind, crate::proofs::Failing::fails_after), unfolding(crate::specs::TerraCode::terra_function_at))]
+    fn terra_function(&mut self, levels: u32) -> Result<NodeId, SyntaxError>
+        requires { Ready self.old }
+        ensures ok { IfOk result (λ r. TookTree self.old self.new (terra_function_at levels (tokens_left self.old)) r) }
+        ensures err { IfErr result (λ e. Fails self.old (terra_function_at levels (tokens_left self.old)) e) }
+    {
+        let token = read!(self.take(Symbol::Terra));
+        read!(self.open(Symbol::OpenParen, levels));
+        let body = read!(self.terra_function_body(levels - 1));
+        self.push(Node::Expression(token.place, Expression::Terra(body)))
+    }
+
+    /// The entries of a struct, in their brackets.
+    #[cycle(parser)]
+    #[tactic(auto, using(crate::proofs::Failing::fails_bind, crate::proofs::Failing::fails_after), unfolding(crate::specs::TerraCode::struct_body_at))]
+    pub(crate) fn struct_body(&mut self, mode: Mode, levels: u32) -> Result<NodeList, SyntaxError>
+        requires { Ready self.old }
+        ensures ok { IfOk result (λ r. TookList self.old self.new (struct_body_at levels mode (tokens_left self.old)) r) }
+        ensures err { IfErr result (λ e. Fails self.old (struct_body_at levels mode (tokens_left self.old)) e) }
+    {
+        read!(self.open(Symbol::OpenBrace, levels));
+        let entries = read!(self.entries(mode, levels - 1));
+        read!(self.take(Symbol::CloseBrace));
+        Ok(entries)
+    }
+
+    /// A struct.
+    #[cycle(parser)]
+    #[tactic(auto, using(crate::proofs::Failing::fails_bind, crate::proofs::Failing::fails_after), unfolding(crate::specs::TerraCode::struct_at))]
+    fn struct_type(&mut self, mode: Mode, levels: u32) -> Result<NodeId, SyntaxError>
+        requires { Ready self.old }
+        ensures ok { IfOk result (λ r. TookTree self.old self.new (struct_at levels mode (tokens_left self.old)) r) }
+        ensures err { IfErr result (λ e. Fails self.old (struct_at levels mode (tokens_left self.old)) e) }
+    {
+        let token = read!(self.take(Symbol::Struct));
+        let entries = read!(self.struct_body(mode, levels));
+        self.push(Node::Expression(token.place, Expression::Struct(entries)))
+    }
+
+    /// A quote of statements.
+    #[cycle(parser)]
+    #[tactic(auto, using(crate::proofs::Failing::fails_bind, crate::proofs::Failing::fails_after), unfolding(crate::specs::TerraCode::quote_at))]
+    fn quote(&mut self, levels: u32) -> Result<NodeId, SyntaxError>
+        requires { Ready self.old }
+        ensures ok { IfOk result (λ r. TookTree self.old self.new (quote_at levels (tokens_left self.old)) r) }
+        ensures err { IfErr result (λ e. Fails self.old (quote_at levels (tokens_left self.old)) e) }
+    {
+        let token = read!(self.open(Symbol::Quote, levels));
+        let code = read!(self.quoted_code(levels - 1));
+        read!(self.take(Symbol::End));
+        self.push(Node::Expression(token.place, Expression::Quote(code)))
+    }
+
+    /// A quote of an expression.
+    #[cycle(parser)]
+    #[tactic(auto, using(crate::proofs::Failing::fails_bind, crate::proofs::Failing::fails_after), unfolding(crate::specs::TerraCode::backtick_at))]
+    fn backtick(&mut self, levels: u32) -> Result<NodeId, SyntaxError>
+        requires { Ready self.old }
+        ensures ok { IfOk result (λ r. TookTree self.old self.new (backtick_at levels (tokens_left self.old)) r) }
+        ensures err { IfErr result (λ e. Fails self.old (backtick_at levels (tokens_left self.old)) e) }
+    {
+        let token = read!(self.open(Symbol::Backtick, levels));
+        let code = read!(self.terra_expression(levels - 1));
+        self.push(Node::Expression(token.place, Expression::Backtick(code)))
+    }
+
+    /// Terra code in Lua code.
+    #[cycle(parser)]
+    #[tactic(auto, using(crate::proofs::Failing::fails_bind, crate::proofs::Failing::fails_after), unfolding(crate::specs::TerraCode::terra_code_at))]
+    pub(crate) fn terra_code(&mut self, mode: Mode, levels: u32) -> Result<NodeId, SyntaxError>
+        requires { Ready self.old }
+        ensures ok { IfOk result (λ r. TookTree self.old self.new (terra_code_at levels mode (tokens_left self.old)) r) }
+        ensures err { IfErr result (λ e. Fails self.old (terra_code_at levels mode (tokens_left self.old)) e) }
+    {
+        if self.next_is(Symbol::Terra) {
+            return self.terra_function(levels);
+        }
+        if self.next_is(Symbol::Struct) {
+            return self.struct_type(mode, levels);
+        }
+        if self.next_is(Symbol::Quote) {
+            return self.quote(levels);
+        }
+        self.backtick(levels)
+    }
+
+    /// A separator, if one follows.
+    #[tactic(auto, using(crate::proofs::Failing::fails_bind, crate::proofs::Failing::fails_after), unfolding(crate::specs::Entries::separator_at))]
+    fn separator(&mut self) -> Result<(), SyntaxError>
+        requires { Ready self.old }
+        ensures ok { IfOk result (λ r. TookNothing self.old self.new (separator_at (tokens_left self.old))) }
+        ensures err { IfErr result (λ e. Fails self.old (separator_at (tokens_left self.old)) e) }
+    {
+        if self.next_is_among(&SEPARATOR) {
+            read!(self.take_among(&SEPARATOR));
+        }
+        Ok(())
+    }
+
+    /// An entry of a struct.
+    #[cycle(parser)]
+    #[tactic(auto, using(crate::proofs::Failing::fails_bind, crate::proofs::Failing::fails_after), unfolding(crate::specs::Entries::entry_at))]
+    fn entry(&mut self, mode: Mode, levels: u32) -> Result<NodeId, SyntaxError>
+        requires { Ready self.old }
+        ensures ok { IfOk result (λ r. TookTree self.old self.new (entry_at levels mode (tokens_left self.old)) r) }
+        ensures err { IfErr result (λ e. Fails self.old (entry_at levels mode (tokens_left self.old)) e) }
+    {
+        let name = read!(self.name());
+        read!(self.take(Symbol::Colon));
+        let value = read!(self.expression(mode, levels));
+        read!(self.separator());
+        self.push(Node::Piece(Piece::Entry(name, value)))
+    }
+
+    /// The entries of a struct, up to a `}`.
+    #[cycle(parser)]
+    #[tactic(auto, using(crate::proofs::Failing::fails_bind, crate::proofs::Failing::fails_after, crate::proofs::TerraParts::entries_part, crate::proofs::Failing::fails_same, crate::proofs::Failing::fails_from, crate::proofs::TerraTurns::entries_go, crate::proofs::TerraTurns::entries_end, crate::proofs::TerraTurns::entry_shorter))]
+    fn entries(&mut self, mode: Mode, levels: u32) -> Result<NodeList, SyntaxError>
+        requires { Ready self.old }
+        ensures ok { IfOk result (λ r. TookList self.old self.new (part_at levels (parts.Entries mode) (tokens_left self.old)) r) }
+        ensures err { IfErr result (λ e. Fails self.old (part_at levels (parts.Entries mode) (tokens_left self.old)) e) }
+    {
+        let mut list = self.no_nodes();
+        'more: while self.next_is(Symbol::Name) {
+            let next = read!(self.entry(mode, levels));
+            read!(add(&mut list, next));
+        }
+        Ok(list)
+    }
+}

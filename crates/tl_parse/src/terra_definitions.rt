@@ -1,0 +1,123 @@
+// Reading of the Lua statements that define Terra functions and types.
+ghost use Rattle.std.specs.Prelude.{◌≡◌, length, true, false, IfOk, IfErr};
+ghost use Rattle.tl_parse.specs.Parsing.{tokens_left, Ready, Fails, TookTree};
+ghost use Rattle.tl_parse.specs.TerraDefinitions.{struct_path_at, define_terra_at, local_terra_function_at, local_struct_at, local_terra_at, define_struct_at};
+
+use crate::error::SyntaxError;
+use crate::parser::{Parser, add};
+use tl_base::{NodeId, Place};
+use tl_tree::{Mode, Node, Piece, Statement, Symbol};
+
+impl<'a> Parser<'a> {
+    /// The path of a struct: names with `.` between them.
+    #[tactic(auto, using(crate::proofs::Failing::fails_bind, crate::proofs::Failing::fails_after, crate::proofs::Failing::fails_from, crate::proofs::StatementTurns::path_goes, crate::proofs::StatementTurns::path_ends, crate::proofs::StatementTurns::path_shorter), unfolding(crate::specs::TerraDefinitions::struct_path_at))]
+    fn struct_path(&mut self, levels: u32) -> Result<NodeId, SyntaxError>
+        requires { Ready self.old }
+        ensures ok { IfOk result (λ r. TookTree self.old self.new (struct_path_at levels (tokens_left self.old)) r) }
+        ensures err { IfErr result (λ e. Fails self.old (struct_path_at levels (tokens_left self.old)) e) }
+    {
+        let mut names = self.no_nodes();
+        let first = read!(self.name());
+        read!(add(&mut names, first));
+        'more: while self.next_is(Symbol::Dot) {
+            let next = read!(self.behind_sign(Symbol::Dot));
+            read!(add(&mut names, next));
+        }
+        self.push(Node::Piece(Piece::Path(names, None)))
+    }
+
+    /// A statement that defines or declares a Terra function.
+    #[cycle(parser)]
+    #[tactic(auto, using(crate::proofs::Failing::fails_bind, crate::proofs::Failing::fails_after), unfolding(crate::specs::TerraDefinitions::define_terra_at))]
+    pub(crate) fn define_terra(&mut self, mode: Mode, levels: u32) -> Result<NodeId, SyntaxError>
+        requires { Ready self.old }
+        ensures ok { IfOk result (λ r. TookTree self.old self.new (define_terra_at levels mode (tokens_left self.old)) r) }
+        ensures err { IfErr result (λ e. Fails self.old (define_terra_at levels mode (tokens_left self.old)) e) }
+    {
+        let token = read!(self.take(Symbol::Terra));
+        let path = read!(self.path(levels));
+        if self.next_is(Symbol::DoubleColon) {
+            read!(self.take(Symbol::DoubleColon));
+            let declared = read!(self.expression(mode, levels));
+            return self.push(Node::Statement(token.place, Statement::DeclareTerra(path, declared)));
+        }
+        read!(self.open(Symbol::OpenParen, levels));
+        let body = read!(self.terra_function_body(levels - 1));
+        self.push(Node::Statement(token.place, Statement::Terra(path, body)))
+    }
+
+    /// The same of a local variable, behind `local` at this place.
+    #[cycle(parser)]
+    #[tactic(auto, using(crate::proofs::Failing::fails_bind, crate::proofs::Failing::fails_after), unfolding(crate::specs::TerraDefinitions::local_terra_function_at))]
+    fn local_terra_function(
+        &mut self,
+        mode: Mode,
+        place: Place,
+        levels: u32,
+    ) -> Result<NodeId, SyntaxError>
+        requires { Ready self.old }
+        ensures ok { IfOk result (λ r. TookTree self.old self.new (local_terra_function_at levels mode place (tokens_left self.old)) r) }
+        ensures err { IfErr result (λ e. Fails self.old (local_terra_function_at levels mode place (tokens_left self.old)) e) }
+    {
+        let token = read!(self.take(Symbol::Terra));
+        let name = read!(self.name());
+        if self.next_is(Symbol::DoubleColon) {
+            read!(self.take(Symbol::DoubleColon));
+            let declared = read!(self.expression(mode, levels));
+            return self.push(Node::Statement(
+                place,
+                Statement::LocalDeclareTerra(token.place, name, declared),
+            ));
+        }
+        read!(self.open(Symbol::OpenParen, levels));
+        let body = read!(self.terra_function_body(levels - 1));
+        self.push(Node::Statement(place, Statement::LocalTerra(token.place, name, body)))
+    }
+
+    /// A struct that is a local variable, behind `local` at this place.
+    #[cycle(parser)]
+    #[tactic(auto, using(crate::proofs::Failing::fails_bind, crate::proofs::Failing::fails_after), unfolding(crate::specs::TerraDefinitions::local_struct_at))]
+    fn local_struct(&mut self, mode: Mode, place: Place, levels: u32) -> Result<NodeId, SyntaxError>
+        requires { Ready self.old }
+        ensures ok { IfOk result (λ r. TookTree self.old self.new (local_struct_at levels mode place (tokens_left self.old)) r) }
+        ensures err { IfErr result (λ e. Fails self.old (local_struct_at levels mode place (tokens_left self.old)) e) }
+    {
+        let token = read!(self.take(Symbol::Struct));
+        let name = read!(self.name());
+        let entries = read!(self.struct_body(mode, levels));
+        self.push(Node::Statement(place, Statement::LocalStruct(token.place, name, entries)))
+    }
+
+    /// A Terra function or a struct that is a local variable, behind `local` at this place.
+    #[cycle(parser)]
+    #[tactic(auto, using(crate::proofs::Failing::fails_bind, crate::proofs::Failing::fails_after), unfolding(crate::specs::TerraDefinitions::local_terra_at))]
+    pub(crate) fn local_terra(
+        &mut self,
+        mode: Mode,
+        place: Place,
+        levels: u32,
+    ) -> Result<NodeId, SyntaxError>
+        requires { Ready self.old }
+        ensures ok { IfOk result (λ r. TookTree self.old self.new (local_terra_at levels mode place (tokens_left self.old)) r) }
+        ensures err { IfErr result (λ e. Fails self.old (local_terra_at levels mode place (tokens_left self.old)) e) }
+    {
+        if self.next_is(Symbol::Struct) {
+            return self.local_struct(mode, place, levels);
+        }
+        self.local_terra_function(mode, place, levels)
+    }
+
+    /// A statement that defines a struct.
+    #[cycle(parser)]
+    #[tactic(auto, using(crate::proofs::Failing::fails_bind, crate::proofs::Failing::fails_after), unfolding(crate::specs::TerraDefinitions::define_struct_at))]
+    pub(crate) fn define_struct(&mut self, mode: Mode, levels: u32) -> Result<NodeId, SyntaxError>
+        requires { Ready self.old }
+        ensures ok { IfOk result (λ r. TookTree self.old self.new (define_struct_at levels mode (tokens_left self.old)) r) }
+        ensures err { IfErr result (λ e. Fails self.old (define_struct_at levels mode (tokens_left self.old)) e) }
+    {
+        let token = read!(self.take(Symbol::Struct));
+        let path = read!(self.struct_path(levels));
+        let entries = read!(self.struct_body(mode, levels));
+        self.push(Node::Statement(token.place, Statement::Struct(path, entries)))
+    }
+}

@@ -1,0 +1,725 @@
+// Reading of Terra expressions.
+ghost use Rattle.std.specs.Prelude.{◌≡◌, ◌<◌, ◌≤◌, ◌-◌, ℕ, length, true, false, IfOk, IfErr, [], ◌∷◌};
+ghost use Rattle.tl_tree.specs.Symbols.{has};
+ghost use Rattle.tl_tree.specs.Tokens.{among};
+ghost use Rattle.tl_tree.specs.Tree as parts;
+ghost use Rattle.tl_tree.specs.Grammar.{begins};
+ghost use Rattle.tl_tree.specs.TerraExpressions as terra;
+ghost use Rattle.tl_parse.specs.Parsing.{tokens_left, Ready, Fails, TookToken, TookTree, TookOperand, TookList, TookMaybe};
+ghost use Rattle.tl_parse.specs.Using.{part_at};
+ghost use Rattle.tl_parse.specs.Going.{TookOperation};
+ghost use Rattle.tl_parse.specs.TerraExpressions.{escape_at, terra_name_at, terra_paren_at, terra_base_at, terra_call_suffix_at, terra_index_suffix_at, terra_select_suffix_at, terra_method_suffix_at, construct_suffix_at, terra_suffix_at, terra_applied_at, terra_number_at, terra_number_tree_at, terra_constant_at, terra_simple_at, terra_simple_symbols, terra_primary_at, terra_prefixed_at, terra_exponent_at, terra_unary_at, terra_symbols_of, terra_inner_at, terra_first_at, terra_one_more_at, terra_binary_at, next_terra_expression_at, terra_expressions_at, terra_arguments_at, named_initialiser_at, initialiser_at, first_initialiser_at, next_initialiser_at, initialisers_at};
+ghost use Rattle.tl_parse.specs.TerraGoing.{TerraJoined, TookTerraSuffix, TookInitialiser};
+
+use crate::error::SyntaxError;
+use crate::expressions::{is_name, unary_of};
+use crate::parser::{CHAIN, Next, Operand, Parser, add, binary_of};
+use tl_base::NodeId;
+use tl_tree::{Mode, Node, NodeList, Piece, Shape, Symbol, TerraExpression};
+
+/// The precedences of the operators of Terra code, which all group to the left, from the highest.
+#[derive(Clone, Copy, Debug, PartialEq, Eq)]
+pub(crate) enum TerraPrecedence {
+    Power,
+    Product,
+    Sum,
+    Shift,
+    Comparison,
+    Conjunction,
+    Disjunction,
+}
+
+static POWER: [Symbol; 1] = [Symbol::Caret];
+
+static PRODUCT: [Symbol; 3] = [Symbol::Star, Symbol::Slash, Symbol::Percent];
+
+static SUM: [Symbol; 2] = [Symbol::Plus, Symbol::Minus];
+
+static SHIFT: [Symbol; 2] = [Symbol::DoubleLess, Symbol::DoubleGreater];
+
+static COMPARISON: [Symbol; 6] = [
+    Symbol::Less,
+    Symbol::Greater,
+    Symbol::LessEqual,
+    Symbol::GreaterEqual,
+    Symbol::NotEqual,
+    Symbol::DoubleEqual,
+];
+
+static CONJUNCTION: [Symbol; 1] = [Symbol::And];
+
+static DISJUNCTION: [Symbol; 1] = [Symbol::Or];
+
+static PREFIX: [Symbol; 4] = [Symbol::Not, Symbol::Minus, Symbol::At, Symbol::Ampersand];
+
+static SIMPLE: [Symbol; 7] = [
+    Symbol::Numeral,
+    Symbol::LongNumeral,
+    Symbol::UnsignedNumeral,
+    Symbol::Literal,
+    Symbol::Nil,
+    Symbol::False,
+    Symbol::True,
+];
+
+static NUMERAL: [Symbol; 3] = [
+    Symbol::Numeral,
+    Symbol::LongNumeral,
+    Symbol::UnsignedNumeral,
+];
+
+static SEPARATOR: [Symbol; 2] = [Symbol::Comma, Symbol::Semicolon];
+
+static DOT: [Symbol; 1] = [Symbol::Dot];
+
+static COLON: [Symbol; 1] = [Symbol::Colon];
+
+/// The operators of a precedence.
+fn terra_symbols_of(precedence: TerraPrecedence) -> &'static [Symbol]
+    ensures symbols { result.now ≡ terra_symbols_of precedence }
+    ensures good { has result.now 65 ≡ false }
+{
+    match precedence {
+        TerraPrecedence::Power => &POWER,
+        TerraPrecedence::Product => &PRODUCT,
+        TerraPrecedence::Sum => &SUM,
+        TerraPrecedence::Shift => &SHIFT,
+        TerraPrecedence::Comparison => &COMPARISON,
+        TerraPrecedence::Conjunction => &CONJUNCTION,
+        TerraPrecedence::Disjunction => &DISJUNCTION,
+    }
+}
+
+impl<'a> Parser<'a> {
+    /// A number.
+    #[tactic(auto, using(crate::proofs::Failing::fails_bind, crate::proofs::Failing::fails_after), unfolding(crate::specs::TerraExpressions::terra_number_tree_at))]
+    fn terra_number(&mut self) -> Result<NodeId, SyntaxError>
+        requires { Ready self.old }
+        ensures ok { IfOk result (λ r. TookTree self.old self.new (terra_number_tree_at (tokens_left self.old)) r) }
+        ensures err { IfErr result (λ e. Fails self.old (terra_number_tree_at (tokens_left self.old)) e) }
+    {
+        let token = read!(self.take_terra_number());
+        self.push(Node::Numeral(token.place, token.text))
+    }
+
+    /// The constant `nil`.
+    #[tactic(auto, using(crate::proofs::Failing::fails_bind, crate::proofs::Failing::fails_after), unfolding(crate::specs::TerraExpressions::terra_constant_at))]
+    fn terra_nil(&mut self) -> Result<NodeId, SyntaxError>
+        requires { Ready self.old }
+        ensures ok { IfOk result (λ r. TookTree self.old self.new (terra_constant_at Symbol.Nil (tokens_left self.old)) r) }
+        ensures err { IfErr result (λ e. Fails self.old (terra_constant_at Symbol.Nil (tokens_left self.old)) e) }
+    {
+        let token = read!(self.take(Symbol::Nil));
+        self.push(Node::TerraExpression(token.place, TerraExpression::Nil))
+    }
+
+    /// The constant `false`.
+    #[tactic(auto, using(crate::proofs::Failing::fails_bind, crate::proofs::Failing::fails_after), unfolding(crate::specs::TerraExpressions::terra_constant_at))]
+    fn terra_no(&mut self) -> Result<NodeId, SyntaxError>
+        requires { Ready self.old }
+        ensures ok { IfOk result (λ r. TookTree self.old self.new (terra_constant_at Symbol.False (tokens_left self.old)) r) }
+        ensures err { IfErr result (λ e. Fails self.old (terra_constant_at Symbol.False (tokens_left self.old)) e) }
+    {
+        let token = read!(self.take(Symbol::False));
+        self.push(Node::TerraExpression(token.place, TerraExpression::False))
+    }
+
+    /// The constant `true`.
+    #[tactic(auto, using(crate::proofs::Failing::fails_bind, crate::proofs::Failing::fails_after), unfolding(crate::specs::TerraExpressions::terra_constant_at))]
+    fn terra_yes(&mut self) -> Result<NodeId, SyntaxError>
+        requires { Ready self.old }
+        ensures ok { IfOk result (λ r. TookTree self.old self.new (terra_constant_at Symbol.True (tokens_left self.old)) r) }
+        ensures err { IfErr result (λ e. Fails self.old (terra_constant_at Symbol.True (tokens_left self.old)) e) }
+    {
+        let token = read!(self.take(Symbol::True));
+        self.push(Node::TerraExpression(token.place, TerraExpression::True))
+    }
+
+    /// An operand that is no prefix expression.
+    #[tactic(auto, using(crate::proofs::Failing::fails_bind, crate::proofs::Failing::fails_after), unfolding(crate::specs::TerraExpressions::terra_simple_at))]
+    fn terra_simple(&mut self) -> Result<NodeId, SyntaxError>
+        requires { Ready self.old }
+        ensures ok { IfOk result (λ r. TookTree self.old self.new (terra_simple_at (tokens_left self.old)) r) }
+        ensures err { IfErr result (λ e. Fails self.old (terra_simple_at (tokens_left self.old)) e) }
+    {
+        if self.next_is_among(&NUMERAL) {
+            return self.terra_number();
+        }
+        if self.next_is(Symbol::Literal) {
+            return self.literal();
+        }
+        if self.next_is(Symbol::Nil) {
+            return self.terra_nil();
+        }
+        if self.next_is(Symbol::False) {
+            return self.terra_no();
+        }
+        self.terra_yes()
+    }
+
+    /// Adds an operator with its operands, in a chain that so many tokens may continue.
+    fn terra_operation(
+        &mut self,
+        token: Next<'a>,
+        a: Operand,
+        right: NodeId,
+        left: u32,
+    ) -> Result<Operand, SyntaxError>
+        ensures ok { IfOk result (λ r. TerraJoined self.old self.new token.entry a right left r) }
+        ensures err { IfErr result (λ e. e ≡ SyntaxError.NoMemory) }
+    {
+        let node = read!(self.push(Node::TerraExpression(
+            token.place,
+            TerraExpression::Binary(binary_of(token.symbol), a.node, right)
+        )));
+        Ok(Operand {
+            node,
+            left,
+            shape: Shape::Other,
+        })
+    }
+
+    /// Lua code in brackets, where an expression stands and where a name does.
+    #[cycle(parser)]
+    #[tactic(auto, using(crate::proofs::Failing::fails_bind, crate::proofs::Failing::fails_after), unfolding(crate::specs::TerraExpressions::escape_at))]
+    pub(crate) fn escape(&mut self, levels: u32) -> Result<NodeId, SyntaxError>
+        requires { Ready self.old }
+        ensures ok { IfOk result (λ r. TookTree self.old self.new (escape_at levels (tokens_left self.old)) r) }
+        ensures err { IfErr result (λ e. Fails self.old (escape_at levels (tokens_left self.old)) e) }
+    {
+        let token = read!(self.open(Symbol::OpenBracket, levels));
+        let code = read!(self.expression(Mode::Plain, levels - 1));
+        read!(self.take(Symbol::CloseBracket));
+        self.push(Node::TerraExpression(token.place, TerraExpression::Escape(code)))
+    }
+
+    /// A name, or Lua code that gives one.
+    #[cycle(parser)]
+    #[tactic(auto, using(crate::proofs::Failing::fails_bind, crate::proofs::Failing::fails_after), unfolding(crate::specs::TerraExpressions::terra_name_at))]
+    pub(crate) fn terra_name(&mut self, levels: u32) -> Result<NodeId, SyntaxError>
+        requires { Ready self.old }
+        ensures ok { IfOk result (λ r. TookTree self.old self.new (terra_name_at levels (tokens_left self.old)) r) }
+        ensures err { IfErr result (λ e. Fails self.old (terra_name_at levels (tokens_left self.old)) e) }
+    {
+        if self.next_is(Symbol::OpenBracket) {
+            return self.escape(levels);
+        }
+        self.name()
+    }
+
+    /// An expression in brackets.
+    #[cycle(parser)]
+    #[tactic(auto, using(crate::proofs::Failing::fails_bind, crate::proofs::Failing::fails_after), unfolding(crate::specs::TerraExpressions::terra_paren_at))]
+    fn terra_paren(&mut self, levels: u32) -> Result<Operand, SyntaxError>
+        requires { Ready self.old }
+        ensures ok { IfOk result (λ r. TookOperand self.old self.new (terra_paren_at levels (tokens_left self.old)) r) }
+        ensures err { IfErr result (λ e. Fails self.old (terra_paren_at levels (tokens_left self.old)) e) }
+    {
+        let token = read!(self.open(Symbol::OpenParen, levels));
+        let inner = read!(self.terra_expression(levels - 1));
+        read!(self.take(Symbol::CloseParen));
+        let node = read!(self.push(Node::TerraExpression(
+            token.place,
+            TerraExpression::Paren(inner)
+        )));
+        Ok(Operand {
+            node,
+            left: CHAIN,
+            shape: Shape::Other,
+        })
+    }
+
+    /// What a prefix expression begins with.
+    #[cycle(parser)]
+    #[tactic(auto, using(crate::proofs::Failing::fails_bind, crate::proofs::Failing::fails_after), unfolding(crate::specs::TerraExpressions::terra_base_at))]
+    fn terra_base(&mut self, levels: u32) -> Result<Operand, SyntaxError>
+        requires { Ready self.old }
+        ensures ok { IfOk result (λ r. TookOperand self.old self.new (terra_base_at levels (tokens_left self.old)) r) }
+        ensures err { IfErr result (λ e. Fails self.old (terra_base_at levels (tokens_left self.old)) e) }
+    {
+        if self.next_is(Symbol::OpenParen) {
+            return self.terra_paren(levels);
+        }
+        if self.next_is(Symbol::OpenBracket) {
+            let node = read!(self.escape(levels));
+            return Ok(Operand {
+                node,
+                left: CHAIN,
+                shape: Shape::Escape,
+            });
+        }
+        let node = read!(self.name());
+        Ok(Operand {
+            node,
+            left: CHAIN,
+            shape: Shape::Name,
+        })
+    }
+
+    /// A call.
+    #[cycle(parser)]
+    #[tactic(auto, using(crate::proofs::Failing::fails_bind, crate::proofs::Failing::fails_after, crate::proofs::Taking::less), unfolding(crate::specs::TerraExpressions::terra_call_suffix_at))]
+    fn terra_call_suffix(&mut self, levels: u32, a: Operand) -> Result<Operand, SyntaxError>
+        requires { Ready self.old }
+        ensures ok { IfOk result (λ r. TookTerraSuffix self.old self.new (terra_call_suffix_at levels a.left (tokens_left self.old)) a r) }
+        ensures err { IfErr result (λ e. Fails self.old (terra_call_suffix_at levels a.left (tokens_left self.old)) e) }
+    {
+        let token = read!(self.open_call(levels, a.left));
+        let arguments = read!(self.terra_arguments(levels - 1));
+        read!(self.take(Symbol::CloseParen));
+        let node = read!(self.push(Node::TerraExpression(
+            token.place,
+            TerraExpression::Call(a.node, arguments)
+        )));
+        Ok(Operand {
+            node,
+            left: a.left - 1,
+            shape: Shape::Call,
+        })
+    }
+
+    /// An index.
+    #[cycle(parser)]
+    #[tactic(auto, using(crate::proofs::Failing::fails_bind, crate::proofs::Failing::fails_after, crate::proofs::Taking::less), unfolding(crate::specs::TerraExpressions::terra_index_suffix_at))]
+    fn terra_index_suffix(&mut self, levels: u32, a: Operand) -> Result<Operand, SyntaxError>
+        requires { Ready self.old }
+        ensures ok { IfOk result (λ r. TookTerraSuffix self.old self.new (terra_index_suffix_at levels a.left (tokens_left self.old)) a r) }
+        ensures err { IfErr result (λ e. Fails self.old (terra_index_suffix_at levels a.left (tokens_left self.old)) e) }
+    {
+        let token = read!(self.raise(Symbol::OpenBracket, levels, a.left));
+        let key = read!(self.terra_expression(levels - 1));
+        read!(self.take(Symbol::CloseBracket));
+        let node = read!(self.push(Node::TerraExpression(
+            token.place,
+            TerraExpression::Index(a.node, key)
+        )));
+        Ok(Operand {
+            node,
+            left: a.left - 1,
+            shape: Shape::Variable,
+        })
+    }
+
+    /// A selection.
+    #[cycle(parser)]
+    #[tactic(auto, using(crate::proofs::Failing::fails_bind, crate::proofs::Failing::fails_after, crate::proofs::Taking::less), unfolding(crate::specs::TerraExpressions::terra_select_suffix_at))]
+    fn terra_select_suffix(&mut self, levels: u32, a: Operand) -> Result<Operand, SyntaxError>
+        requires { Ready self.old }
+        ensures ok { IfOk result (λ r. TookTerraSuffix self.old self.new (terra_select_suffix_at levels a.left (tokens_left self.old)) a r) }
+        ensures err { IfErr result (λ e. Fails self.old (terra_select_suffix_at levels a.left (tokens_left self.old)) e) }
+    {
+        let token = read!(self.operator(&DOT, a.left));
+        let name = read!(self.terra_name(levels));
+        let node = read!(self.push(Node::TerraExpression(
+            token.place,
+            TerraExpression::Select(a.node, name)
+        )));
+        Ok(Operand {
+            node,
+            left: a.left - 1,
+            shape: Shape::Variable,
+        })
+    }
+
+    /// A call of a method.
+    #[cycle(parser)]
+    #[tactic(auto, using(crate::proofs::Failing::fails_bind, crate::proofs::Failing::fails_after, crate::proofs::Taking::less), unfolding(crate::specs::TerraExpressions::terra_method_suffix_at))]
+    fn terra_method_suffix(&mut self, levels: u32, a: Operand) -> Result<Operand, SyntaxError>
+        requires { Ready self.old }
+        ensures ok { IfOk result (λ r. TookTerraSuffix self.old self.new (terra_method_suffix_at levels a.left (tokens_left self.old)) a r) }
+        ensures err { IfErr result (λ e. Fails self.old (terra_method_suffix_at levels a.left (tokens_left self.old)) e) }
+    {
+        let token = read!(self.operator(&COLON, a.left));
+        let name = read!(self.terra_name(levels));
+        read!(self.open(Symbol::OpenParen, levels));
+        let arguments = read!(self.terra_arguments(levels - 1));
+        read!(self.take(Symbol::CloseParen));
+        let node = read!(self.push(Node::TerraExpression(
+            token.place,
+            TerraExpression::Method(a.node, name, arguments)
+        )));
+        Ok(Operand {
+            node,
+            left: a.left - 1,
+            shape: Shape::Call,
+        })
+    }
+
+    /// A constructor.
+    #[cycle(parser)]
+    #[tactic(auto, using(crate::proofs::Failing::fails_bind, crate::proofs::Failing::fails_after, crate::proofs::Taking::less), unfolding(crate::specs::TerraExpressions::construct_suffix_at))]
+    fn construct_suffix(&mut self, levels: u32, a: Operand) -> Result<Operand, SyntaxError>
+        requires { Ready self.old }
+        ensures ok { IfOk result (λ r. TookTerraSuffix self.old self.new (construct_suffix_at levels a.left (tokens_left self.old)) a r) }
+        ensures err { IfErr result (λ e. Fails self.old (construct_suffix_at levels a.left (tokens_left self.old)) e) }
+    {
+        let token = read!(self.raise(Symbol::OpenBrace, levels, a.left));
+        let initialisers = read!(self.initialisers(levels - 1));
+        read!(self.take(Symbol::CloseBrace));
+        let node = read!(self.push(Node::TerraExpression(
+            token.place,
+            TerraExpression::Construct(a.node, initialisers)
+        )));
+        Ok(Operand {
+            node,
+            left: a.left - 1,
+            shape: Shape::Other,
+        })
+    }
+
+    /// What follows a prefix expression and belongs to it.
+    #[cycle(parser)]
+    #[tactic(auto, using(crate::proofs::Failing::fails_bind, crate::proofs::Failing::fails_after), unfolding(crate::specs::TerraExpressions::terra_suffix_at))]
+    fn terra_suffix(&mut self, levels: u32, a: Operand) -> Result<Operand, SyntaxError>
+        requires { Ready self.old }
+        ensures ok { IfOk result (λ r. TookTerraSuffix self.old self.new (terra_suffix_at levels a.left (tokens_left self.old)) a r) }
+        ensures err { IfErr result (λ e. Fails self.old (terra_suffix_at levels a.left (tokens_left self.old)) e) }
+    {
+        if self.next_is(Symbol::OpenParen) {
+            return self.terra_call_suffix(levels, a);
+        }
+        if self.next_is(Symbol::OpenBracket) {
+            return self.terra_index_suffix(levels, a);
+        }
+        if self.next_is(Symbol::Dot) {
+            return self.terra_select_suffix(levels, a);
+        }
+        if self.next_is(Symbol::Colon) {
+            return self.terra_method_suffix(levels, a);
+        }
+        self.construct_suffix(levels, a)
+    }
+
+    /// A prefix expression: a name, Lua code or an expression in brackets, with its suffixes.
+    #[cycle(parser)]
+    #[tactic(auto, using(crate::proofs::Failing::fails_bind, crate::proofs::Failing::fails_after, crate::proofs::Failing::fails_from, crate::proofs::TerraTurns::terra_suffixes_go, crate::proofs::TerraTurns::terra_suffixes_end, crate::proofs::TerraTurns::terra_suffix_shorter), unfolding(crate::specs::TerraExpressions::terra_applied_at))]
+    pub(crate) fn terra_applied(&mut self, levels: u32) -> Result<Operand, SyntaxError>
+        requires { Ready self.old }
+        ensures ok { IfOk result (λ r. TookOperand self.old self.new (terra_applied_at levels (tokens_left self.old)) r) }
+        ensures err { IfErr result (λ e. Fails self.old (terra_applied_at levels (tokens_left self.old)) e) }
+    {
+        let mut a = read!(self.terra_base(levels));
+        'more: while self.next_is_terra_suffix() {
+            a = read!(self.terra_suffix(levels, a));
+        }
+        Ok(a)
+    }
+
+    /// An operand without operators.
+    #[cycle(parser)]
+    #[tactic(auto, using(crate::proofs::Failing::fails_bind, crate::proofs::Failing::fails_after), unfolding(crate::specs::TerraExpressions::terra_primary_at))]
+    fn terra_primary(&mut self, levels: u32, left: u32) -> Result<Operand, SyntaxError>
+        requires { Ready self.old }
+        ensures ok { IfOk result (λ r. TookOperand self.old self.new (terra_primary_at levels left (tokens_left self.old)) r) }
+        ensures err { IfErr result (λ e. Fails self.old (terra_primary_at levels left (tokens_left self.old)) e) }
+    {
+        if self.next_is_among(&SIMPLE) {
+            let node = read!(self.terra_simple());
+            return Ok(Operand {
+                node,
+                left,
+                shape: Shape::Other,
+            });
+        }
+        let a = read!(self.terra_applied(levels));
+        Ok(Operand {
+            node: a.node,
+            left,
+            shape: a.shape,
+        })
+    }
+
+    /// A prefix operator with its operand.
+    #[cycle(parser)]
+    #[tactic(auto, using(crate::proofs::Failing::fails_bind, crate::proofs::Failing::fails_after), unfolding(crate::specs::TerraExpressions::terra_prefixed_at))]
+    fn terra_prefixed(&mut self, levels: u32, left: u32) -> Result<Operand, SyntaxError>
+        requires { Ready self.old }
+        ensures ok { IfOk result (λ r. TookOperand self.old self.new (terra_prefixed_at levels left (tokens_left self.old)) r) }
+        ensures err { IfErr result (λ e. Fails self.old (terra_prefixed_at levels left (tokens_left self.old)) e) }
+    {
+        let token = read!(self.open_among(&PREFIX, levels));
+        let operand = read!(self.terra_operand(levels - 1));
+        let node = read!(self.push(Node::TerraExpression(
+            token.place,
+            TerraExpression::Unary(unary_of(token.symbol), operand)
+        )));
+        Ok(Operand {
+            node,
+            left,
+            shape: Shape::Other,
+        })
+    }
+
+    /// The right operand of `^`.
+    #[cycle(parser)]
+    #[tactic(auto, using(crate::proofs::Failing::fails_bind, crate::proofs::Failing::fails_after), unfolding(crate::specs::TerraExpressions::terra_exponent_at))]
+    fn terra_exponent(&mut self, levels: u32, left: u32) -> Result<Operand, SyntaxError>
+        requires { Ready self.old }
+        ensures ok { IfOk result (λ r. TookOperand self.old self.new (terra_exponent_at levels left (tokens_left self.old)) r) }
+        ensures err { IfErr result (λ e. Fails self.old (terra_exponent_at levels left (tokens_left self.old)) e) }
+    {
+        if self.next_is_among(&PREFIX) {
+            return self.terra_prefixed(levels, left);
+        }
+        self.terra_primary(levels, left)
+    }
+
+    /// An operand with its prefix operators.
+    #[cycle(parser)]
+    #[tactic(auto, using(crate::proofs::Failing::fails_bind, crate::proofs::Failing::fails_after), unfolding(crate::specs::TerraExpressions::terra_unary_at))]
+    fn terra_unary(&mut self, levels: u32, left: u32) -> Result<Operand, SyntaxError>
+        requires { Ready self.old }
+        ensures ok { IfOk result (λ r. TookOperand self.old self.new (terra_unary_at levels left (tokens_left self.old)) r) }
+        ensures err { IfErr result (λ e. Fails self.old (terra_unary_at levels left (tokens_left self.old)) e) }
+    {
+        if self.next_is_among(&PREFIX) {
+            return self.terra_prefixed(levels, left);
+        }
+        self.terra_binary(TerraPrecedence::Power, levels, left)
+    }
+
+    /// The right operand of a precedence.
+    #[cycle(parser)]
+    #[tactic(auto, using(crate::proofs::Failing::fails_bind, crate::proofs::Failing::fails_after, crate::proofs::TerraParts::inner_power, crate::proofs::TerraParts::inner_product, crate::proofs::TerraParts::inner_sum, crate::proofs::TerraParts::inner_shift, crate::proofs::TerraParts::inner_comparison, crate::proofs::TerraParts::inner_conjunction, crate::proofs::TerraParts::inner_disjunction, crate::proofs::Failing::fails_same))]
+    fn terra_inner(
+        &mut self,
+        precedence: TerraPrecedence,
+        levels: u32,
+        left: u32,
+    ) -> Result<Operand, SyntaxError>
+        requires { Ready self.old }
+        ensures ok { IfOk result (λ r. TookOperand self.old self.new (terra_inner_at levels precedence left (tokens_left self.old)) r) }
+        ensures err { IfErr result (λ e. Fails self.old (terra_inner_at levels precedence left (tokens_left self.old)) e) }
+    {
+        match precedence {
+            TerraPrecedence::Power => self.terra_exponent(levels, left),
+            TerraPrecedence::Product => self.terra_unary(levels, left),
+            TerraPrecedence::Sum => self.terra_binary(TerraPrecedence::Product, levels, left),
+            TerraPrecedence::Shift => self.terra_binary(TerraPrecedence::Sum, levels, left),
+            TerraPrecedence::Comparison => self.terra_binary(TerraPrecedence::Shift, levels, left),
+            TerraPrecedence::Conjunction => self.terra_binary(
+                TerraPrecedence::Comparison,
+                levels,
+                left,
+            ),
+            TerraPrecedence::Disjunction => self.terra_binary(
+                TerraPrecedence::Conjunction,
+                levels,
+                left,
+            ),
+        }
+    }
+
+    /// The first operand of a precedence.
+    #[cycle(parser)]
+    #[tactic(auto, using(crate::proofs::Failing::fails_bind, crate::proofs::Failing::fails_after, crate::proofs::TerraParts::first_others, crate::proofs::Failing::fails_same), unfolding(crate::specs::TerraExpressions::terra_first_at))]
+    fn terra_first(
+        &mut self,
+        precedence: TerraPrecedence,
+        levels: u32,
+        left: u32,
+    ) -> Result<Operand, SyntaxError>
+        requires { Ready self.old }
+        ensures ok { IfOk result (λ r. TookOperand self.old self.new (terra_first_at levels precedence left (tokens_left self.old)) r) }
+        ensures err { IfErr result (λ e. Fails self.old (terra_first_at levels precedence left (tokens_left self.old)) e) }
+    {
+        match precedence {
+            TerraPrecedence::Power => self.terra_primary(levels, left),
+            _ => self.terra_inner(precedence, levels, left),
+        }
+    }
+
+    /// An operator of a precedence and its right operand.
+    #[cycle(parser)]
+    #[tactic(auto, using(crate::proofs::Failing::fails_bind, crate::proofs::Failing::fails_after, crate::proofs::Taking::less), unfolding(crate::specs::TerraExpressions::terra_one_more_at))]
+    fn terra_one_more(
+        &mut self,
+        precedence: TerraPrecedence,
+        levels: u32,
+        left: u32,
+    ) -> Result<(Next<'a>, Operand), SyntaxError>
+        requires { Ready self.old }
+        ensures ok { IfOk result (λ r. TookOperation self.old self.new (terra_one_more_at levels precedence left (tokens_left self.old)) r.0 r.1) }
+        ensures err { IfErr result (λ e. Fails self.old (terra_one_more_at levels precedence left (tokens_left self.old)) e) }
+    {
+        let token = read!(self.operator(terra_symbols_of(precedence), left));
+        let operand = read!(self.terra_inner(precedence, levels, left - 1));
+        Ok((token, operand))
+    }
+
+    /// Operands with the operators of a precedence between them.
+    #[cycle(parser)]
+    #[tactic(auto, using(crate::proofs::Failing::fails_bind, crate::proofs::Failing::fails_after, crate::proofs::Failing::fails_from, crate::proofs::TerraTurns::terra_operations_go, crate::proofs::TerraTurns::terra_operations_end, crate::proofs::TerraTurns::terra_operation_shorter), unfolding(crate::specs::TerraExpressions::terra_binary_at))]
+    fn terra_binary(
+        &mut self,
+        precedence: TerraPrecedence,
+        levels: u32,
+        left: u32,
+    ) -> Result<Operand, SyntaxError>
+        requires { Ready self.old }
+        ensures ok { IfOk result (λ r. TookOperand self.old self.new (terra_binary_at levels precedence left (tokens_left self.old)) r) }
+        ensures err { IfErr result (λ e. Fails self.old (terra_binary_at levels precedence left (tokens_left self.old)) e) }
+    {
+        let symbols = terra_symbols_of(precedence);
+        let mut a = read!(self.terra_first(precedence, levels, left));
+        'more: while self.next_is_among(symbols) {
+            let (token, b) = read!(self.terra_one_more(precedence, levels, a.left));
+            a = read!(self.terra_operation(token, a, b.node, b.left));
+        }
+        Ok(a)
+    }
+
+    /// The operand of a prefix operator.
+    #[cycle(parser)]
+    #[tactic(auto, using(crate::proofs::Failing::fails_bind, crate::proofs::Failing::fails_after, crate::proofs::TerraParts::terra_operand_part, crate::proofs::Failing::fails_same))]
+    fn terra_operand(&mut self, levels: u32) -> Result<NodeId, SyntaxError>
+        requires { Ready self.old }
+        ensures ok { IfOk result (λ r. TookTree self.old self.new (part_at levels parts.TerraOperand (tokens_left self.old)) r) }
+        ensures err { IfErr result (λ e. Fails self.old (part_at levels parts.TerraOperand (tokens_left self.old)) e) }
+    {
+        let a = read!(self.terra_unary(levels, CHAIN));
+        Ok(a.node)
+    }
+
+    /// An expression.
+    #[cycle(parser)]
+    #[tactic(auto, using(crate::proofs::Failing::fails_bind, crate::proofs::Failing::fails_after, crate::proofs::TerraParts::terra_expression_part, crate::proofs::Failing::fails_same))]
+    pub(crate) fn terra_expression(&mut self, levels: u32) -> Result<NodeId, SyntaxError>
+        requires { Ready self.old }
+        ensures ok { IfOk result (λ r. TookTree self.old self.new (part_at levels parts.TerraExpression (tokens_left self.old)) r) }
+        ensures err { IfErr result (λ e. Fails self.old (part_at levels parts.TerraExpression (tokens_left self.old)) e) }
+    {
+        let a = read!(self.terra_binary(TerraPrecedence::Disjunction, levels, CHAIN));
+        Ok(a.node)
+    }
+
+    /// A `,` and an expression.
+    #[cycle(parser)]
+    #[tactic(auto, using(crate::proofs::Failing::fails_bind, crate::proofs::Failing::fails_after), unfolding(crate::specs::TerraExpressions::next_terra_expression_at))]
+    pub(crate) fn next_terra_expression(&mut self, levels: u32) -> Result<NodeId, SyntaxError>
+        requires { Ready self.old }
+        ensures ok { IfOk result (λ r. TookTree self.old self.new (next_terra_expression_at levels (tokens_left self.old)) r) }
+        ensures err { IfErr result (λ e. Fails self.old (next_terra_expression_at levels (tokens_left self.old)) e) }
+    {
+        read!(self.take(Symbol::Comma));
+        self.terra_expression(levels)
+    }
+
+    /// Expressions with `,` between them.
+    #[cycle(parser)]
+    #[tactic(auto, using(crate::proofs::Failing::fails_bind, crate::proofs::Failing::fails_after, crate::proofs::Failing::fails_from, crate::proofs::TerraTurns::terra_expressions_go, crate::proofs::TerraTurns::terra_expressions_end, crate::proofs::TerraTurns::terra_expression_shorter), unfolding(crate::specs::TerraExpressions::terra_expressions_at))]
+    pub(crate) fn terra_expressions(&mut self, levels: u32) -> Result<NodeList, SyntaxError>
+        requires { Ready self.old }
+        ensures ok { IfOk result (λ r. TookList self.old self.new (terra_expressions_at levels (tokens_left self.old)) r) }
+        ensures err { IfErr result (λ e. Fails self.old (terra_expressions_at levels (tokens_left self.old)) e) }
+    {
+        let mut list = self.no_nodes();
+        let first = read!(self.terra_expression(levels));
+        read!(add(&mut list, first));
+        'more: while self.next_is(Symbol::Comma) {
+            let next = read!(self.next_terra_expression(levels));
+            read!(add(&mut list, next));
+        }
+        Ok(list)
+    }
+
+    /// The arguments of a call, up to a `)`.
+    #[cycle(parser)]
+    #[tactic(auto, using(crate::proofs::Failing::fails_bind, crate::proofs::Failing::fails_after, crate::proofs::TerraParts::terra_arguments_part, crate::proofs::Failing::fails_same), unfolding(crate::specs::TerraExpressions::terra_arguments_at))]
+    fn terra_arguments(&mut self, levels: u32) -> Result<NodeList, SyntaxError>
+        requires { Ready self.old }
+        ensures ok { IfOk result (λ r. TookList self.old self.new (part_at levels parts.TerraArguments (tokens_left self.old)) r) }
+        ensures err { IfErr result (λ e. Fails self.old (part_at levels parts.TerraArguments (tokens_left self.old)) e) }
+    {
+        if self.next_is(Symbol::CloseParen) {
+            return Ok(self.no_nodes());
+        }
+        self.terra_expressions(levels)
+    }
+
+    /// A name, `=` and its value.
+    #[cycle(parser)]
+    #[tactic(auto, using(crate::proofs::Failing::fails_bind, crate::proofs::Failing::fails_after), unfolding(crate::specs::TerraExpressions::named_initialiser_at))]
+    fn named_initialiser(&mut self, levels: u32) -> Result<NodeId, SyntaxError>
+        requires { Ready self.old }
+        ensures ok { IfOk result (λ r. TookTree self.old self.new (named_initialiser_at levels (tokens_left self.old)) r) }
+        ensures err { IfErr result (λ e. Fails self.old (named_initialiser_at levels (tokens_left self.old)) e) }
+    {
+        let name = read!(self.name());
+        read!(self.take(Symbol::Equal));
+        let value = read!(self.terra_expression(levels));
+        self.push(Node::Piece(Piece::NamedField(name, value)))
+    }
+
+    /// An initialiser, where all are named or none is.
+    #[cycle(parser)]
+    #[tactic(auto, using(crate::proofs::Failing::fails_bind, crate::proofs::Failing::fails_after), unfolding(crate::specs::TerraExpressions::initialiser_at))]
+    fn initialiser(&mut self, named: bool, levels: u32) -> Result<NodeId, SyntaxError>
+        requires { Ready self.old }
+        ensures ok { IfOk result (λ r. TookTree self.old self.new (initialiser_at levels named (tokens_left self.old)) r) }
+        ensures err { IfErr result (λ e. Fails self.old (initialiser_at levels named (tokens_left self.old)) e) }
+    {
+        if named {
+            return self.named_initialiser(levels);
+        }
+        self.terra_expression(levels)
+    }
+
+    /// The first initialiser, and whether it is named.
+    #[cycle(parser)]
+    #[tactic(auto, using(crate::proofs::Failing::fails_bind, crate::proofs::Failing::fails_after), unfolding(crate::specs::TerraExpressions::first_initialiser_at, crate::specs::TerraExpressions::initialiser_behind_at))]
+    fn first_initialiser(&mut self, levels: u32) -> Result<(NodeId, bool), SyntaxError>
+        requires { Ready self.old }
+        ensures ok { IfOk result (λ r. TookInitialiser self.old self.new (first_initialiser_at levels (tokens_left self.old)) r.0 r.1) }
+        ensures err { IfErr result (λ e. Fails self.old (first_initialiser_at levels (tokens_left self.old)) e) }
+    {
+        let e = read!(self.terra_binary(TerraPrecedence::Disjunction, levels, CHAIN));
+        if is_name(e.shape) {
+            if self.next_is(Symbol::Equal) {
+                read!(self.take(Symbol::Equal));
+                let value = read!(self.terra_expression(levels));
+                let node = read!(self.push(Node::Piece(Piece::NamedField(e.node, value))));
+                return Ok((node, true));
+            }
+        }
+        Ok((e.node, false))
+    }
+
+    /// A separator, and an initialiser if one follows.
+    #[cycle(parser)]
+    #[tactic(auto, using(crate::proofs::Failing::fails_bind, crate::proofs::Failing::fails_after), unfolding(crate::specs::TerraExpressions::next_initialiser_at))]
+    fn next_initialiser(&mut self, named: bool, levels: u32) -> Result<Option<NodeId>, SyntaxError>
+        requires { Ready self.old }
+        ensures ok { IfOk result (λ r. TookMaybe self.old self.new (next_initialiser_at levels named (tokens_left self.old)) r) }
+        ensures err { IfErr result (λ e. Fails self.old (next_initialiser_at levels named (tokens_left self.old)) e) }
+    {
+        read!(self.take_among(&SEPARATOR));
+        if self.next_is(Symbol::CloseBrace) {
+            return Ok(None);
+        }
+        let initialiser = read!(self.initialiser(named, levels));
+        Ok(Some(initialiser))
+    }
+
+    /// The initialisers of a constructor, up to a `}`.
+    #[cycle(parser)]
+    #[tactic(auto, using(crate::proofs::Failing::fails_bind, crate::proofs::Failing::fails_after, crate::proofs::TerraParts::initialisers_part, crate::proofs::Failing::fails_same, crate::proofs::Failing::fails_from, crate::proofs::TerraTurns::initialisers_go, crate::proofs::TerraTurns::initialisers_end, crate::proofs::TerraTurns::initialiser_shorter), unfolding(crate::specs::TerraExpressions::initialisers_at))]
+    fn initialisers(&mut self, levels: u32) -> Result<NodeList, SyntaxError>
+        requires { Ready self.old }
+        ensures ok { IfOk result (λ r. TookList self.old self.new (part_at levels parts.Initialisers (tokens_left self.old)) r) }
+        ensures err { IfErr result (λ e. Fails self.old (part_at levels parts.Initialisers (tokens_left self.old)) e) }
+    {
+        let mut list = self.no_nodes();
+        if self.next_is(Symbol::CloseBrace) {
+            return Ok(list);
+        }
+        let (first, named) = read!(self.first_initialiser(levels));
+        read!(add(&mut list, first));
+        'more: while self.next_is_among(&SEPARATOR) {
+            if let Some(next) = read!(self.next_initialiser(named, levels)) {
+                read!(add(&mut list, next));
+            }
+        }
+        Ok(list)
+    }
+}

@@ -1,0 +1,621 @@
+// Reading of Terra statements, of the bodies of Terra functions and of quotes.
+ghost use Rattle.std.specs.Prelude.{◌≡◌, length, true, false, IfOk, IfErr, [], ◌∷◌};
+ghost use Rattle.tl_tree.specs.TerraStatements as terra;
+ghost use Rattle.tl_tree.specs.Tree as parts;
+ghost use Rattle.tl_tree.specs.Grammar.{begins};
+ghost use Rattle.tl_parse.specs.Parsing.{tokens_left, Ready, HasNext, Fails, TookTree, TookOperand, TookList, TookOption};
+ghost use Rattle.tl_parse.specs.Using.{part_at};
+ghost use Rattle.tl_parse.specs.Going.{TookStatement};
+ghost use Rattle.tl_parse.specs.Statements.{is_call};
+ghost use Rattle.tl_parse.specs.TerraStatements.{written_type_at, terra_loop_at, terra_arm_at, next_terra_arm_at, terra_arms_at, terra_otherwise_at, terra_step_at, terra_variable_at, next_terra_variable_at, terra_variables_at, terra_initial_values_at, terra_returned_values_at, terra_target_at, terra_simple_statement_at, is_escape, terra_goes_on, terra_function_body_at, quoted_expression_at, quoted_code_at, terra_do_at, terra_while_at, terra_repeat_at, terra_if_at, terra_for_at, terra_var_at, escape_block_at, terra_return_at, terra_break_at, terra_statement_at, next_terra_statement_at, terra_parameter_at, next_terra_parameter_at, terra_parameters_at};
+
+use crate::error::SyntaxError;
+use crate::parser::{CHAIN, Operand, Parser, add};
+use crate::statements::is_call;
+use tl_base::{NodeId, Place};
+use tl_tree::{Context, Mode, Node, NodeList, Piece, Shape, Symbol, TerraStatement};
+
+/// The block of an `escape`.
+const EMITTING: Context = Context {
+    mode: Mode::Plain,
+    in_loop: false,
+    emits: true,
+};
+
+static EXPRESSION: [Symbol; 14] = [
+    Symbol::Name,
+    Symbol::Numeral,
+    Symbol::LongNumeral,
+    Symbol::UnsignedNumeral,
+    Symbol::Literal,
+    Symbol::Nil,
+    Symbol::False,
+    Symbol::True,
+    Symbol::OpenParen,
+    Symbol::OpenBracket,
+    Symbol::Not,
+    Symbol::Minus,
+    Symbol::At,
+    Symbol::Ampersand,
+];
+
+static STATEMENT: [Symbol; 13] = [
+    Symbol::Name,
+    Symbol::OpenParen,
+    Symbol::OpenBracket,
+    Symbol::At,
+    Symbol::Do,
+    Symbol::While,
+    Symbol::Repeat,
+    Symbol::If,
+    Symbol::For,
+    Symbol::Var,
+    Symbol::Escape,
+    Symbol::Return,
+    Symbol::Break,
+];
+
+static ASSIGNMENT: [Symbol; 2] = [Symbol::Equal, Symbol::Comma];
+
+static LAST: [Symbol; 2] = [Symbol::Return, Symbol::Break];
+
+fn is_escape(shape: Shape) -> bool
+    ensures { result ≡ is_escape shape }
+{
+    match shape {
+        Shape::Escape => true,
+        _ => false,
+    }
+}
+
+impl<'a> Parser<'a> {
+    /// A type behind a `:`, if there is one.
+    #[cycle(parser)]
+    #[tactic(auto, using(crate::proofs::Failing::fails_bind, crate::proofs::Failing::fails_after), unfolding(crate::specs::TerraStatements::written_type_at))]
+    fn written_type(&mut self, levels: u32) -> Result<Option<NodeId>, SyntaxError>
+        requires { Ready self.old }
+        ensures ok { IfOk result (λ r. TookOption self.old self.new (written_type_at levels (tokens_left self.old)) r) }
+        ensures err { IfErr result (λ e. Fails self.old (written_type_at levels (tokens_left self.old)) e) }
+    {
+        if self.next_is(Symbol::Colon) {
+            read!(self.take(Symbol::Colon));
+            let written = read!(self.expression(Mode::Types, levels));
+            return Ok(Some(written));
+        }
+        Ok(None)
+    }
+
+    /// The block of a loop, from `do` to `end`.
+    #[cycle(parser)]
+    #[tactic(auto, using(crate::proofs::Failing::fails_bind, crate::proofs::Failing::fails_after), unfolding(crate::specs::TerraStatements::terra_loop_at))]
+    fn terra_loop(&mut self, levels: u32) -> Result<NodeId, SyntaxError>
+        requires { Ready self.old }
+        ensures ok { IfOk result (λ r. TookTree self.old self.new (terra_loop_at levels (tokens_left self.old)) r) }
+        ensures err { IfErr result (λ e. Fails self.old (terra_loop_at levels (tokens_left self.old)) e) }
+    {
+        read!(self.open(Symbol::Do, levels));
+        let block = read!(self.terra_block(levels - 1));
+        read!(self.take(Symbol::End));
+        Ok(block)
+    }
+
+    /// A condition, `then` and a block.
+    #[cycle(parser)]
+    #[tactic(auto, using(crate::proofs::Failing::fails_bind, crate::proofs::Failing::fails_after), unfolding(crate::specs::TerraStatements::terra_arm_at))]
+    fn terra_arm(&mut self, levels: u32) -> Result<NodeId, SyntaxError>
+        requires { Ready self.old }
+        ensures ok { IfOk result (λ r. TookTree self.old self.new (terra_arm_at levels (tokens_left self.old)) r) }
+        ensures err { IfErr result (λ e. Fails self.old (terra_arm_at levels (tokens_left self.old)) e) }
+    {
+        let condition = read!(self.terra_expression(levels));
+        read!(self.open(Symbol::Then, levels));
+        let block = read!(self.terra_block(levels - 1));
+        self.push(Node::Piece(Piece::Arm(condition, block)))
+    }
+
+    /// `elseif` and an arm.
+    #[cycle(parser)]
+    #[tactic(auto, using(crate::proofs::Failing::fails_bind, crate::proofs::Failing::fails_after), unfolding(crate::specs::TerraStatements::next_terra_arm_at))]
+    fn next_terra_arm(&mut self, levels: u32) -> Result<NodeId, SyntaxError>
+        requires { Ready self.old }
+        ensures ok { IfOk result (λ r. TookTree self.old self.new (next_terra_arm_at levels (tokens_left self.old)) r) }
+        ensures err { IfErr result (λ e. Fails self.old (next_terra_arm_at levels (tokens_left self.old)) e) }
+    {
+        read!(self.take(Symbol::Elseif));
+        self.terra_arm(levels)
+    }
+
+    /// The arms of an `if`, with `elseif` between them.
+    #[cycle(parser)]
+    #[tactic(auto, using(crate::proofs::Failing::fails_bind, crate::proofs::Failing::fails_after, crate::proofs::Failing::fails_from, crate::proofs::TerraStatementTurns::terra_arms_go, crate::proofs::TerraStatementTurns::terra_arms_end, crate::proofs::TerraStatementTurns::terra_arm_shorter), unfolding(crate::specs::TerraStatements::terra_arms_at))]
+    fn terra_arms(&mut self, levels: u32) -> Result<NodeList, SyntaxError>
+        requires { Ready self.old }
+        ensures ok { IfOk result (λ r. TookList self.old self.new (terra_arms_at levels (tokens_left self.old)) r) }
+        ensures err { IfErr result (λ e. Fails self.old (terra_arms_at levels (tokens_left self.old)) e) }
+    {
+        let mut arms = self.no_nodes();
+        let first = read!(self.terra_arm(levels));
+        read!(add(&mut arms, first));
+        'more: while self.next_is(Symbol::Elseif) {
+            let next = read!(self.next_terra_arm(levels));
+            read!(add(&mut arms, next));
+        }
+        Ok(arms)
+    }
+
+    /// `else` and a block, if there is one.
+    #[cycle(parser)]
+    #[tactic(auto, using(crate::proofs::Failing::fails_bind, crate::proofs::Failing::fails_after), unfolding(crate::specs::TerraStatements::terra_otherwise_at))]
+    fn terra_otherwise(&mut self, levels: u32) -> Result<Option<NodeId>, SyntaxError>
+        requires { Ready self.old }
+        ensures ok { IfOk result (λ r. TookOption self.old self.new (terra_otherwise_at levels (tokens_left self.old)) r) }
+        ensures err { IfErr result (λ e. Fails self.old (terra_otherwise_at levels (tokens_left self.old)) e) }
+    {
+        if self.next_is(Symbol::Else) {
+            read!(self.open(Symbol::Else, levels));
+            let block = read!(self.terra_block(levels - 1));
+            return Ok(Some(block));
+        }
+        Ok(None)
+    }
+
+    /// The step of a loop behind a `,`, if there is one.
+    #[cycle(parser)]
+    #[tactic(auto, using(crate::proofs::Failing::fails_bind, crate::proofs::Failing::fails_after), unfolding(crate::specs::TerraStatements::terra_step_at))]
+    fn terra_step(&mut self, levels: u32) -> Result<Option<NodeId>, SyntaxError>
+        requires { Ready self.old }
+        ensures ok { IfOk result (λ r. TookOption self.old self.new (terra_step_at levels (tokens_left self.old)) r) }
+        ensures err { IfErr result (λ e. Fails self.old (terra_step_at levels (tokens_left self.old)) e) }
+    {
+        if self.next_is(Symbol::Comma) {
+            read!(self.take(Symbol::Comma));
+            let step = read!(self.terra_expression(levels));
+            return Ok(Some(step));
+        }
+        Ok(None)
+    }
+
+    /// A name that `var` declares, with its type.
+    #[cycle(parser)]
+    #[tactic(auto, using(crate::proofs::Failing::fails_bind, crate::proofs::Failing::fails_after), unfolding(crate::specs::TerraStatements::terra_variable_at))]
+    fn terra_variable(&mut self, levels: u32) -> Result<NodeId, SyntaxError>
+        requires { Ready self.old }
+        ensures ok { IfOk result (λ r. TookTree self.old self.new (terra_variable_at levels (tokens_left self.old)) r) }
+        ensures err { IfErr result (λ e. Fails self.old (terra_variable_at levels (tokens_left self.old)) e) }
+    {
+        let name = read!(self.terra_name(levels));
+        let written = read!(self.written_type(levels));
+        self.push(Node::Piece(Piece::Variable(name, written)))
+    }
+
+    /// A `,` and a name that `var` declares.
+    #[cycle(parser)]
+    #[tactic(auto, using(crate::proofs::Failing::fails_bind, crate::proofs::Failing::fails_after), unfolding(crate::specs::TerraStatements::next_terra_variable_at))]
+    fn next_terra_variable(&mut self, levels: u32) -> Result<NodeId, SyntaxError>
+        requires { Ready self.old }
+        ensures ok { IfOk result (λ r. TookTree self.old self.new (next_terra_variable_at levels (tokens_left self.old)) r) }
+        ensures err { IfErr result (λ e. Fails self.old (next_terra_variable_at levels (tokens_left self.old)) e) }
+    {
+        read!(self.take(Symbol::Comma));
+        self.terra_variable(levels)
+    }
+
+    /// The names that `var` declares, with `,` between them.
+    #[cycle(parser)]
+    #[tactic(auto, using(crate::proofs::Failing::fails_bind, crate::proofs::Failing::fails_after, crate::proofs::Failing::fails_from, crate::proofs::TerraStatementTurns::terra_variables_go, crate::proofs::TerraStatementTurns::terra_variables_end, crate::proofs::TerraStatementTurns::terra_variable_shorter), unfolding(crate::specs::TerraStatements::terra_variables_at))]
+    fn terra_variables(&mut self, levels: u32) -> Result<NodeList, SyntaxError>
+        requires { Ready self.old }
+        ensures ok { IfOk result (λ r. TookList self.old self.new (terra_variables_at levels (tokens_left self.old)) r) }
+        ensures err { IfErr result (λ e. Fails self.old (terra_variables_at levels (tokens_left self.old)) e) }
+    {
+        let mut list = self.no_nodes();
+        let first = read!(self.terra_variable(levels));
+        read!(add(&mut list, first));
+        'more: while self.next_is(Symbol::Comma) {
+            let next = read!(self.next_terra_variable(levels));
+            read!(add(&mut list, next));
+        }
+        Ok(list)
+    }
+
+    /// The values behind a `=`, if there are any.
+    #[cycle(parser)]
+    #[tactic(auto, using(crate::proofs::Failing::fails_bind, crate::proofs::Failing::fails_after), unfolding(crate::specs::TerraStatements::terra_initial_values_at))]
+    fn terra_initial_values(&mut self, levels: u32) -> Result<NodeList, SyntaxError>
+        requires { Ready self.old }
+        ensures ok { IfOk result (λ r. TookList self.old self.new (terra_initial_values_at levels (tokens_left self.old)) r) }
+        ensures err { IfErr result (λ e. Fails self.old (terra_initial_values_at levels (tokens_left self.old)) e) }
+    {
+        if self.next_is(Symbol::Equal) {
+            read!(self.take(Symbol::Equal));
+            return self.terra_expressions(levels);
+        }
+        Ok(self.no_nodes())
+    }
+
+    /// The values behind `return`, if there are any.
+    #[cycle(parser)]
+    #[tactic(auto, using(crate::proofs::Failing::fails_bind, crate::proofs::Failing::fails_after), unfolding(crate::specs::TerraStatements::terra_returned_values_at))]
+    fn terra_returned_values(&mut self, levels: u32) -> Result<NodeList, SyntaxError>
+        requires { Ready self.old }
+        ensures ok { IfOk result (λ r. TookList self.old self.new (terra_returned_values_at levels (tokens_left self.old)) r) }
+        ensures err { IfErr result (λ e. Fails self.old (terra_returned_values_at levels (tokens_left self.old)) e) }
+    {
+        if self.next_is_among(&EXPRESSION) {
+            return self.terra_expressions(levels);
+        }
+        Ok(self.no_nodes())
+    }
+
+    /// The first expression of a statement that no word begins.
+    #[cycle(parser)]
+    #[tactic(auto, using(crate::proofs::Failing::fails_bind, crate::proofs::Failing::fails_after), unfolding(crate::specs::TerraStatements::terra_target_at))]
+    fn terra_target(&mut self, levels: u32) -> Result<Operand, SyntaxError>
+        requires { Ready self.old }
+        ensures ok { IfOk result (λ r. TookOperand self.old self.new (terra_target_at levels (tokens_left self.old)) r) }
+        ensures err { IfErr result (λ e. Fails self.old (terra_target_at levels (tokens_left self.old)) e) }
+    {
+        if self.next_is(Symbol::At) {
+            let node = read!(self.terra_expression(levels));
+            return Ok(Operand {
+                node,
+                left: CHAIN,
+                shape: Shape::Other,
+            });
+        }
+        self.terra_applied(levels)
+    }
+
+    /// A call, Lua code in brackets or an assignment.
+    #[cycle(parser)]
+    #[tactic(auto, using(crate::proofs::Failing::fails_bind, crate::proofs::Failing::fails_after, crate::proofs::Failing::fails_from, crate::proofs::TerraStatementTurns::terra_targets_go, crate::proofs::TerraStatementTurns::terra_targets_end, crate::proofs::TerraStatementTurns::terra_target_shorter), unfolding(crate::specs::TerraStatements::terra_simple_statement_at, crate::specs::TerraStatements::terra_statement_behind_at, crate::specs::TerraStatements::terra_assignment_at))]
+    fn terra_simple_statement(&mut self, levels: u32) -> Result<NodeId, SyntaxError>
+        requires ready { Ready self.old }
+        requires next { HasNext (tokens_left self.old) }
+        ensures ok { IfOk result (λ r. TookTree self.old self.new (terra_simple_statement_at levels (tokens_left self.old)) r) }
+        ensures err { IfErr result (λ e. Fails self.old (terra_simple_statement_at levels (tokens_left self.old)) e) }
+    {
+        let place = self.next_place();
+        let first = read!(self.terra_target(levels));
+        if is_call(first.shape) {
+            return self.push(Node::TerraStatement(place, TerraStatement::Call(first.node)));
+        }
+        if is_escape(first.shape) && !self.next_is_among(&ASSIGNMENT) {
+            return self.push(Node::TerraStatement(place, TerraStatement::Splice(first.node)));
+        }
+        let mut targets = self.no_nodes();
+        read!(add(&mut targets, first.node));
+        'more: while self.next_is(Symbol::Comma) {
+            let next = read!(self.next_terra_expression(levels));
+            read!(add(&mut targets, next));
+        }
+        read!(self.take(Symbol::Equal));
+        let values = read!(self.terra_expressions(levels));
+        self.push(Node::TerraStatement(place, TerraStatement::Assign(targets, values)))
+    }
+
+    /// A block alone.
+    #[cycle(parser)]
+    #[tactic(auto, using(crate::proofs::Failing::fails_bind, crate::proofs::Failing::fails_after), unfolding(crate::specs::TerraStatements::terra_do_at))]
+    fn terra_do(&mut self, levels: u32) -> Result<NodeId, SyntaxError>
+        requires { Ready self.old }
+        ensures ok { IfOk result (λ r. TookTree self.old self.new (terra_do_at levels (tokens_left self.old)) r) }
+        ensures err { IfErr result (λ e. Fails self.old (terra_do_at levels (tokens_left self.old)) e) }
+    {
+        let token = read!(self.open(Symbol::Do, levels));
+        let block = read!(self.terra_block(levels - 1));
+        read!(self.take(Symbol::End));
+        self.push(Node::TerraStatement(token.place, TerraStatement::Do(block)))
+    }
+
+    /// A `while` loop.
+    #[cycle(parser)]
+    #[tactic(auto, using(crate::proofs::Failing::fails_bind, crate::proofs::Failing::fails_after), unfolding(crate::specs::TerraStatements::terra_while_at))]
+    fn terra_while(&mut self, levels: u32) -> Result<NodeId, SyntaxError>
+        requires { Ready self.old }
+        ensures ok { IfOk result (λ r. TookTree self.old self.new (terra_while_at levels (tokens_left self.old)) r) }
+        ensures err { IfErr result (λ e. Fails self.old (terra_while_at levels (tokens_left self.old)) e) }
+    {
+        let token = read!(self.take(Symbol::While));
+        let condition = read!(self.terra_expression(levels));
+        let block = read!(self.terra_loop(levels));
+        self.push(Node::TerraStatement(token.place, TerraStatement::While(condition, block)))
+    }
+
+    /// A `repeat` loop. Its condition is read at the level of the statement.
+    #[cycle(parser)]
+    #[tactic(auto, using(crate::proofs::Failing::fails_bind, crate::proofs::Failing::fails_after), unfolding(crate::specs::TerraStatements::terra_repeat_at))]
+    fn terra_repeat(&mut self, levels: u32) -> Result<NodeId, SyntaxError>
+        requires { Ready self.old }
+        ensures ok { IfOk result (λ r. TookTree self.old self.new (terra_repeat_at levels (tokens_left self.old)) r) }
+        ensures err { IfErr result (λ e. Fails self.old (terra_repeat_at levels (tokens_left self.old)) e) }
+    {
+        let token = read!(self.open(Symbol::Repeat, levels));
+        let block = read!(self.terra_block(levels - 1));
+        read!(self.take(Symbol::Until));
+        let condition = read!(self.terra_expression(levels));
+        self.push(Node::TerraStatement(token.place, TerraStatement::Repeat(block, condition)))
+    }
+
+    /// An `if` with its arms.
+    #[cycle(parser)]
+    #[tactic(auto, using(crate::proofs::Failing::fails_bind, crate::proofs::Failing::fails_after), unfolding(crate::specs::TerraStatements::terra_if_at))]
+    fn terra_if(&mut self, levels: u32) -> Result<NodeId, SyntaxError>
+        requires { Ready self.old }
+        ensures ok { IfOk result (λ r. TookTree self.old self.new (terra_if_at levels (tokens_left self.old)) r) }
+        ensures err { IfErr result (λ e. Fails self.old (terra_if_at levels (tokens_left self.old)) e) }
+    {
+        let token = read!(self.take(Symbol::If));
+        let arms = read!(self.terra_arms(levels));
+        let otherwise = read!(self.terra_otherwise(levels));
+        read!(self.take(Symbol::End));
+        self.push(Node::TerraStatement(token.place, TerraStatement::If(arms, otherwise)))
+    }
+
+    /// A `for` loop.
+    #[cycle(parser)]
+    #[tactic(auto, using(crate::proofs::Failing::fails_bind, crate::proofs::Failing::fails_after), unfolding(crate::specs::TerraStatements::terra_for_at))]
+    fn terra_for(&mut self, levels: u32) -> Result<NodeId, SyntaxError>
+        requires { Ready self.old }
+        ensures ok { IfOk result (λ r. TookTree self.old self.new (terra_for_at levels (tokens_left self.old)) r) }
+        ensures err { IfErr result (λ e. Fails self.old (terra_for_at levels (tokens_left self.old)) e) }
+    {
+        let token = read!(self.take(Symbol::For));
+        let name = read!(self.terra_name(levels));
+        read!(self.take(Symbol::Equal));
+        let first = read!(self.terra_expression(levels));
+        read!(self.take(Symbol::Comma));
+        let limit = read!(self.terra_expression(levels));
+        let step = read!(self.terra_step(levels));
+        let block = read!(self.terra_loop(levels));
+        self.push(Node::TerraStatement(
+            token.place,
+            TerraStatement::For(name, first, limit, step, block),
+        ))
+    }
+
+    /// A declaration of variables.
+    #[cycle(parser)]
+    #[tactic(auto, using(crate::proofs::Failing::fails_bind, crate::proofs::Failing::fails_after), unfolding(crate::specs::TerraStatements::terra_var_at))]
+    fn terra_var(&mut self, levels: u32) -> Result<NodeId, SyntaxError>
+        requires { Ready self.old }
+        ensures ok { IfOk result (λ r. TookTree self.old self.new (terra_var_at levels (tokens_left self.old)) r) }
+        ensures err { IfErr result (λ e. Fails self.old (terra_var_at levels (tokens_left self.old)) e) }
+    {
+        let token = read!(self.take(Symbol::Var));
+        let variables = read!(self.terra_variables(levels));
+        let values = read!(self.terra_initial_values(levels));
+        self.push(Node::TerraStatement(token.place, TerraStatement::Var(variables, values)))
+    }
+
+    /// An `escape` with its Lua code.
+    #[cycle(parser)]
+    #[tactic(auto, using(crate::proofs::Failing::fails_bind, crate::proofs::Failing::fails_after), unfolding(crate::specs::TerraStatements::escape_block_at))]
+    fn escape_block(&mut self, levels: u32) -> Result<NodeId, SyntaxError>
+        requires { Ready self.old }
+        ensures ok { IfOk result (λ r. TookTree self.old self.new (escape_block_at levels (tokens_left self.old)) r) }
+        ensures err { IfErr result (λ e. Fails self.old (escape_block_at levels (tokens_left self.old)) e) }
+    {
+        let token = read!(self.open(Symbol::Escape, levels));
+        let block = read!(self.block(EMITTING, levels - 1));
+        read!(self.take(Symbol::End));
+        self.push(Node::TerraStatement(token.place, TerraStatement::Escape(block)))
+    }
+
+    /// A `return` with its values.
+    #[cycle(parser)]
+    #[tactic(auto, using(crate::proofs::Failing::fails_bind, crate::proofs::Failing::fails_after), unfolding(crate::specs::TerraStatements::terra_return_at))]
+    fn terra_return(&mut self, levels: u32) -> Result<NodeId, SyntaxError>
+        requires { Ready self.old }
+        ensures ok { IfOk result (λ r. TookTree self.old self.new (terra_return_at levels (tokens_left self.old)) r) }
+        ensures err { IfErr result (λ e. Fails self.old (terra_return_at levels (tokens_left self.old)) e) }
+    {
+        let token = read!(self.take(Symbol::Return));
+        let values = read!(self.terra_returned_values(levels));
+        self.push(Node::TerraStatement(token.place, TerraStatement::Return(values)))
+    }
+
+    /// A `break`.
+    #[tactic(auto, using(crate::proofs::Failing::fails_bind, crate::proofs::Failing::fails_after), unfolding(crate::specs::TerraStatements::terra_break_at))]
+    fn terra_break(&mut self) -> Result<NodeId, SyntaxError>
+        requires { Ready self.old }
+        ensures ok { IfOk result (λ r. TookTree self.old self.new (terra_break_at (tokens_left self.old)) r) }
+        ensures err { IfErr result (λ e. Fails self.old (terra_break_at (tokens_left self.old)) e) }
+    {
+        let token = read!(self.take(Symbol::Break));
+        self.push(Node::TerraStatement(token.place, TerraStatement::Break))
+    }
+
+    /// A statement.
+    #[cycle(parser)]
+    #[tactic(auto, using(crate::proofs::Failing::fails_bind, crate::proofs::Failing::fails_after), unfolding(crate::specs::TerraStatements::terra_statement_at))]
+    fn terra_statement(&mut self, levels: u32) -> Result<NodeId, SyntaxError>
+        requires ready { Ready self.old }
+        requires next { HasNext (tokens_left self.old) }
+        ensures ok { IfOk result (λ r. TookTree self.old self.new (terra_statement_at levels (tokens_left self.old)) r) }
+        ensures err { IfErr result (λ e. Fails self.old (terra_statement_at levels (tokens_left self.old)) e) }
+    {
+        if self.next_is(Symbol::Do) {
+            return self.terra_do(levels);
+        }
+        if self.next_is(Symbol::While) {
+            return self.terra_while(levels);
+        }
+        if self.next_is(Symbol::Repeat) {
+            return self.terra_repeat(levels);
+        }
+        if self.next_is(Symbol::If) {
+            return self.terra_if(levels);
+        }
+        if self.next_is(Symbol::For) {
+            return self.terra_for(levels);
+        }
+        if self.next_is(Symbol::Var) {
+            return self.terra_var(levels);
+        }
+        if self.next_is(Symbol::Escape) {
+            return self.escape_block(levels);
+        }
+        if self.next_is(Symbol::Return) {
+            return self.terra_return(levels);
+        }
+        if self.next_is(Symbol::Break) {
+            return self.terra_break();
+        }
+        self.terra_simple_statement(levels)
+    }
+
+    /// A statement and the `;` behind it, and whether it ends its block.
+    #[cycle(parser)]
+    #[tactic(auto, using(crate::proofs::Failing::fails_bind, crate::proofs::Failing::fails_after), unfolding(crate::specs::TerraStatements::next_terra_statement_at))]
+    fn next_terra_statement(&mut self, levels: u32) -> Result<(NodeId, bool), SyntaxError>
+        requires next { HasNext (tokens_left self.old) }
+        requires ready { Ready self.old }
+        ensures ok { IfOk result (λ r. TookStatement self.old self.new (next_terra_statement_at levels (tokens_left self.old)) r.0 r.1) }
+        ensures err { IfErr result (λ e. Fails self.old (next_terra_statement_at levels (tokens_left self.old)) e) }
+    {
+        let ends = self.next_is_among(&LAST);
+        let node = read!(self.terra_statement(levels));
+        if self.next_is(Symbol::Semicolon) {
+            read!(self.take(Symbol::Semicolon));
+            return Ok((node, ends));
+        }
+        Ok((node, ends))
+    }
+
+    /// May the next token begin one more statement of a block, which has ended or hasn't?
+    #[tactic(auto, using(crate::proofs::TerraStatementTurns::ended_stays, crate::proofs::TerraStatementTurns::open_goes_on))]
+    fn next_goes_on_with_terra(&self, ended: bool) -> bool
+        ensures { result ≡ begins (λ t. terra_goes_on ended t) (tokens_left self.now) }
+    {
+        if ended {
+            return false;
+        }
+        self.next_is_among(&STATEMENT)
+    }
+
+    /// The statements of a block.
+    #[cycle(parser)]
+    #[tactic(auto, using(crate::proofs::Failing::fails_bind, crate::proofs::Failing::fails_after, crate::proofs::Taking::next_of, crate::proofs::TerraStatementParts::terra_block_part, crate::proofs::TerraStatementTurns::terra_block_goes, crate::proofs::TerraStatementTurns::terra_block_ends, crate::proofs::TerraStatementTurns::terra_statement_shorter, crate::proofs::Failing::fails_same, crate::proofs::Failing::fails_from), unfolding(crate::specs::TerraStatements::terra_block_at))]
+    pub(crate) fn terra_block(&mut self, levels: u32) -> Result<NodeId, SyntaxError>
+        requires { Ready self.old }
+        ensures ok { IfOk result (λ r. TookTree self.old self.new (part_at levels parts.TerraStatements (tokens_left self.old)) r) }
+        ensures err { IfErr result (λ e. Fails self.old (part_at levels parts.TerraStatements (tokens_left self.old)) e) }
+    {
+        let mut list = self.no_nodes();
+        let mut ended = false;
+        'more: while self.next_goes_on_with_terra(ended) {
+            let (node, ends) = read!(self.next_terra_statement(levels));
+            read!(add(&mut list, node));
+            ended = ends;
+        }
+        self.push(Node::Piece(Piece::Block(list)))
+    }
+
+    /// A parameter of a Terra function.
+    #[cycle(parser)]
+    #[tactic(auto, using(crate::proofs::Failing::fails_bind, crate::proofs::Failing::fails_after), unfolding(crate::specs::TerraStatements::terra_parameter_at))]
+    fn terra_parameter(&mut self, levels: u32) -> Result<NodeId, SyntaxError>
+        requires { Ready self.old }
+        ensures ok { IfOk result (λ r. TookTree self.old self.new (terra_parameter_at levels (tokens_left self.old)) r) }
+        ensures err { IfErr result (λ e. Fails self.old (terra_parameter_at levels (tokens_left self.old)) e) }
+    {
+        if self.next_is(Symbol::OpenBracket) {
+            let escape = read!(self.escape(levels));
+            return self.push(Node::Piece(Piece::SpliceParameter(escape)));
+        }
+        let name = read!(self.name());
+        read!(self.take(Symbol::Colon));
+        let written = read!(self.expression(Mode::Types, levels));
+        self.push(Node::Piece(Piece::Parameter(name, written)))
+    }
+
+    /// A `,` and a parameter.
+    #[cycle(parser)]
+    #[tactic(auto, using(crate::proofs::Failing::fails_bind, crate::proofs::Failing::fails_after), unfolding(crate::specs::TerraStatements::next_terra_parameter_at))]
+    fn next_terra_parameter(&mut self, levels: u32) -> Result<NodeId, SyntaxError>
+        requires { Ready self.old }
+        ensures ok { IfOk result (λ r. TookTree self.old self.new (next_terra_parameter_at levels (tokens_left self.old)) r) }
+        ensures err { IfErr result (λ e. Fails self.old (next_terra_parameter_at levels (tokens_left self.old)) e) }
+    {
+        read!(self.take(Symbol::Comma));
+        self.terra_parameter(levels)
+    }
+
+    /// The parameters of a Terra function, up to a `)`.
+    #[cycle(parser)]
+    #[tactic(auto, using(crate::proofs::Failing::fails_bind, crate::proofs::Failing::fails_after, crate::proofs::Failing::fails_from, crate::proofs::TerraStatementTurns::terra_parameters_go, crate::proofs::TerraStatementTurns::terra_parameters_end, crate::proofs::TerraStatementTurns::terra_parameter_shorter), unfolding(crate::specs::TerraStatements::terra_parameters_at))]
+    fn terra_parameters(&mut self, levels: u32) -> Result<NodeList, SyntaxError>
+        requires { Ready self.old }
+        ensures ok { IfOk result (λ r. TookList self.old self.new (terra_parameters_at levels (tokens_left self.old)) r) }
+        ensures err { IfErr result (λ e. Fails self.old (terra_parameters_at levels (tokens_left self.old)) e) }
+    {
+        let mut list = self.no_nodes();
+        if self.next_is(Symbol::CloseParen) {
+            return Ok(list);
+        }
+        let first = read!(self.terra_parameter(levels));
+        read!(add(&mut list, first));
+        'more: while self.next_is(Symbol::Comma) {
+            let next = read!(self.next_terra_parameter(levels));
+            read!(add(&mut list, next));
+        }
+        Ok(list)
+    }
+
+    /// The parameters, the result type and the block of a Terra function, up to its `end`.
+    #[cycle(parser)]
+    #[tactic(auto, using(crate::proofs::Failing::fails_bind, crate::proofs::Failing::fails_after), unfolding(crate::specs::TerraStatements::terra_function_body_at))]
+    fn terra_body(&mut self, levels: u32) -> Result<NodeId, SyntaxError>
+        requires { Ready self.old }
+        ensures ok { IfOk result (λ r. TookTree self.old self.new (terra_function_body_at levels (tokens_left self.old)) r) }
+        ensures err { IfErr result (λ e. Fails self.old (terra_function_body_at levels (tokens_left self.old)) e) }
+    {
+        let parameters = read!(self.terra_parameters(levels));
+        read!(self.take(Symbol::CloseParen));
+        let written = read!(self.written_type(levels));
+        let block = read!(self.terra_block(levels));
+        read!(self.take(Symbol::End));
+        self.push(Node::Piece(Piece::TerraBody(parameters, written, block)))
+    }
+
+    /// What the `(` of a Terra function's parameters opens.
+    #[cycle(parser)]
+    #[tactic(auto, using(crate::proofs::TerraStatementParts::terra_function_body_part, crate::proofs::Failing::fails_same))]
+    pub(crate) fn terra_function_body(&mut self, levels: u32) -> Result<NodeId, SyntaxError>
+        requires { Ready self.old }
+        ensures ok { IfOk result (λ r. TookTree self.old self.new (part_at levels parts.TerraFunctionBody (tokens_left self.old)) r) }
+        ensures err { IfErr result (λ e. Fails self.old (part_at levels parts.TerraFunctionBody (tokens_left self.old)) e) }
+    {
+        self.terra_body(levels)
+    }
+
+    /// The expression of a quote behind `in`, if there is one.
+    #[cycle(parser)]
+    #[tactic(auto, using(crate::proofs::Failing::fails_bind, crate::proofs::Failing::fails_after), unfolding(crate::specs::TerraStatements::quoted_expression_at))]
+    fn quoted_expression(&mut self, levels: u32) -> Result<Option<NodeId>, SyntaxError>
+        requires { Ready self.old }
+        ensures ok { IfOk result (λ r. TookOption self.old self.new (quoted_expression_at levels (tokens_left self.old)) r) }
+        ensures err { IfErr result (λ e. Fails self.old (quoted_expression_at levels (tokens_left self.old)) e) }
+    {
+        if self.next_is(Symbol::In) {
+            read!(self.take(Symbol::In));
+            let expression = read!(self.terra_expression(levels));
+            return Ok(Some(expression));
+        }
+        Ok(None)
+    }
+
+    /// The block of a quote and its expression.
+    #[cycle(parser)]
+    #[tactic(auto, using(crate::proofs::Failing::fails_bind, crate::proofs::Failing::fails_after, crate::proofs::TerraStatementParts::quoted_code_part, crate::proofs::Failing::fails_same), unfolding(crate::specs::TerraStatements::quoted_code_at))]
+    pub(crate) fn quoted_code(&mut self, levels: u32) -> Result<NodeId, SyntaxError>
+        requires { Ready self.old }
+        ensures ok { IfOk result (λ r. TookTree self.old self.new (part_at levels parts.QuotedCode (tokens_left self.old)) r) }
+        ensures err { IfErr result (λ e. Fails self.old (part_at levels parts.QuotedCode (tokens_left self.old)) e) }
+    {
+        let block = read!(self.terra_block(levels));
+        let expression = read!(self.quoted_expression(levels));
+        self.push(Node::Piece(Piece::Quoted(block, expression)))
+    }
+}
