@@ -4,10 +4,8 @@ use Rattle.std.specs.Prelude.{◌&&◌, codes, nat_le, MatchOption}
 use Rattle.std.specs.Borrow.{Bor}
 use Rattle.std.specs.Str.{bytes_eq}
 use Rattle.std.proofs.lemmas.Slice.Eq.{bytes_eq-Decides}
-use Rattle.std.proofs.lemmas.Bool.{leb-true, le-leb}
-use Rattle.first_form.specs.Tokens.{is_digit}
-use Rattle.first_form.specs.Grammar.{has_no_leading_zero, are_digits, number_after, IsLiteral}
-use Rattle.first_form.specs.Reading.{small_number, literal_with, literal_of}
+use Rattle.std.proofs.lemmas.Bool.{leb-true}
+use Rattle.first_form.specs.Form.{has_no_leading_zero, is_digit, small_number, literal_with, literal_of}
 
 -- the front of two lists that are joined
 take_all : (digits ends : List ℕ) → take (length digits) (digits ++ ends) ≡ digits
@@ -58,7 +56,7 @@ ends_some bytes suffix (Some x) digits b is h e z =
 
 -- ---- what the value is
 
--- a choice that gives a value
+-- a test whose answer holds
 cond_is : (b : Bool) (o : Option ℕ) (v : ℕ) → cond b o None ≡ Some v → (b ≡ true) × (o ≡ Some v)
 cond_is true o v e = (refl, e)
 cond_is false o v e = absurd cc
@@ -67,56 +65,17 @@ and_is : (a b : Bool) → (a && b) ≡ true → (a ≡ true) × (b ≡ true)
 and_is true b e = (refl, e)
 and_is false b e = absurd cc
 
-and_both : (a b : Bool) → a ≡ true → b ≡ true → (a && b) ≡ true
-and_both true b p q = q
-and_both false b p q = absurd cc
-
--- what a small number that is found says of its digits
-small_sound : (n : ℕ) (digits : List ℕ) (v : ℕ) → n ≤ 2047 → small_number n digits ≡ Some v → (are_digits digits ≡ true) × (number_after n digits ≡ v) × (v ≤ 2047)
-small_sound n [] v le e = let same : n ≡ v = cc in (refl, same, omega arith)
-small_sound n (d ∷ digits) v le e =
+small_is : (n : ℕ) (digits : List ℕ) (v : ℕ) → n ≤ 2047 → small_number n digits ≡ Some v → v ≤ 2047
+small_is n [] v le e = let same : n ≡ v = cc in omega arith
+small_is n (d ∷ digits) v le e =
     let both = cond_is (is_digit d && nat_le (n * 10 + (d - 48)) 2047) (small_number (n * 10 + (d - 48)) digits) v e in
     let parts = and_is (is_digit d) (nat_le (n * 10 + (d - 48)) 2047) both.0 in
-    let rest = small_sound (n * 10 + (d - 48)) digits v (leb-true _ _ parts.1) both.1 in
-    (and_both (is_digit d) (are_digits digits) parts.0 rest.0, rest.1, rest.2)
+    small_is (n * 10 + (d - 48)) digits v (leb-true _ _ parts.1) both.1
 
--- more digits make no smaller number
-number_grows : (n : ℕ) (digits : List ℕ) → n ≤ number_after n digits
-number_grows n [] = omega arith
-number_grows n (d ∷ digits) = let more = number_grows (n * 10 + (d - 48)) digits in omega arith
-
--- digits that write a small number are found
-small_complete : (n : ℕ) (digits : List ℕ) → are_digits digits ≡ true → number_after n digits ≤ 2047 → small_number n digits ≡ Some (number_after n digits)
-small_complete n [] p le = refl
-small_complete n (d ∷ digits) p le =
-    let parts = and_is (is_digit d) (are_digits digits) p in
-    let grows = number_grows (n * 10 + (d - 48)) digits in
-    let small : n * 10 + (d - 48) ≤ 2047 = omega arith in
-    ap (λ (b : Bool). cond b (small_number (n * 10 + (d - 48)) digits) None) (and_both (is_digit d) (nat_le (n * 10 + (d - 48)) 2047) parts.0 (le-leb _ _ small))
-    ∙ small_complete (n * 10 + (d - 48)) digits parts.1 le
-
--- the value that is found is the literal's
-pub literal_sound : (bytes : List ℕ) (v : ℕ) → literal_of bytes ≡ Some v → IsLiteral bytes v
+-- a literal is at most 2047
+pub literal_within : (bytes : List ℕ) (v : ℕ) → literal_of bytes ≡ Some v → v ≤ 2047
 unfolding literal_of
-literal_sound bytes v e =
+literal_within bytes v e =
     let digits = take (length bytes - 2) bytes in
     let both = cond_is (bytes_eq bytes (digits ++ codes "LL") && has_no_leading_zero digits) (small_number 0 digits) v e in
-    let parts = and_is (bytes_eq bytes (digits ++ codes "LL")) (has_no_leading_zero digits) both.0 in
-    let number = small_sound 0 digits v (omega arith) both.1 in
-    record {
-      digits = digits;
-      is_text = (bytes_eq-Decides bytes (digits ++ codes "LL")).0 parts.0;
-      is_decimal = number.0;
-      no_leading_zero = parts.1;
-      is_value = number.1;
-      in_range = number.2;
-    }
-
--- the value of a literal is found
-pub literal_complete : (bytes : List ℕ) (v : ℕ) → IsLiteral bytes v → literal_of bytes ≡ Some v
-literal_complete bytes v h =
-    let le : number_after 0 h.digits ≤ 2047 = let same = h.is_value in let range = h.in_range in omega arith in
-    literal_at bytes h.digits h.is_text
-    ∙ ap (λ (b : Bool). cond b (small_number 0 h.digits) None) h.no_leading_zero
-    ∙ small_complete 0 h.digits h.is_decimal le
-    ∙ ap (λ (n : ℕ). Some n) h.is_value
+    small_is 0 digits v (omega arith) both.1

@@ -1,12 +1,16 @@
 -- Laws of the form.
-use Rattle.std.specs.Prelude.{ℕ, ◌≡◌, List}
-use Rattle.first_form.specs.Tree.{SourceFunction, IsWithin}
-use Rattle.first_form.specs.Form.{Reads}
+use Rattle.std.specs.Prelude.{◌≡◌, List, Some}
+use Rattle.tl_tree.specs.Tokens.{Token}
+use Rattle.tl_tree.specs.Tree.{Tree}
+use Rattle.tl_tree.specs.Refusing.{Language, HasTree}
+use Rattle.first_form.specs.Formula.{SourceFunction, IsWithin}
+use Rattle.first_form.specs.Form.{function_of}
+use Rattle.first_form.specs.Layout.{IsSingle}
 
--- every text has at most one function
-abbrev pub HasOneFunction : Type 0
-HasOneFunction = (text : List ℕ) (f g : SourceFunction) → Reads text f → Reads text g → f ≡ g
-
--- the function of a text is within the bounds
+-- the function of a tree is within the bounds
 abbrev pub IsAlwaysWithin : Type 0
-IsAlwaysWithin = (text : List ℕ) (f : SourceFunction) → Reads text f → IsWithin f
+IsAlwaysWithin = (tree : Tree) (function : SourceFunction) → function_of tree ≡ Some function → IsWithin function
+
+-- the trees of a language have one tree wherever a tree is to stand
+abbrev pub HasSingleTrees : Language Tree → Type 0
+HasSingleTrees Reads = (tokens : List Token) (tree : Tree) → HasTree Reads tokens tree → IsSingle tree

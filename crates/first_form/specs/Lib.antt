@@ -1,7 +1,5 @@
-pub mod Tree
-pub mod Tokens
-pub mod Grammar
+pub mod Formula
 pub mod Form
 pub mod Laws
-pub mod Scanning
+pub mod Layout
 pub mod Reading

@@ -1,211 +1,121 @@
--- What the functions of the reader find, from left to right. No promise of a public call is made of these definitions: the proofs
--- show that they find what the grammar has.
-use Rattle.std.specs.Prelude.{ℕ, zero, suc, ◌≡◌, ◌≢◌, ◌<◌, ◌≤◌, ◌-◌, ◌+◌, ◌*◌, Bool, true, false, List, [], ◌∷◌, ◌++◌, length, take, map, Option, Some, None, if◌then◌else◌, ◌&&◌, nat_le, slice_get, codes}
+-- What the functions find in the nodes of a tree. No promise of a public call is made of these definitions: the proofs show that they
+-- find what the form has.
+use Rattle.std.specs.Prelude.{ℕ, ◌≡◌, ◌<◌, ◌-◌, Bool, true, false, not, List, [], ◌∷◌, ◌++◌, map, Option, Some, None, option_map, is_none}
 use Rattle.std.specs.Borrow.{Bor}
-use Rattle.std.specs.Str.{bytes_eq}
-use Rattle.first_form.specs.declared.token.Sign.TheVariants as signs
-use Rattle.first_form.specs.declared.tree.Operator.{Operator}
-use Rattle.first_form.specs.declared.tree.Operator.TheVariants.{Add, Subtract, Multiply}
-use Rattle.first_form.specs.declared.error.ParseError.{ParseError}
-use Rattle.first_form.specs.declared.error.ParseError.TheVariants as errors
-use Rattle.first_form.specs.declared.token.Token as code
-use Rattle.first_form.specs.declared.tree.Expression.{Expression}
-use Rattle.first_form.specs.Tree.{Tree, Parameter, Literal, Binary, tree_of}
-use Rattle.first_form.specs.Tokens.{Token, Name, Reserved, Numeral, Sign, is_digit}
-use Rattle.first_form.specs.Grammar.{has_no_leading_zero}
-use Rattle.first_form.specs.Form.{AreNames, AreDifferent, header_tokens, parameter_tokens, typed, int64}
-use Rattle.first_form.specs.Scanning.{all_tokens_of}
+use Rattle.tl_base.specs.declared.place.Place.{Place}
+use Rattle.tl_base.specs.declared.ids.NodeId.{NodeId}
+use Rattle.tl_tree.specs.declared.node.BinaryOperator.{BinaryOperator}
+use Rattle.tl_tree.specs.declared.node.Statement.TheVariants as statements
+use Rattle.tl_tree.specs.declared.node.TerraExpression.TheVariants as terra_expressions
+use Rattle.tl_tree.specs.declared.node.TerraStatement.TheVariants as terra_statements
+use Rattle.tl_tree.specs.declared.node.Piece.TheVariants as pieces
+use Rattle.tl_tree.specs.Item.{Item}
+use Rattle.tl_tree.specs.Item as kept
+use Rattle.tl_tree.specs.Nodes.{item_at}
+use Rattle.first_form.specs.declared.function.Operator.{Operator}
+use Rattle.first_form.specs.declared.function.Expression.{Expression}
+use Rattle.first_form.specs.Formula.{Formula, Parameter, Literal, Binary, formula_of}
+use Rattle.first_form.specs.Form.{◌>>=◌, where_true, only, position_of, literal_of, operator_of, is_int64, may_follow}
 
 -- names without where they lie in memory
 abbrev pub names_of : List (Bor (List ℕ)) → List (List ℕ)
 names_of names = map (λ name. name.now) names
 
--- ---- leaves
+-- ---- parts of nodes
 
--- the first position at which the name stands, where the names begin at position n
-abbrev pub position_from : ℕ → List ℕ → List (List ℕ) → Option ℕ
-position_from n name [] = None
-position_from n name (other ∷ names) = if bytes_eq other name then Some n else position_from (n + 1) name names
+abbrev pub statements_in : Item → Option (List NodeId)
+statements_in (kept.Piece (pieces.Block ids)) = Some ids
+statements_in _ = None
 
-abbrev pub position_of : List ℕ → List (List ℕ) → Option ℕ
-position_of name names = position_from 0 name names
+abbrev pub definition_in : Item → Option (NodeId × NodeId)
+definition_in (kept.Statement place (statements.Terra path body)) = Some (path, body)
+definition_in _ = None
 
--- the number that these digits write behind those of n, up to 2047
-abbrev pub small_number : ℕ → List ℕ → Option ℕ
-small_number n [] = Some n
-small_number n (digit ∷ digits) =
-    if is_digit digit && nat_le (n * 10 + (digit - 48)) 2047 then small_number (n * 10 + (digit - 48)) digits else None
+abbrev pub path_in : Item → Option (List NodeId × Option NodeId)
+path_in (kept.Piece (pieces.Path names method)) = Some (names, method)
+path_in _ = None
 
--- the value of a literal whose digits are the first of these
-abbrev pub literal_with : List ℕ → List ℕ → Option ℕ
-literal_with digits bytes = if bytes_eq bytes (digits ++ codes "LL") && has_no_leading_zero digits then small_number 0 digits else None
+abbrev pub body_in : Item → Option (List NodeId × Option NodeId × NodeId)
+body_in (kept.Piece (pieces.TerraBody parameters type block)) = Some (parameters, type, block)
+body_in _ = None
 
-unfoldable pub literal_of : List ℕ → Option ℕ
-literal_of bytes = literal_with (take (length bytes - 2) bytes) bytes
+abbrev pub parameter_in : Item → Option (NodeId × NodeId)
+parameter_in (kept.Piece (pieces.Parameter name type)) = Some (name, type)
+parameter_in _ = None
+
+abbrev pub returned_in : Item → Option (List NodeId)
+returned_in (kept.TerraStatement place (terra_statements.Return ids)) = Some ids
+returned_in _ = None
+
+abbrev pub name_in : Item → Option (List ℕ)
+name_in (kept.Name place name) = Some name
+name_in _ = None
+
+abbrev pub is_number_type_in : Item → Bool
+is_number_type_in (kept.Name place name) = is_int64 name
+is_number_type_in _ = false
+
+-- ---- what is at a number
+
+module _ (items : List Item) where
+  abbrev pub free_name_at : NodeId → Option (List ℕ)
+  free_name_at id = name_in (item_at items id) >>= λ name. where_true (not (is_int64 name)) (Some name)
+
+  abbrev pub plain_name_at : NodeId → Option (List ℕ)
+  plain_name_at id = path_in (item_at items id) >>= λ path. where_true (is_none path.1) (only path.0) >>= λ n. free_name_at n
+
+  abbrev pub parameter_name_at : NodeId → Option (List ℕ)
+  parameter_name_at id =
+      parameter_in (item_at items id) >>= λ parameter. where_true (is_number_type_in (item_at items parameter.1)) (free_name_at parameter.0)
+
+  abbrev pub names_behind_at : List (List ℕ) → List NodeId → Option (List (List ℕ))
+  names_behind_at names [] = Some names
+  names_behind_at names (id ∷ more) =
+      parameter_name_at id >>= λ name. where_true (may_follow names name) (names_behind_at (names ++ name ∷ []) more)
+
+  abbrev pub value_at : NodeId → Option NodeId
+  value_at id = statements_in (item_at items id) >>= λ ids. only ids >>= λ s. returned_in (item_at items s) >>= λ values. only values
+
+  -- the parameters and the value of a body whose result is a number
+  abbrev pub typed_body_at : NodeId → Option (List NodeId × NodeId)
+  typed_body_at id =
+      body_in (item_at items id) >>= λ body. body.1 >>= λ type. where_true (is_number_type_in (item_at items type)) (value_at body.2)
+      >>= λ value. Some (body.0, value)
+
+  -- the name and the body of the one function that a chunk defines
+  abbrev pub definition_at : NodeId → Option (List ℕ × NodeId)
+  definition_at id =
+      statements_in (item_at items id) >>= λ ids. only ids >>= λ s. definition_in (item_at items s)
+      >>= λ definition. plain_name_at definition.0 >>= λ name. Some (name, definition.1)
 
 -- ---- expressions
 
-pub data Reading : Type 0 where
-  Took : (tree : Tree) → (rest : List Token) → Reading
-  Refused : Reading
+-- nodes of expressions that the form has
+abbrev pub has_form : Item → Bool
+has_form (kept.Name place name) = true
+has_form (kept.Numeral place text) = true
+has_form (kept.TerraExpression place (terra_expressions.Binary operator left right)) = true
+has_form (kept.TerraExpression place (terra_expressions.Paren inside)) = true
+has_form _ = false
 
-infixl 10 ◌>>=◌
-abbrev pub ◌>>=◌ : Reading → (Tree → List Token → Reading) → Reading
-Took tree rest >>= go = go tree rest
-Refused >>= go = Refused
+-- a leaf, and how many operators are left behind it
+abbrev pub leaf : (ℕ → Formula) → ℕ → Option ℕ → Option (Formula × ℕ)
+leaf formula n o = option_map (λ x. (formula x, n)) o
 
--- a tree of this number, where there is one
-abbrev pub leaf : (ℕ → Tree) → Option ℕ → List Token → Reading
-leaf tree None rest = Refused
-leaf tree (Some n) rest = Took (tree n) rest
+-- What is found at a number: an expression, and how many operators are left behind it. So many levels of brackets and so many operators
+-- may stand there.
+pub data Finds (items : List Item) (names : List (List ℕ)) : (levels operators : ℕ) → NodeId → Option (Formula × ℕ) → Type 0 where
+  name : {levels operators : ℕ} {id : NodeId} {place : Place} {text : List ℕ} → item_at items id ≡ kept.Name place text → Finds items names levels operators id (leaf Parameter operators (position_of text names))
+  numeral : {levels operators : ℕ} {id : NodeId} {place : Place} {text : List ℕ} → item_at items id ≡ kept.Numeral place text → Finds items names levels operators id (leaf Literal operators (literal_of text))
+  inside : {levels operators : ℕ} {id i : NodeId} {place : Place} {r : Option (Formula × ℕ)} → item_at items id ≡ kept.TerraExpression place (terra_expressions.Paren i) → 0 < levels → Finds items names (levels - 1) operators i r → Finds items names levels operators id r
+  no_level : {levels operators : ℕ} {id i : NodeId} {place : Place} → item_at items id ≡ kept.TerraExpression place (terra_expressions.Paren i) → levels ≡ 0 → Finds items names levels operators id None
+  no_operator : {levels operators : ℕ} {id left right : NodeId} {place : Place} {o : BinaryOperator} → item_at items id ≡ kept.TerraExpression place (terra_expressions.Binary o left right) → operator_of o ≡ None → Finds items names levels operators id None
+  none_left : {levels operators : ℕ} {id left right : NodeId} {place : Place} {o : BinaryOperator} → item_at items id ≡ kept.TerraExpression place (terra_expressions.Binary o left right) → operators ≡ 0 → Finds items names levels operators id None
+  no_left : {levels operators : ℕ} {id left right : NodeId} {place : Place} {o : BinaryOperator} → item_at items id ≡ kept.TerraExpression place (terra_expressions.Binary o left right) → 0 < operators → Finds items names levels (operators - 1) left None → Finds items names levels operators id None
+  no_right : {levels operators n : ℕ} {id left right : NodeId} {place : Place} {o : BinaryOperator} {x : Formula} → item_at items id ≡ kept.TerraExpression place (terra_expressions.Binary o left right) → 0 < operators → Finds items names levels (operators - 1) left (Some (x, n)) → Finds items names levels n right None → Finds items names levels operators id None
+  binary : {levels operators n m : ℕ} {id left right : NodeId} {place : Place} {o : BinaryOperator} {operator : Operator} {x y : Formula} → item_at items id ≡ kept.TerraExpression place (terra_expressions.Binary o left right) → operator_of o ≡ Some operator → 0 < operators → Finds items names levels (operators - 1) left (Some (x, n)) → Finds items names levels n right (Some (y, m)) → Finds items names levels operators id (Some (Binary operator x y, m))
+  other : {levels operators : ℕ} {id : NodeId} → has_form (item_at items id) ≡ false → Finds items names levels operators id None
 
-abbrev pub product_operator : Token → Option Operator
-product_operator (Sign signs.Star) = Some Multiply
-product_operator _ = None
-
-abbrev pub sum_operator : Token → Option Operator
-sum_operator (Sign signs.Plus) = Some Add
-sum_operator (Sign signs.Minus) = Some Subtract
-sum_operator _ = None
-
--- the operator of the next token
-abbrev pub next_operator : (Token → Option Operator) → List Token → Option Operator
-next_operator operator_of [] = None
-next_operator operator_of (token ∷ tokens) = operator_of token
-
-abbrev pub after_operator : Option Operator → Reading → (Operator → Reading) → Reading
-after_operator None stop go = stop
-after_operator (Some operator) stop go = go operator
-
--- operators of one level with their right operands, at most n, behind the operand x
-abbrev pub chain : (Token → Option Operator) → (List Token → Reading) → ℕ → Tree → List Token → Reading
-chain operator_of operand zero x tokens = Took x tokens
-chain operator_of operand (suc n) x [] = Took x []
-chain operator_of operand (suc n) x (token ∷ tokens) =
-    after_operator (operator_of token) (Took x (token ∷ tokens)) (λ operator. operand tokens >>= λ y rest. chain operator_of operand n (Binary operator x y) rest)
-
--- all of them
-abbrev pub chained : (Token → Option Operator) → (List Token → Reading) → Tree → List Token → Reading
-chained operator_of operand x tokens = chain operator_of operand (length tokens) x tokens
-
-abbrev pub factor_with : (List Token → Reading) → List (List ℕ) → List Token → Reading
-factor_with inside parameters [] = Refused
-factor_with inside parameters (Name name ∷ tokens) = leaf Parameter (position_of name parameters) tokens
-factor_with inside parameters (Numeral bytes ∷ tokens) = leaf Literal (literal_of bytes) tokens
-factor_with inside parameters (Sign signs.Open ∷ tokens) = inside tokens
-factor_with inside parameters (_ ∷ tokens) = Refused
-
-abbrev pub product_with : (List Token → Reading) → List (List ℕ) → List Token → Reading
-product_with inside parameters tokens = factor_with inside parameters tokens >>= λ x rest. chained product_operator (factor_with inside parameters) x rest
-
-abbrev pub sum_with : (List Token → Reading) → List (List ℕ) → List Token → Reading
-sum_with inside parameters tokens = product_with inside parameters tokens >>= λ x rest. chained sum_operator (product_with inside parameters) x rest
-
--- a bracket that closes
-abbrev pub closed : Tree → List Token → Reading
-closed tree (Sign signs.Close ∷ rest) = Took tree rest
-closed tree _ = Refused
-
--- what stands behind an opening bracket, where so many levels of brackets may begin
-abbrev pub inside_at : List (List ℕ) → ℕ → List Token → Reading
-inside_at parameters zero tokens = Refused
-inside_at parameters (suc levels) tokens = sum_with (λ inner. inside_at parameters levels inner) parameters tokens >>= λ tree rest. closed tree rest
-
-abbrev pub factor_at : List (List ℕ) → ℕ → List Token → Reading
-factor_at parameters levels tokens = factor_with (λ inner. inside_at parameters levels inner) parameters tokens
-
-abbrev pub product_at : List (List ℕ) → ℕ → List Token → Reading
-product_at parameters levels tokens = product_with (λ inner. inside_at parameters levels inner) parameters tokens
-
-abbrev pub sum_at : List (List ℕ) → ℕ → List Token → Reading
-sum_at parameters levels tokens = sum_with (λ inner. inside_at parameters levels inner) parameters tokens
-
--- a sum and the bracket that closes it
-abbrev pub closing_at : List (List ℕ) → ℕ → List Token → Reading
-closing_at parameters levels tokens = sum_at parameters levels tokens >>= λ tree rest. closed tree rest
-
--- ---- what the functions of the code do
-
--- what a function read, and the tokens behind it
-abbrev pub took : Expression × Bor (List code.Token) → Reading
-took read = Took (tree_of read.0) (all_tokens_of read.1.now)
-
--- whether these tokens come first, and what is behind them
-abbrev pub Begins : List Token → List Token → Option (Bor (List code.Token)) → Type 0
-Begins tokens wanted None = (rest : List Token) → tokens ≢ wanted ++ rest
-Begins tokens wanted (Some rest) = tokens ≡ wanted ++ all_tokens_of rest.now
-
--- what an error says of a reading: it is refused, where memory did not fail
-pub record Fails (error : ParseError) (reading : Reading) : Type 0 where
-  pub refused : error ≡ errors.NotBuilt → reading ≡ Refused
-
--- whether an operator of one level is the first token, and what is behind it
-abbrev pub BeginsOperator : (Token → Option Operator) → List Token → Option (Operator × Bor (List code.Token)) → Type 0
-BeginsOperator operator_of tokens None = next_operator operator_of tokens ≡ None
-BeginsOperator operator_of tokens (Some found) = (token : Token) × (tokens ≡ token ∷ all_tokens_of found.1.now) × (operator_of token ≡ Some found.0)
-
--- ---- the header
-
--- whether a name is the first token, and what is behind it
-abbrev pub BeginsName : List Token → Option (Bor (List ℕ) × Bor (List code.Token)) → Type 0
-BeginsName tokens None = (name : List ℕ) (rest : List Token) → tokens ≢ Name name ∷ rest
-BeginsName tokens (Some found) = tokens ≡ Name found.0.now ∷ all_tokens_of found.1.now
-
--- a parameter of this name may stand behind those
-pub record MayFollow (names : List (List ℕ)) (name : List ℕ) : Type 0 where
-  pub room : length names < 8
-  pub free : name ≢ codes "int64"
-  pub is_new : position_of name names ≡ None
-
--- whether a parameter that may stand behind these comes first, and what is behind it
-abbrev pub BeginsParameter : List (List ℕ) → List Token → Option (Bor (List ℕ) × Bor (List code.Token)) → Type 0
-BeginsParameter names tokens None = (name : List ℕ) (rest : List Token) → tokens ≡ typed name ++ rest → MayFollow names name → ⊥
-BeginsParameter names tokens (Some found) = (tokens ≡ typed found.0.now ++ all_tokens_of found.1.now) × MayFollow names found.0.now
-
--- these names may be the parameters of a function
-pub record MayBe (names : List (List ℕ)) : Type 0 where
-  pub few : length names ≤ 8
-  pub different : AreDifferent names
-  pub free : (i : ℕ) → slice_get names i ≢ Some (codes "int64")
-
--- the tokens begin with these parameters and the bracket that closes them
-abbrev pub closed_parameters : List (List ℕ) → List Token
-closed_parameters names = parameter_tokens names ++ Sign signs.Close ∷ []
-
-pub record HasParameters (tokens : List Token) (names : List (List ℕ)) (rest : List Token) : Type 0 where
-  pub are_first : tokens ≡ closed_parameters names ++ rest
-  pub may_be : MayBe names
-
-pub record LacksParameters (error : ParseError) (tokens : List Token) : Type 0 where
-  pub refused : error ≡ errors.NotBuilt → (names : List (List ℕ)) (rest : List Token) → HasParameters tokens names rest → ⊥
-
--- what stands before the parameters, and behind them
-abbrev pub heading : List ℕ → List Token
-heading name = Reserved (codes "terra") ∷ Name name ∷ Sign signs.Open ∷ []
-
-abbrev pub result_type : List Token
-result_type = Sign signs.Colon ∷ int64 ∷ Reserved (codes "return") ∷ []
-
--- whether a heading comes first, whose name may be a function's, and what is behind it
-abbrev pub BeginsHeading : List Token → Option (Bor (List ℕ) × Bor (List code.Token)) → Type 0
-BeginsHeading tokens None = (name : List ℕ) (rest : List Token) → tokens ≡ heading name ++ rest → name ≢ codes "int64" → ⊥
-BeginsHeading tokens (Some found) = (tokens ≡ heading found.0.now ++ all_tokens_of found.1.now) × (found.0.now ≢ codes "int64")
-
--- the tokens begin with the header of a function
-pub record HasHeader (tokens : List Token) (name : List ℕ) (parameters : List (List ℕ)) (rest : List Token) : Type 0 where
-  pub is_first : tokens ≡ header_tokens name parameters ++ rest
-  pub names : AreNames name parameters
-
-pub record LacksHeader (error : ParseError) (tokens : List Token) : Type 0 where
-  pub refused : error ≡ errors.NotBuilt → (name : List ℕ) (parameters : List (List ℕ)) (rest : List Token) → HasHeader tokens name parameters rest → ⊥
-
--- how many tokens are operators
-abbrev pub is_operator : Token → Bool
-is_operator (Sign signs.Plus) = true
-is_operator (Sign signs.Minus) = true
-is_operator (Sign signs.Star) = true
-is_operator _ = false
-
-abbrev pub operator_count : List Token → ℕ
-operator_count [] = 0
-operator_count (token ∷ tokens) = (if is_operator token then 1 else 0) + operator_count tokens
+-- an expression of the program, and how many operators are left behind it
+abbrev pub found : Option (Expression × ℕ) → Option (Formula × ℕ)
+found r = option_map (λ f. (formula_of f.0, f.1)) r

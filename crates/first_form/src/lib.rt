@@ -1,12 +1,11 @@
-//! Reads the text of one Terra function of 64-bit numbers into its tree.
+//! The first form of a source: one Terra function of 64-bit numbers that returns an expression of its parameters.
 //!
-//! [`parse`] gives the function of a text, exactly where the text is one: `specs/Form.antt` says which texts are, over the tokens of
-//! `specs/Tokens.antt` and the grammar of expressions in `specs/Grammar.antt`, and `specs/Tree.antt` what a function is. Those
-//! four files are what a reader has to believe. [`one_tree`] is the law that a text has at most one function, and [`bounds`]
-//! says within which limits it always is.
+//! `specs/Form.antt` says which trees are of the form, and which function each of these is; `specs/Formula.antt` says what a function is.
+//! [`function_of`] gives the function of a tree. [`bounds`] is the law that says within which limits it always is, and
+//! [`single_trees`] the law that the trees of texts are as [`function_of`] wants them.
 //!
-//! The text is read in two passes, each in time linear in its length: into tokens, which are slices of the text, and from tokens into the
-//! tree, by recursive descent. `specs/Scanning.antt` and `specs/Reading.antt` say what the functions on the way find.
+//! The nodes of a tree are read from the root down, without a look at more than the form has. `specs/Reading.antt` says what the functions
+//! on the way find.
 #![tactic(auto)]
 
 // A value, or the end of the function with the error. (`?` does the same, and leaves a goal at each exit.)
@@ -19,17 +18,13 @@ macro_rules! read {
     };
 }
 
-pub mod error;
-mod header;
-mod lexer;
-mod parser;
-mod reader;
-mod token;
-pub mod tree;
+mod expression;
+mod form;
+pub mod function;
+mod parts;
 
-pub use error::ParseError;
-pub use parser::{bounds, one_tree, parse};
-pub use tree::{Expression, Function, Operator};
+pub use form::{bounds, function_of, single_trees};
+pub use function::{Expression, Function, Operator};
 
 #[cfg(test)]
 mod tests;

@@ -1,5 +1,5 @@
 ghost use Rattle.std.specs.Prelude.{◌≡◌, length};
-ghost use Rattle.first_form.specs.Tree.{tree_of, HasParametersBelow};
+ghost use Rattle.first_form.specs.Formula.{formula_of, HasParametersBelow};
 ghost use Rattle.terra_meaning.specs.Meaning.{applied, meaning, IsAlwaysWord};
 
 use first_form::{Expression, Operator};
@@ -19,8 +19,8 @@ fn apply(operator: Operator, left: u64, right: u64) -> u64
 ///
 /// Numbers are words of 64 bits, and stand for integers in two's complement.
 pub fn evaluate(body: &Expression, arguments: &[u64]) -> u64
-    requires { HasParametersBelow (length arguments.now) (tree_of body.now) }
-    ensures { result ≡ meaning (tree_of body.now) arguments.now }
+    requires { HasParametersBelow (length arguments.now) (formula_of body.now) }
+    ensures { result ≡ meaning (formula_of body.now) arguments.now }
 {
     match body {
         Expression::Parameter(position) => arguments[*position],

@@ -1,66 +1,98 @@
+// Expressions with their values, by hand.
+ghost use Rattle.std.specs.Prelude.{◌≡◌, IfOk};
+ghost use Rattle.first_form.specs.Formula.{Binary, formula_of};
+
 use crate::evaluate;
-use first_form::{ParseError, parse};
+use first_form::{Expression, Operator};
 use std::alloc::Global;
 use std::test::Fail;
 
-// The value of a function's expression at these arguments.
-fn value(alloc: Global, text: &[u8], arguments: &[u64]) -> Result<u64, Fail> {
-    let function = parse(alloc, text)?;
-    if arguments.len() != function.arity {
-        return Err(Fail::from(ParseError::NotBuilt));
-    }
-    Ok(evaluate(&function.body, arguments))
+/// An operator between two operands.
+fn binary(
+    alloc: Global,
+    operator: Operator,
+    left: Expression,
+    right: Expression,
+) -> Result<Expression, Fail>
+    ensures { IfOk result (λ e. formula_of e ≡ Binary operator (formula_of left) (formula_of right)) }
+{
+    let left = Box::new(alloc, left)?;
+    let right = Box::new(alloc, right)?;
+    Ok(Expression::Binary(operator, left, right))
 }
 
 #[test]
-fn values(rt: HostRuntime) -> Result<(), Fail> {
-    let rows: [(&[u8], &[u64], u64); 9] = [
-        (
-            b"terra add(a : int64, b : int64) : int64 return a + b end",
-            &[2, 3],
-            5,
-        ),
-        // the least number follows the greatest
-        (
-            b"terra add(a : int64, b : int64) : int64 return a + b end",
-            &[9223372036854775807, 1],
-            9223372036854775808,
-        ),
-        (
-            b"terra p(a : int64) : int64 return (a - 3LL) * a + 2LL end",
-            &[10],
-            72,
-        ),
-        // at -1, which is 2 ^ 64 - 1
-        (
-            b"terra p(a : int64) : int64 return (a - 3LL) * a + 2LL end",
-            &[18446744073709551615],
-            6,
-        ),
-        (
-            b"terra s(a : int64, b : int64) : int64 return a - b - 1LL end",
-            &[10, 4],
-            5,
-        ),
-        (
-            b"terra m(a : int64) : int64 return a * a * a end",
-            &[4294967296],
-            0,
-        ),
-        (b"terra z() : int64 return 2047LL end", &[], 2047),
-        (
-            b"terra f(a : int64, b : int64) : int64 return a + b * 10LL end",
-            &[1, 2],
-            21,
-        ),
-        (
-            b"terra f(a : int64, b : int64) : int64 return a - (b - 1LL) end",
-            &[1, 2],
-            0,
-        ),
-    ];
-    for (text, arguments, wanted) in rows {
-        assert_eq!(rt; value(rt.alloc(), text, arguments)?, wanted);
-    }
+fn sums_and_differences(rt: HostRuntime) -> Result<(), Fail> {
+    let alloc = rt.alloc();
+    let sum = binary(
+        alloc,
+        Operator::Add,
+        Expression::Parameter(0),
+        Expression::Parameter(1),
+    )?;
+    assert_eq!(rt; evaluate(&sum, &[2, 3]), 5);
+    // the least number follows the greatest
+    assert_eq!(rt;
+        evaluate(&sum, &[9_223_372_036_854_775_807, 1]),
+        9_223_372_036_854_775_808
+    );
+    // a - b - 1
+    let difference = binary(
+        alloc,
+        Operator::Subtract,
+        Expression::Parameter(0),
+        Expression::Parameter(1),
+    )?;
+    let less = binary(
+        alloc,
+        Operator::Subtract,
+        difference,
+        Expression::Literal(1),
+    )?;
+    assert_eq!(rt; evaluate(&less, &[10, 4]), 5);
+    assert_eq!(rt; evaluate(&less, &[0, 0]), 18_446_744_073_709_551_615);
+    // a - (b - 1)
+    let inner = binary(
+        alloc,
+        Operator::Subtract,
+        Expression::Parameter(1),
+        Expression::Literal(1),
+    )?;
+    let outer = binary(alloc, Operator::Subtract, Expression::Parameter(0), inner)?;
+    assert_eq!(rt; evaluate(&outer, &[1, 2]), 0);
+    assert_eq!(rt; evaluate(&Expression::Literal(2047), &[]), 2047);
+    Ok(())
+}
+
+#[test]
+fn products(rt: HostRuntime) -> Result<(), Fail> {
+    let alloc = rt.alloc();
+    // (a - 3) * a + 2
+    let difference = binary(
+        alloc,
+        Operator::Subtract,
+        Expression::Parameter(0),
+        Expression::Literal(3),
+    )?;
+    let product = binary(
+        alloc,
+        Operator::Multiply,
+        difference,
+        Expression::Parameter(0),
+    )?;
+    let polynomial = binary(alloc, Operator::Add, product, Expression::Literal(2))?;
+    assert_eq!(rt; evaluate(&polynomial, &[10]), 72);
+    // at -1, which is 2 ^ 64 - 1
+    assert_eq!(rt; evaluate(&polynomial, &[18_446_744_073_709_551_615]), 6);
+    // a * a * a
+    let square = binary(
+        alloc,
+        Operator::Multiply,
+        Expression::Parameter(0),
+        Expression::Parameter(0),
+    )?;
+    let cube = binary(alloc, Operator::Multiply, square, Expression::Parameter(0))?;
+    assert_eq!(rt; evaluate(&cube, &[4_294_967_296]), 0);
+    assert_eq!(rt; evaluate(&cube, &[2_642_245]), 18_446_724_184_312_856_125);
     Ok(())
 }

@@ -3,7 +3,7 @@ use Rattle.std.proofs.Common.{◌≡◌, ◌≢◌, ℕ, ◌+◌, ◌-◌, ◌*�
 use Rattle.std.specs.Prelude.{nat_eq, nat_lt, if◌then◌else◌, slice_index}
 use Rattle.std.proofs.lemmas.Bool.{ne_eqb, le-ltb}
 use Rattle.std.proofs.lemmas.List.{length-append, length-replicate}
-use Rattle.first_form.specs.Tree.{Tree, Parameter, Literal, Binary, HasParametersBelow, HasLiteralsUpTo, operators}
+use Rattle.first_form.specs.Formula.{Formula, Parameter, Literal, Binary, HasParametersBelow, HasLiteralsUpTo, operators}
 use Rattle.terra_meaning.specs.Meaning.{meaning}
 use Rattle.rv_isa.specs.declared.instr.Instr.{Instr}
 use Rattle.rv_isa.specs.declared.instr.Instr.TheVariants.{Jalr, RegisterImmediate}
@@ -20,7 +20,7 @@ use Rattle.terrac.proofs.CodeSteps.{at, at-zero, at-next, Leads, leads_on, steps
 use Rattle.terrac.proofs.CodeRuns.{low-plus_zero, writes_to, meaning-below, Ready, expression_runs}
 use Rattle.terrac.proofs.CodeSizes.{length-expression_words, depth_of-le}
 
-pub parameters-weaken : (n m : ℕ) (e : Tree) → n ≤ m → HasParametersBelow n e → HasParametersBelow m e
+pub parameters-weaken : (n m : ℕ) (e : Formula) → n ≤ m → HasParametersBelow n e → HasParametersBelow m e
 parameters-weaken n m (Parameter position) le h = omega arith
 parameters-weaken n m (Literal value) le h = tt
 parameters-weaken n m (Binary o a b) le h = (parameters-weaken n m a le h.0, parameters-weaken n m b le h.1)
@@ -48,7 +48,7 @@ returns text arguments w place v s small below ready value stands =
     (s2, leads_on text s s1 s2 1 1 2 refl one two, refl, refl)
 
 -- the whole run, for given arguments
-computes : (e : Tree) (arguments : List ℕ) → HasLiteralsUpTo 2047 e → operators e ≤ 1000 → HasParametersBelow 8 e → ((k : ℕ) → slice_index arguments k < 2 ^ 64) → (text : List (Option Instr)) → IsProgram (function_words e) text → (after : State) × Leads text (start_state 0x10000 0 arguments [] (replicate (8 * depth_of e) 0)) (length (expression_words e) + 2) after × (after.pc ≡ 0) × (after.registers 10 ≡ meaning e arguments)
+computes : (e : Formula) (arguments : List ℕ) → HasLiteralsUpTo 2047 e → operators e ≤ 1000 → HasParametersBelow 8 e → ((k : ℕ) → slice_index arguments k < 2 ^ 64) → (text : List (Option Instr)) → IsProgram (function_words e) text → (after : State) × Leads text (start_state 0x10000 0 arguments [] (replicate (8 * depth_of e) 0)) (length (expression_words e) + 2) after × (after.pc ≡ 0) × (after.registers 10 ≡ meaning e arguments)
 computes e arguments literals few parameters small text means =
     let words = function_words e in
     let size = 8 * depth_of e in
@@ -64,7 +64,7 @@ computes e arguments literals few parameters small text means =
     let r = returns text arguments (0 + length (expression_words e)) size (meaning e arguments) y.after (omega arith) (meaning-below arguments small e literals) y.ready y.value back in
     (r.0, leads_on text s0 y.after r.0 (length (expression_words e)) 2 (length (expression_words e) + 2) refl y.leads r.1, r.2, r.3)
 
-pub function_computes : (e : Tree) → HasLiteralsUpTo 2047 e → operators e ≤ 1000 → Computes (function_words e) (8 * depth_of e) e
+pub function_computes : (e : Formula) → HasLiteralsUpTo 2047 e → operators e ≤ 1000 → Computes (function_words e) (8 * depth_of e) e
 function_computes e literals few = record {
   returns = λ arguments eight parameters small text means.
       let c = computes e arguments literals few (parameters-weaken (length arguments) 8 e eight parameters) small text means in
@@ -73,16 +73,16 @@ function_computes e literals few = record {
 }
 
 -- the same of what the code of the compiler makes
-pub generated : (e : Tree) (words : List ℕ) (depth : ℕ) → HasLiteralsUpTo 2047 e → operators e ≤ 1000 → words ≡ function_words e → depth ≡ depth_of e → Computes words (8 * depth) e
+pub generated : (e : Formula) (words : List ℕ) (depth : ℕ) → HasLiteralsUpTo 2047 e → operators e ≤ 1000 → words ≡ function_words e → depth ≡ depth_of e → Computes words (8 * depth) e
 generated e words depth literals few same deep =
     subst (λ w. Computes w (8 * depth) e) (sym same) (subst (λ d. Computes (function_words e) (8 * d) e) (sym deep) (function_computes e literals few))
 
-pub length-generated : (e : Tree) (words : List ℕ) → operators e ≤ 1000 → words ≡ function_words e → length words ≤ 6003
+pub length-generated : (e : Formula) (words : List ℕ) → operators e ≤ 1000 → words ≡ function_words e → length words ≤ 6003
 length-generated e words few same =
     omega (arith, ap length same, length-append (expression_words e) return_words, length-expression_words e)
 
 -- a machine that was loaded with the code and started gives the value
-pub loaded_gives : (e : Tree) (words : List ℕ) (private : ℕ) (arguments : List ℕ) (program started : List (Option Instr)) (heap steps : ℕ) (loaded s : State) → Computes words private e → length arguments ≤ 8 → HasParametersBelow (length arguments) e → ((k : ℕ) → slice_index arguments k < 2 ^ 64) → IsProgram words program → heap ≡ 0 → loaded ≡ loaded_state [] (replicate private 0) → s ≡ start_state 0x10000 heap arguments loaded.region loaded.private → started ≡ program → steps ≡ length words → Gives (run_of started s steps) (meaning e arguments)
+pub loaded_gives : (e : Formula) (words : List ℕ) (private : ℕ) (arguments : List ℕ) (program started : List (Option Instr)) (heap steps : ℕ) (loaded s : State) → Computes words private e → length arguments ≤ 8 → HasParametersBelow (length arguments) e → ((k : ℕ) → slice_index arguments k < 2 ^ 64) → IsProgram words program → heap ≡ 0 → loaded ≡ loaded_state [] (replicate private 0) → s ≡ start_state 0x10000 heap arguments loaded.region loaded.private → started ≡ program → steps ≡ length words → Gives (run_of started s steps) (meaning e arguments)
 loaded_gives e words private arguments program started heap steps loaded s computes few parameters small means no_heap loads starts same all =
     let state : s ≡ start_state 0x10000 0 arguments [] (replicate private 0) = starts ∙ ap (λ h. start_state 0x10000 h arguments loaded.region loaded.private) no_heap ∙ ap (λ (l : State). start_state 0x10000 0 arguments l.region l.private) loads in
     subst (λ n. Gives (run_of started s n) (meaning e arguments)) (sym all) (subst (λ (p : List (Option Instr)). Gives (run_of p s (length words)) (meaning e arguments)) (sym same) (subst (λ (t : State). Gives (run_of program t (length words)) (meaning e arguments)) (sym state) (computes.returns arguments few parameters small program means)))

@@ -4,9 +4,9 @@ use Rattle.std.specs.Prelude.{Option, nat_eq, nat_lt, nat_le, if◌then◌else�
 use Rattle.std.proofs.Math.Nat.{pow-suc}
 use Rattle.std.proofs.lemmas.Bool.{ne_eqb, le-ltb, le-leb, lt-leb}
 use Rattle.std.proofs.lemmas.List.{length-append, length-drop, length-take-le, drop_at, drop-drop}
-use Rattle.first_form.specs.declared.tree.Operator.{Operator}
-use Rattle.first_form.specs.declared.tree.Operator.TheVariants as operator
-use Rattle.first_form.specs.Tree.{Tree, Parameter, Literal, Binary, HasParametersBelow, HasLiteralsUpTo}
+use Rattle.first_form.specs.declared.function.Operator.{Operator}
+use Rattle.first_form.specs.declared.function.Operator.TheVariants as operator
+use Rattle.first_form.specs.Formula.{Formula, Parameter, Literal, Binary, HasParametersBelow, HasLiteralsUpTo}
 use Rattle.terra_meaning.specs.Meaning.{applied, meaning}
 use Rattle.rv_isa.specs.Table.{word_of}
 use Rattle.rv_isa.specs.declared.instr.Instr.{Instr}
@@ -258,7 +258,7 @@ applied-below operator.Add a b = omega arith
 applied-below operator.Subtract a b = omega arith
 applied-below operator.Multiply a b = let n = a * b in let below : n % 2 ^ 64 < 2 ^ 64 = omega arith in below
 
-pub meaning-below : (arguments : List ℕ) → ((k : ℕ) → slice_index arguments k < 2 ^ 64) → (e : Tree) → HasLiteralsUpTo 2047 e → meaning e arguments < 2 ^ 64
+pub meaning-below : (arguments : List ℕ) → ((k : ℕ) → slice_index arguments k < 2 ^ 64) → (e : Formula) → HasLiteralsUpTo 2047 e → meaning e arguments < 2 ^ 64
 meaning-below arguments small (Parameter position) literals = small position
 meaning-below arguments small (Literal value) literals = omega arith
 meaning-below arguments small (Binary o a b) literals = applied-below o (meaning a arguments) (meaning b arguments)
@@ -274,7 +274,7 @@ length-binary a b last =
     omega (arith, length-append a (push_words ++ (b ++ (pop_words ++ last ∷ []))), length-append b (pop_words ++ last ∷ []))
 
 module _ (text : List (Option Instr)) (arguments : List ℕ) (small : (k : ℕ) → slice_index arguments k < 2 ^ 64) where
-  pub expression_runs : (e : Tree) (w place : ℕ) (s : State) → HasParametersBelow 8 e → HasLiteralsUpTo 2047 e → w + length (expression_words e) < 2 ^ 32 → 8 * depth_of e ≤ place → place ≤ length s.private → length s.private < 2 ^ 32 → Ready arguments w place s → Stands text w (expression_words e) → Yields text arguments w place s (length (expression_words e)) (meaning e arguments)
+  pub expression_runs : (e : Formula) (w place : ℕ) (s : State) → HasParametersBelow 8 e → HasLiteralsUpTo 2047 e → w + length (expression_words e) < 2 ^ 32 → 8 * depth_of e ≤ place → place ≤ length s.private → length s.private < 2 ^ 32 → Ready arguments w place s → Stands text w (expression_words e) → Yields text arguments w place s (length (expression_words e)) (meaning e arguments)
   expression_runs (Parameter position) w place s parameters literals fits room inside long ready stands =
       leaf text arguments w place s (parameter_word position) (argument position parameters) none (slice_index arguments position) (omega arith) ready stands.0 (word-parameter position parameters) (argument_value arguments w place position s parameters (small position) ready)
   expression_runs (Literal value) w place s parameters literals fits room inside long ready stands =

@@ -15,6 +15,7 @@ pub due_with-refusal : (status : Status) (bytes : List ℕ) → status ≢ statu
 due_with-refusal statuses.Ok bytes other = absurd (other refl)
 due_with-refusal statuses.Usage bytes other = refl
 due_with-refusal statuses.NoEntry bytes other = refl
+due_with-refusal (statuses.Syntax kind place) bytes other = refl
 due_with-refusal (statuses.BadArgument number) bytes other = refl
 due_with-refusal statuses.ReadFault bytes other = refl
 due_with-refusal statuses.WriteFault bytes other = refl

@@ -1,35 +1,23 @@
 -- Where nothing fails, what is answered is what is due.
 use Rattle.std.proofs.Common.{◌≡◌, ℕ, List, Option, Some, None, ◌⊎◌, inl, inr, refl, sym, ap, subst, ◌∙◌}
 use Rattle.tl_base.specs.Outside.{with_back, IsRisen}
-use Rattle.first_form.specs.Tree.{SourceFunction}
-use Rattle.first_form.specs.Form.{Reads}
 use Rattle.terrac.specs.declared.status.Status.{Status}
 use Rattle.terrac.specs.declared.status.Status.TheVariants as statuses
 use Rattle.terrac.specs.Words.{job_of}
-use Rattle.terrac.specs.Due.{Due, due_of, IsReadAs}
+use Rattle.terrac.specs.Due.{Due, Reading, due_of, IsReadAs}
 use Rattle.terrac.specs.Answer.{Owed, RefusedWords, Answered, Unread, OutOfMemory, IsToldAs, IsWritten, Delivers, Answers, GivesDue}
 use Rattle.terrac.specs.Call.{AnswersExactly}
-
--- a text reads as one function at most
-abbrev pub HasOneReading : Type 0
-HasOneReading = (text : List ℕ) (p q : SourceFunction) → Reads text p → Reads text q → p ≡ q
-
--- a text reads as one form
-one_form : HasOneReading → (text : List ℕ) (a b : Option SourceFunction) → IsReadAs text a → IsReadAs text b → a ≡ b
-one_form unique text None None x y = refl
-one_form unique text None (Some q) x y = absurd (x q y)
-one_form unique text (Some p) None x y = absurd (y p x)
-one_form unique text (Some p) (Some q) x y = ap Some (unique text p q x y)
+use Rattle.terrac.proofs.OneReading.{one_reading}
 
 -- what is owed is due, or memory was not found
-owed_is_due : HasOneReading → (words : List (List ℕ)) (left : Option (List ℕ)) (Rose : Type 0) (due : Due) (text : List ℕ) (form : Option SourceFunction) →
-    Owed words left Rose due → left ≡ Some text → IsReadAs text form → (Rose → ⊥) → (due ≡ due_of (job_of words) form) ⊎ (due.status ≡ statuses.NoMemory)
-owed_is_due unique words left Rose due text form (RefusedWords none is) told reads quiet = inl (is ∙ ap (λ job. due_of job form) (sym none))
-owed_is_due unique words left Rose due text form (Answered other told_as is) told reads quiet =
-    let same : other ≡ form = one_form unique text other form (subst (λ (bytes : Option (List ℕ)). IsToldAs bytes other) told told_as) reads in
+owed_is_due : (words : List (List ℕ)) (left : Option (List ℕ)) (Rose : Type 0) (due : Due) (text : List ℕ) (reading : Reading) →
+    Owed words left Rose due → left ≡ Some text → IsReadAs text reading → (Rose → ⊥) → (due ≡ due_of (job_of words) reading) ⊎ (due.status ≡ statuses.NoMemory)
+owed_is_due words left Rose due text reading (RefusedWords none is) told reads quiet = inl (is ∙ ap (λ job. due_of job reading) (sym none))
+owed_is_due words left Rose due text reading (Answered other told_as is) told reads quiet =
+    let same : other ≡ reading = one_reading text other reading (subst (λ (bytes : Option (List ℕ)). IsToldAs bytes other) told told_as) reads in
     inl (is ∙ ap (due_of (job_of words)) same)
-owed_is_due unique words left Rose due text form (Unread named rose is) told reads quiet = absurd (quiet rose)
-owed_is_due unique words left Rose due text form (OutOfMemory is) told reads quiet = inr (ap (λ (d : Due). d.status) is)
+owed_is_due words left Rose due text reading (Unread named rose is) told reads quiet = absurd (quiet rose)
+owed_is_due words left Rose due text reading (OutOfMemory is) told reads quiet = inr (ap (λ (d : Due). d.status) is)
 
 gives : (owed due : Due) (status : Status) (out_old out_new notes_old notes_new : Option (List ℕ)) (delivered : Delivers owed status out_old out_new notes_old notes_new) →
     IsWritten owed status delivered.out delivered.notes → owed ≡ due → GivesDue due status out_old out_new notes_old notes_new
@@ -40,14 +28,14 @@ gives owed due status out_old out_new notes_old notes_new delivered written is =
       notes_took = delivered.notes_took ∙ ap (with_back notes_old) written.same_notes;
     })
 
-pub answers_exactly : HasOneReading → (words : List (List ℕ)) (left : Option (List ℕ)) (RoseSource RoseOut RoseNotes : Type 0) (status : Status)
+pub answers_exactly : (words : List (List ℕ)) (left : Option (List ℕ)) (RoseSource RoseOut RoseNotes : Type 0) (status : Status)
     (out_old out_new notes_old notes_new : Option (List ℕ)) →
     Answers words left RoseSource status out_old out_new notes_old notes_new → (status ≡ statuses.WriteFault → RoseOut ⊎ RoseNotes) →
     AnswersExactly words left RoseSource RoseOut RoseNotes status out_old out_new notes_old notes_new
-answers_exactly unique words left RoseSource RoseOut RoseNotes status out_old out_new notes_old notes_new answers fault =
-    λ text form told reads quiet_source quiet_out quiet_notes found.
+answers_exactly words left RoseSource RoseOut RoseNotes status out_old out_new notes_old notes_new answers fault =
+    λ text reading told reads quiet_source quiet_out quiet_notes found.
     elim answers.delivered.ends [
-      | inl written ↦ elim (owed_is_due unique words left RoseSource answers.due text form answers.owed told reads quiet_source) [
+      | inl written ↦ elim (owed_is_due words left RoseSource answers.due text reading answers.owed told reads quiet_source) [
         | inl is ↦ gives answers.due _ status out_old out_new notes_old notes_new answers.delivered written is
         | inr memory ↦ absurd (found (written.same_status ∙ memory))
       ]

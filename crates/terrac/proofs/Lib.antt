@@ -10,3 +10,4 @@ pub mod Numbers
 pub mod Pieces
 pub mod Telling
 pub mod WordSteps
+pub mod OneReading

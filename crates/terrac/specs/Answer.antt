@@ -1,22 +1,21 @@
 -- What a call answers, whatever the source and the sinks do.
 use Rattle.std.specs.Prelude.{ℕ, ◌≡◌, ◌≤◌, List, ◌++◌, length, Option, Some, None, codes, ◌⊎◌, IsSome}
 use Rattle.tl_base.specs.Outside.{with_front, with_back}
-use Rattle.first_form.specs.Tree.{SourceFunction}
 use Rattle.terrac.specs.declared.status.Status.{Status}
 use Rattle.terrac.specs.declared.status.Status.TheVariants as statuses
 use Rattle.terrac.specs.Words.{job_of}
-use Rattle.terrac.specs.Due.{Due, line, refused, due_of, IsReadAs}
+use Rattle.terrac.specs.Due.{Due, Reading, line, refused, due_of, IsReadAs}
 
--- where a source tells its bytes, they read as this function, or as none
-abbrev pub IsToldAs : Option (List ℕ) → Option SourceFunction → Type 0
-IsToldAs None form = Unit {0}
-IsToldAs (Some text) form = IsReadAs text form
+-- where a source tells its bytes, they read so
+abbrev pub IsToldAs : Option (List ℕ) → Reading → Type 0
+IsToldAs None reading = Unit {0}
+IsToldAs (Some text) reading = IsReadAs text reading
 
 -- What is owed, before it is written: a refusal of the words; what the job gives on what the source has left; the line of a read
 -- that failed, where the words name a job and the source's count of faults rose; or that of want of memory, which is free.
 pub data Owed (words : List (List ℕ)) (left : Option (List ℕ)) (Rose : Type 0) (due : Due) : Type 0 where
   RefusedWords : job_of words ≡ None → due ≡ refused statuses.Usage (codes "usage") → Owed words left Rose due
-  Answered : (form : Option SourceFunction) → IsToldAs left form → due ≡ due_of (job_of words) form → Owed words left Rose due
+  Answered : (reading : Reading) → IsToldAs left reading → due ≡ due_of (job_of words) reading → Owed words left Rose due
   Unread : IsSome (job_of words) → Rose → due ≡ refused statuses.ReadFault (codes "read fault") → Owed words left Rose due
   OutOfMemory : due ≡ refused statuses.NoMemory (codes "no memory") → Owed words left Rose due
 

@@ -1,8 +1,8 @@
 -- What the code of an expression does, and then its words.
 use Rattle.std.specs.Prelude.{◌≡◌, ℕ, ◌+◌, ◌*◌, ◌^◌, ◌<◌, ◌≤◌, max, List, [], ◌∷◌, ◌++◌, length, replicate, slice_index, Option}
-use Rattle.first_form.specs.declared.tree.Operator.{Operator}
-use Rattle.first_form.specs.declared.tree.Operator.TheVariants.{Add, Subtract, Multiply}
-use Rattle.first_form.specs.Tree.{Tree, Parameter, Literal, Binary, HasParametersBelow}
+use Rattle.first_form.specs.declared.function.Operator.{Operator}
+use Rattle.first_form.specs.declared.function.Operator.TheVariants.{Add, Subtract, Multiply}
+use Rattle.first_form.specs.Formula.{Formula, Parameter, Literal, Binary, HasParametersBelow}
 use Rattle.terra_meaning.specs.Meaning.{meaning}
 use Rattle.rv_machine.specs.declared.stops.Stop.TheVariants.{Returned}
 use Rattle.rv_isa.specs.declared.instr.Instr.{Instr}
@@ -16,7 +16,7 @@ pub record Gives (ran : Ran) (value : ℕ) : Type 0 where
 
 -- A text with so many bytes of private memory computes an expression: whatever the arguments, its run from its first
 -- word gives the expression's value, in at most as many steps as it has words, and writes nothing.
-pub record Computes (words : List ℕ) (private : ℕ) (tree : Tree) : Type 0 where
+pub record Computes (words : List ℕ) (private : ℕ) (tree : Formula) : Type 0 where
   pub returns :
       (arguments : List ℕ) →
       length arguments ≤ 8 →
@@ -55,17 +55,17 @@ pop_words = 0x00013303 ∷ 0x00810113 ∷ []
 abbrev pub return_words : List ℕ
 return_words = 0x00028513 ∷ 0x00008067 ∷ []
 
-abbrev pub expression_words : Tree → List ℕ
+abbrev pub expression_words : Formula → List ℕ
 expression_words (Parameter position) = parameter_word position ∷ []
 expression_words (Literal value) = literal_word value ∷ []
 expression_words (Binary operator left right) =
     expression_words left ++ (push_words ++ (expression_words right ++ (pop_words ++ operator_word operator ∷ [])))
 
-abbrev pub function_words : Tree → List ℕ
+abbrev pub function_words : Formula → List ℕ
 function_words tree = expression_words tree ++ return_words
 
 -- how many operands lie on the stack at most
-abbrev pub depth_of : Tree → ℕ
+abbrev pub depth_of : Formula → ℕ
 depth_of (Parameter position) = 0
 depth_of (Literal value) = 0
 depth_of (Binary operator left right) = max (depth_of left) (depth_of right + 1)

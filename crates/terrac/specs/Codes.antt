@@ -1,11 +1,12 @@
 -- The codes with which the process ends.
 use Rattle.std.specs.Prelude.{ℕ}
 use Rattle.terrac.specs.declared.status.Status.{Status}
-use Rattle.terrac.specs.declared.status.Status.TheVariants.{Ok, Usage, NoEntry, BadArgument, ReadFault, WriteFault, NoMemory, NotBuilt}
+use Rattle.terrac.specs.declared.status.Status.TheVariants.{Ok, Usage, Syntax, NoEntry, BadArgument, ReadFault, WriteFault, NoMemory, NotBuilt}
 
 abbrev pub code_of : Status → ℕ
 code_of Ok = 0
 code_of Usage = 2
+code_of (Syntax kind place) = 3
 code_of NoEntry = 6
 code_of (BadArgument number) = 7
 code_of ReadFault = 11

@@ -8,3 +8,4 @@ pub mod Call
 pub mod JobView
 pub mod DueView
 pub mod Delivery
+pub mod FormView

@@ -1,7 +1,7 @@
 // The code of an expression: words for the machine, and their run.
 
 ghost use Rattle.std.specs.Prelude.{◌≡◌, ℕ, ◌+◌, ◌*◌, ◌≤◌, [], ◌∷◌, ◌++◌, length, IfOk, OnOk};
-ghost use Rattle.first_form.specs.Tree.{tree_of, operators, HasParametersBelow, HasLiteralsUpTo};
+ghost use Rattle.first_form.specs.Formula.{formula_of, operators, HasParametersBelow, HasLiteralsUpTo};
 ghost use Rattle.terra_meaning.specs.Meaning.{meaning};
 ghost use Rattle.terrac.specs.Code.{Computes, expression_words, operator_word, depth_of};
 
@@ -30,10 +30,10 @@ pub(crate) struct Code {
 
 /// The code of an expression whose parameters are the first eight arguments at most.
 pub(crate) fn generate(alloc: Global, body: &Expression) -> Result<Code, NoMemory>
-    requires parameters { HasParametersBelow 8 (tree_of body.now) }
-    requires literals { HasLiteralsUpTo 2047 (tree_of body.now) }
-    requires operators { operators (tree_of body.now) ≤ 1000 }
-    ensures computes { IfOk result (λ code. Computes code.words.items code.private (tree_of body.now)) }
+    requires parameters { HasParametersBelow 8 (formula_of body.now) }
+    requires literals { HasLiteralsUpTo 2047 (formula_of body.now) }
+    requires operators { operators (formula_of body.now) ≤ 1000 }
+    ensures computes { IfOk result (λ code. Computes code.words.items code.private (formula_of body.now)) }
     ensures short { IfOk result (λ code. length code.words.items ≤ 6003) }
     ensures small { IfOk result (λ code. code.private ≤ 8000) }
 {
@@ -54,10 +54,10 @@ pub(crate) fn execute<K: Sink>(
     out: &mut K,
 ) -> Result<u64, NoMemory>
     requires few { length arguments.now ≤ 8 }
-    requires parameters { HasParametersBelow (length arguments.now) (tree_of body.now) }
-    requires literals { HasLiteralsUpTo 2047 (tree_of body.now) }
-    requires operators { operators (tree_of body.now) ≤ 1000 }
-    ensures value { IfOk result (λ value. value ≡ meaning (tree_of body.now) arguments.now) }
+    requires parameters { HasParametersBelow (length arguments.now) (formula_of body.now) }
+    requires literals { HasLiteralsUpTo 2047 (formula_of body.now) }
+    requires operators { operators (formula_of body.now) ≤ 1000 }
+    ensures value { IfOk result (λ value. value ≡ meaning (formula_of body.now) arguments.now) }
     ensures quiet { out.new ≡ out.old }
 {
     let code = generate(alloc, body)?;
@@ -71,9 +71,9 @@ pub(crate) fn execute<K: Sink>(
 
 // The words of an expression, whose value they leave in x5.
 fn emit(words: &mut Vec<u32>, body: &Expression) -> Result<(), NoMemory>
-    requires parameters { HasParametersBelow 8 (tree_of body.now) }
-    requires literals { HasLiteralsUpTo 2047 (tree_of body.now) }
-    ensures { OnOk result (words.new.items ≡ words.old.items ++ expression_words (tree_of body.now)) }
+    requires parameters { HasParametersBelow 8 (formula_of body.now) }
+    requires literals { HasLiteralsUpTo 2047 (formula_of body.now) }
+    ensures { OnOk result (words.new.items ≡ words.old.items ++ expression_words (formula_of body.now)) }
 {
     match body {
         Expression::Parameter(position) => {
@@ -106,9 +106,9 @@ fn word_of(operator: Operator) -> u32
 
 // How many operands lie on the stack at most.
 fn depth(body: &Expression) -> u64
-    requires { operators (tree_of body.now) ≤ 1000 }
-    ensures depth { result ≡ depth_of (tree_of body.now) }
-    ensures small { result ≤ operators (tree_of body.now) }
+    requires { operators (formula_of body.now) ≤ 1000 }
+    ensures depth { result ≡ depth_of (formula_of body.now) }
+    ensures small { result ≤ operators (formula_of body.now) }
 {
     match body {
         Expression::Parameter(_) => 0,

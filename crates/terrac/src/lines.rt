@@ -2,14 +2,15 @@
 
 ghost use Rattle.std.specs.Prelude.{◌≡◌, ◌≢◌, ◌++◌, IfOk, codes};
 ghost use Rattle.std.specs.Fmt.{decimal};
-ghost use Rattle.terrac.specs.Due.{refused, due_of_value};
+ghost use Rattle.terrac.specs.Due.{refused, due_of_value, due_of_syntax, kind_name};
 ghost use Rattle.terrac.specs.DueView.{shown_due};
 ghost use Rattle.terrac.specs.declared.status.Status.TheVariants as statuses;
 
 use crate::due::{Due, Line};
 use crate::status::Status;
 use std::alloc::Global;
-use tl_base::NoMemory;
+use tl_base::{NoMemory, Place};
+use tl_lex::SyntaxKind;
 
 /// The result line of a 64-bit word, an int64 in two's complement.
 pub(crate) fn value_due(alloc: Global, value: u64) -> Result<Due, NoMemory>
@@ -25,6 +26,39 @@ pub(crate) fn value_due(alloc: Global, value: u64) -> Result<Due, NoMemory>
     Ok(Due {
         status: Status::Ok,
         line: Line::Made(line),
+    })
+}
+
+/// The name of a kind of refusals.
+fn kind_name(kind: SyntaxKind) -> &'static str
+    ensures { result.now ≡ kind_name kind }
+{
+    match kind {
+        SyntaxKind::BadByte => "BadByte",
+        SyntaxKind::OpenText => "OpenText",
+        SyntaxKind::BadEscape => "BadEscape",
+        SyntaxKind::BadNumber => "BadNumber",
+        SyntaxKind::NameTooLong => "NameTooLong",
+        SyntaxKind::TextTooLong => "TextTooLong",
+        SyntaxKind::TooDeep => "TooDeep",
+        SyntaxKind::Ambiguous => "Ambiguous",
+        SyntaxKind::Unexpected => "Unexpected",
+        SyntaxKind::TooLong => "TooLong",
+        SyntaxKind::NotUtf8 => "NotUtf8",
+    }
+}
+
+/// The refusal of a source.
+pub(crate) fn syntax_due(alloc: Global, kind: SyntaxKind, place: Place) -> Result<Due, NoMemory>
+    ensures due { IfOk result (λ due. shown_due due ≡ due_of_syntax kind place) }
+    ensures status { IfOk result (λ due. due.status ≡ statuses.Syntax kind place) }
+{
+    let name = kind_name(kind);
+    let line = place.line;
+    let word = place.word;
+    Ok(Due {
+        status: Status::Syntax { kind, place },
+        line: Line::Made(format!(in alloc; "syntax {name} at {line}:{word}\n")?),
     })
 }
 

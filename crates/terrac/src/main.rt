@@ -8,6 +8,7 @@ mod arguments;
 mod code;
 mod delivery;
 mod due;
+mod form;
 mod lines;
 mod reading;
 mod run;

@@ -2,9 +2,9 @@
 
 ghost use Rattle.std.specs.Prelude.{◌≡◌, ◌≢◌, ◌<◌, ◌≤◌, ◌^◌, Some, None, Err, IfOk, IsSome, map, string_bytes};
 ghost use Rattle.tl_base.specs.Outside.{IsRisen};
-ghost use Rattle.first_form.specs.Tree.{shown, IsWithin};
+ghost use Rattle.first_form.specs.Formula.{shown, IsWithin};
 ghost use Rattle.terrac.specs.Words.{job_of};
-ghost use Rattle.terrac.specs.Due.{due_of_job};
+ghost use Rattle.terrac.specs.Due.{due_of_job, IsFunction};
 ghost use Rattle.terrac.specs.JobView.{shown_job};
 ghost use Rattle.terrac.specs.DueView.{shown_due};
 ghost use Rattle.terrac.specs.Answer.{Owed, TookAtMost};
@@ -14,18 +14,19 @@ ghost use Rattle.terrac.specs.declared.reading.ReadError.TheVariants as errors;
 use crate::arguments::{Arguments, arguments_of};
 use crate::code::execute;
 use crate::due::Due;
+use crate::form::{Form, read_form};
 use crate::lines::{
-    bad_argument_due, no_entry_due, no_memory_due, not_built_due, read_fault_due, usage_due,
-    value_due,
+    bad_argument_due, no_entry_due, no_memory_due, not_built_due, read_fault_due, syntax_due,
+    usage_due, value_due,
 };
 use crate::reading::{ReadError, read_source};
 use crate::words::{Job, job_of};
-use first_form::{Function, ParseError, parse};
+use first_form::Function;
 use std::alloc::Global;
 use tl_base::{NoMemory, Sink, Source};
 
 /// How many bytes of a source are read at most: one more than it may have, which tells that it has too many.
-const READ_LIMIT: usize = 65_537;
+const READ_LIMIT: usize = 1_048_577;
 
 /// What is due for a function whose text was read.
 fn entry_due<K: Sink>(
@@ -35,7 +36,7 @@ fn entry_due<K: Sink>(
     out: &mut K,
 ) -> Result<Due, NoMemory>
     requires { IsWithin (shown function.now) }
-    ensures due { IfOk result (λ due. shown_due due ≡ due_of_job (shown_job job.now) (Some (shown function.now))) }
+    ensures due { IfOk result (λ due. shown_due due ≡ due_of_job (shown_job job.now) (IsFunction (shown function.now))) }
     ensures no_fault { IfOk result (λ due. due.status ≢ statuses.WriteFault) }
     ensures quiet { out.new ≡ out.old }
 {
@@ -71,10 +72,10 @@ fn try_run<S: Source, K: Sink>(
         return Ok(usage_due());
     };
     let text = read_source(alloc, source, READ_LIMIT)?;
-    match parse(alloc, &text) {
-        Ok(function) => Ok(entry_due(alloc, &job, &function, out)?),
-        Err(ParseError::NotBuilt) => Ok(not_built_due()),
-        Err(ParseError::NoMemory) => Err(ReadError::NoMemory),
+    match read_form(alloc, &text)? {
+        Form::Refused(kind, place) => Ok(syntax_due(alloc, kind, place)?),
+        Form::Function(function) => Ok(entry_due(alloc, &job, &function, out)?),
+        Form::Other => Ok(not_built_due()),
     }
 }
 

@@ -3,6 +3,9 @@
 ghost use Rattle.std.specs.Prelude.{◌≡◌};
 ghost use Rattle.terrac.specs.Codes.{code_of};
 
+use tl_base::Place;
+use tl_lex::SyntaxKind;
+
 /// How a call ends. Each status but [`Status::Ok`] has a line on `notes`.
 #[derive(Clone, Copy, Debug, PartialEq, Eq)]
 pub enum Status {
@@ -10,6 +13,8 @@ pub enum Status {
     Ok,
     /// The words name no job.
     Usage,
+    /// The source is refused for this reason: the token at this place, or at 0:0 the whole source.
+    Syntax { kind: SyntaxKind, place: Place },
     /// The source has no function of the entry's name.
     NoEntry,
     /// The word at this position, from 1, is the first that is bad, missing or one too many.
@@ -20,7 +25,7 @@ pub enum Status {
     WriteFault,
     /// Memory was not found.
     NoMemory,
-    /// The source is none that is built yet.
+    /// The source reads, and is none that is built yet.
     NotBuilt,
 }
 
@@ -32,6 +37,7 @@ impl Status {
         match self {
             Status::Ok => 0,
             Status::Usage => 2,
+            Status::Syntax { kind: _, place: _ } => 3,
             Status::NoEntry => 6,
             Status::BadArgument { number: _ } => 7,
             Status::ReadFault => 11,

@@ -49,7 +49,7 @@ pub fn terrac<S: Source, K: Sink, N: Sink>(
     ensures untouched { job_of (map string_bytes words.now) ≡ None → source.new ≡ source.old }
 
     // No more than one byte past the limit of a source is read.
-    ensures bound { TookAtMost 65537 (S.left source.old) (S.left source.new) }
+    ensures bound { TookAtMost 1048577 (S.left source.old) (S.left source.new) }
 {
     let due = run(alloc, words, source, out);
     deliver(&due, out, notes)

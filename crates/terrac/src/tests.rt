@@ -55,8 +55,19 @@ fn strings(alloc: Global, words: &[&str]) -> Result<Vec<String>, Fail> {
 }
 
 fn check(rt: &impl Abort, alloc: Global, row: &Row<'_>, faults: &Faults) -> Result<(), Fail> {
+    check_bytes(rt, alloc, row.source.as_bytes(), row, faults)
+}
+
+// The row with these bytes as its source.
+fn check_bytes(
+    rt: &impl Abort,
+    alloc: Global,
+    bytes: &[u8],
+    row: &Row<'_>,
+    faults: &Faults,
+) -> Result<(), Fail> {
     let words = strings(alloc, row.words)?;
-    let bytes = row.source.as_bytes().to_vec(alloc)?;
+    let bytes = bytes.to_vec(alloc)?;
     let mut source = MemSource::new(bytes, faults.step.max(1), faults.reads.to_vec(alloc)?);
     let mut out = MemSink::new(alloc, faults.room, faults.outs.to_vec(alloc)?)?;
     let mut notes = MemSink::new(alloc, 100, faults.notes.to_vec(alloc)?)?;
@@ -380,17 +391,134 @@ fn rows_with_faults(rt: HostRuntime) -> Result<(), Fail> {
     )
 }
 
-// A source has at most 65,536 bytes and 1,000 operators.
+// Each of these parts so many times, one behind the other.
+fn repeated(alloc: Global, parts: &[(&str, usize)]) -> Result<String, Fail> {
+    let mut text = String::new(alloc);
+    for (part, times) in parts {
+        for _ in 0..*times {
+            text.push_str(part)?;
+        }
+    }
+    Ok(text)
+}
+
+// What is to come of `run f` on a text that gives no result.
+fn check_notes(rt: &impl Abort, alloc: Global, source: &str, notes: &str) -> Result<(), Fail> {
+    let code = if notes == "not built\n" { 15 } else { 3 };
+    let words: &[&str] = &["run", "f"];
+    let row = Row {
+        source,
+        words,
+        out: "",
+        notes,
+        code,
+    };
+    check(rt, alloc, &row, &NO_FAULTS)
+}
+
+/// Texts that are refused, or read and are no function of the first form.
+static REFUSALS: [(&str, &str); 24] = [
+    ("local x = 1", "not built\n"),
+    ("-- c", "not built\n"),
+    ("x = 1.5", "syntax BadNumber at 1:3\n"),
+    ("\"abc", "syntax OpenText at 1:1\n"),
+    ("x = \"\\999\"", "syntax BadEscape at 1:3\n"),
+    ("x = $", "syntax BadByte at 1:3\n"),
+    ("local x = = 1", "syntax Unexpected at 1:4\n"),
+    ("f()\n(g)()", "syntax Ambiguous at 2:1\n"),
+    ("return return", "syntax Unexpected at 1:2\n"),
+    ("break", "syntax Unexpected at 1:1\n"),
+    ("emit x", "syntax Unexpected at 1:1\n"),
+    ("x = function() emit y end", "syntax Unexpected at 1:6\n"),
+    ("x = 99999999999999", "not built\n"),
+    ("x = 100000000000000", "syntax BadNumber at 1:3\n"),
+    ("x = 5LL", "syntax Unexpected at 1:3\n"),
+    ("terra f(", "syntax Unexpected at 1:4\n"),
+    ("terra f() : int64 return 2147483647 end", "not built\n"),
+    (
+        "terra f() : int64 return 2147483648 end",
+        "syntax BadNumber at 1:8\n",
+    ),
+    ("terra f() return 1LL end", "not built\n"),
+    ("terra f.f() : int64 return 1LL end", "not built\n"),
+    (
+        "terra f(a : int64, a : int64) : int64 return a end",
+        "not built\n",
+    ),
+    ("terra int64() : int64 return 1LL end", "not built\n"),
+    (
+        "terra f() : int64 return 1LL end terra g() : int64 return 1LL end",
+        "not built\n",
+    ),
+    ("terra f() : int64 return 0x1LL end", "not built\n"),
+];
+
+#[test]
+fn refusals(rt: HostRuntime) -> Result<(), Fail> {
+    for (source, notes) in &REFUSALS {
+        check_notes(&rt, rt.alloc(), source, notes)?;
+    }
+    let commented = Row {
+        source: "#!x\nterra f() : int64 return 5LL end -- c",
+        words: &["run", "f"],
+        out: "result 5\n",
+        notes: "",
+        code: 0,
+    };
+    check(&rt, rt.alloc(), &commented, &NO_FAULTS)?;
+    let no_text = Row {
+        source: "",
+        words: &["run", "f"],
+        out: "",
+        notes: "syntax NotUtf8 at 0:0\n",
+        code: 3,
+    };
+    check_bytes(&rt, rt.alloc(), &[0xff], &no_text, &NO_FAULTS)
+}
+
+// 100 levels of nesting, and 1,000 operators in a chain.
+#[test]
+fn depths(rt: HostRuntime) -> Result<(), Fail> {
+    let alloc = rt.alloc();
+    for (levels, notes) in [(100, "not built\n"), (101, "syntax TooDeep at 1:101\n")] {
+        let text = repeated(alloc, &[("do ", levels), ("end ", levels)])?;
+        check_notes(&rt, alloc, text.as_str(), notes)?;
+    }
+    for (levels, notes) in [(100, "not built\n"), (101, "syntax TooDeep at 1:103\n")] {
+        let text = repeated(
+            alloc,
+            &[("x = ", 1), ("(", levels), ("1", 1), (")", levels)],
+        )?;
+        check_notes(&rt, alloc, text.as_str(), notes)?;
+    }
+    for (levels, notes) in [(99, "not built\n"), (100, "syntax TooDeep at 1:104\n")] {
+        let parts = [
+            ("x = ", 1),
+            ("(", levels),
+            ("function() x = 1 end", 1),
+            (")", levels),
+        ];
+        let text = repeated(alloc, &parts)?;
+        check_notes(&rt, alloc, text.as_str(), notes)?;
+    }
+    for (operators, notes) in [
+        (1_000, "not built\n"),
+        (1_001, "syntax TooDeep at 1:2004\n"),
+    ] {
+        let text = repeated(alloc, &[("x = 1", 1), ("+1", operators)])?;
+        check_notes(&rt, alloc, text.as_str(), notes)?;
+    }
+    Ok(())
+}
+
+// A source has at most 1,048,576 bytes, and a function 1,000 operators.
 #[test]
 fn limits(rt: HostRuntime) -> Result<(), Fail> {
     for (bytes, out, notes, code) in [
-        (65_536, "result 5\n", "", 0),
-        (65_537, "", "not built\n", 15),
+        (1_048_576, "result 5\n", "", 0),
+        (1_048_577, "", "syntax TooLong at 0:0\n", 3),
     ] {
-        let mut text = String::from_str(rt.alloc(), ADD)?;
-        for _ in ADD.len()..bytes {
-            text.push_str("\n")?;
-        }
+        let text = repeated(rt.alloc(), &[(ADD, 1), ("\n", bytes - ADD.len())])?;
         let source = text.as_str();
         let words: &[&str] = &["run", "add", "2", "3"];
         let row = Row {
@@ -402,15 +530,15 @@ fn limits(rt: HostRuntime) -> Result<(), Fail> {
         };
         check(&rt, rt.alloc(), &row, &NO_FAULTS)?;
     }
-    for (operators, out, notes, code) in [
-        (1_000, "result 2002\n", "", 0),
-        (1_001, "", "not built\n", 15),
-    ] {
-        let mut text = String::from_str(rt.alloc(), "terra f(a : int64) : int64 return a")?;
-        for _ in 0..operators {
-            text.push_str("+a")?;
-        }
-        text.push_str(" end")?;
+    for (more, out, notes, code) in [(0, "result 2002\n", "", 0), (1, "", "not built\n", 15)] {
+        let parts = [
+            ("terra f(a : int64) : int64 return (a", 1),
+            ("+a", 1_000),
+            (")", 1),
+            ("+a", more),
+            (" end", 1),
+        ];
+        let text = repeated(rt.alloc(), &parts)?;
         let source = text.as_str();
         let words: &[&str] = &["run", "f", "2"];
         let row = Row {

@@ -1,7 +1,7 @@
 // The code of an expression runs to its value.
 
 ghost use Rattle.std.specs.Prelude.{◌≡◌, IfOk};
-ghost use Rattle.first_form.specs.Tree.{tree_of, Binary};
+ghost use Rattle.first_form.specs.Formula.{formula_of, Binary};
 
 use super::*;
 use std::test::Fail;
@@ -13,7 +13,7 @@ fn binary(
     left: Expression,
     right: Expression,
 ) -> Result<Expression, NoMemory>
-    ensures { IfOk result (λ e. tree_of e ≡ Binary operator (tree_of left) (tree_of right)) }
+    ensures { IfOk result (λ e. formula_of e ≡ Binary operator (formula_of left) (formula_of right)) }
 {
     let left = Box::new(alloc, left)?;
     let right = Box::new(alloc, right)?;

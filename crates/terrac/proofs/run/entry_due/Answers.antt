@@ -1,5 +1,5 @@
 use Rattle.std.proofs.Common.{◌≡◌, ℕ, length, subst, sym, ap, ◌∙◌, arith}
-use Rattle.first_form.specs.Tree.{tree_of, HasParametersBelow}
+use Rattle.first_form.specs.Formula.{formula_of, HasParametersBelow}
 use Rattle.terrac.specs.JobView.{HasCount}
 use Rattle.terrac.proofs.run.entry_due.Goals as goal
 
@@ -13,4 +13,4 @@ pub execute-requires-clause-parameters : goal.execute-requires-clause-parameters
 execute-requires-clause-parameters g c =
     let count : length c.in-Good.values.items ≡ c.args.function.now.arity =
     subst (HasCount c.args.function.now.arity) c.in-Good.is c.in_ok-values.ensures.count in
-    subst (λ (n : ℕ). HasParametersBelow n (tree_of c.args.function.now.body)) (sym (ap length c.deref-in-Good.ensures.value ∙ count)) c.requires.parameters
+    subst (λ (n : ℕ). HasParametersBelow n (formula_of c.args.function.now.body)) (sym (ap length c.deref-in-Good.ensures.value ∙ count)) c.requires.parameters

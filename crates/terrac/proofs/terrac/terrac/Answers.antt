@@ -1,11 +1,7 @@
 use Rattle.std.proofs.Common.{ap}
-use Rattle.first_form.proofs.Whole.{one_function}
 use Rattle.terrac.specs.DueView.{shown_due}
-use Rattle.terrac.proofs.Exactly.{HasOneReading, answers_exactly, delivered_from, rose_from}
+use Rattle.terrac.proofs.Exactly.{answers_exactly, delivered_from, rose_from}
 use Rattle.terrac.proofs.terrac.terrac.Goals as goal
-
-one_reading : HasOneReading
-one_reading = one_function
 
 pub returns-clause-answers : goal.returns-clause-answers
 returns-clause-answers g c = record {
@@ -16,5 +12,5 @@ returns-clause-answers g c = record {
 
 pub returns-clause-exactly : goal.returns-clause-exactly
 returns-clause-exactly g c =
-    answers_exactly one_reading _ _ _ _ _ _ _ _ _ _ (returns-clause-answers g c)
+    answers_exactly _ _ _ _ _ _ _ _ _ _ (returns-clause-answers g c)
     (λ is. rose_from _ _ _ _ (ap g.K.Sink.faults c.run-due.ensures.unwritten) (c.deliver.ensures.fault is))
