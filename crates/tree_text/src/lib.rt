@@ -1,9 +1,6 @@
-//! Writes trees as texts, for tests and for people who look at a tree. The tests of the parser of both languages stand here.
+//! The tests of the parser of both languages: texts with their trees and refusals. A tree is compared as a text, which `text` writes. They
+//! stand apart from the parser, since a crate with tests is proved twice.
 #![tactic(auto)]
-
-mod text;
-
-pub use text::text_of;
 
 #[cfg(test)]
 mod answers;
@@ -17,3 +14,5 @@ mod lua_tests;
 mod refusal_tests;
 #[cfg(test)]
 mod terra_tests;
+#[cfg(test)]
+mod text;

@@ -43,7 +43,7 @@ fn unary(operator: UnaryOperator) -> &'static str {
 /// numbers and texts as the source has them. A child that doesn't stand before its node, as in the tree of no text, is left out.
 ///
 /// `NoMemory` comes where memory for the text was not found.
-pub fn text_of(alloc: Global, tree: &Tree) -> Result<String, NoMemory> {
+pub(crate) fn text_of(alloc: Global, tree: &Tree) -> Result<String, NoMemory> {
     let mut out = String::new(alloc);
     node(tree, tree.root(), &mut out)?;
     Ok(out)
