@@ -1,5 +1,5 @@
--- What a layer means: a function of its job and of the answers that it was given, whose value is what shows outside.
-use Rattle.std.specs.Prelude.{ℕ}
+-- What a layer means: a function of its task and of the answers that it was given, whose value is what shows outside.
+use Rattle.std.specs.Prelude.{◌≡◌, ℕ, List}
 use Rattle.tl_base.specs.declared.turn.Turn.{Turn}
 use Rattle.tl_base.specs.declared.turn.Turn.TheVariants.{End, Ask, Spent}
 
@@ -25,6 +25,10 @@ pub data Seen (W Q E : Type 0) : Type 0 where
   SpentAt : (s : State W) → Seen W Q E
   Asks : (question : Q) (s : State W) → Seen W Q E
 
+-- what shows of a layer, given the answer with which it goes on, and those after it
+abbrev pub Meaning : (W Q A E : Type 0) → Type 0
+Meaning W Q A E = Given W A → List (Given W A) → Seen W Q E
+
 -- a turn, with the state that it leaves
 abbrev pub seen : {W Q E : Type 0} → Turn Q E → State W → Seen W Q E
 seen (End e) s = Ended e s
@@ -37,6 +41,14 @@ OnAsk (End e) P = Unit {0}
 OnAsk (Ask q) P = P q
 OnAsk Spent P = Unit {0}
 
--- how much a unit of the budget counts in the measure by which each loop over machines ends
-abbrev pub unit_weight : ℕ
-unit_weight = 16
+-- a fact for an end, and for a payment above what is left
+abbrev pub UnlessAsk : {Q E : Type 0} → Turn Q E → Type 0 → Type 0
+UnlessAsk (End e) P = P
+UnlessAsk (Ask q) P = Unit {0}
+UnlessAsk Spent P = P
+
+-- one is the other, unless it asks
+abbrev pub IsSameUnlessAsks : {W Q E : Type 0} → Seen W Q E → Seen W Q E → Type 0
+IsSameUnlessAsks (Ended e s) o = o ≡ Ended e s
+IsSameUnlessAsks (SpentAt s) o = o ≡ SpentAt s
+IsSameUnlessAsks (Asks q s) o = Unit {0}

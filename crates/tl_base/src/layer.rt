@@ -1,7 +1,7 @@
 // A machine that suspends itself with a question, and goes on with the answer.
 
-ghost use Rattle.std.specs.Prelude.{◌≡◌, List, [], ◌∷◌, IfOk, OnOk, ℕ, ◌+◌, ◌*◌, ◌≤◌};
-ghost use Rattle.tl_base.specs.Layer.{State, state, Given, given, Seen, seen, OnAsk, unit_weight};
+ghost use Rattle.std.specs.Prelude.{◌≡◌, List, [], ◌∷◌, IfOk, OnOk, ◌≤◌};
+ghost use Rattle.tl_base.specs.Layer.{State, state, Given, given, Meaning, seen, OnAsk, UnlessAsk};
 
 use crate::budget::Budget;
 use crate::memory::NoMemory;
@@ -25,9 +25,8 @@ pub trait Layer {
     type End;
 
     /// What remains to be done: what shows outside, given the next answer and the answers after it, each with the state in which
-    /// it is given. Answers past the end aren't read.
-    ghost rest: { Self → Given Self.World Self.Answer → List (Given Self.World Self.Answer) →
-        Seen Self.World Self.Question Self.End };
+    /// it is given.
+    ghost rest: { Self → Meaning Self.World Self.Question Self.Answer Self.End };
 
     /// Holds of the answers with which it can go on.
     ghost fits: { Self → Given Self.World Self.Answer → Type 0 };
@@ -38,19 +37,17 @@ pub trait Layer {
     /// What each turn keeps of the world.
     ghost keeps: { Self.World → Self.World → Type 0 };
 
-    /// How much it can do without paying.
-    ghost weight: { Self → ℕ };
-
     /// Goes on with an answer, to where it stops next.
     ///
     /// The answer fits: the first one begins, and each later one follows the question that was asked last. No clause says that an
     /// answer fits after an end, `Spent` or `NoMemory`: the layer is of no more use then.
     ///
     /// - `turn`: where it stops, with the state there, is what remained, given this answer alone.
+    /// - `reads_no_more`: an end, or a payment above what is left, is what remained, given this answer and any others behind it: no
+    ///   one reads those.
     /// - `goes_on`: at a question, what remained, given this answer and any others behind it, is what remains, given the others.
     /// - `fits_next`: an answer that follows the question fits.
     /// - `kept`, `paid`: the world keeps what each turn keeps, and the budget doesn't rise.
-    /// - `falls`: each question brings the layer nearer to its end, so that any loop over layers ends.
     fn resume(
         &mut self,
         world: &mut Self::World,
@@ -60,6 +57,8 @@ pub trait Layer {
         requires { fits self.old (given answer world.old budget.old) }
         ensures turn { IfOk result (λ turn.
             rest self.old (given answer world.old budget.old) [] ≡ seen turn (state world.new budget.new)) }
+        ensures reads_no_more { IfOk result (λ turn. UnlessAsk turn ((later : List (Given Self.World Self.Answer)) →
+            rest self.old (given answer world.old budget.old) later ≡ seen turn (state world.new budget.new))) }
         ensures goes_on { IfOk result (λ turn. OnAsk turn (λ _.
             (next : Given Self.World Self.Answer) (later : List (Given Self.World Self.Answer)) →
             rest self.old (given answer world.old budget.old) (next ∷ later) ≡ rest self.new next later)) }
@@ -67,7 +66,5 @@ pub trait Layer {
             (next : Given Self.World Self.Answer) →
             follows question (state world.new budget.new) next → fits self.new next)) }
         ensures kept { OnOk result (keeps world.old world.new) }
-        ensures paid { OnOk result (budget.new ≤ budget.old) }
-        ensures falls { IfOk result (λ turn. OnAsk turn (λ _.
-            unit_weight * budget.new + weight self.new + 2 ≤ unit_weight * budget.old + weight self.old)) };
+        ensures paid { OnOk result (budget.new ≤ budget.old) };
 }
