@@ -1,12 +1,12 @@
 -- Lines that go out whole, or up to a write that fails.
 use Rattle.std.proofs.Common.{◌≡◌, ◌≢◌, ℕ, List, [], ◌++◌, Option, inl, inr, refl, ap, ◌∙◌}
 use Rattle.std.specs.Prelude.{codes}
-use Rattle.tl_base.specs.Outside.{with_back}
+use Rattle.tl_base.specs.Outside.{with_back, IsFront}
 use Rattle.terrac.specs.declared.status.Status.{Status}
 use Rattle.terrac.specs.declared.status.Status.TheVariants as statuses
 use Rattle.terrac.specs.Due.{line}
 use Rattle.terrac.specs.DueView.{due_with}
-use Rattle.terrac.specs.Answer.{IsFront, TakesFront, Delivers}
+use Rattle.terrac.specs.Answer.{TakesFront, Delivers}
 use Rattle.terrac.specs.Delivery.{StopsShort}
 use Rattle.terrac.proofs.Pieces.{with_back-none, with_back-both}
 

@@ -1,6 +1,6 @@
 -- What a call answers, whatever the source and the sinks do.
 use Rattle.std.specs.Prelude.{ℕ, ◌≡◌, ◌≤◌, List, ◌++◌, length, Option, Some, None, codes, ◌⊎◌, IsSome}
-use Rattle.tl_base.specs.Outside.{with_front, with_back}
+use Rattle.tl_base.specs.Outside.{with_front, with_back, IsFront}
 use Rattle.terrac.specs.declared.status.Status.{Status}
 use Rattle.terrac.specs.declared.status.Status.TheVariants as statuses
 use Rattle.terrac.specs.Words.{job_of}
@@ -18,10 +18,6 @@ pub data Owed (words : List (List ℕ)) (left : Option (List ℕ)) (Rose : Type 
   Answered : (reading : Reading) → IsToldAs left reading → due ≡ due_of (job_of words) reading → Owed words left Rose due
   Unread : IsSome (job_of words) → Rose → due ≡ refused statuses.ReadFault (codes "read fault") → Owed words left Rose due
   OutOfMemory : due ≡ refused statuses.NoMemory (codes "no memory") → Owed words left Rose due
-
--- the first is a front of the second
-abbrev pub IsFront : List ℕ → List ℕ → Type 0
-IsFront front whole = (rest : List ℕ) × (whole ≡ front ++ rest)
 
 -- a sink took a front of these bytes
 pub record TakesFront (whole : List ℕ) (old new : Option (List ℕ)) : Type 0 where
