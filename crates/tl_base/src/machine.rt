@@ -3,7 +3,7 @@
 // A layer writes its meaning as a table of plans, one for each kind of job, without frames (`specs/Plan.antt`). Its machine has a
 // frame for each place at which a plan waits, and says how each frame goes on (`specs/Machine.antt`). `open`, `begin` and `go_on`
 // are its steps; what is proved of them is that each does what the plan says. The loop, the payment before each job, questions and
-// answers are here, once for all layers. `sums.rt` is a small one.
+// answers are here, once for all layers. The crate `layer_examples` has small ones.
 
 ghost use Rattle.std.specs.Prelude.{List, [], ◌∷◌, Bool, true, false, ◌≡◌, IfOk, OnOk};
 ghost use Rattle.tl_base.specs.Layer.{State, state, Given, seen, OnAsk, UnlessAsk};
