@@ -1,0 +1,63 @@
+// Layers that ask one another.
+
+ghost use Rattle.std.specs.Prelude.{◌≡◌, ◌≤◌, List};
+ghost use Rattle.tl_base.specs.Layer.{State, Given};
+ghost use Rattle.stage_form.specs.Stage.{Stage, at};
+
+use std::alloc::Global;
+use tl_base::Layer;
+
+/// A stage: layers whose every question names a layer of the same stage, whose end is the answer.
+///
+/// `Staged` is one enum of all its layers, whose worlds, questions, answers and ends are those of the stage. A further layer adds
+/// an arm to it, and to `start`.
+pub trait Stages {
+    /// What the layers read and change beside the budget.
+    type World;
+
+    /// What is asked, which names a layer.
+    type Question: Drop;
+
+    /// What begins a layer, and what answers a question.
+    type Answer: Drop;
+
+    /// How a layer ends.
+    type End: Drop;
+
+    /// A layer that is to begin, or that is suspended.
+    type Staged: Layer<
+        World = Self::World,
+        Question = Self::Question,
+        Answer = Self::Answer,
+        End = Self::End,
+    >
+        + Drop;
+
+    /// The meaning of each question's layer, the answer with which each layer begins, and the answer that each end is.
+    ghost stage: { Self → Stage Self.World Self.Question Self.Answer Self.End };
+
+    /// The layer that a question names, which is to begin.
+    fn start(&self, alloc: Global, question: Self::Question) -> Self::Staged
+        ensures means { (first : Given Self.World Self.Answer) (later : List (Given Self.World Self.Answer)) →
+            Self.Staged.rest result first later ≡ (stage self.now).meaning question first later }
+        ensures fits { (s : State Self.World) → Self.Staged.fits result (at (stage self.now).go s) };
+
+    /// The answer with which each layer begins.
+    fn go(&self) -> Self::Answer
+        ensures { result ≡ (stage self.now).go };
+
+    /// The answer that an end is for the layer that asked.
+    fn answer(&self, end: Self::End) -> Self::Answer
+        ensures { result ≡ (stage self.now).answer_of end };
+
+    /// Each end may follow each question, in a world that kept what the turns since keep, with a budget that hasn't risen.
+    ghost ends_follow: { (stages : Self) (question : Self.Question) (asked now : State Self.World) (end : Self.End) →
+        Self.Staged.keeps asked.world now.world → now.left ≤ asked.left →
+        Self.Staged.follows question asked (at ((stage stages).answer_of end) now) };
+
+    /// What did nothing kept the world.
+    ghost keeps_self: { (w : Self.World) → Self.Staged.keeps w w };
+
+    /// What was kept by one turn and by the next was kept by both.
+    ghost keeps_on: { (u v w : Self.World) → Self.Staged.keeps u v → Self.Staged.keeps v w → Self.Staged.keeps u w };
+}
