@@ -1,8 +1,8 @@
 -- The layers that are suspended, and what the first question comes to.
 use Rattle.std.proofs.Common.{◌≡◌, ℕ, zero, suc, ◌+◌, ◌≤◌, List, [], ◌∷◌, ◌++◌, Option, Some, None, refl, sym, ap, ◌∙◌, subst, arith}
 use Rattle.std.proofs.Math.Path.{fun_ext}
-use Rattle.tl_base.specs.Layer.{State, Given, Seen, Ended, SpentAt, Asks, Meaning}
-use Rattle.stage_form.specs.Stage.{Stage, Final, Finished, Exhausted, at, after, on_question, on_end, fed}
+use Rattle.tl_base.specs.Layer.{State, Given, Seen, Ended, SpentAt, Asks, Meaning, at}
+use Rattle.stage_form.specs.Stage.{Stage, Final, Finished, Exhausted, after, on_question, on_end, fed}
 
 on_end-more : {W E : Type 0} (o o' : Option (Final W E)) (go go' : E → State W → Option (Final W E)) → ((out : Final W E) → o ≡ Some out → o' ≡ Some out) → ((e : E) (s : State W) (out : Final W E) → go e s ≡ Some out → go' e s ≡ Some out) → (out : Final W E) → on_end o go ≡ Some out → on_end o' go' ≡ Some out
 on_end-more None o' go go' f g out h = cc

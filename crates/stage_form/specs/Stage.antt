@@ -1,7 +1,7 @@
 -- The staging recursion: the layer that a question names is fed with answers until it ends, and each answer is what the layer's
 -- own question comes to.
 use Rattle.std.specs.Prelude.{ℕ, zero, suc, [], ◌∷◌, Option, Some, None}
-use Rattle.tl_base.specs.Layer.{State, Given, Seen, Ended, SpentAt, Asks, Meaning}
+use Rattle.tl_base.specs.Layer.{State, Given, Seen, Ended, SpentAt, Asks, Meaning, at}
 use Rattle.stage_form.specs.declared.staging.Outcome.{Outcome}
 use Rattle.stage_form.specs.declared.staging.Outcome.TheVariants.{Ends, Spent}
 
@@ -16,9 +16,6 @@ pub record Stage (W Q A E : Type 0) : Type 0 where
 pub data Final (W E : Type 0) : Type 0 where
   Finished : (end : E) (s : State W) → Final W E
   Exhausted : (s : State W) → Final W E
-
-abbrev pub at : {W A : Type 0} → A → State W → Given W A
-at a s = record { answer = a; state = s }
 
 -- what remains of a meaning after an answer
 abbrev pub after : {W Q A E : Type 0} → Meaning W Q A E → Given W A → Meaning W Q A E

@@ -1,8 +1,8 @@
 // Layers that ask one another.
 
 ghost use Rattle.std.specs.Prelude.{◌≡◌, ◌≤◌, List};
-ghost use Rattle.tl_base.specs.Layer.{State, Given};
-ghost use Rattle.stage_form.specs.Stage.{Stage, at};
+ghost use Rattle.tl_base.specs.Layer.{State, Given, at};
+ghost use Rattle.stage_form.specs.Stage.{Stage};
 
 use std::alloc::Global;
 use tl_base::Layer;

@@ -16,8 +16,12 @@ pub record Given (W A : Type 0) : Type 0 where
 abbrev pub state : {W : Type 0} → W → ℕ → State W
 state w n = record { world = w; left = n }
 
+-- an answer in a state
+abbrev pub at : {W A : Type 0} → A → State W → Given W A
+at a s = record { answer = a; state = s }
+
 abbrev pub given : {W A : Type 0} → A → W → ℕ → Given W A
-given a w n = record { answer = a; state = state w n }
+given a w n = at a (state w n)
 
 -- what shows at a layer's outside: an end, a payment above what is left, or the next question
 pub data Seen (W Q E : Type 0) : Type 0 where

@@ -1,4 +1,4 @@
-use Rattle.stage_form.specs.Stage.{at}
+use Rattle.tl_base.specs.Layer.{at}
 use Rattle.stage_form.proofs.Reaching.{fed-more}
 use Rattle.stage_form.proofs.staging.larger_changes_nothing.Goals as goal
 
