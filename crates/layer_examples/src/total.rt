@@ -1,0 +1,189 @@
+// A layer that asks one question for each number of a list in the world, for which nothing is paid.
+
+ghost use Rattle.std.specs.Prelude.{List, true, false, ◌≡◌, drop, IfOk, OnOk};
+ghost use Rattle.tl_base.specs.Machine.{GoesOnFree};
+ghost use Rattle.layer_examples.specs.Kept.{KeepsWorld};
+ghost use Rattle.layer_examples.specs.Total.{total_of, total_rules};
+
+use crate::end::{Answer, End, Flow, close, reply};
+use crate::world::World;
+use std::alloc::Global;
+use tl_base::{Budget, Layer, Machine, NoMemory, Step, Suspended, Turn};
+
+/// There is no job in a total.
+#[derive(Drop)]
+pub enum NoJob {}
+
+/// A total that waits for an answer, and goes on with the numbers from `at` on.
+#[derive(Drop)]
+pub struct TotalFrame {
+    pub numbers: Vec<u64>,
+    pub at: usize,
+    pub sum: u64,
+}
+
+type TotalStep = Step<NoJob, Flow, u64>;
+
+// Goes on with the numbers from `at` on: asks for the first of them, or ends.
+#[tactic(auto, using(tl_base::proofs::Steps::pushes, crate::proofs::Numbers::total_next, crate::proofs::Numbers::total_end))]
+fn next_number(
+    frames: &mut Vec<TotalFrame>,
+    world: &mut World,
+    numbers: Vec<u64>,
+    at: usize,
+    sum: u64,
+) -> Result<TotalStep, NoMemory>
+    ensures means { IfOk result (λ step.
+        GoesOnFree total_rules frames.old.items (total_of (drop at numbers.items) sum) world.old
+        frames.new.items step world.new) }
+    ensures kept { OnOk result (KeepsWorld world.old world.new) }
+{
+    if at < numbers.len() {
+        let question = numbers[at];
+        frames.push(TotalFrame {
+            numbers,
+            at: at + 1,
+            sum,
+        })?;
+        return Ok(Step::Stop(question));
+    }
+    world.totals = world.totals.saturating_add(1);
+    Ok(Step::Return(Flow::Value(sum)))
+}
+
+// The steps of totals.
+#[derive(Drop)]
+struct Totals;
+
+impl Machine for Totals {
+    ghost use Rattle.layer_examples.specs.Kept.{keeps_world_self, keeps_world_on};
+    ghost use Rattle.layer_examples.specs.Ends.{is_go};
+
+    type World = World;
+
+    type Task = u64;
+
+    type Job = NoJob;
+
+    type Frame = TotalFrame;
+
+    type Question = u64;
+
+    type Answer = Answer;
+
+    type Return = Flow;
+
+    type End = End;
+
+    ghost rules = { λ totals. total_rules };
+
+    ghost keeps = { KeepsWorld };
+
+    ghost is_go = { is_go };
+
+    ghost keeps_self = { keeps_world_self };
+
+    ghost keeps_on = { keeps_world_on };
+
+    fn open(
+        &self,
+        frames: &mut Vec<TotalFrame>,
+        world: &mut World,
+        _budget: &mut Budget,
+        from: u64,
+    ) -> Result<TotalStep, NoMemory> {
+        let numbers = world.numbers.clone()?;
+        let step = next_number(frames, world, numbers, 0, from)?;
+        Ok(step)
+    }
+
+    fn begin(
+        &self,
+        _frames: &mut Vec<TotalFrame>,
+        _world: &mut World,
+        _budget: &mut Budget,
+        job: NoJob,
+    ) -> Result<TotalStep, NoMemory> {
+        match job {}
+    }
+
+    fn go_on(
+        &self,
+        frames: &mut Vec<TotalFrame>,
+        world: &mut World,
+        _budget: &mut Budget,
+        frame: TotalFrame,
+        end: Flow,
+    ) -> Result<TotalStep, NoMemory> {
+        match end {
+            Flow::Value(value) => {
+                let TotalFrame { numbers, at, sum } = frame;
+                let step = next_number(frames, world, numbers, at, sum.saturating_add(value))?;
+                Ok(step)
+            }
+            Flow::Thrown(error) => Ok(Step::Return(Flow::Thrown(error))),
+            Flow::Left => Ok(Step::Return(Flow::Left)),
+        }
+    }
+
+    fn reply(&self, answer: Answer) -> Flow {
+        reply(answer)
+    }
+
+    fn close(&self, end: Flow) -> End {
+        close(end)
+    }
+}
+
+/// A total that suspends itself to ask about numbers.
+#[derive(Drop)]
+pub struct Total {
+    machine: Suspended<Totals>,
+}
+
+impl Total {
+    ghost use Rattle.layer_examples.specs.Ends.{WorldGiven};
+    ghost use Rattle.layer_examples.specs.Total.{total};
+    ghost use Rattle.layer_examples.specs.Rest.{total_rest, TotalFits};
+
+    /// A total that is to begin with `Go`, and counts from a number.
+    pub fn start(alloc: Global, from: u64) -> Total
+        ensures means { (first : WorldGiven) (later : List WorldGiven) →
+            total_rest result first later ≡ total from first later }
+        ensures fits { (first : WorldGiven) → first.answer ≡ Answer.Go → TotalFits result first }
+    {
+        Total {
+            machine: Suspended::start(alloc, Totals, from),
+        }
+    }
+}
+
+impl Layer for Total {
+    ghost use Rattle.layer_examples.specs.Ends.{is_go};
+    ghost use Rattle.layer_examples.specs.Rest.{total_rest, TotalFits};
+
+    type World = World;
+
+    type Question = u64;
+
+    type Answer = Answer;
+
+    type End = End;
+
+    ghost rest = { total_rest };
+
+    ghost fits = { TotalFits };
+
+    ghost follows = { λ question s next. is_go next.answer ≡ false };
+
+    ghost keeps = { KeepsWorld };
+
+    fn resume(
+        &mut self,
+        world: &mut World,
+        budget: &mut Budget,
+        answer: Answer,
+    ) -> Result<Turn<u64, End>, NoMemory> {
+        self.machine.resume(world, budget, answer)
+    }
+}
