@@ -5,18 +5,17 @@ use Rattle.std.specs.Str.{IsUtf8, IsCharBoundary}
 use Rattle.std.proofs.lemmas.Bool.{not-true}
 use Rattle.std.proofs.lemmas.List.{take-append-drop, take_at, drop_at, length-take-le, length-drop}
 use Rattle.std.proofs.lemmas.Str.{IsUtf8-append, IsUtf8-nil, IsUtf8-take, IsUtf8-drop}
-use Rattle.tl_base.specs.declared.place.Place.{Place}
 use Rattle.tl_lex.specs.Bytes.{is_white, is_line_end}
 use Rattle.tl_lex.specs.LineEnds.{line_ends}
 use Rattle.tl_lex.specs.Fronts.{front_of, line_len}
-use Rattle.tl_lex.specs.Answers.{Token, Answer, token_at, place_at, first_line_len, answers_of}
-use Rattle.tl_lex.specs.Lexing.{moved, answers_from}
+use Rattle.tl_lex.specs.Answers.{Token, Answer, Position, token_at, first_line_len, answers_of}
+use Rattle.tl_lex.specs.Lexing.{behind, answers_from}
 use Rattle.tl_lex.specs.declared.TokenKind.{TokenKind}
 use Rattle.tl_lex.specs.declared.TokenKind.TheVariants as kinds
 use Rattle.tl_lex.specs.declared.front.Front.{Front}
 use Rattle.tl_lex.specs.declared.front.Front.TheVariants as fronts
 use Rattle.tl_lex.proofs.LexLemmas.{answers_blank, answers_lexeme, answers_refusal, blank_fits, lexeme_fits}
-use Rattle.tl_lex.proofs.StartLemmas.{first_line_within, first_line_cut, answers_begin}
+use Rattle.tl_lex.proofs.StartLemmas.{position_at, first_line_within, first_line_cut, answers_begin}
 use Rattle.tl_lex.proofs.CutLemmas.{Spaced, Within, run_inside, front_cut}
 
 abbrev pub oks : List Token → List Answer
@@ -29,10 +28,10 @@ NoEnd [] = Unit {0}
 NoEnd (t ∷ ts) = (t.kind ≡ kinds.End → ⊥) × NoEnd ts
 
 -- The bytes that have these tokens, and the place behind them. They are UTF-8 where all are.
-pub record Cut (bytes : List ℕ) (p : Place) (front : List Token) : Type 0 where
+pub record Cut (bytes : List ℕ) (p : Position) (front : List Token) : Type 0 where
   pub begun : List ℕ
   pub left : List ℕ
-  pub place : Place
+  pub place : Position
   pub parts : bytes ≡ begun ++ left
   pub utf8 : IsUtf8 bytes → IsUtf8 begun
   pub some : (t : Token) (ts : List Token) → front ≡ t ∷ ts → 0 < length begun
@@ -60,7 +59,7 @@ whole k bytes begun left e = sym (take-append-drop k bytes) ∙ ap (λ (x : List
 both_utf8 : (k : ℕ) (bytes begun : List ℕ) → IsUtf8 bytes → IsCharBoundary bytes k → (IsUtf8 (drop k bytes) → IsUtf8 begun) → IsUtf8 (take k bytes ++ begun)
 both_utf8 k bytes begun u b h = IsUtf8-append (take k bytes) begun (IsUtf8-take bytes k u b) (h (IsUtf8-drop bytes k u b))
 
-cut_blank : (bytes : List ℕ) (p : Place) (k : ℕ) (t : Token) (ts : List Token) → front_of bytes ≡ fronts.Blank k → Cut (drop k bytes) (moved p (line_ends (take k bytes)) 0) (t ∷ ts) → Cut bytes p (t ∷ ts)
+cut_blank : (bytes : List ℕ) (p : Position) (k : ℕ) (t : Token) (ts : List Token) → front_of bytes ≡ fronts.Blank k → Cut (drop k bytes) (behind p k (line_ends (take k bytes)) 0) (t ∷ ts) → Cut bytes p (t ∷ ts)
 cut_blank bytes p k t ts f c =
     let fit = blank_fits bytes k f in
     let size = length-take-le k bytes fit.within in
@@ -76,12 +75,12 @@ cut_blank bytes p k t ts f c =
       again = λ w s.
           let j = rejoin k bytes c.begun w fit.within in
           answers_blank ((take k bytes ++ c.begun) ++ w) p k (front_of_cut bytes (take k bytes ++ c.begun) c.left w (fronts.Blank k) (whole k bytes c.begun c.left c.parts) f s (omega (arith, both, more)) (omega (arith, both, size, more)))
-          ∙ ap (λ (x : List ℕ). answers_from x (moved p (line_ends (take k ((take k bytes ++ c.begun) ++ w))) 0)) j.1
-          ∙ ap (λ (x : List ℕ). answers_from (c.begun ++ w) (moved p (line_ends x) 0)) j.0
+          ∙ ap (λ (x : List ℕ). answers_from x (behind p k (line_ends (take k ((take k bytes ++ c.begun) ++ w))) 0)) j.1
+          ∙ ap (λ (x : List ℕ). answers_from (c.begun ++ w) (behind p k (line_ends x) 0)) j.0
           ∙ c.again w s;
     }
 
-cut_lexeme : (bytes : List ℕ) (p : Place) (kind : TokenKind) (k : ℕ) (ts : List Token) → front_of bytes ≡ fronts.Lexeme kind k → Cut (drop k bytes) (moved p (line_ends (take k bytes)) 1) ts → Cut bytes p (token_at kind (take k bytes) p ∷ ts)
+cut_lexeme : (bytes : List ℕ) (p : Position) (kind : TokenKind) (k : ℕ) (ts : List Token) → front_of bytes ≡ fronts.Lexeme kind k → Cut (drop k bytes) (behind p k (line_ends (take k bytes)) 1) ts → Cut bytes p (token_at kind (take k bytes) p ∷ ts)
 cut_lexeme bytes p kind k ts f c =
     let fit = (lexeme_fits bytes kind k f).fits in
     let size = length-take-le k bytes fit.within in
@@ -97,12 +96,12 @@ cut_lexeme bytes p kind k ts f c =
       again = λ w s.
           let j = rejoin k bytes c.begun w fit.within in
           answers_lexeme ((take k bytes ++ c.begun) ++ w) p kind k (front_of_cut bytes (take k bytes ++ c.begun) c.left w (fronts.Lexeme kind k) (whole k bytes c.begun c.left c.parts) f s (omega (arith, both, size, some)) (omega (arith, both, size)))
-          ∙ ap (λ (x : List ℕ). Ok (token_at kind x p) ∷ answers_from (drop k ((take k bytes ++ c.begun) ++ w)) (moved p (line_ends x) 1)) j.0
-          ∙ ap (λ (x : List ℕ). Ok (token_at kind (take k bytes) p) ∷ answers_from x (moved p (line_ends (take k bytes)) 1)) j.1
+          ∙ ap (λ (x : List ℕ). Ok (token_at kind x p) ∷ answers_from (drop k ((take k bytes ++ c.begun) ++ w)) (behind p k (line_ends x) 1)) j.0
+          ∙ ap (λ (x : List ℕ). Ok (token_at kind (take k bytes) p) ∷ answers_from x (behind p k (line_ends (take k bytes)) 1)) j.1
           ∙ ap (λ (x : List Answer). Ok (token_at kind (take k bytes) p) ∷ x) (c.again w s);
     }
 
-pub cut : (n : ℕ) (bytes : List ℕ) (p : Place) (front : List Token) (rest : List Answer) → length bytes < n → NoEnd front → answers_from bytes p ≡ oks front ++ rest → Cut bytes p front
+pub cut : (n : ℕ) (bytes : List ℕ) (p : Position) (front : List Token) (rest : List Answer) → length bytes < n → NoEnd front → answers_from bytes p ≡ oks front ++ rest → Cut bytes p front
 cut n bytes p [] rest lt ne e = record { begun = []; left = bytes; place = p; parts = refl; utf8 = λ u. IsUtf8-nil; some = λ t ts f. absurd cc; again = λ w s. refl }
 cut zero bytes p (t ∷ ts) rest lt ne e = absurd (omega arith)
 cut (suc n) bytes p (t ∷ ts) rest lt ne e = go (front_of bytes) refl (λ b q front h k l. cut n b q front rest h k l)
@@ -110,26 +109,26 @@ cut (suc n) bytes p (t ∷ ts) rest lt ne e = go (front_of bytes) refl (λ b q f
     first_of : (u : Token) (xs ys : List Answer) → Ok u ∷ xs ≡ Ok t ∷ ys → (u ≡ t) × (xs ≡ ys)
     first_of u xs ys h = (cc, cc)
 
-    go : (f : Front) → front_of bytes ≡ f → ((b : List ℕ) (q : Place) (front : List Token) → length b < n → NoEnd front → answers_from b q ≡ oks front ++ rest → Cut b q front) → Cut bytes p (t ∷ ts)
+    go : (f : Front) → front_of bytes ≡ f → ((b : List ℕ) (q : Position) (front : List Token) → length b < n → NoEnd front → answers_from b q ≡ oks front ++ rest → Cut b q front) → Cut bytes p (t ∷ ts)
     go fronts.End f ih =
         let h = first_of (token_at kinds.End [] p) [] (oks ts ++ rest) (sym (answers_refusal bytes p fronts.End f) ∙ e) in
         absurd (ne.0 (ap (λ (u : Token). u.kind) (sym h.0)))
     go (fronts.Refusal w) f ih = let h = sym (answers_refusal bytes p (fronts.Refusal w) f) ∙ e in absurd cc
     go (fronts.Blank k) f ih =
         let fit = blank_fits bytes k f in
-        cut_blank bytes p k t ts f (ih (drop k bytes) (moved p (line_ends (take k bytes)) 0) (t ∷ ts) (omega (arith, length-drop k bytes, fit.some, fit.within)) ne (sym (answers_blank bytes p k f) ∙ e))
+        cut_blank bytes p k t ts f (ih (drop k bytes) (behind p k (line_ends (take k bytes)) 0) (t ∷ ts) (omega (arith, length-drop k bytes, fit.some, fit.within)) ne (sym (answers_blank bytes p k f) ∙ e))
     go (fronts.Lexeme kind k) f ih =
         let fit = (lexeme_fits bytes kind k f).fits in
-        let h = first_of (token_at kind (take k bytes) p) (answers_from (drop k bytes) (moved p (line_ends (take k bytes)) 1)) (oks ts ++ rest) (sym (answers_lexeme bytes p kind k f) ∙ e) in
+        let h = first_of (token_at kind (take k bytes) p) (answers_from (drop k bytes) (behind p k (line_ends (take k bytes)) 1)) (oks ts ++ rest) (sym (answers_lexeme bytes p kind k f) ∙ e) in
         subst (λ (u : Token). Cut bytes p (u ∷ ts)) h.0
-        (cut_lexeme bytes p kind k ts f (ih (drop k bytes) (moved p (line_ends (take k bytes)) 1) ts (omega (arith, length-drop k bytes, fit.some, fit.within)) ne.1 h.1))
+        (cut_lexeme bytes p kind k ts f (ih (drop k bytes) (behind p k (line_ends (take k bytes)) 1) ts (omega (arith, length-drop k bytes, fit.some, fit.within)) ne.1 h.1))
 
 -- ---- whole texts
 
 pub record CutText (text : List ℕ) (front : List Token) : Type 0 where
   pub begun : List ℕ
   pub left : List ℕ
-  pub place : Place
+  pub place : Position
   pub parts : text ≡ begun ++ left
   pub utf8 : IsUtf8 text → IsUtf8 begun
   pub again : (w : List ℕ) → Spaced w → answers_of (begun ++ w) ≡ oks front ++ answers_from w place
@@ -152,14 +151,14 @@ cut_text text [] rest ne e =
     record {
       begun = [];
       left = text;
-      place = place_at 1 1;
+      place = position_at 1 1 0;
       parts = refl;
       utf8 = λ u. IsUtf8-nil;
-      again = λ w s. sym (answers_begin w) ∙ ap (λ (n : ℕ). answers_from (drop n w) (place_at 1 1)) (no_first_line w s);
+      again = λ w s. sym (answers_begin w) ∙ ap (λ (n : ℕ). answers_from (drop n w) (position_at 1 1 n)) (no_first_line w s);
     }
 cut_text text (t ∷ ts) rest ne e =
     let k = first_line_len text in
-    let c = cut (length (drop k text) + 1) (drop k text) (place_at 1 1) (t ∷ ts) rest (omega arith) ne (answers_begin text ∙ e) in
+    let c = cut (length (drop k text) + 1) (drop k text) (position_at 1 1 k) (t ∷ ts) rest (omega arith) ne (answers_begin text ∙ e) in
     let within = first_line_within text in
     let size = length-take-le k text within in
     let both = length-append (take k text) c.begun in
@@ -174,8 +173,8 @@ cut_text text (t ∷ ts) rest ne e =
       again = λ w s.
           let same : first_line_len ((take k text ++ c.begun) ++ w) ≡ k = first_line_same (take k text ++ c.begun) c.left w (omega (arith, ap first_line_len parts, both, size, some)) ∙ sym (ap first_line_len parts) in
           sym (answers_begin ((take k text ++ c.begun) ++ w))
-          ∙ ap (λ (n : ℕ). answers_from (drop n ((take k text ++ c.begun) ++ w)) (place_at 1 1)) same
-          ∙ ap (λ (x : List ℕ). answers_from x (place_at 1 1)) (rejoin k text c.begun w within).1
+          ∙ ap (λ (n : ℕ). answers_from (drop n ((take k text ++ c.begun) ++ w)) (position_at 1 1 n)) same
+          ∙ ap (λ (x : List ℕ). answers_from x (position_at 1 1 k)) (rejoin k text c.begun w within).1
           ∙ c.again w s;
     }
 
@@ -188,12 +187,6 @@ Alone kind bytes = front_of bytes ≡ fronts.Lexeme kind (length bytes)
 abbrev pub begins_black : List ℕ → Bool
 begins_black [] = false
 begins_black (c ∷ rest) = not (is_white c)
-
-same_place : (p : Place) → moved p 0 0 ≡ p
-same_place p =
-    let line : p.line + 0 ≡ p.line = omega arith in
-    let word : p.word + 0 ≡ p.word = omega arith in
-    ap (λ (n : ℕ). place_at n (p.word + 0)) line ∙ ap (λ (n : ℕ). place_at p.line n) word
 
 one_space : (bytes : List ℕ) → begins_black bytes ≡ true → front_of (32 ∷ bytes) ≡ fronts.Blank 1
 unfolding front_of
@@ -208,11 +201,14 @@ some_black : (bytes : List ℕ) → begins_black bytes ≡ true → 0 < length b
 some_black [] e = absurd cc
 some_black (c ∷ rest) e = omega arith
 
-pub answers_spaced : (kind : TokenKind) (bytes w : List ℕ) (p : Place) → Alone kind bytes → begins_black bytes ≡ true → line_ends bytes ≡ 0 → Spaced w → answers_from (32 ∷ (bytes ++ w)) p ≡ Ok (token_at kind bytes p) ∷ answers_from w (moved p 0 1)
+-- the position behind a space
+abbrev pub spaced : Position → Position
+spaced p = behind p 1 0 0
+
+pub answers_spaced : (kind : TokenKind) (bytes w : List ℕ) (p : Position) → Alone kind bytes → begins_black bytes ≡ true → line_ends bytes ≡ 0 → Spaced w → answers_from (32 ∷ (bytes ++ w)) p ≡ Ok (token_at kind bytes (spaced p)) ∷ answers_from w (behind (spaced p) (length bytes) 0 1)
 answers_spaced kind bytes w p alone black ends s =
     answers_blank (32 ∷ (bytes ++ w)) p 1 (one_space (bytes ++ w) (black_append bytes w black))
-    ∙ ap (λ (q : Place). answers_from (bytes ++ w) q) (same_place p)
-    ∙ answers_lexeme (bytes ++ w) p kind (length bytes) (front_of_cut bytes bytes [] w (fronts.Lexeme kind (length bytes)) (sym (append-nil bytes)) alone s (some_black bytes black) (omega arith))
-    ∙ ap (λ (x : List ℕ). Ok (token_at kind x p) ∷ answers_from (drop (length bytes) (bytes ++ w)) (moved p (line_ends x) 1)) (take_at bytes w (length bytes) refl)
-    ∙ ap (λ (x : List ℕ). Ok (token_at kind bytes p) ∷ answers_from x (moved p (line_ends bytes) 1)) (drop_at bytes w (length bytes) refl)
-    ∙ ap (λ (n : ℕ). Ok (token_at kind bytes p) ∷ answers_from w (moved p n 1)) ends
+    ∙ answers_lexeme (bytes ++ w) (spaced p) kind (length bytes) (front_of_cut bytes bytes [] w (fronts.Lexeme kind (length bytes)) (sym (append-nil bytes)) alone s (some_black bytes black) (omega arith))
+    ∙ ap (λ (x : List ℕ). Ok (token_at kind x (spaced p)) ∷ answers_from (drop (length bytes) (bytes ++ w)) (behind (spaced p) (length bytes) (line_ends x) 1)) (take_at bytes w (length bytes) refl)
+    ∙ ap (λ (x : List ℕ). Ok (token_at kind bytes (spaced p)) ∷ answers_from x (behind (spaced p) (length bytes) (line_ends bytes) 1)) (drop_at bytes w (length bytes) refl)
+    ∙ ap (λ (n : ℕ). Ok (token_at kind bytes (spaced p)) ∷ answers_from w (behind (spaced p) (length bytes) n 1)) ends

@@ -1,10 +1,10 @@
 -- The laws of the division of texts.
-use Rattle.std.proofs.Common.{◌≡◌, ℕ, zero, suc, ◌+◌, ◌<◌, true, List, [], ◌∷◌, ◌++◌, length, take, drop, Ok, refl, sym, ap, ◌∙◌, subst, arith}
-use Rattle.std.proofs.lemmas.List.{length-drop, length-take-le}
+use Rattle.std.proofs.Common.{◌≡◌, ℕ, zero, suc, ◌+◌, ◌<◌, ◌≤◌, true, List, [], ◌∷◌, ◌++◌, length, take, drop, Ok, refl, sym, ap, ◌∙◌, subst, append_assoc, arith}
+use Rattle.std.proofs.lemmas.List.{length-drop, length-take-le, take-append-drop, drop_at}
 use Rattle.tl_lex.specs.Fronts.{front_of}
-use Rattle.tl_lex.specs.Answers.{Token, Answer, token_at, place_behind, answers_at, answers_behind, first_line_len, answers_of}
+use Rattle.tl_lex.specs.Answers.{Token, Answer, token_at, position_behind, answers_at, answers_behind, first_line_len, answers_of}
 use Rattle.tl_lex.specs.Tokens.{is_token}
-use Rattle.tl_lex.specs.Laws.{Goes, Divides, HasOneDivision, IsToken, EndsOnce, IsLongestToken}
+use Rattle.tl_lex.specs.Laws.{Goes, Divides, HasOneDivision, IsToken, EndsOnce, AreSlices, IsLongestToken}
 use Rattle.tl_lex.specs.declared.TokenKind.{TokenKind}
 use Rattle.tl_lex.specs.declared.TokenKind.TheVariants as kinds
 use Rattle.tl_lex.specs.declared.front.Front.{Front}
@@ -76,13 +76,39 @@ ends_behind (suc n) passed tokens bytes lt = go (front_of bytes) refl (front_fin
     go (fronts.Refusal w) e fine ih = tt
     go (fronts.Blank k) e fine ih = ih (passed ++ take k bytes) tokens (drop k bytes) (omega (arith, length-drop k bytes, fine.some, fine.within))
     go (fronts.Lexeme kind k) e fine ih =
-        ends_cons (Ok (token_at kind (take k bytes) (place_behind passed tokens))) (answers_behind n (passed ++ take k bytes) (tokens ++ token_at kind (take k bytes) (place_behind passed tokens) ∷ []) (drop k bytes)) (never_end_token bytes kind k e)
-        (ih (passed ++ take k bytes) (tokens ++ token_at kind (take k bytes) (place_behind passed tokens) ∷ []) (drop k bytes) (omega (arith, length-drop k bytes, fine.0.some, fine.0.within)))
+        ends_cons (Ok (token_at kind (take k bytes) (position_behind passed tokens))) (answers_behind n (passed ++ take k bytes) (tokens ++ token_at kind (take k bytes) (position_behind passed tokens) ∷ []) (drop k bytes)) (never_end_token bytes kind k e)
+        (ih (passed ++ take k bytes) (tokens ++ token_at kind (take k bytes) (position_behind passed tokens) ∷ []) (drop k bytes) (omega (arith, length-drop k bytes, fine.0.some, fine.0.within)))
 
 pub ends_once : (text : List ℕ) → EndsOnce (answers_of text)
 unfolding answers_of
 ends_once text =
     ends_behind (length text + 1) (take (first_line_len text) text) [] (drop (first_line_len text) text) (omega (arith, length-drop (first_line_len text) text))
+
+-- the bytes at the front of what is left are a slice of the text
+slice_is : (text passed bytes : List ℕ) (k : ℕ) → k ≤ length bytes → passed ++ bytes ≡ text → take k bytes ≡ take (length (take k bytes)) (drop (length passed) text)
+slice_is text passed bytes k le e =
+    let size = length-take-le k bytes le in
+    sym (ap (λ (x : List ℕ). take (length (take k bytes)) (drop (length passed) x)) (sym e)
+    ∙ ap (λ (x : List ℕ). take (length (take k bytes)) x) (drop_at passed bytes (length passed) refl)
+    ∙ ap (λ (n : ℕ). take n bytes) size)
+
+passed_on : (text passed bytes : List ℕ) (k : ℕ) → passed ++ bytes ≡ text → (passed ++ take k bytes) ++ drop k bytes ≡ text
+passed_on text passed bytes k e = append_assoc passed (take k bytes) (drop k bytes) ∙ ap (λ (x : List ℕ). passed ++ x) (take-append-drop k bytes) ∙ e
+
+slices_behind : (text : List ℕ) (n : ℕ) (passed : List ℕ) (tokens : List Token) (bytes : List ℕ) → passed ++ bytes ≡ text → AreSlices text (answers_behind n passed tokens bytes)
+slices_behind text zero passed tokens bytes e = tt
+slices_behind text (suc n) passed tokens bytes e = go (front_of bytes) (front_fine bytes) (slices_behind text n)
+  where
+    go : (f : Front) → Fine bytes f → ((p : List ℕ) (ts : List Token) (b : List ℕ) → p ++ b ≡ text → AreSlices text (answers_behind n p ts b)) → AreSlices text (answers_at f passed tokens bytes (answers_behind n))
+    go fronts.End fine ih = (refl, tt)
+    go (fronts.Refusal w) fine ih = (tt, tt)
+    go (fronts.Blank k) fine ih = ih (passed ++ take k bytes) tokens (drop k bytes) (passed_on text passed bytes k e)
+    go (fronts.Lexeme kind k) fine ih =
+        (slice_is text passed bytes k fine.0.within e, ih (passed ++ take k bytes) (tokens ++ token_at kind (take k bytes) (position_behind passed tokens) ∷ []) (drop k bytes) (passed_on text passed bytes k e))
+
+pub slices : (text : List ℕ) → AreSlices text (answers_of text)
+unfolding answers_of
+slices text = slices_behind text (length text + 1) (take (first_line_len text) text) [] (drop (first_line_len text) text) (take-append-drop (first_line_len text) text)
 
 pub longest_token : (bytes : List ℕ) (kind : TokenKind) (len : ℕ) → front_of bytes ≡ fronts.Lexeme kind len → IsLongestToken bytes kind len
 longest_token bytes kind len e = record { token = token_spelt bytes kind len e; longest = token_no_longer bytes kind len e }

@@ -1,5 +1,5 @@
 -- The places that the lexer counts on are those of the definition.
-use Rattle.std.proofs.Common.{◌≡◌, ℕ, zero, suc, ◌+◌, ◌-◌, ◌<◌, ◌≤◌, Bool, true, false, cond, eqb, List, [], ◌∷◌, ◌++◌, length, get_or, take, drop, count_by, ◌⊎◌, Ok, refl, sym, ap, ◌∙◌, subst, arith}
+use Rattle.std.proofs.Common.{◌≡◌, ℕ, zero, suc, ◌+◌, ◌-◌, ◌<◌, ◌≤◌, Bool, true, false, cond, eqb, List, [], ◌∷◌, ◌++◌, length, get_or, take, drop, count_by, ◌⊎◌, Ok, refl, sym, ap, ◌∙◌, subst, length-append, arith}
 use Rattle.std.proofs.lemmas.Bool.{ne_eqb, eq-eqb}
 use Rattle.std.proofs.lemmas.List.{length-take-le, get_or-take, get_or-drop}
 use Rattle.std.proofs.lemmas.List.Sums.{sum_by-cons, sum_by-append}
@@ -7,8 +7,8 @@ use Rattle.tl_base.specs.declared.place.Place.{Place}
 use Rattle.tl_lex.specs.Bytes.{is_line_end}
 use Rattle.tl_lex.specs.LineEnds.{line_ends}
 use Rattle.tl_lex.specs.Fronts.{front_of}
-use Rattle.tl_lex.specs.Answers.{Token, Answer, token_at, place_at, place_behind, answers_at, answers_behind}
-use Rattle.tl_lex.specs.Lexing.{moved, counted_at, counted}
+use Rattle.tl_lex.specs.Answers.{Token, Answer, Position, token_at, place_at, place_behind, position_behind, answers_at, answers_behind}
+use Rattle.tl_lex.specs.Lexing.{moved, behind, counted_at, counted}
 use Rattle.tl_lex.specs.declared.front.Front.{Front}
 use Rattle.tl_lex.specs.declared.front.Front.TheVariants as fronts
 use Rattle.tl_lex.proofs.LineLemmas.{Apart, last_of, first_of, line_ends-append, last_of-append, last_of-is, first_of-is}
@@ -133,18 +133,27 @@ stand_token passed bytes tokens t n f s on =
       lines = later_still (line_of passed) (line_of (passed ++ take n bytes)) (tokens ++ t ∷ []) (omega (arith, l)) (not_later-push (line_of passed) tokens t (omega (arith, on)) s.lines);
     }
 
-pub answers_counted : (n : ℕ) (passed : List ℕ) (tokens : List Token) (bytes : List ℕ) → Standing passed tokens bytes → answers_behind n passed tokens bytes ≡ counted n bytes (place_behind passed tokens)
+position_same : (p q : Place) (n k : ℕ) {m : ℕ} → p ≡ q → m ≡ n + k → ◌≡◌ {A = Position} (record { place = p; offset = m }) (record { place = q; offset = n + k })
+position_same p q n k {m} e f = ap (λ (x : Place). position x m) e ∙ ap (λ (x : ℕ). position q x) f
+  where
+    position : Place → ℕ → Position
+    position x y = record { place = x; offset = y }
+
+passed_more : (passed bytes : List ℕ) (n : ℕ) → Fitting bytes n → length (passed ++ take n bytes) ≡ length passed + n
+passed_more passed bytes n f = omega (arith, length-append passed (take n bytes), length-take-le n bytes f.within)
+
+pub answers_counted : (n : ℕ) (passed : List ℕ) (tokens : List Token) (bytes : List ℕ) → Standing passed tokens bytes → answers_behind n passed tokens bytes ≡ counted n bytes (position_behind passed tokens)
 answers_counted zero passed tokens bytes s = refl
 answers_counted (suc n) passed tokens bytes s = go (front_of bytes) (front_fine bytes) (answers_counted n)
   where
-    go : (f : Front) → Fine bytes f → ((p : List ℕ) (ts : List Token) (b : List ℕ) → Standing p ts b → answers_behind n p ts b ≡ counted n b (place_behind p ts)) → answers_at f passed tokens bytes (answers_behind n) ≡ counted_at f bytes (place_behind passed tokens) (counted n)
+    go : (f : Front) → Fine bytes f → ((p : List ℕ) (ts : List Token) (b : List ℕ) → Standing p ts b → answers_behind n p ts b ≡ counted n b (position_behind p ts)) → answers_at f passed tokens bytes (answers_behind n) ≡ counted_at f bytes (position_behind passed tokens) (counted n)
     go fronts.End fine ih = refl
     go (fronts.Refusal w) fine ih = refl
     go (fronts.Blank k) fine ih =
         ih (passed ++ take k bytes) tokens (drop k bytes) (stand_blank passed bytes tokens k fine s)
-        ∙ ap (λ (p : Place). counted n (drop k bytes) p) (place_blank passed bytes tokens k fine s)
+        ∙ ap (λ (p : Position). counted n (drop k bytes) p) (position_same _ _ (length passed) k (place_blank passed bytes tokens k fine s) (passed_more passed bytes k fine))
     go (fronts.Lexeme kind k) fine ih =
-        let t = token_at kind (take k bytes) (place_behind passed tokens) in
+        let t = token_at kind (take k bytes) (position_behind passed tokens) in
         ap (λ (xs : List Answer). Ok t ∷ xs)
         (ih (passed ++ take k bytes) (tokens ++ t ∷ []) (drop k bytes) (stand_token passed bytes tokens t k fine.0 s refl)
-        ∙ ap (λ (p : Place). counted n (drop k bytes) p) (place_token passed bytes tokens t k fine.0 s refl))
+        ∙ ap (λ (p : Position). counted n (drop k bytes) p) (position_same _ _ (length passed) k (place_token passed bytes tokens t k fine.0 s refl) (passed_more passed bytes k fine.0)))

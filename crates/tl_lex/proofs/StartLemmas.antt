@@ -10,7 +10,7 @@ use Rattle.tl_lex.specs.Bytes.{is_line_end}
 use Rattle.tl_lex.specs.LineEnds.{line_ends}
 use Rattle.tl_lex.specs.Brackets.{begins_with}
 use Rattle.tl_lex.specs.Fronts.{line_len}
-use Rattle.tl_lex.specs.Answers.{place_at, place_behind, first_line_len, answers_of}
+use Rattle.tl_lex.specs.Answers.{Position, place_at, place_behind, position_behind, first_line_len, answers_of}
 use Rattle.tl_lex.specs.Lexing.{counted, answers_from}
 use Rattle.tl_lex.proofs.LineLemmas.{last_of, last_of-is, no_line_ends}
 use Rattle.tl_lex.proofs.FrontLemmas.{line_end_small}
@@ -57,15 +57,28 @@ last_plain (x ∷ r) h = ap is_line_end (last_of-is (x ∷ r) (omega arith)) ∙
 begins : (text : List ℕ) → Standing (take (first_line_len text) text) [] (drop (first_line_len text) text)
 begins text = record { seam = record { apart = inl (last_plain (take (first_line_len text) text) (first_line_bytes text)) }; lines = tt }
 
+-- a place and how many bytes are before it
+abbrev pub position_at : ℕ → ℕ → ℕ → Position
+position_at line word offset = record { place = place_at line word; offset = offset }
+
 first_place : (passed : List ℕ) → line_ends passed ≡ 0 → place_behind passed [] ≡ place_at 1 1
 first_place passed e = ap (λ (n : ℕ). place_at (1 + n) 1) e
 
-pub answers_begin : (text : List ℕ) → answers_from (drop (first_line_len text) text) (place_at 1 1) ≡ answers_of text
+begin_position : (text : List ℕ) → position_behind (take (first_line_len text) text) [] ≡ position_at 1 1 (first_line_len text)
+begin_position text =
+    let passed = take (first_line_len text) text in
+    ap (λ (p : Place). at p (length passed)) (first_place passed (no_line_ends passed (first_line_bytes text)))
+    ∙ ap (λ (n : ℕ). at (place_at 1 1) n) (length-take-le (first_line_len text) text (first_line_within text))
+  where
+    at : Place → ℕ → Position
+    at x y = record { place = x; offset = y }
+
+pub answers_begin : (text : List ℕ) → answers_from (drop (first_line_len text) text) (position_at 1 1 (first_line_len text)) ≡ answers_of text
 unfolding answers_from answers_of
 answers_begin text =
     let rest = drop (first_line_len text) text in
     let passed = take (first_line_len text) text in
     let l = length-drop (first_line_len text) text in
-    counted_fuel (length rest + 1) (length text + 1) rest (place_at 1 1) (omega arith) (omega arith)
-    ∙ ap (λ (p : Place). counted (length text + 1) rest p) (sym (first_place passed (no_line_ends passed (first_line_bytes text))))
+    counted_fuel (length rest + 1) (length text + 1) rest (position_at 1 1 (first_line_len text)) (omega arith) (omega arith)
+    ∙ ap (λ (p : Position). counted (length text + 1) rest p) (sym (begin_position text))
     ∙ sym (answers_counted (length text + 1) passed [] rest (begins text))

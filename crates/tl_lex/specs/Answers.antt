@@ -16,13 +16,20 @@ pub record Token : Type 0 where
   pub kind : TokenKind
   pub text : List ℕ
   pub place : Place
+  -- how many bytes of the text are before it
+  pub offset : ℕ
   pub first_on_line : Bool
+
+-- where a token begins: its place, and how many bytes of the text are before it
+pub record Position : Type 0 where
+  pub place : Place
+  pub offset : ℕ
 
 abbrev pub Answer : Type 0
 Answer = Result Token LexError
 
-abbrev pub token_at : TokenKind → List ℕ → Place → Token
-token_at kind text place = record { kind = kind; text = text; place = place; first_on_line = place.word == 1 }
+abbrev pub token_at : TokenKind → List ℕ → Position → Token
+token_at kind text at = record { kind = kind; text = text; place = at.place; offset = at.offset; first_on_line = at.place.word == 1 }
 
 abbrev pub refusal_at : SyntaxKind → Place → LexError
 refusal_at kind place = record { kind = kind; place = place }
@@ -37,13 +44,17 @@ place_behind passed tokens =
     let line = 1 + line_ends passed in
     place_at line (1 + count_by (λ (t : Token). t.place.line == line) tokens)
 
+-- the position of what stands there
+abbrev pub position_behind : List ℕ → List Token → Position
+position_behind passed tokens = record { place = place_behind passed tokens; offset = length passed }
+
 -- One front of the text `bytes`, which stands behind the bytes `passed` and the tokens `tokens`. The rest is `more`.
 abbrev pub answers_at : Front → List ℕ → List Token → List ℕ → (List ℕ → List Token → List ℕ → List Answer) → List Answer
-answers_at fronts.End passed tokens bytes more = Ok (token_at kinds.End [] (place_behind passed tokens)) ∷ []
+answers_at fronts.End passed tokens bytes more = Ok (token_at kinds.End [] (position_behind passed tokens)) ∷ []
 answers_at (fronts.Refusal why) passed tokens bytes more = Err (refusal_at why (place_behind passed tokens)) ∷ []
 answers_at (fronts.Blank len) passed tokens bytes more = more (passed ++ take len bytes) tokens (drop len bytes)
 answers_at (fronts.Lexeme kind len) passed tokens bytes more =
-    let token = token_at kind (take len bytes) (place_behind passed tokens) in
+    let token = token_at kind (take len bytes) (position_behind passed tokens) in
     Ok token ∷ more (passed ++ take len bytes) (tokens ++ token ∷ []) (drop len bytes)
 
 -- the answers for `bytes`, which have at most n fronts with the end

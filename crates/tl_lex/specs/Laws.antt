@@ -40,6 +40,15 @@ EndsOnce [] = ⊥
 EndsOnce (a ∷ []) = IsLast a
 EndsOnce (a ∷ b ∷ more) = IsToken a × EndsOnce (b ∷ more)
 
+-- The bytes of a token are those of the text from its offset on.
+abbrev pub IsSlice : List ℕ → Answer → Type 0
+IsSlice text (Ok t) = t.text ≡ take (length t.text) (drop t.offset text)
+IsSlice text (Err e) = Unit {0}
+
+abbrev pub AreSlices : List ℕ → List Answer → Type 0
+AreSlices text [] = Unit {0}
+AreSlices text (a ∷ more) = IsSlice text a × AreSlices text more
+
 -- The token at the front is a token by itself, and each front of the text that is a token by itself is no longer.
 pub record IsLongestToken (bytes : List ℕ) (kind : TokenKind) (len : ℕ) : Type 0 where
   pub token : is_token kind (take len bytes) ≡ true

@@ -3,7 +3,7 @@
 ghost use Rattle.std.specs.Prelude.{◌≡◌, ℕ};
 ghost use Rattle.tl_lex.specs.Fronts.{front_of};
 ghost use Rattle.tl_lex.specs.Answers.{answers_of};
-ghost use Rattle.tl_lex.specs.Laws.{HasOneDivision, EndsOnce, IsLongestToken, IsOnlyLiteral, BeginsNoToken, BeginsNoLiteral};
+ghost use Rattle.tl_lex.specs.Laws.{HasOneDivision, EndsOnce, AreSlices, IsLongestToken, IsOnlyLiteral, BeginsNoToken, BeginsNoLiteral};
 ghost use Rattle.tl_lex.specs.declared.SyntaxKind.TheVariants as why;
 ghost use Rattle.tl_lex.specs.declared.TokenKind.{TokenKind};
 ghost use Rattle.tl_lex.specs.declared.front.Front.TheVariants as fronts;
@@ -13,6 +13,11 @@ ghost use Rattle.tl_lex.specs.declared.front.Front.TheVariants as fronts;
 pub fn one_division(text: &str)
     ensures division { HasOneDivision text.now }
     ensures answers { EndsOnce (answers_of text.now) }
+{}
+
+/// Each token of a text is the slice of it that its offset and its length tell.
+pub fn slices(text: &str)
+    ensures { AreSlices text.now (answers_of text.now) }
 {}
 
 /// The token at the front of a text is a token by itself, and no longer front of the text is one, of whatever kind. No other

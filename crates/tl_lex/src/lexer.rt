@@ -15,8 +15,11 @@ pub struct Lexer<'a> {
     rest: &'a str,
     /// The place of a token that begins here.
     place: Place,
+    /// How many bytes of the source are before it.
+    offset: u32,
     ghost line_fits: { place.line + length rest.now < 2 ^ 32 },
     ghost word_fits: { place.word + length rest.now < 2 ^ 32 },
+    ghost offset_fits: { offset + length rest.now < 2 ^ 32 },
 }
 
 impl<'a> Lexer<'a> {
@@ -24,16 +27,18 @@ impl<'a> Lexer<'a> {
     ghost use Rattle.tl_lex.specs.LineEnds.{line_ends};
     ghost use Rattle.tl_lex.specs.Fronts.{front_of};
     ghost use Rattle.tl_lex.specs.Answers.{answers_of};
-    ghost use Rattle.tl_lex.specs.Lexing.{answers_left, answer_of, behind_first, moved, IsOther};
+    ghost use Rattle.tl_lex.specs.Lexing.{answers_left, answer_of, behind_first, position_of, behind, IsOther};
 
     /// A lexer before the first token of a text. A first line that begins with `#` is passed over.
     pub fn new(text: &'a str) -> Lexer<'a>
         requires { length text.now ≤ LONGEST_TEXT }
         ensures { answers_left result ≡ answers_of text.now }
     {
+        let first_line = first_line_len(text.as_bytes());
         Lexer {
-            rest: &text[first_line_len(text.as_bytes())..],
+            rest: &text[first_line..],
             place: Place { line: 1, word: 1 },
+            offset: first_line as u32,
         }
     }
 
@@ -45,11 +50,12 @@ impl<'a> Lexer<'a> {
         requires words { words ≤ 1 }
         ensures text { result.now ≡ take len self.old.rest.now }
         ensures rest { self.new.rest.now ≡ drop len self.old.rest.now }
-        ensures place { self.new.place ≡ moved self.old.place lines words }
+        ensures position { position_of self.new ≡ behind (position_of self.old) len lines words }
     {
         let (front, rest) = self.rest.split_at(len);
         self.rest = rest;
         self.place = moved(self.place, lines as u32, words);
+        self.offset += len as u32;
         front
     }
 
@@ -77,6 +83,7 @@ impl<'a> Lexer<'a> {
     {
         let front = self.pass_blanks();
         let place = self.place;
+        let offset = self.offset;
         match front {
             Front::Lexeme(kind, len) => {
                 let lines = line_ends_in(kind, &self.rest.as_bytes()[..len]);
@@ -85,6 +92,7 @@ impl<'a> Lexer<'a> {
                     kind,
                     text,
                     place,
+                    offset,
                     first_on_line: place.word == 1,
                 })
             }
@@ -93,6 +101,7 @@ impl<'a> Lexer<'a> {
                 kind: TokenKind::End,
                 text: self.rest,
                 place,
+                offset,
                 first_on_line: place.word == 1,
             }),
             Front::Blank(_) => unreachable!(),

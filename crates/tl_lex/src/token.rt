@@ -9,6 +9,8 @@ pub struct Token<'a> {
     /// The bytes of the token, quotes and brackets included; empty at the end.
     pub text: &'a str,
     pub place: Place,
+    /// How many bytes of the source are before it.
+    pub offset: u32,
     /// No token begins earlier on its line.
     pub first_on_line: bool,
 }

@@ -22,4 +22,5 @@ invariant_of-self c =
     record {
       line_fits = omega (arith, c.requires.lines, c.requires.cut.0, old.line_fits);
       word_fits = omega (arith, word_bound (eqb c.args.lines 0) (old.place.word + c.args.words) (length c.split_at.result.1.now) 4294967296 (omega (arith, c.requires.words, c.requires.some, c.requires.cut.0, old.word_fits)) (omega (arith, c.requires.some, c.requires.cut.0, old.word_fits)));
+      offset_fits = omega (arith, c.requires.cut.0, old.offset_fits);
     }

@@ -1,10 +1,10 @@
 use Rattle.std.proofs.Common.{◌≡◌, ℕ, List, length, take, drop, sym, ap, ◌∙◌, subst, arith}
 use Rattle.std.specs.Str.{IsUtf8}
 use Rattle.std.proofs.lemmas.List.{length-take-le, length-drop}
-use Rattle.tl_base.specs.declared.place.Place.{Place}
+use Rattle.tl_lex.specs.Answers.{Position}
 use Rattle.tl_lex.specs.LineEnds.{line_ends}
 use Rattle.tl_lex.specs.Fronts.{front_of}
-use Rattle.tl_lex.specs.Lexing.{moved, answers_from}
+use Rattle.tl_lex.specs.Lexing.{position_of, behind, answers_from}
 use Rattle.tl_lex.specs.declared.front.Front.TheVariants as fronts
 use Rattle.tl_lex.proofs.LexLemmas.{blank_fits, answers_blank}
 use Rattle.tl_lex.proofs.lexer.Lexer.pass_blanks.Goals as goal
@@ -30,11 +30,11 @@ blanks-smaller c =
 pub blanks-preserved : goal.blanks-preserved
 blanks-preserved c =
     let rest = c.blanks.self.rest.now in
-    let place = c.blanks.self.place in
+    let place = position_of c.blanks.self in
     let len = c.in-Blank.len in
     let e : front_of rest ≡ fronts.Blank len = ap front_of (sym c.as_bytes-bytes.ensures.value) ∙ sym c.in-Blank.ensures in
     let lines = c.count_line_ends-lines.ensures.line_ends ∙ ap (λ (b : List ℕ). line_ends (take len b)) c.as_bytes-bytes.ensures.value in
-    ap (λ (b : List ℕ). answers_from b c.pass.new.self.place) c.pass.ensures.rest
-    ∙ ap (λ (p : Place). answers_from (drop len rest) p) (c.pass.ensures.place ∙ ap (λ (n : ℕ). moved place n 0) lines)
+    ap (λ (b : List ℕ). answers_from b (position_of c.pass.new.self)) c.pass.ensures.rest
+    ∙ ap (λ (p : Position). answers_from (drop len rest) p) (c.pass.ensures.position ∙ ap (λ (n : ℕ). behind place len n 0) lines)
     ∙ sym (answers_blank rest place len e)
     ∙ c.blanks.invariant
