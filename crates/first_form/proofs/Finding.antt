@@ -86,12 +86,12 @@ joined (Some o) (Some x) (Some y) f e =
 
 module _ (items : List Item) where
   -- a name is there
-  name_tree : (i : Item) (t : Tree) (place : Place) (text : List ℕ) → i ≡ kept.Name place text → Seen items i t → t ≡ Name place text
-  name_tree _ _ place text e is_name = cc
-  name_tree _ _ place text e is_numeral = absurd cc
-  name_tree _ _ place text e (is_binary p q) = absurd cc
-  name_tree _ _ place text e (is_paren p) = absurd cc
-  name_tree i t place text e (is_other h k) = let yes = ap has_form e in absurd cc
+  name_tree : (i : Item) (t : Tree) (place : Place) (offset : ℕ) (text : List ℕ) → i ≡ kept.Name place offset text → Seen items i t → t ≡ Name place offset text
+  name_tree _ _ place offset text e is_name = cc
+  name_tree _ _ place offset text e is_numeral = absurd cc
+  name_tree _ _ place offset text e (is_binary p q) = absurd cc
+  name_tree _ _ place offset text e (is_paren p) = absurd cc
+  name_tree i t place offset text e (is_other h k) = let yes = ap has_form e in absurd cc
 
   numeral_tree : (i : Item) (t : Tree) (place : Place) (text : List ℕ) → i ≡ kept.Numeral place text → Seen items i t → t ≡ Numeral place text
   numeral_tree _ _ place text e is_name = absurd cc
@@ -151,8 +151,8 @@ module _ (items : List Item) (names : List (List ℕ)) where
   tree_at levels t = formula_of_tree names levels t
 
   pub finds_is : {levels n : ℕ} {id : NodeId} {r : Option (Formula × ℕ)} → Finds items names levels n id r → (t : Tree) → There items t id → r ≡ limited n (formula_of_tree names levels t)
-  finds_is (name {levels} {operators = n} {id} {place} {text} e) t h =
-      let is = name_tree items (item_at items id) t place text e (seen items t id h) in
+  finds_is (name {levels} {operators = n} {id} {place} {offset} {text} e) t h =
+      let is = name_tree items (item_at items id) t place offset text e (seen items t id h) in
       leaf_is Parameter n (λ x. refl) (position_of text names) ∙ ap (λ (u : Tree). limited n (tree_at levels u)) (sym is)
   finds_is (numeral {levels} {operators = n} {id} {place} {text} e) t h =
       let is = numeral_tree items (item_at items id) t place text e (seen items t id h) in

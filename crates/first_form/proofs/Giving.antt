@@ -1,11 +1,12 @@
 -- What holds of every value that a grammar gives.
 use Rattle.std.proofs.Common.{ℕ, Bool, List, Option, sym, subst, inl, inr}
+use Rattle.tl_base.specs.declared.place.Place.{Place}
 use Rattle.tl_tree.specs.declared.symbol.Symbol.{Symbol}
 use Rattle.tl_tree.specs.declared.mode.Extra.{Extra}
 use Rattle.tl_tree.specs.Tokens.{Token}
 use Rattle.tl_tree.specs.Tree.{Tree, Part}
 use Rattle.tl_tree.specs.Grammar.{Grammar, give, bind, when, many, down, Rule, Parts, Turns, stop, turn, Reads}
-use Rattle.tl_tree.specs.Forms.{opening, listed, listed_behind, Chained, operators, right_operator}
+use Rattle.tl_tree.specs.Forms.{opening, opening_at, listed, listed_behind, Chained, operators, right_operator}
 use Rattle.first_form.specs.Layout.{IsSingle, AreSingle}
 
 -- under a rule, with so many levels left
@@ -36,6 +37,9 @@ module _ {rule : Rule} {levels : ℕ} {parts : Parts} where
 
   pub gives_opened : (s : Symbol) (part : Part) {Q : Tree → Type 0} → ((ts : List Token) (x : Tree) (rest : List Token) → parts part ts x rest → Q x) → Gives rule levels parts (λ (x : Token × Tree). Q x.1) (opening s part)
   gives_opened s part q = record { all = λ ts b rest h. q h.0 b.1 rest h.4 }
+
+  pub gives_opened_at : (s : Symbol) (part : Place → Part) {Q : Tree → Type 0} → ((place : Place) (ts : List Token) (x : Tree) (rest : List Token) → parts (part place) ts x rest → Q x) → Gives rule levels parts (λ (x : Token × Tree). Q x.1) (opening_at s part)
+  gives_opened_at s part q = record { all = λ ts b rest h. q b.0.place h.0 b.1 rest h.4 }
 
   pub gives_many : {A : Type 0} {P : A → Type 0} {class : A → Token → Bool} {extra : A → Token → Extra} {opens : A → Token → Option Part} {step : Token → Tree → A → Grammar A} {a : A} → P a → ((t : Token) (x : Tree) (b : A) → P b → Gives rule levels parts P (step t x b)) → Gives rule levels parts P (many class extra opens step a)
   gives_many {A} {P} {class} {extra} {opens} {step} {a} p q =

@@ -144,9 +144,9 @@ pub at_body : (items : List Item) (t : Tree) (id : NodeId) → There items t id 
 at_body items Nothing id h = absurd h.1
 at_body items (More a b) id h = absurd h.1
 at_body items (Just a) id h = absurd h.1
-at_body items (TerraBody a b d) id h =
+at_body items (TerraBody place a b d) id h =
     let x = lay a h.0.front in
-    rw (at_last items (TerraBody a b d) id h.0) (rw item_last (
+    rw (at_last items (TerraBody place a b d) id h.0) (rw item_last (
       (third_list a b d h.0.front _ h.0.behind h.0.are_laid, h.1.0),
       ((numbers b x, first_list b d x _ h.0.behind h.0.are_laid, any_is (lay b x) (numbers b x)), h.1.1),
       (last_tree d (lay b x) _ h.0.behind h.0.are_laid, h.1.2),
@@ -158,8 +158,8 @@ pub at_parameter : (items : List Item) (t : Tree) (id : NodeId) → There items 
 at_parameter items Nothing id h = absurd h.1
 at_parameter items (More a b) id h = absurd h.1
 at_parameter items (Just a) id h = absurd h.1
-at_parameter items (Parameter a b) id h =
-    rw (at_last items (Parameter a b) id h.0) (rw item_last
+at_parameter items (Parameter place a b) id h =
+    rw (at_last items (Parameter place a b) id h.0) (rw item_last
     ((first_tree a b h.0.front _ h.0.behind h.0.are_laid, h.1.0), (last_tree b (lay a h.0.front) _ h.0.behind h.0.are_laid, h.1.1)))
 at_parameter items t id h =
     rw (at_last items t id h.0) (rw item_last tt)
@@ -222,7 +222,7 @@ none_there items t ids h = ap (λ (ns : List NodeId). is_none (first ns)) (sym h
 
 -- a node, and the expression that it is of
 pub data Seen (items : List Item) : Item → Tree → Type 0 where
-  is_name : {place : Place} {text : List ℕ} → Seen items (kept.Name place text) (Name place text)
+  is_name : {place : Place} {offset : ℕ} {text : List ℕ} → Seen items (kept.Name place offset text) (Name place offset text)
   is_numeral : {place : Place} {text : List ℕ} → Seen items (kept.Numeral place text) (Numeral place text)
   is_binary : {place : Place} {o : BinaryOperator} {a b : Tree} {l r : NodeId} → There items a l → There items b r → Seen items (kept.TerraExpression place (terra_expressions.Binary o l r)) (TerraBinary place o a b)
   is_paren : {place : Place} {a : Tree} {i : NodeId} → There items a i → Seen items (kept.TerraExpression place (terra_expressions.Paren i)) (TerraParen place a)
@@ -232,7 +232,7 @@ pub seen : (items : List Item) (t : Tree) (id : NodeId) → There items t id →
 seen items Nothing id h = absurd h.1
 seen items (More a b) id h = absurd h.1
 seen items (Just a) id h = absurd h.1
-seen items (Name place text) id h = rw (at_last items (Name place text) id h.0) (rw item_last is_name)
+seen items (Name place offset text) id h = rw (at_last items (Name place offset text) id h.0) (rw item_last is_name)
 seen items (Numeral place text) id h = rw (at_last items (Numeral place text) id h.0) (rw item_last is_numeral)
 seen items (TerraBinary place o a b) id h =
     rw (at_last items (TerraBinary place o a b) id h.0) (rw item_last

@@ -1,5 +1,6 @@
 -- In the tree of a text one tree stands wherever one is to stand, as far as the form looks at it: name by name of the grammar.
 use Rattle.std.proofs.Common.{ℕ, zero, suc, List, [], ◌∷◌}
+use Rattle.tl_base.specs.declared.place.Place.{Place}
 use Rattle.tl_tree.specs.declared.symbol.Symbol.TheVariants as symbols
 use Rattle.tl_tree.specs.declared.mode.Mode.{Mode}
 use Rattle.tl_tree.specs.declared.mode.Mode.TheVariants as modes
@@ -10,9 +11,9 @@ use Rattle.tl_tree.specs.Tokens.{Token}
 use Rattle.tl_tree.specs.Tree.{Tree, More, Part, Statements, TerraExpression, TerraFunctionBody}
 use Rattle.tl_tree.specs.Tree as trees
 use Rattle.tl_tree.specs.Grammar.{Grammar, Rule, Parts, parts_at, down, all_levels, Whole}
-use Rattle.tl_tree.specs.Forms.{Language, LuaAlone, Joint, name, path_names, chain, Chained, multiplicative, additive, comparisons}
+use Rattle.tl_tree.specs.Forms.{name, path_names, chain, Chained, multiplicative, additive, comparisons}
 use Rattle.tl_tree.specs.Refusing.{limits}
-use Rattle.tl_tree.specs.Laws.{IsChunk, IsLuaChunk}
+use Rattle.tl_tree.specs.Laws.{IsChunk}
 use Rattle.tl_tree.specs.Syntax.{syntax_of, chunk}
 use Rattle.tl_tree.specs.LuaExpressions as lua
 use Rattle.tl_tree.specs.LuaStatements as statements
@@ -20,13 +21,13 @@ use Rattle.tl_tree.specs.TerraExpressions as terra
 use Rattle.tl_tree.specs.TerraStatements as terra_statements
 use Rattle.first_form.specs.Layout.{IsSingle, AreSingle}
 use Rattle.first_form.specs.Laws.{HasSingleTrees}
-use Rattle.first_form.proofs.Giving.{Gives, One, gives_value, gives_bind, gives_then, gives_when, gives_opened, gives_many, gives_listed, gives_operators, gives_right}
+use Rattle.first_form.proofs.Giving.{Gives, One, gives_value, gives_bind, gives_then, gives_when, gives_opened, gives_opened_at, gives_many, gives_listed, gives_operators, gives_right}
 
 -- the parts whose trees the form looks at
 abbrev PartIs : Part → Tree → Type 0
 PartIs (Statements c) tree = IsSingle tree
 PartIs TerraExpression tree = IsSingle tree
-PartIs TerraFunctionBody tree = IsSingle tree
+PartIs (TerraFunctionBody place) tree = IsSingle tree
 PartIs _ tree = Unit {0}
 
 module _ (rule : Rule) (levels : ℕ) (parts : Parts) (kept : (part : Part) (ts : List Token) (x : Tree) (rest : List Token) → parts part ts x rest → PartIs part x) where
@@ -144,44 +145,43 @@ module _ (rule : Rule) (levels : ℕ) (parts : Parts) (kept : (part : Part) (ts 
   lua_right : (t : Token) (a b : Tree) → IsSingle (lua.operation t a b)
   lua_right t a b = tt
 
-  module _ (l : Language) where
-    lua_primary : (m : Mode) (n : ℕ) → Of One (lua.primary l m n)
-    lua_primary m n =
-        gives_when (as_operand n (gives_then (λ x. gives_value tt)))
-        (gives_when (as_operand n literal)
-        (gives_when (as_operand n (gives_then (λ x. gives_value tt)))
-        (gives_when (as_operand n (gives_then (λ x. gives_value tt)))
-        (gives_when (as_operand n (gives_then (λ x. gives_value tt)))
-        (gives_when (as_operand n (gives_then (λ x. gives_value tt)))
-        (gives_when (as_operand n (gives_then (λ f. gives_then (λ x. gives_value tt))))
-        (gives_when (as_operand n (gives_then (λ x. gives_then (λ y. gives_value tt))))
-        (gives_when (as_operand n (terra_code m)) (lua_prefix m n)))))))))
+  lua_primary : (m : Mode) (n : ℕ) → Of One (lua.primary m n)
+  lua_primary m n =
+      gives_when (as_operand n (gives_then (λ x. gives_value tt)))
+      (gives_when (as_operand n literal)
+      (gives_when (as_operand n (gives_then (λ x. gives_value tt)))
+      (gives_when (as_operand n (gives_then (λ x. gives_value tt)))
+      (gives_when (as_operand n (gives_then (λ x. gives_value tt)))
+      (gives_when (as_operand n (gives_then (λ x. gives_value tt)))
+      (gives_when (as_operand n (gives_then (λ f. gives_then (λ x. gives_value tt))))
+      (gives_when (as_operand n (gives_then (λ x. gives_then (λ y. gives_value tt))))
+      (gives_when (as_operand n (terra_code m)) (lua_prefix m n)))))))))
 
-    lua_unary : (m : Mode) (n : ℕ) → Of One (lua.unary l m n)
-    lua_unary m n =
-        gives_when (gives_then (λ x. gives_value tt)) (gives_bind One (lua_primary m n) (λ a p. gives_right symbols.Caret (trees.Operand m) lua.operation a lua_right p))
+  lua_unary : (m : Mode) (n : ℕ) → Of One (lua.unary m n)
+  lua_unary m n =
+      gives_when (gives_then (λ x. gives_value tt)) (gives_bind One (lua_primary m n) (λ a p. gives_right symbols.Caret (trees.Operand m) lua.operation a lua_right p))
 
-    lua_product : (m : Mode) (n : ℕ) → Of One (lua.product l m n)
-    lua_product m n = gives_bind One (lua_unary m n) (λ a p. gives_operators multiplicative (lua.unary l m) lua.operation a (lua_unary m) lua_both p)
+  lua_product : (m : Mode) (n : ℕ) → Of One (lua.product m n)
+  lua_product m n = gives_bind One (lua_unary m n) (λ a p. gives_operators multiplicative (lua.unary m) lua.operation a (lua_unary m) lua_both p)
 
-    lua_sum : (m : Mode) (n : ℕ) → Of One (lua.sum l m n)
-    lua_sum m n = gives_bind One (lua_product m n) (λ a p. gives_operators additive (lua.product l m) lua.operation a (lua_product m) lua_both p)
+  lua_sum : (m : Mode) (n : ℕ) → Of One (lua.sum m n)
+  lua_sum m n = gives_bind One (lua_product m n) (λ a p. gives_operators additive (lua.product m) lua.operation a (lua_product m) lua_both p)
 
-    lua_concatenation : (m : Mode) (n : ℕ) → Of One (lua.concatenation l m n)
-    lua_concatenation m n = gives_bind One (lua_sum m n) (λ a p. gives_right symbols.DoubleDot (trees.Concatenation m) lua.operation a lua_right p)
+  lua_concatenation : (m : Mode) (n : ℕ) → Of One (lua.concatenation m n)
+  lua_concatenation m n = gives_bind One (lua_sum m n) (λ a p. gives_right symbols.DoubleDot (trees.Concatenation m) lua.operation a lua_right p)
 
-    lua_comparison : (m : Mode) (n : ℕ) → Of One (lua.comparison l m n)
-    lua_comparison m n = gives_bind One (lua_concatenation m n) (λ a p. gives_operators comparisons (lua.concatenation l m) lua.operation a (lua_concatenation m) lua_both p)
+  lua_comparison : (m : Mode) (n : ℕ) → Of One (lua.comparison m n)
+  lua_comparison m n = gives_bind One (lua_concatenation m n) (λ a p. gives_operators comparisons (lua.concatenation m) lua.operation a (lua_concatenation m) lua_both p)
 
-    lua_conjunction : (m : Mode) (n : ℕ) → Of One (lua.conjunction l m n)
-    lua_conjunction m n = gives_bind One (lua_comparison m n) (λ a p. gives_operators (symbols.And ∷ []) (lua.comparison l m) lua.operation a (lua_comparison m) lua_both p)
+  lua_conjunction : (m : Mode) (n : ℕ) → Of One (lua.conjunction m n)
+  lua_conjunction m n = gives_bind One (lua_comparison m n) (λ a p. gives_operators (symbols.And ∷ []) (lua.comparison m) lua.operation a (lua_comparison m) lua_both p)
 
-    lua_disjunction : (m : Mode) (n : ℕ) → Of One (lua.disjunction l m n)
-    lua_disjunction m n = gives_bind One (lua_conjunction m n) (λ a p. gives_operators (symbols.Or ∷ []) (lua.conjunction l m) lua.operation a (lua_conjunction m) lua_both p)
+  lua_disjunction : (m : Mode) (n : ℕ) → Of One (lua.disjunction m n)
+  lua_disjunction m n = gives_bind One (lua_conjunction m n) (λ a p. gives_operators (symbols.Or ∷ []) (lua.conjunction m) lua.operation a (lua_conjunction m) lua_both p)
 
-    lua_expression : (m : Mode) → Of IsSingle (lua.expression l m)
-    lua_expression m =
-        gives_bind One (gives_bind One (lua_disjunction m chain) (λ a p. gives_right symbols.Arrow (trees.Expression m) lua.operation a lua_right p)) (λ a p. gives_value p)
+  lua_expression : (m : Mode) → Of IsSingle (lua.expression m)
+  lua_expression m =
+      gives_bind One (gives_bind One (lua_disjunction m chain) (λ a p. gives_right symbols.Arrow (trees.Expression m) lua.operation a lua_right p)) (λ a p. gives_value p)
 
   -- ---- statements, functions and blocks of Terra code
 
@@ -228,18 +228,18 @@ module _ (rule : Rule) (levels : ℕ) (parts : Parts) (kept : (part : Part) (ts 
       (λ a p. gives_value p)
 
   terra_type : Of IsSingle terra_statements.terra_type
-  terra_type = lua_expression Joint modes.Types
+  terra_type = lua_expression modes.Types
 
   written_type : Of AreSingle terra_statements.written_type
   written_type = gives_when (gives_then (λ y. gives_bind IsSingle terra_type (λ e p. gives_value p))) (gives_value tt)
 
   terra_parameter : Of IsSingle terra_statements.terra_parameter
   terra_parameter =
-      gives_when (gives_then (λ e. gives_value tt))
-      (gives_bind IsSingle name_is (λ n p. gives_then (λ y. gives_bind IsSingle terra_type (λ e q. gives_value (p, q)))))
+      gives_when (gives_then (λ x. gives_then (λ y. gives_value tt)))
+      (gives_then (λ n. gives_then (λ y. gives_bind IsSingle terra_type (λ e q. gives_value (tt, q)))))
 
-  terra_function_body : Of IsSingle terra_statements.terra_function_body
-  terra_function_body =
+  terra_function_body : (place : Place) → Of IsSingle (terra_statements.terra_function_body place)
+  terra_function_body place =
       gives_bind AreSingle (gives_when (gives_value tt) (gives_listed terra_parameter)) (λ ps p. gives_then (λ y.
       gives_bind AreSingle written_type (λ r q. gives_bind IsSingle terra_block (λ b s. gives_then (λ z. gives_value (p, q, s))))))
 
@@ -253,66 +253,62 @@ module _ (rule : Rule) (levels : ℕ) (parts : Parts) (kept : (part : Part) (ts 
       gives_bind IsSingle name_is (λ n p. gives_bind AreSingle (path_names_are (More trees.Nothing n) (tt, p)) (λ ns q.
       gives_when (gives_then (λ c. gives_then (λ m. gives_value q))) (gives_value q)))
 
-  module _ (l : Language) where
-    call_or_assignment : (m : Mode) (t : Token) (s : Shape) (e : Tree) → Of IsSingle (statements.call_or_assignment l m t s e)
-    call_or_assignment m t shapes.Call e = gives_value tt
-    call_or_assignment m t shapes.Escape e = gives_then (λ targets. gives_then (λ y. gives_then (λ es. gives_value tt)))
-    call_or_assignment m t shapes.Name e = gives_then (λ targets. gives_then (λ y. gives_then (λ es. gives_value tt)))
-    call_or_assignment m t shapes.Variable e = gives_then (λ targets. gives_then (λ y. gives_then (λ es. gives_value tt)))
-    call_or_assignment m t shapes.Other e = gives_then (λ targets. gives_then (λ y. gives_then (λ es. gives_value tt)))
+  call_or_assignment : (m : Mode) (t : Token) (s : Shape) (e : Tree) → Of IsSingle (statements.call_or_assignment m t s e)
+  call_or_assignment m t shapes.Call e = gives_value tt
+  call_or_assignment m t shapes.Escape e = gives_then (λ targets. gives_then (λ y. gives_then (λ es. gives_value tt)))
+  call_or_assignment m t shapes.Name e = gives_then (λ targets. gives_then (λ y. gives_then (λ es. gives_value tt)))
+  call_or_assignment m t shapes.Variable e = gives_then (λ targets. gives_then (λ y. gives_then (λ es. gives_value tt)))
+  call_or_assignment m t shapes.Other e = gives_then (λ targets. gives_then (λ y. gives_then (λ es. gives_value tt)))
 
-    local_terra : (c : Context) (t : Token) → Of IsSingle (statements.local_terra l c t)
-    local_terra c t =
-        gives_when (gives_then (λ y. gives_then (λ n. gives_then (λ es. gives_value tt))))
-        (gives_then (λ y. gives_then (λ n. gives_when (gives_then (λ z. gives_then (λ e. gives_value tt))) (gives_then (λ b. gives_value tt)))))
+  local_terra : (c : Context) (t : Token) → Of IsSingle (statements.local_terra c t)
+  local_terra c t =
+      gives_when (gives_then (λ y. gives_then (λ n. gives_then (λ es. gives_value tt))))
+      (gives_then (λ y. gives_then (λ n. gives_when (gives_then (λ z. gives_then (λ e. gives_value tt))) (gives_then (λ b. gives_value tt)))))
 
-    statement : (c : Context) (k : statements.Statement) (t : Token) (x : Tree) → Of IsSingle (statements.statement l c k t x)
-    statement c statements.FromName t x = gives_then (λ a. call_or_assignment c.mode t a.shape a.tree)
-    statement c statements.FromParen t x = gives_then (λ y. gives_then (λ b. gives_then (λ a. call_or_assignment c.mode t a.shape a.tree)))
-    statement c statements.FromDo t x = gives_then (λ y. gives_value tt)
-    statement c statements.FromWhile t x = gives_then (λ e. gives_then (λ b. gives_value tt))
-    statement c statements.FromRepeat t x = gives_then (λ y. gives_then (λ e. gives_value tt))
-    statement c statements.FromIf t x = gives_then (λ f. gives_then (λ a. gives_then (λ o. gives_then (λ y. gives_value tt))))
-    statement c statements.FromFor t x =
-        gives_then (λ n. gives_when
-        (gives_then (λ y. gives_then (λ a. gives_then (λ z. gives_then (λ b. gives_then (λ s. gives_then (λ d. gives_value tt)))))))
-        (gives_then (λ ns. gives_then (λ y. gives_then (λ es. gives_then (λ d. gives_value tt))))))
-    statement c statements.FromFunction t x = gives_then (λ p. gives_then (λ b. gives_value tt))
-    statement c statements.FromLocal t x =
-        gives_when (gives_then (λ y. gives_then (λ n. gives_then (λ b. gives_value tt))))
-        (gives_when (local_terra c t) (gives_then (λ ns. gives_then (λ es. gives_value tt))))
-    statement c statements.FromReturn t x = gives_then (λ es. gives_value tt)
-    statement c statements.FromBreak t x = gives_value tt
-    statement c statements.FromTerra t x =
-        gives_bind IsSingle path (λ p q. gives_when (gives_then (λ y. gives_then (λ e. gives_value tt)))
-        (gives_bind (λ (b : Token × Tree). IsSingle b.1) (gives_opened symbols.OpenParen TerraFunctionBody (λ ts b rest h. kept TerraFunctionBody ts b rest h)) (λ b r. gives_value (q, r))))
-    statement c statements.FromStruct t x = gives_then (λ p. gives_then (λ es. gives_value tt))
-    statement c statements.FromEmit t x = gives_then (λ e. gives_value tt)
+  statement : (c : Context) (k : statements.Statement) (t : Token) (x : Tree) → Of IsSingle (statements.statement c k t x)
+  statement c statements.FromName t x = gives_then (λ a. call_or_assignment c.mode t a.shape a.tree)
+  statement c statements.FromParen t x = gives_then (λ y. gives_then (λ b. gives_then (λ a. call_or_assignment c.mode t a.shape a.tree)))
+  statement c statements.FromDo t x = gives_then (λ y. gives_value tt)
+  statement c statements.FromWhile t x = gives_then (λ e. gives_then (λ b. gives_value tt))
+  statement c statements.FromRepeat t x = gives_then (λ y. gives_then (λ e. gives_value tt))
+  statement c statements.FromIf t x = gives_then (λ f. gives_then (λ a. gives_then (λ o. gives_then (λ y. gives_value tt))))
+  statement c statements.FromFor t x =
+      gives_then (λ n. gives_when
+      (gives_then (λ y. gives_then (λ a. gives_then (λ z. gives_then (λ b. gives_then (λ s. gives_then (λ d. gives_value tt)))))))
+      (gives_then (λ ns. gives_then (λ y. gives_then (λ es. gives_then (λ d. gives_value tt))))))
+  statement c statements.FromFunction t x = gives_then (λ p. gives_then (λ b. gives_value tt))
+  statement c statements.FromLocal t x =
+      gives_when (gives_then (λ y. gives_then (λ n. gives_then (λ b. gives_value tt))))
+      (gives_when (local_terra c t) (gives_then (λ ns. gives_then (λ es. gives_value tt))))
+  statement c statements.FromReturn t x = gives_then (λ es. gives_value tt)
+  statement c statements.FromBreak t x = gives_value tt
+  statement c statements.FromTerra t x =
+      gives_bind IsSingle path (λ p q. gives_when (gives_then (λ y. gives_then (λ e. gives_value tt)))
+      (gives_bind (λ (b : Token × Tree). IsSingle b.1) (gives_opened_at symbols.OpenParen TerraFunctionBody (λ place ts b rest h. kept (TerraFunctionBody place) ts b rest h)) (λ b r. gives_value (q, r))))
+  statement c statements.FromStruct t x = gives_then (λ p. gives_then (λ es. gives_value tt))
+  statement c statements.FromEmit t x = gives_then (λ e. gives_value tt)
 
-    block : (c : Context) → Of IsSingle (statements.block l c)
-    block c =
-        gives_bind So
-        (gives_many tt (λ t x a p. gives_bind IsSingle (statement c (statements.statement_of t.symbol) t x) (λ s q. gives_then (λ y. gives_value (p, q)))))
-        (λ a p. gives_value p)
+  block : (c : Context) → Of IsSingle (statements.block c)
+  block c =
+      gives_bind So
+      (gives_many tt (λ t x a p. gives_bind IsSingle (statement c (statements.statement_of t.symbol) t x) (λ s q. gives_then (λ y. gives_value (p, q)))))
+      (λ a p. gives_value p)
 
-    pub part_is : (part : Part) → Of (PartIs part) (syntax_of l part)
-    part_is (Statements c) = block c
-    part_is TerraExpression = terra_expression
-    part_is TerraFunctionBody = terra_function_body
-    part_is _ = record { all = λ ts b rest h. tt }
+  pub part_is : (part : Part) → Of (PartIs part) (syntax_of part)
+  part_is (Statements c) = block c
+  part_is TerraExpression = terra_expression
+  part_is (TerraFunctionBody place) = terra_function_body place
+  part_is _ = record { all = λ ts b rest h. tt }
 
-parts_are : (l : Language) (rule : Rule) (depth levels : ℕ) (part : Part) (ts : List Token) (x : Tree) (rest : List Token) → parts_at (syntax_of l) rule depth levels part ts x rest → PartIs part x
-parts_are l rule zero levels part ts x rest h = absurd h
-parts_are l rule (suc depth) levels part ts x rest h =
-    (part_is rule levels (parts_at (syntax_of l) rule depth (down levels)) (parts_are l rule depth (down levels)) l part).all ts x rest h
+parts_are : (rule : Rule) (depth levels : ℕ) (part : Part) (ts : List Token) (x : Tree) (rest : List Token) → parts_at syntax_of rule depth levels part ts x rest → PartIs part x
+parts_are rule zero levels part ts x rest h = absurd h
+parts_are rule (suc depth) levels part ts x rest h =
+    (part_is rule levels (parts_at syntax_of rule depth (down levels)) (parts_are rule depth (down levels)) part).all ts x rest h
 
 -- the tree of a text is one tree
-pub chunk_is : (l : Language) (rule : Rule) (ts : List Token) (tree : Tree) → Whole (syntax_of l) chunk rule ts tree → IsSingle tree
-chunk_is l rule ts tree h = parts_are l rule h.0 all_levels chunk ts tree [] h.1
+pub chunk_is : (rule : Rule) (ts : List Token) (tree : Tree) → Whole syntax_of chunk rule ts tree → IsSingle tree
+chunk_is rule ts tree h = parts_are rule h.0 all_levels chunk ts tree [] h.1
 
--- the law for both languages
+-- the law
 pub single_chunk : HasSingleTrees IsChunk
-single_chunk ts tree h = chunk_is Joint limits ts tree h
-
-pub single_lua_chunk : HasSingleTrees IsLuaChunk
-single_lua_chunk ts tree h = chunk_is LuaAlone limits ts tree h
+single_chunk ts tree h = chunk_is limits ts tree h

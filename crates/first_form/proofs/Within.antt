@@ -49,7 +49,7 @@ brackets_fit names zero inside f p e = absurd cc
 brackets_fit names (suc n) inside f p e = p n f e
 
 formula_fits : (names : List (List ℕ)) (levels : ℕ) (tree : Tree) (f : Formula) → formula_of_tree names levels tree ≡ Some f → Fits names f
-formula_fits names levels (Name place name) f e =
+formula_fits names levels (Name place offset name) f e =
     let m = map_is Parameter (position_of name names) f e in
     let below : m.0 < length names = let h = position_below 0 name names m.0 m.1 in omega arith in
     subst (λ (g : Formula). Fits names g) m.2 (below, tt)

@@ -55,12 +55,12 @@ path_of _ = None
 
 -- the parameters, the result type and the block of a Terra function
 abbrev pub body_of : Tree → Option (Tree × Tree × Tree)
-body_of (TerraBody parameters type block) = Some (parameters, type, block)
+body_of (TerraBody place parameters type block) = Some (parameters, type, block)
 body_of _ = None
 
 -- the name and the type of a parameter
 abbrev pub parameter_of : Tree → Option (Tree × Tree)
-parameter_of (trees.Parameter name type) = Some (name, type)
+parameter_of (trees.Parameter place name type) = Some (name, type)
 parameter_of _ = None
 
 -- what `return` has behind it
@@ -69,7 +69,7 @@ returned_of (TerraReturn place values) = Some values
 returned_of _ = None
 
 abbrev pub name_of : Tree → Option (List ℕ)
-name_of (Name place name) = Some name
+name_of (Name place offset name) = Some name
 name_of _ = None
 
 -- ---- literals
@@ -123,7 +123,7 @@ in_brackets (suc levels) inside = inside levels
 
 -- an expression of these parameters, whose brackets nest at most so many levels deep
 abbrev pub formula_of_tree : List (List ℕ) → ℕ → Tree → Option Formula
-formula_of_tree parameters levels (Name place name) = option_map Parameter (position_of name parameters)
+formula_of_tree parameters levels (Name place offset name) = option_map Parameter (position_of name parameters)
 formula_of_tree parameters levels (Numeral place text) = option_map Literal (literal_of text)
 formula_of_tree parameters levels (TerraBinary place operator left right) =
     between (operator_of operator) (formula_of_tree parameters levels left) (formula_of_tree parameters levels right)
@@ -137,7 +137,7 @@ abbrev pub is_int64 : List ℕ → Bool
 is_int64 name = bytes_eq name (codes "int64")
 
 abbrev pub is_number_type : Tree → Bool
-is_number_type (Name place name) = is_int64 name
+is_number_type (Name place offset name) = is_int64 name
 is_number_type _ = false
 
 -- a name that isn't that of the type

@@ -29,8 +29,8 @@ abbrev mutual
   IsSingle (DefineTerra place path body) = IsSingle path × IsSingle body
   IsSingle (Block statements) = AreSingle statements
   IsSingle (Path names method) = AreSingle names
-  IsSingle (TerraBody parameters type block) = AreSingle parameters × AreSingle type × IsSingle block
-  IsSingle (Parameter name type) = IsSingle name × IsSingle type
+  IsSingle (TerraBody place parameters type block) = AreSingle parameters × AreSingle type × IsSingle block
+  IsSingle (Parameter place name type) = IsSingle name × IsSingle type
   IsSingle (TerraReturn place values) = AreSingle values
   IsSingle (TerraBinary place operator left right) = IsSingle left × IsSingle right
   IsSingle (TerraParen place inside) = IsSingle inside

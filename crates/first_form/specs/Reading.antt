@@ -36,11 +36,11 @@ path_in (kept.Piece (pieces.Path names method)) = Some (names, method)
 path_in _ = None
 
 abbrev pub body_in : Item → Option (List NodeId × Option NodeId × NodeId)
-body_in (kept.Piece (pieces.TerraBody parameters type block)) = Some (parameters, type, block)
+body_in (kept.Piece (pieces.TerraBody place parameters type block)) = Some (parameters, type, block)
 body_in _ = None
 
 abbrev pub parameter_in : Item → Option (NodeId × NodeId)
-parameter_in (kept.Piece (pieces.Parameter name type)) = Some (name, type)
+parameter_in (kept.Piece (pieces.Parameter place name type)) = Some (name, type)
 parameter_in _ = None
 
 abbrev pub returned_in : Item → Option (List NodeId)
@@ -48,11 +48,11 @@ returned_in (kept.TerraStatement place (terra_statements.Return ids)) = Some ids
 returned_in _ = None
 
 abbrev pub name_in : Item → Option (List ℕ)
-name_in (kept.Name place name) = Some name
+name_in (kept.Name place offset name) = Some name
 name_in _ = None
 
 abbrev pub is_number_type_in : Item → Bool
-is_number_type_in (kept.Name place name) = is_int64 name
+is_number_type_in (kept.Name place offset name) = is_int64 name
 is_number_type_in _ = false
 
 -- ---- what is at a number
@@ -92,7 +92,7 @@ module _ (items : List Item) where
 
 -- nodes of expressions that the form has
 abbrev pub has_form : Item → Bool
-has_form (kept.Name place name) = true
+has_form (kept.Name place offset name) = true
 has_form (kept.Numeral place text) = true
 has_form (kept.TerraExpression place (terra_expressions.Binary operator left right)) = true
 has_form (kept.TerraExpression place (terra_expressions.Paren inside)) = true
@@ -105,7 +105,7 @@ leaf formula n o = option_map (λ x. (formula x, n)) o
 -- What is found at a number: an expression, and how many operators are left behind it. So many levels of brackets and so many operators
 -- may stand there.
 pub data Finds (items : List Item) (names : List (List ℕ)) : (levels operators : ℕ) → NodeId → Option (Formula × ℕ) → Type 0 where
-  name : {levels operators : ℕ} {id : NodeId} {place : Place} {text : List ℕ} → item_at items id ≡ kept.Name place text → Finds items names levels operators id (leaf Parameter operators (position_of text names))
+  name : {levels operators : ℕ} {id : NodeId} {place : Place} {offset : ℕ} {text : List ℕ} → item_at items id ≡ kept.Name place offset text → Finds items names levels operators id (leaf Parameter operators (position_of text names))
   numeral : {levels operators : ℕ} {id : NodeId} {place : Place} {text : List ℕ} → item_at items id ≡ kept.Numeral place text → Finds items names levels operators id (leaf Literal operators (literal_of text))
   inside : {levels operators : ℕ} {id i : NodeId} {place : Place} {r : Option (Formula × ℕ)} → item_at items id ≡ kept.TerraExpression place (terra_expressions.Paren i) → 0 < levels → Finds items names (levels - 1) operators i r → Finds items names levels operators id r
   no_level : {levels operators : ℕ} {id i : NodeId} {place : Place} → item_at items id ≡ kept.TerraExpression place (terra_expressions.Paren i) → levels ≡ 0 → Finds items names levels operators id None

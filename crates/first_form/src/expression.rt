@@ -113,7 +113,7 @@ pub(crate) fn expression(
     ensures less { IfOk result (λ r. MatchOption r (Unit {0}) (λ f. f.1 ≤ operators)) }
 {
     match tree.node(id) {
-        Node::Name(_, name) => match position(parameters, name.as_bytes()) {
+        Node::Name(_, _, name) => match position(parameters, name.as_bytes()) {
             Some(position) => Ok(Some((Expression::Parameter(position), operators))),
             None => Ok(None),
         },

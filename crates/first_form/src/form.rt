@@ -4,7 +4,7 @@ ghost use Rattle.std.specs.Prelude.{◌≡◌, ◌≢◌, ◌≤◌, length, IfO
 ghost use Rattle.tl_tree.specs.Tree as trees;
 ghost use Rattle.tl_tree.specs.Nodes.{lay};
 ghost use Rattle.tl_tree.specs.Arena.{items_of};
-ghost use Rattle.tl_tree.specs.Laws.{IsChunk, IsLuaChunk};
+ghost use Rattle.tl_tree.specs.Laws.{IsChunk};
 ghost use Rattle.first_form.specs.Formula.{shown, IsWithin};
 ghost use Rattle.first_form.specs.Form.{may_follow, function_of};
 ghost use Rattle.first_form.specs.Layout.{IsSingle};
@@ -94,6 +94,5 @@ pub fn bounds()
 
 /// A law: in the tree of a text one tree stands wherever one is to stand, as far as the form looks at it.
 pub fn single_trees()
-    ensures chunks { HasSingleTrees IsChunk }
-    ensures lua_chunks { HasSingleTrees IsLuaChunk }
+    ensures { HasSingleTrees IsChunk }
 {}

@@ -52,7 +52,7 @@ fn free_name<'a>(tree: &Tree<'a>, id: NodeId) -> Option<&'a [u8]>
     ensures { option_map (λ name. name.now) result ≡ reading.free_name_at (items_of tree.now) id }
 {
     match tree.node(id) {
-        Node::Name(_, name) => {
+        Node::Name(_, _, name) => {
             let name = name.as_bytes();
             if is_int64(name) { None } else { Some(name) }
         }
@@ -65,7 +65,7 @@ fn is_number_type(tree: &Tree<'_>, id: NodeId) -> bool
     ensures { result ≡ reading.is_number_type_in (item_at (items_of tree.now) id) }
 {
     match tree.node(id) {
-        Node::Name(_, name) => is_int64(name.as_bytes()),
+        Node::Name(_, _, name) => is_int64(name.as_bytes()),
         _ => false,
     }
 }
@@ -88,7 +88,7 @@ pub(crate) fn parameter_name<'a>(tree: &Tree<'a>, id: NodeId) -> Option<&'a [u8]
     ensures { option_map (λ name. name.now) result ≡ reading.parameter_name_at (items_of tree.now) id }
 {
     match tree.node(id) {
-        Node::Piece(Piece::Parameter(name, kind)) => {
+        Node::Piece(Piece::Parameter(_, name, kind)) => {
             if is_number_type(tree, *kind) {
                 free_name(tree, *name)
             } else {
@@ -120,7 +120,7 @@ pub(crate) fn typed_body<'t>(tree: &'t Tree<'_>, id: NodeId) -> Option<(&'t [Nod
     ensures { option_map (λ body. (body.0.now, body.1)) result ≡ reading.typed_body_at (items_of tree.now) id }
 {
     match tree.node(id) {
-        Node::Piece(Piece::TerraBody(parameters, Some(returned), block)) => {
+        Node::Piece(Piece::TerraBody(_, parameters, Some(returned), block)) => {
             if is_number_type(tree, *returned) {
                 match value(tree, *block) {
                     Some(value) => Some((parameters.as_slice(), value)),

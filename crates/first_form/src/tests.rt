@@ -21,13 +21,13 @@ fn list(alloc: Global, ids: &[u64]) -> Result<NodeList, Fail> {
 fn tree<'a>(alloc: Global, used: &'a str, kind: &'a str) -> Result<Tree<'a>, Fail> {
     let place = |word| Place { line: 1, word };
     let mut nodes = Vec::new(alloc);
-    nodes.push(Node::Name(place(2), "f"))?;
+    nodes.push(Node::Name(place(2), 2, "f"))?;
     nodes.push(Node::Piece(Piece::Path(list(alloc, &[0])?, None)))?;
-    nodes.push(Node::Name(place(4), "a"))?;
-    nodes.push(Node::Name(place(6), kind))?;
-    nodes.push(Node::Piece(Piece::Parameter(NodeId(2), NodeId(3))))?;
-    nodes.push(Node::Name(place(9), "int64"))?;
-    nodes.push(Node::Name(place(11), used))?;
+    nodes.push(Node::Name(place(4), 4, "a"))?;
+    nodes.push(Node::Name(place(6), 6, kind))?;
+    nodes.push(Node::Piece(Piece::Parameter(place(4), NodeId(2), NodeId(3))))?;
+    nodes.push(Node::Name(place(9), 9, "int64"))?;
+    nodes.push(Node::Name(place(11), 11, used))?;
     nodes.push(Node::Numeral(place(13), "7LL"))?;
     nodes.push(Node::TerraExpression(
         place(12),
@@ -35,10 +35,15 @@ fn tree<'a>(alloc: Global, used: &'a str, kind: &'a str) -> Result<Tree<'a>, Fai
     ))?;
     nodes.push(Node::TerraStatement(place(10), TerraStatement::Return(list(alloc, &[8])?)))?;
     nodes.push(Node::Piece(Piece::Block(list(alloc, &[9])?)))?;
-    nodes.push(Node::Piece(Piece::TerraBody(list(alloc, &[4])?, Some(NodeId(5)), NodeId(10))))?;
+    nodes.push(Node::Piece(Piece::TerraBody(
+        place(3),
+        list(alloc, &[4])?,
+        Some(NodeId(5)),
+        NodeId(10),
+    )))?;
     nodes.push(Node::Statement(place(1), Statement::Terra(NodeId(1), NodeId(11))))?;
     nodes.push(Node::Piece(Piece::Block(list(alloc, &[12])?)))?;
-    Ok(Tree::new(nodes))
+    Ok(Tree::new(nodes, place(15)))
 }
 
 #[test]
@@ -65,6 +70,12 @@ fn no_functions(rt: HostRuntime) -> Result<(), Fail> {
         let tree = tree(rt.alloc(), used, kind)?;
         assert!(rt; function_of(rt.alloc(), &tree)?.is_none());
     }
-    assert!(rt; function_of(rt.alloc(), &Tree::new(Vec::new(rt.alloc())))?.is_none());
+    assert!(rt;
+        function_of(
+            rt.alloc(),
+            &Tree::new(Vec::new(rt.alloc()), Place { line: 1, word: 1 })
+        )?
+        .is_none()
+    );
     Ok(())
 }

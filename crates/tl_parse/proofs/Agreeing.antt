@@ -14,7 +14,7 @@ use Rattle.tl_tree.specs.Grammar.{Grammar, give, token, bind, Outcome, Took, ◌
 use Rattle.tl_tree.specs.Forms.{sign, opening, name, Chained, chained, chain, operand, in_chain, right_operator, unary_of}
 use Rattle.tl_tree.specs.LuaExpressions as lua
 use Rattle.tl_tree.proofs.Unrolling.{bind_again}
-use Rattle.tl_parse.specs.Using.{language, reading, part_at, used, sign_at, open_at, prefix_at, raise_at, number_at}
+use Rattle.tl_parse.specs.Using.{reading, part_at, used, sign_at, open_at, prefix_at, raise_at, number_at}
 use Rattle.tl_parse.specs.Expressions.{name_at, paren_at, base_at, method_arguments_at, applied_at, suffixes_at, prefixed_at, number_tree_at, literal_at, constant, constant_at, function_at, table_at, simple_at, is_simple, primary_at, right_at, power_at, unary_at, binary_at, inner_at, more_at, concatenation_at, chained_at, is_name, field_behind_at, keyed_field_at, field_at}
 use Rattle.tl_parse.specs.declared.expressions.Precedence.TheVariants as precedences
 pub use Rattle.tl_parse.proofs.Following.{sign_then, opened_then, open_then, then, either_is}
@@ -26,7 +26,7 @@ use Rattle.tl_parse.proofs.Uses.{both, opening_is, plain_is}
 
 pub name_agrees : (levels : ℕ) (ts : List Token) → reading levels name ts ≡ name_at ts
 unfolding name_at
-name_agrees levels ts = sign_then levels symbols.Name (λ n. give (Name n.0.place n.0.text)) (λ t rest. Took (Name t.place t.text) rest) (λ t us. refl) ts
+name_agrees levels ts = sign_then levels symbols.Name (λ n. give (Name n.0.place n.0.offset n.0.text)) (λ t rest. Took (Name t.place t.offset t.text) rest) (λ t us. refl) ts
 
 pub paren_agrees : (levels : ℕ) (m : Mode) (ts : List Token) → reading levels (lua.paren m) ts ≡ paren_at levels m ts
 unfolding paren_at
@@ -102,53 +102,53 @@ terra_operand : (levels : ℕ) (m : Mode) (left : ℕ) (ts : List Token) → rea
 terra_operand levels m left ts = as_operand levels left (lua.terra_code m) (terra_code_at levels m ts) ts (terra_code_agrees levels m ts)
 
 -- by the first token
-primary_by : (levels : ℕ) (m : Mode) (left : ℕ) (symbol : Symbol) (text : List ℕ) (place : Place) (first : Bool) (ts : List Token) →
-    reading levels (lua.primary language m left) (record { symbol = symbol; text = text; place = place; first_on_line = first } ∷ ts) ≡ primary_at levels m left (record { symbol = symbol; text = text; place = place; first_on_line = first } ∷ ts)
+primary_by : (levels : ℕ) (m : Mode) (left : ℕ) (symbol : Symbol) (text : List ℕ) (place : Place) (offset : ℕ) (first : Bool) (ts : List Token) →
+    reading levels (lua.primary m left) (record { symbol = symbol; text = text; place = place; offset = offset; first_on_line = first } ∷ ts) ≡ primary_at levels m left (record { symbol = symbol; text = text; place = place; offset = offset; first_on_line = first } ∷ ts)
 unfolding primary_at is_simple simple_at
-primary_by levels m left symbols.Numeral text place first ts =
-    let us : List Token = record { symbol = symbols.Numeral; text = text; place = place; first_on_line = first } ∷ ts in as_operand levels left lua.number (number_tree_at us) us (number_agrees levels us)
-primary_by levels m left symbols.Literal text place first ts =
-    let us : List Token = record { symbol = symbols.Literal; text = text; place = place; first_on_line = first } ∷ ts in as_operand levels left lua.literal (literal_at us) us (literal_agrees levels us)
-primary_by levels m left symbols.Nil text place first ts =
-    let us : List Token = record { symbol = symbols.Nil; text = text; place = place; first_on_line = first } ∷ ts in as_operand levels left lua.nil (constant_at symbols.Nil us) us (constant_agrees levels symbols.Nil us)
-primary_by levels m left symbols.False text place first ts =
-    let us : List Token = record { symbol = symbols.False; text = text; place = place; first_on_line = first } ∷ ts in as_operand levels left lua.no (constant_at symbols.False us) us (constant_agrees levels symbols.False us)
-primary_by levels m left symbols.True text place first ts =
-    let us : List Token = record { symbol = symbols.True; text = text; place = place; first_on_line = first } ∷ ts in as_operand levels left lua.yes (constant_at symbols.True us) us (constant_agrees levels symbols.True us)
-primary_by levels modes.Variadic left symbols.Ellipsis text place first ts =
-    let us : List Token = record { symbol = symbols.Ellipsis; text = text; place = place; first_on_line = first } ∷ ts in as_operand levels left lua.varargs (constant_at symbols.Ellipsis us) us (constant_agrees levels symbols.Ellipsis us)
-primary_by levels modes.Variadic left symbols.Function text place first ts =
-    let us : List Token = record { symbol = symbols.Function; text = text; place = place; first_on_line = first } ∷ ts in as_operand levels left lua.function (function_at levels us) us (function_agrees levels us)
-primary_by levels modes.Plain left symbols.Function text place first ts =
-    let us : List Token = record { symbol = symbols.Function; text = text; place = place; first_on_line = first } ∷ ts in as_operand levels left lua.function (function_at levels us) us (function_agrees levels us)
-primary_by levels modes.Types left symbols.Function text place first ts =
-    let us : List Token = record { symbol = symbols.Function; text = text; place = place; first_on_line = first } ∷ ts in as_operand levels left lua.function (function_at levels us) us (function_agrees levels us)
-primary_by levels modes.Variadic left symbols.OpenBrace text place first ts =
-    let us : List Token = record { symbol = symbols.OpenBrace; text = text; place = place; first_on_line = first } ∷ ts in as_operand levels left (lua.table modes.Variadic) (table_at levels modes.Variadic us) us (table_agrees levels modes.Variadic us)
-primary_by levels modes.Plain left symbols.OpenBrace text place first ts =
-    let us : List Token = record { symbol = symbols.OpenBrace; text = text; place = place; first_on_line = first } ∷ ts in as_operand levels left (lua.table modes.Plain) (table_at levels modes.Plain us) us (table_agrees levels modes.Plain us)
-primary_by levels modes.Types left symbols.OpenBrace text place first ts =
-    let us : List Token = record { symbol = symbols.OpenBrace; text = text; place = place; first_on_line = first } ∷ ts in as_operand levels left (lua.table modes.Types) (table_at levels modes.Types us) us (table_agrees levels modes.Types us)
-primary_by levels modes.Variadic left symbols.Terra text place first ts = terra_operand levels modes.Variadic left (record { symbol = symbols.Terra; text = text; place = place; first_on_line = first } ∷ ts)
-primary_by levels modes.Plain left symbols.Terra text place first ts = terra_operand levels modes.Plain left (record { symbol = symbols.Terra; text = text; place = place; first_on_line = first } ∷ ts)
-primary_by levels modes.Types left symbols.Terra text place first ts = terra_operand levels modes.Types left (record { symbol = symbols.Terra; text = text; place = place; first_on_line = first } ∷ ts)
-primary_by levels modes.Variadic left symbols.Struct text place first ts = terra_operand levels modes.Variadic left (record { symbol = symbols.Struct; text = text; place = place; first_on_line = first } ∷ ts)
-primary_by levels modes.Plain left symbols.Struct text place first ts = terra_operand levels modes.Plain left (record { symbol = symbols.Struct; text = text; place = place; first_on_line = first } ∷ ts)
-primary_by levels modes.Types left symbols.Struct text place first ts = terra_operand levels modes.Types left (record { symbol = symbols.Struct; text = text; place = place; first_on_line = first } ∷ ts)
-primary_by levels modes.Variadic left symbols.Quote text place first ts = terra_operand levels modes.Variadic left (record { symbol = symbols.Quote; text = text; place = place; first_on_line = first } ∷ ts)
-primary_by levels modes.Plain left symbols.Quote text place first ts = terra_operand levels modes.Plain left (record { symbol = symbols.Quote; text = text; place = place; first_on_line = first } ∷ ts)
-primary_by levels modes.Types left symbols.Quote text place first ts = terra_operand levels modes.Types left (record { symbol = symbols.Quote; text = text; place = place; first_on_line = first } ∷ ts)
-primary_by levels modes.Variadic left symbols.Backtick text place first ts = terra_operand levels modes.Variadic left (record { symbol = symbols.Backtick; text = text; place = place; first_on_line = first } ∷ ts)
-primary_by levels modes.Plain left symbols.Backtick text place first ts = terra_operand levels modes.Plain left (record { symbol = symbols.Backtick; text = text; place = place; first_on_line = first } ∷ ts)
-primary_by levels modes.Types left symbols.Backtick text place first ts = terra_operand levels modes.Types left (record { symbol = symbols.Backtick; text = text; place = place; first_on_line = first } ∷ ts)
-primary_by levels modes.Variadic left symbol text place first ts = prefixed_agrees levels modes.Variadic left (record { symbol = symbol; text = text; place = place; first_on_line = first } ∷ ts)
-primary_by levels modes.Plain left symbol text place first ts = prefixed_agrees levels modes.Plain left (record { symbol = symbol; text = text; place = place; first_on_line = first } ∷ ts)
-primary_by levels modes.Types left symbol text place first ts = prefixed_agrees levels modes.Types left (record { symbol = symbol; text = text; place = place; first_on_line = first } ∷ ts)
+primary_by levels m left symbols.Numeral text place offset first ts =
+    let us : List Token = record { symbol = symbols.Numeral; text = text; place = place; offset = offset; first_on_line = first } ∷ ts in as_operand levels left lua.number (number_tree_at us) us (number_agrees levels us)
+primary_by levels m left symbols.Literal text place offset first ts =
+    let us : List Token = record { symbol = symbols.Literal; text = text; place = place; offset = offset; first_on_line = first } ∷ ts in as_operand levels left lua.literal (literal_at us) us (literal_agrees levels us)
+primary_by levels m left symbols.Nil text place offset first ts =
+    let us : List Token = record { symbol = symbols.Nil; text = text; place = place; offset = offset; first_on_line = first } ∷ ts in as_operand levels left lua.nil (constant_at symbols.Nil us) us (constant_agrees levels symbols.Nil us)
+primary_by levels m left symbols.False text place offset first ts =
+    let us : List Token = record { symbol = symbols.False; text = text; place = place; offset = offset; first_on_line = first } ∷ ts in as_operand levels left lua.no (constant_at symbols.False us) us (constant_agrees levels symbols.False us)
+primary_by levels m left symbols.True text place offset first ts =
+    let us : List Token = record { symbol = symbols.True; text = text; place = place; offset = offset; first_on_line = first } ∷ ts in as_operand levels left lua.yes (constant_at symbols.True us) us (constant_agrees levels symbols.True us)
+primary_by levels modes.Variadic left symbols.Ellipsis text place offset first ts =
+    let us : List Token = record { symbol = symbols.Ellipsis; text = text; place = place; offset = offset; first_on_line = first } ∷ ts in as_operand levels left lua.varargs (constant_at symbols.Ellipsis us) us (constant_agrees levels symbols.Ellipsis us)
+primary_by levels modes.Variadic left symbols.Function text place offset first ts =
+    let us : List Token = record { symbol = symbols.Function; text = text; place = place; offset = offset; first_on_line = first } ∷ ts in as_operand levels left lua.function (function_at levels us) us (function_agrees levels us)
+primary_by levels modes.Plain left symbols.Function text place offset first ts =
+    let us : List Token = record { symbol = symbols.Function; text = text; place = place; offset = offset; first_on_line = first } ∷ ts in as_operand levels left lua.function (function_at levels us) us (function_agrees levels us)
+primary_by levels modes.Types left symbols.Function text place offset first ts =
+    let us : List Token = record { symbol = symbols.Function; text = text; place = place; offset = offset; first_on_line = first } ∷ ts in as_operand levels left lua.function (function_at levels us) us (function_agrees levels us)
+primary_by levels modes.Variadic left symbols.OpenBrace text place offset first ts =
+    let us : List Token = record { symbol = symbols.OpenBrace; text = text; place = place; offset = offset; first_on_line = first } ∷ ts in as_operand levels left (lua.table modes.Variadic) (table_at levels modes.Variadic us) us (table_agrees levels modes.Variadic us)
+primary_by levels modes.Plain left symbols.OpenBrace text place offset first ts =
+    let us : List Token = record { symbol = symbols.OpenBrace; text = text; place = place; offset = offset; first_on_line = first } ∷ ts in as_operand levels left (lua.table modes.Plain) (table_at levels modes.Plain us) us (table_agrees levels modes.Plain us)
+primary_by levels modes.Types left symbols.OpenBrace text place offset first ts =
+    let us : List Token = record { symbol = symbols.OpenBrace; text = text; place = place; offset = offset; first_on_line = first } ∷ ts in as_operand levels left (lua.table modes.Types) (table_at levels modes.Types us) us (table_agrees levels modes.Types us)
+primary_by levels modes.Variadic left symbols.Terra text place offset first ts = terra_operand levels modes.Variadic left (record { symbol = symbols.Terra; text = text; place = place; offset = offset; first_on_line = first } ∷ ts)
+primary_by levels modes.Plain left symbols.Terra text place offset first ts = terra_operand levels modes.Plain left (record { symbol = symbols.Terra; text = text; place = place; offset = offset; first_on_line = first } ∷ ts)
+primary_by levels modes.Types left symbols.Terra text place offset first ts = terra_operand levels modes.Types left (record { symbol = symbols.Terra; text = text; place = place; offset = offset; first_on_line = first } ∷ ts)
+primary_by levels modes.Variadic left symbols.Struct text place offset first ts = terra_operand levels modes.Variadic left (record { symbol = symbols.Struct; text = text; place = place; offset = offset; first_on_line = first } ∷ ts)
+primary_by levels modes.Plain left symbols.Struct text place offset first ts = terra_operand levels modes.Plain left (record { symbol = symbols.Struct; text = text; place = place; offset = offset; first_on_line = first } ∷ ts)
+primary_by levels modes.Types left symbols.Struct text place offset first ts = terra_operand levels modes.Types left (record { symbol = symbols.Struct; text = text; place = place; offset = offset; first_on_line = first } ∷ ts)
+primary_by levels modes.Variadic left symbols.Quote text place offset first ts = terra_operand levels modes.Variadic left (record { symbol = symbols.Quote; text = text; place = place; offset = offset; first_on_line = first } ∷ ts)
+primary_by levels modes.Plain left symbols.Quote text place offset first ts = terra_operand levels modes.Plain left (record { symbol = symbols.Quote; text = text; place = place; offset = offset; first_on_line = first } ∷ ts)
+primary_by levels modes.Types left symbols.Quote text place offset first ts = terra_operand levels modes.Types left (record { symbol = symbols.Quote; text = text; place = place; offset = offset; first_on_line = first } ∷ ts)
+primary_by levels modes.Variadic left symbols.Backtick text place offset first ts = terra_operand levels modes.Variadic left (record { symbol = symbols.Backtick; text = text; place = place; offset = offset; first_on_line = first } ∷ ts)
+primary_by levels modes.Plain left symbols.Backtick text place offset first ts = terra_operand levels modes.Plain left (record { symbol = symbols.Backtick; text = text; place = place; offset = offset; first_on_line = first } ∷ ts)
+primary_by levels modes.Types left symbols.Backtick text place offset first ts = terra_operand levels modes.Types left (record { symbol = symbols.Backtick; text = text; place = place; offset = offset; first_on_line = first } ∷ ts)
+primary_by levels modes.Variadic left symbol text place offset first ts = prefixed_agrees levels modes.Variadic left (record { symbol = symbol; text = text; place = place; offset = offset; first_on_line = first } ∷ ts)
+primary_by levels modes.Plain left symbol text place offset first ts = prefixed_agrees levels modes.Plain left (record { symbol = symbol; text = text; place = place; offset = offset; first_on_line = first } ∷ ts)
+primary_by levels modes.Types left symbol text place offset first ts = prefixed_agrees levels modes.Types left (record { symbol = symbol; text = text; place = place; offset = offset; first_on_line = first } ∷ ts)
 
-pub primary_agrees : (levels : ℕ) (m : Mode) (left : ℕ) (ts : List Token) → reading levels (lua.primary language m left) ts ≡ primary_at levels m left ts
+pub primary_agrees : (levels : ℕ) (m : Mode) (left : ℕ) (ts : List Token) → reading levels (lua.primary m left) ts ≡ primary_at levels m left ts
 unfolding primary_at is_simple
 primary_agrees levels m left [] = prefixed_agrees levels m left []
-primary_agrees levels m left (t ∷ ts) = primary_by levels m left t.symbol t.text t.place t.first_on_line ts
+primary_agrees levels m left (t ∷ ts) = primary_by levels m left t.symbol t.text t.place t.offset t.first_on_line ts
 
 -- ---- operators
 
@@ -161,89 +161,89 @@ right_agrees levels s part a ts =
     ∙ opened_then levels part (used (is s) true levels (Continues a.left) ts) (λ x. give (operand (down a.left) (lua.operation x.0 a.tree x.1))) (λ t x rest. Took (operand (down a.left) (lua.operation t a.tree x)) rest) (λ t x us. refl))
     refl
 
-pub power_agrees : (levels : ℕ) (m : Mode) (left : ℕ) (ts : List Token) → reading levels (lua.power language m left) ts ≡ power_at levels m left ts
+pub power_agrees : (levels : ℕ) (m : Mode) (left : ℕ) (ts : List Token) → reading levels (lua.power m left) ts ≡ power_at levels m left ts
 unfolding power_at
 power_agrees levels m left ts =
-    then levels (lua.primary language m left) (λ a. right_operator symbols.Caret (Operand m) lua.operation a) (λ us. primary_at levels m left us) (λ a rest. right_at levels symbols.Caret (Operand m) a rest)
+    then levels (lua.primary m left) (λ a. right_operator symbols.Caret (Operand m) lua.operation a) (λ us. primary_at levels m left us) (λ a rest. right_at levels symbols.Caret (Operand m) a rest)
     (λ us. primary_agrees levels m left us) (λ a us. right_agrees levels symbols.Caret (Operand m) a us) ts
 
-pub unary_agrees : (levels : ℕ) (m : Mode) (left : ℕ) (ts : List Token) → reading levels (lua.unary language m left) ts ≡ unary_at levels m left ts
+pub unary_agrees : (levels : ℕ) (m : Mode) (left : ℕ) (ts : List Token) → reading levels (lua.unary m left) ts ≡ unary_at levels m left ts
 unfolding unary_at prefix_at
 unary_agrees levels m left ts =
-    either_is (begins (among lua.prefix_symbols) ts) (reading levels (bind (token (among lua.prefix_symbols) (λ t. Plain) (λ t. Some (Operand m)) (sample symbols.Minus)) λ x. give (operand left (Unary x.0.place (unary_of x.0.symbol) x.1))) ts) (reading levels (lua.power language m left) ts)
+    either_is (begins (among lua.prefix_symbols) ts) (reading levels (bind (token (among lua.prefix_symbols) (λ t. Plain) (λ t. Some (Operand m)) (sample symbols.Minus)) λ x. give (operand left (Unary x.0.place (unary_of x.0.symbol) x.1))) ts) (reading levels (lua.power m left) ts)
     (used (among lua.prefix_symbols) true levels Plain ts >>= λ t a. part_at (levels - 1) (Operand m) a >>= λ x rest. Took (operand left (Unary t.place (unary_of t.symbol) x)) rest) (power_at levels m left ts)
     (ap (λ (o : Outcome (Token × Tree)). o >>= λ x rest. Took (operand left (Unary x.0.place (unary_of x.0.symbol) x.1)) rest) (opening_is levels (among lua.prefix_symbols) Plain (Operand m) (sample symbols.Minus) ts)
     ∙ opened_then levels (Operand m) (used (among lua.prefix_symbols) true levels Plain ts) (λ x. give (operand left (Unary x.0.place (unary_of x.0.symbol) x.1))) (λ t x rest. Took (operand left (Unary t.place (unary_of t.symbol) x)) rest) (λ t x us. refl))
     (power_agrees levels m left ts)
 
-pub product_agrees : (levels : ℕ) (m : Mode) (left : ℕ) (ts : List Token) → reading levels (lua.product language m left) ts ≡ binary_at levels precedences.Product m left ts
+pub product_agrees : (levels : ℕ) (m : Mode) (left : ℕ) (ts : List Token) → reading levels (lua.product m left) ts ≡ binary_at levels precedences.Product m left ts
 unfolding binary_at inner_at more_at
 product_agrees levels m left ts = refl
 
-pub sum_agrees : (levels : ℕ) (m : Mode) (left : ℕ) (ts : List Token) → reading levels (lua.sum language m left) ts ≡ binary_at levels precedences.Sum m left ts
+pub sum_agrees : (levels : ℕ) (m : Mode) (left : ℕ) (ts : List Token) → reading levels (lua.sum m left) ts ≡ binary_at levels precedences.Sum m left ts
 unfolding binary_at inner_at more_at
 sum_agrees levels m left ts = refl
 
-pub concatenation_agrees : (levels : ℕ) (m : Mode) (left : ℕ) (ts : List Token) → reading levels (lua.concatenation language m left) ts ≡ concatenation_at levels m left ts
+pub concatenation_agrees : (levels : ℕ) (m : Mode) (left : ℕ) (ts : List Token) → reading levels (lua.concatenation m left) ts ≡ concatenation_at levels m left ts
 unfolding concatenation_at
 concatenation_agrees levels m left ts =
-    then levels (lua.sum language m left) (λ a. right_operator symbols.DoubleDot (Concatenation m) lua.operation a) (λ us. binary_at levels precedences.Sum m left us) (λ a rest. right_at levels symbols.DoubleDot (Concatenation m) a rest)
+    then levels (lua.sum m left) (λ a. right_operator symbols.DoubleDot (Concatenation m) lua.operation a) (λ us. binary_at levels precedences.Sum m left us) (λ a rest. right_at levels symbols.DoubleDot (Concatenation m) a rest)
     (λ us. sum_agrees levels m left us) (λ a us. right_agrees levels symbols.DoubleDot (Concatenation m) a us) ts
 
-pub comparison_agrees : (levels : ℕ) (m : Mode) (left : ℕ) (ts : List Token) → reading levels (lua.comparison language m left) ts ≡ binary_at levels precedences.Comparison m left ts
+pub comparison_agrees : (levels : ℕ) (m : Mode) (left : ℕ) (ts : List Token) → reading levels (lua.comparison m left) ts ≡ binary_at levels precedences.Comparison m left ts
 unfolding binary_at inner_at more_at
 comparison_agrees levels m left ts = refl
 
-pub conjunction_agrees : (levels : ℕ) (m : Mode) (left : ℕ) (ts : List Token) → reading levels (lua.conjunction language m left) ts ≡ binary_at levels precedences.Conjunction m left ts
+pub conjunction_agrees : (levels : ℕ) (m : Mode) (left : ℕ) (ts : List Token) → reading levels (lua.conjunction m left) ts ≡ binary_at levels precedences.Conjunction m left ts
 unfolding binary_at inner_at more_at
 conjunction_agrees levels m left ts = refl
 
-pub disjunction_agrees : (levels : ℕ) (m : Mode) (left : ℕ) (ts : List Token) → reading levels (lua.disjunction language m left) ts ≡ binary_at levels precedences.Disjunction m left ts
+pub disjunction_agrees : (levels : ℕ) (m : Mode) (left : ℕ) (ts : List Token) → reading levels (lua.disjunction m left) ts ≡ binary_at levels precedences.Disjunction m left ts
 unfolding binary_at inner_at more_at
 disjunction_agrees levels m left ts = refl
 
-pub chained_agrees : (levels : ℕ) (m : Mode) (ts : List Token) → reading levels (lua.chained_expression language m) ts ≡ chained_at levels m ts
+pub chained_agrees : (levels : ℕ) (m : Mode) (ts : List Token) → reading levels (lua.chained_expression m) ts ≡ chained_at levels m ts
 unfolding chained_at
 chained_agrees levels m ts =
-    then levels (lua.disjunction language m chain) (λ a. right_operator symbols.Arrow (Expression m) lua.operation a) (λ us. binary_at levels precedences.Disjunction m chain us) (λ a rest. right_at levels symbols.Arrow (Expression m) a rest)
+    then levels (lua.disjunction m chain) (λ a. right_operator symbols.Arrow (Expression m) lua.operation a) (λ us. binary_at levels precedences.Disjunction m chain us) (λ a rest. right_at levels symbols.Arrow (Expression m) a rest)
     (λ us. disjunction_agrees levels m chain us) (λ a us. right_agrees levels symbols.Arrow (Expression m) a us) ts
 
 -- ---- fields
 
-pub expression_agrees : (levels : ℕ) (m : Mode) (ts : List Token) → reading levels (lua.expression language m) ts ≡ part_at levels (Expression m) ts
+pub expression_agrees : (levels : ℕ) (m : Mode) (ts : List Token) → reading levels (lua.expression m) ts ≡ part_at levels (Expression m) ts
 unfolding part_at
 expression_agrees levels m ts = refl
 
-field_behind_agrees : (levels : ℕ) (m : Mode) (e : Chained) (ts : List Token) → reading levels (lua.field_behind language m e.shape e.tree) ts ≡ field_behind_at levels m e ts
+field_behind_agrees : (levels : ℕ) (m : Mode) (e : Chained) (ts : List Token) → reading levels (lua.field_behind m e.shape e.tree) ts ≡ field_behind_at levels m e ts
 unfolding field_behind_at
 field_behind_agrees levels m e ts = go e.shape
   where
     named : Outcome Tree
     named = cond (begins (is symbols.Equal) ts) (sign_at symbols.Equal ts >>= λ y a. part_at levels (Expression m) a >>= λ v rest. Took (NamedField e.tree v) rest) (Took e.tree ts)
 
-    go : (shape : Shape) → reading levels (lua.field_behind language m shape e.tree) ts ≡ cond (is_name shape) named (Took e.tree ts)
+    go : (shape : Shape) → reading levels (lua.field_behind m shape e.tree) ts ≡ cond (is_name shape) named (Took e.tree ts)
     go shapes.Name =
-        either_is (begins (is symbols.Equal) ts) (reading levels (bind (sign symbols.Equal) λ y. bind (lua.expression language m) λ v. give (NamedField e.tree v)) ts) (Took e.tree ts) (sign_at symbols.Equal ts >>= λ y a. part_at levels (Expression m) a >>= λ v rest. Took (NamedField e.tree v) rest) (Took e.tree ts)
-        (sign_then levels symbols.Equal (λ y. bind (lua.expression language m) λ v. give (NamedField e.tree v)) (λ y a. part_at levels (Expression m) a >>= λ v rest. Took (NamedField e.tree v) rest)
-        (λ y us. then levels (lua.expression language m) (λ v. give (NamedField e.tree v)) (λ us. part_at levels (Expression m) us) (λ v rest. Took (NamedField e.tree v) rest) (λ us. expression_agrees levels m us) (λ v us. refl) us) ts)
+        either_is (begins (is symbols.Equal) ts) (reading levels (bind (sign symbols.Equal) λ y. bind (lua.expression m) λ v. give (NamedField e.tree v)) ts) (Took e.tree ts) (sign_at symbols.Equal ts >>= λ y a. part_at levels (Expression m) a >>= λ v rest. Took (NamedField e.tree v) rest) (Took e.tree ts)
+        (sign_then levels symbols.Equal (λ y. bind (lua.expression m) λ v. give (NamedField e.tree v)) (λ y a. part_at levels (Expression m) a >>= λ v rest. Took (NamedField e.tree v) rest)
+        (λ y us. then levels (lua.expression m) (λ v. give (NamedField e.tree v)) (λ us. part_at levels (Expression m) us) (λ v rest. Took (NamedField e.tree v) rest) (λ us. expression_agrees levels m us) (λ v us. refl) us) ts)
         refl
     go shapes.Variable = refl
     go shapes.Call = refl
     go shapes.Escape = refl
     go shapes.Other = refl
 
-keyed_field_agrees : (levels : ℕ) (m : Mode) (ts : List Token) → reading levels (lua.keyed_field language m) ts ≡ keyed_field_at levels m ts
+keyed_field_agrees : (levels : ℕ) (m : Mode) (ts : List Token) → reading levels (lua.keyed_field m) ts ≡ keyed_field_at levels m ts
 unfolding keyed_field_at
 keyed_field_agrees levels m ts =
-    open_then levels symbols.OpenBracket (Expression m) (λ k. bind (sign symbols.CloseBracket) λ y. bind (sign symbols.Equal) λ z. bind (lua.expression language m) λ v. give (KeyedField k.1 v))
+    open_then levels symbols.OpenBracket (Expression m) (λ k. bind (sign symbols.CloseBracket) λ y. bind (sign symbols.Equal) λ z. bind (lua.expression m) λ v. give (KeyedField k.1 v))
     (λ t k b. sign_at symbols.CloseBracket b >>= λ y c. sign_at symbols.Equal c >>= λ z d. part_at levels (Expression m) d >>= λ v rest. Took (KeyedField k v) rest)
-    (λ t k b. sign_then levels symbols.CloseBracket (λ y. bind (sign symbols.Equal) λ z. bind (lua.expression language m) λ v. give (KeyedField k v)) (λ y c. sign_at symbols.Equal c >>= λ z d. part_at levels (Expression m) d >>= λ v rest. Took (KeyedField k v) rest)
-    (λ y c. sign_then levels symbols.Equal (λ z. bind (lua.expression language m) λ v. give (KeyedField k v)) (λ z d. part_at levels (Expression m) d >>= λ v rest. Took (KeyedField k v) rest)
-    (λ z d. then levels (lua.expression language m) (λ v. give (KeyedField k v)) (λ us. part_at levels (Expression m) us) (λ v rest. Took (KeyedField k v) rest) (λ us. expression_agrees levels m us) (λ v us. refl) d) c) b) ts
+    (λ t k b. sign_then levels symbols.CloseBracket (λ y. bind (sign symbols.Equal) λ z. bind (lua.expression m) λ v. give (KeyedField k v)) (λ y c. sign_at symbols.Equal c >>= λ z d. part_at levels (Expression m) d >>= λ v rest. Took (KeyedField k v) rest)
+    (λ y c. sign_then levels symbols.Equal (λ z. bind (lua.expression m) λ v. give (KeyedField k v)) (λ z d. part_at levels (Expression m) d >>= λ v rest. Took (KeyedField k v) rest)
+    (λ z d. then levels (lua.expression m) (λ v. give (KeyedField k v)) (λ us. part_at levels (Expression m) us) (λ v rest. Took (KeyedField k v) rest) (λ us. expression_agrees levels m us) (λ v us. refl) d) c) b) ts
 
-pub field_agrees : (levels : ℕ) (m : Mode) (ts : List Token) → reading levels (lua.field language m) ts ≡ field_at levels m ts
+pub field_agrees : (levels : ℕ) (m : Mode) (ts : List Token) → reading levels (lua.field m) ts ≡ field_at levels m ts
 unfolding field_at
 field_agrees levels m ts =
-    either_is (begins (is symbols.OpenBracket) ts) (reading levels (lua.keyed_field language m) ts) (reading levels (bind (lua.chained_expression language m) λ e. lua.field_behind language m e.shape e.tree) ts) (keyed_field_at levels m ts) (chained_at levels m ts >>= λ e rest. field_behind_at levels m e rest)
+    either_is (begins (is symbols.OpenBracket) ts) (reading levels (lua.keyed_field m) ts) (reading levels (bind (lua.chained_expression m) λ e. lua.field_behind m e.shape e.tree) ts) (keyed_field_at levels m ts) (chained_at levels m ts >>= λ e rest. field_behind_at levels m e rest)
     (keyed_field_agrees levels m ts)
-    (then levels (lua.chained_expression language m) (λ e. lua.field_behind language m e.shape e.tree) (λ us. chained_at levels m us) (λ e rest. field_behind_at levels m e rest) (λ us. chained_agrees levels m us) (λ e us. field_behind_agrees levels m e us) ts)
+    (then levels (lua.chained_expression m) (λ e. lua.field_behind m e.shape e.tree) (λ us. chained_at levels m us) (λ e rest. field_behind_at levels m e rest) (λ us. chained_agrees levels m us) (λ e us. field_behind_agrees levels m e us) ts)

@@ -20,7 +20,7 @@ use Rattle.tl_tree.specs.LuaExpressions as expressions
 use Rattle.tl_tree.specs.LuaStatements as lua
 use Rattle.tl_tree.specs.LuaStatements.{looped, fresh, body_mode, Sequence, sequence, Parameters, parameters_of}
 use Rattle.tl_tree.proofs.Unrolling.{bind_again}
-use Rattle.tl_parse.specs.Using.{language, reading, part_at, used, barred, sign_at, open_at, call_at, operator_at, raise_at}
+use Rattle.tl_parse.specs.Using.{reading, part_at, used, barred, sign_at, open_at, call_at, operator_at, raise_at}
 use Rattle.tl_parse.specs.Expressions.{name_at, expressions_at, more_expressions_at, paren_at, base_at, is_other, applied_at, suffixes_at, Suffixed, attached, shape_of, suffix_at, call_suffix_at, index_suffix_at, select_suffix_at, method_arguments_at, method_suffix_at, table_suffix_at, literal_suffix_at}
 use Rattle.tl_parse.specs.Expressions as suffixed
 use Rattle.tl_parse.specs.Statements.{is_unsettled, settling, settle_at, variable_at, more_targets_at, is_call, values_at, call_or_assignment_at, do_at, loop_at, while_at, repeat_at, arm_at, more_arms_at, arms_at, otherwise_at, if_at, step_at, numeric_at, generic, generic_at, for_at, function_statement_at, local_function_at, initial_values_at, local_names_at, definition_symbols, local_at, first_symbols, returned_values_at, return_at, break_at, emit_at, statement_at, last_symbols, next_statement_at, goes_on, parameter_at, with_parameter, more_parameters, more_parameters_at, parameters_at, body_at}
@@ -37,7 +37,7 @@ bind_where : {A B : Type 0} (o : Outcome A) (f g : A → List Token → Outcome 
 bind_where (Took a mid) f g h = h a mid refl
 bind_where (Stop kind rest) f g h = refl
 
-expressions_agree : (levels : ℕ) (m : Mode) (ts : List Token) → reading levels (expressions.expressions language m) ts ≡ expressions_at levels m ts
+expressions_agree : (levels : ℕ) (m : Mode) (ts : List Token) → reading levels (expressions.expressions m) ts ≡ expressions_at levels m ts
 unfolding expressions_at more_expressions_at part_at
 expressions_agree levels m ts = refl
 
@@ -89,16 +89,16 @@ data Kind (m : Mode) (o : Outcome Suffixed) (t : Token) : Type 0 where
   IsCall : is_of (λ t. calls_class m t) t ≡ true → Shaped o shapes.Call → Kind m o t
   IsIndex : is_of (λ t. calls_class m t) t ≡ false → is_of (λ t. index_class m t) t ≡ true → Shaped o shapes.Variable → Kind m o t
 
-kind_by : (levels : ℕ) (m : Mode) (left : ℕ) (symbol : Symbol) (text : List ℕ) (place : Place) (first : Bool) (ts : List Token) → is_of (λ t. expressions.is_suffix m t) (record { symbol = symbol; text = text; place = place; first_on_line = first }) ≡ true →
-    Kind m (suffix_at levels m left (record { symbol = symbol; text = text; place = place; first_on_line = first } ∷ ts)) (record { symbol = symbol; text = text; place = place; first_on_line = first })
+kind_by : (levels : ℕ) (m : Mode) (left : ℕ) (symbol : Symbol) (text : List ℕ) (place : Place) (offset : ℕ) (first : Bool) (ts : List Token) → is_of (λ t. expressions.is_suffix m t) (record { symbol = symbol; text = text; place = place; offset = offset; first_on_line = first }) ≡ true →
+    Kind m (suffix_at levels m left (record { symbol = symbol; text = text; place = place; offset = offset; first_on_line = first } ∷ ts)) (record { symbol = symbol; text = text; place = place; offset = offset; first_on_line = first })
 unfolding suffix_at
-kind_by levels m left symbols.OpenParen text place first ts h = IsCall h (call_shaped levels m left _)
-kind_by levels m left symbols.Colon text place first ts h = IsCall h (method_shaped levels m left _)
-kind_by levels m left symbols.OpenBrace text place first ts h = IsCall h (table_shaped levels m left _)
-kind_by levels m left symbols.Literal text place first ts h = IsCall h (literal_shaped left _)
-kind_by levels m left symbols.OpenBracket text place first ts h = IsIndex refl h (index_shaped levels m left _)
-kind_by levels m left symbols.Dot text place first ts h = IsIndex refl h (select_shaped left _)
-kind_by levels m left _ text place first ts h = absurd cc
+kind_by levels m left symbols.OpenParen text place offset first ts h = IsCall h (call_shaped levels m left _)
+kind_by levels m left symbols.Colon text place offset first ts h = IsCall h (method_shaped levels m left _)
+kind_by levels m left symbols.OpenBrace text place offset first ts h = IsCall h (table_shaped levels m left _)
+kind_by levels m left symbols.Literal text place offset first ts h = IsCall h (literal_shaped left _)
+kind_by levels m left symbols.OpenBracket text place offset first ts h = IsIndex refl h (index_shaped levels m left _)
+kind_by levels m left symbols.Dot text place offset first ts h = IsIndex refl h (select_shaped left _)
+kind_by levels m left _ text place offset first ts h = absurd cc
 
 -- the grammars of the two turns of a target
 abbrev more_calls : Mode → Chained → Grammar Chained
@@ -151,7 +151,7 @@ settled_by levels m a t ts h =
 pub settle_goes : (levels : ℕ) (m : Mode) (a : Chained) (b : Bool) (ts : List Token) → begins (λ t. expressions.is_suffix m t) ts ≡ true →
     reading levels (settling b m a) ts ≡ (suffix_at levels m a.left ts >>= λ s rest. reading levels (settling (is_unsettled (shape_of s)) m (with_suffix a s)) rest)
 settle_goes levels m a b [] h = absurd cc
-settle_goes levels m a true (t ∷ ts) h = unsettled_by levels m a t ts h (kind_by levels m a.left t.symbol t.text t.place t.first_on_line ts h)
+settle_goes levels m a true (t ∷ ts) h = unsettled_by levels m a t ts h (kind_by levels m a.left t.symbol t.text t.place t.offset t.first_on_line ts h)
 settle_goes levels m a false (t ∷ ts) h = settled_by levels m a t ts h
 
 narrower : (x y : Token → Bool) (ts : List Token) → begins y ts ≡ false → begins (λ t. x t && y t) ts ≡ false
@@ -223,10 +223,10 @@ loop_agrees levels c ts =
     open_then levels symbols.Do (Statements (looped c)) (λ x. bind (sign symbols.End) λ y. give x.1) (λ t x b. sign_at symbols.End b >>= λ y rest. Took x rest) (λ t x b. sign_then levels symbols.End (λ y. give x) (λ y rest. Took x rest) (λ y us. refl) b) ts
 
 -- a condition and its block, behind other arms
-arm_agrees : (levels : ℕ) (c : Context) (before : Tree) (ts : List Token) → reading levels (lua.arm language c before) ts ≡ (arm_at levels c ts >>= λ x rest. Took (More before x) rest)
+arm_agrees : (levels : ℕ) (c : Context) (before : Tree) (ts : List Token) → reading levels (lua.arm c before) ts ≡ (arm_at levels c ts >>= λ x rest. Took (More before x) rest)
 unfolding arm_at
 arm_agrees levels c before ts =
-    then levels (expressions.expression language c.mode) (λ e. bind (opening symbols.Then (Statements c)) λ x. give (More before (trees.Arm e x.1))) (λ us. part_at levels (Expression c.mode) us) (λ e a. open_at symbols.Then levels a >>= λ t b. part_at (levels - 1) (Statements c) b >>= λ x rest. Took (More before (trees.Arm e x)) rest)
+    then levels (expressions.expression c.mode) (λ e. bind (opening symbols.Then (Statements c)) λ x. give (More before (trees.Arm e x.1))) (λ us. part_at levels (Expression c.mode) us) (λ e a. open_at symbols.Then levels a >>= λ t b. part_at (levels - 1) (Statements c) b >>= λ x rest. Took (More before (trees.Arm e x)) rest)
     (λ us. expression_agrees levels c.mode us) (λ e a. open_then levels symbols.Then (Statements c) (λ x. give (More before (trees.Arm e x.1))) (λ t x rest. Took (More before (trees.Arm e x)) rest) (λ t x us. refl) a) ts
     ∙ sym (bind_again (part_at levels (Expression c.mode) ts) (λ e a. open_at symbols.Then levels a >>= λ t b. part_at (levels - 1) (Statements c) b >>= λ x rest. Took (trees.Arm e x) rest) (λ x rest. Took (More before x) rest)
     ∙ bind_same (part_at levels (Expression c.mode) ts) _ (λ e a. open_at symbols.Then levels a >>= λ t b. part_at (levels - 1) (Statements c) b >>= λ x rest. Took (More before (trees.Arm e x)) rest)
@@ -234,32 +234,32 @@ arm_agrees levels c before ts =
     ∙ bind_same (open_at symbols.Then levels a) _ (λ t b. part_at (levels - 1) (Statements c) b >>= λ x rest. Took (More before (trees.Arm e x)) rest) (λ t b. bind_again (part_at (levels - 1) (Statements c) b) (λ x rest. Took (trees.Arm e x) rest) (λ x rest. Took (More before x) rest))))
 
 pub arm_turn : (levels : ℕ) (c : Context) (before : Tree) (ts : List Token) →
-    reading levels (bind (token (λ t. is symbols.Elseif t) (λ t. Plain) (λ t. None) (sample symbols.Elseif)) λ x. lua.arm language c before) ts ≡ ((sign_at symbols.Elseif ts >>= λ y a. arm_at levels c a) >>= λ x rest. Took (More before x) rest)
+    reading levels (bind (token (λ t. is symbols.Elseif t) (λ t. Plain) (λ t. None) (sample symbols.Elseif)) λ x. lua.arm c before) ts ≡ ((sign_at symbols.Elseif ts >>= λ y a. arm_at levels c a) >>= λ x rest. Took (More before x) rest)
 arm_turn levels c before ts =
-    sign_then levels symbols.Elseif (λ x. lua.arm language c before) (λ t a. arm_at levels c a >>= λ x rest. Took (More before x) rest) (λ t a. arm_agrees levels c before a) ts
+    sign_then levels symbols.Elseif (λ x. lua.arm c before) (λ t a. arm_at levels c a >>= λ x rest. Took (More before x) rest) (λ t a. arm_agrees levels c before a) ts
     ∙ sym (bind_again (sign_at symbols.Elseif ts) (λ y a. arm_at levels c a) (λ x rest. Took (More before x) rest))
 
-otherwise_agrees : (levels : ℕ) (c : Context) (ts : List Token) → reading levels (lua.otherwise language c) ts ≡ otherwise_at levels c ts
+otherwise_agrees : (levels : ℕ) (c : Context) (ts : List Token) → reading levels (lua.otherwise c) ts ≡ otherwise_at levels c ts
 unfolding otherwise_at
 otherwise_agrees levels c ts =
     either_is (begins (is symbols.Else) ts) (reading levels (bind (opening symbols.Else (Statements c)) λ x. give (Just x.1)) ts) (Took Nothing ts) (open_at symbols.Else levels ts >>= λ t a. part_at (levels - 1) (Statements c) a >>= λ x rest. Took (Just x) rest) (Took Nothing ts)
     (open_then levels symbols.Else (Statements c) (λ x. give (Just x.1)) (λ t x rest. Took (Just x) rest) (λ t x us. refl) ts) refl
 
-step_agrees : (levels : ℕ) (m : Mode) (ts : List Token) → reading levels (lua.step language m) ts ≡ step_at levels m ts
+step_agrees : (levels : ℕ) (m : Mode) (ts : List Token) → reading levels (lua.step m) ts ≡ step_at levels m ts
 unfolding step_at
 step_agrees levels m ts =
-    either_is (begins (is symbols.Comma) ts) (reading levels (bind (sign symbols.Comma) λ y. bind (expressions.expression language m) λ e. give (Just e)) ts) (Took Nothing ts) (sign_at symbols.Comma ts >>= λ y a. part_at levels (Expression m) a >>= λ e rest. Took (Just e) rest) (Took Nothing ts)
-    (sign_then levels symbols.Comma (λ y. bind (expressions.expression language m) λ e. give (Just e)) (λ y a. part_at levels (Expression m) a >>= λ e rest. Took (Just e) rest)
-    (λ y a. then levels (expressions.expression language m) (λ e. give (Just e)) (λ us. part_at levels (Expression m) us) (λ e rest. Took (Just e) rest) (λ us. expression_agrees levels m us) (λ e us. refl) a) ts) refl
+    either_is (begins (is symbols.Comma) ts) (reading levels (bind (sign symbols.Comma) λ y. bind (expressions.expression m) λ e. give (Just e)) ts) (Took Nothing ts) (sign_at symbols.Comma ts >>= λ y a. part_at levels (Expression m) a >>= λ e rest. Took (Just e) rest) (Took Nothing ts)
+    (sign_then levels symbols.Comma (λ y. bind (expressions.expression m) λ e. give (Just e)) (λ y a. part_at levels (Expression m) a >>= λ e rest. Took (Just e) rest)
+    (λ y a. then levels (expressions.expression m) (λ e. give (Just e)) (λ us. part_at levels (Expression m) us) (λ e rest. Took (Just e) rest) (λ us. expression_agrees levels m us) (λ e us. refl) a) ts) refl
 
-numeric_agrees : (levels : ℕ) (c : Context) (t : Token) (n : Tree) (ts : List Token) → reading levels (lua.numeric_for language c t n) ts ≡ (numeric_at levels c ts >>= λ r rest. Took (trees.NumericFor t.place n r.from r.limit r.step r.block) rest)
+numeric_agrees : (levels : ℕ) (c : Context) (t : Token) (n : Tree) (ts : List Token) → reading levels (lua.numeric_for c t n) ts ≡ (numeric_at levels c ts >>= λ r rest. Took (trees.NumericFor t.place n r.from r.limit r.step r.block) rest)
 unfolding numeric_at
 numeric_agrees levels c t n ts =
-    sign_then levels symbols.Equal (λ x'. bind {A = Tree} {B = Tree} (expressions.expression language c.mode) (λ a. bind {A = Token × Tree} {B = Tree} (sign symbols.Comma) (λ z. bind {A = Tree} {B = Tree} (expressions.expression language c.mode) (λ b. bind {A = Tree} {B = Tree} (lua.step language c.mode) (λ s. bind {A = Tree} {B = Tree} (lua.loop c) (λ x''. give {A = Tree} (trees.NumericFor t.place n a b s x''))))))) (λ y a. part_at levels (Expression c.mode) a >>= λ from b. sign_at symbols.Comma b >>= λ z d. part_at levels (Expression c.mode) d >>= λ limit f. step_at levels c.mode f >>= λ s g. loop_at levels c g >>= λ x rest. made from limit s x rest)
-    (λ y a. then levels (expressions.expression language c.mode) (λ x'. bind {A = Token × Tree} {B = Tree} (sign symbols.Comma) (λ z. bind {A = Tree} {B = Tree} (expressions.expression language c.mode) (λ b. bind {A = Tree} {B = Tree} (lua.step language c.mode) (λ s. bind {A = Tree} {B = Tree} (lua.loop c) (λ x''. give {A = Tree} (trees.NumericFor t.place n x' b s x'')))))) (λ us. part_at levels (Expression c.mode) us) (λ from b. sign_at symbols.Comma b >>= λ z d. part_at levels (Expression c.mode) d >>= λ limit f. step_at levels c.mode f >>= λ s g. loop_at levels c g >>= λ x rest. made from limit s x rest) (λ us. expression_agrees levels c.mode us)
-    (λ from b. sign_then levels symbols.Comma (λ x'. bind {A = Tree} {B = Tree} (expressions.expression language c.mode) (λ b'. bind {A = Tree} {B = Tree} (lua.step language c.mode) (λ s. bind {A = Tree} {B = Tree} (lua.loop c) (λ x''. give {A = Tree} (trees.NumericFor t.place n from b' s x''))))) (λ z d. part_at levels (Expression c.mode) d >>= λ limit f. step_at levels c.mode f >>= λ s g. loop_at levels c g >>= λ x rest. made from limit s x rest)
-    (λ z d. then levels (expressions.expression language c.mode) (λ x'. bind {A = Tree} {B = Tree} (lua.step language c.mode) (λ s. bind {A = Tree} {B = Tree} (lua.loop c) (λ x''. give {A = Tree} (trees.NumericFor t.place n from x' s x'')))) (λ us. part_at levels (Expression c.mode) us) (λ limit f. step_at levels c.mode f >>= λ s g. loop_at levels c g >>= λ x rest. made from limit s x rest) (λ us. expression_agrees levels c.mode us)
-    (λ limit f. then levels (lua.step language c.mode) (λ s. bind (lua.loop c) λ x. give (trees.NumericFor t.place n from limit s x)) (λ us. step_at levels c.mode us) (λ s g. loop_at levels c g >>= λ x rest. made from limit s x rest) (λ us. step_agrees levels c.mode us)
+    sign_then levels symbols.Equal (λ x'. bind {A = Tree} {B = Tree} (expressions.expression c.mode) (λ a. bind {A = Token × Tree} {B = Tree} (sign symbols.Comma) (λ z. bind {A = Tree} {B = Tree} (expressions.expression c.mode) (λ b. bind {A = Tree} {B = Tree} (lua.step c.mode) (λ s. bind {A = Tree} {B = Tree} (lua.loop c) (λ x''. give {A = Tree} (trees.NumericFor t.place n a b s x''))))))) (λ y a. part_at levels (Expression c.mode) a >>= λ from b. sign_at symbols.Comma b >>= λ z d. part_at levels (Expression c.mode) d >>= λ limit f. step_at levels c.mode f >>= λ s g. loop_at levels c g >>= λ x rest. made from limit s x rest)
+    (λ y a. then levels (expressions.expression c.mode) (λ x'. bind {A = Token × Tree} {B = Tree} (sign symbols.Comma) (λ z. bind {A = Tree} {B = Tree} (expressions.expression c.mode) (λ b. bind {A = Tree} {B = Tree} (lua.step c.mode) (λ s. bind {A = Tree} {B = Tree} (lua.loop c) (λ x''. give {A = Tree} (trees.NumericFor t.place n x' b s x'')))))) (λ us. part_at levels (Expression c.mode) us) (λ from b. sign_at symbols.Comma b >>= λ z d. part_at levels (Expression c.mode) d >>= λ limit f. step_at levels c.mode f >>= λ s g. loop_at levels c g >>= λ x rest. made from limit s x rest) (λ us. expression_agrees levels c.mode us)
+    (λ from b. sign_then levels symbols.Comma (λ x'. bind {A = Tree} {B = Tree} (expressions.expression c.mode) (λ b'. bind {A = Tree} {B = Tree} (lua.step c.mode) (λ s. bind {A = Tree} {B = Tree} (lua.loop c) (λ x''. give {A = Tree} (trees.NumericFor t.place n from b' s x''))))) (λ z d. part_at levels (Expression c.mode) d >>= λ limit f. step_at levels c.mode f >>= λ s g. loop_at levels c g >>= λ x rest. made from limit s x rest)
+    (λ z d. then levels (expressions.expression c.mode) (λ x'. bind {A = Tree} {B = Tree} (lua.step c.mode) (λ s. bind {A = Tree} {B = Tree} (lua.loop c) (λ x''. give {A = Tree} (trees.NumericFor t.place n from x' s x'')))) (λ us. part_at levels (Expression c.mode) us) (λ limit f. step_at levels c.mode f >>= λ s g. loop_at levels c g >>= λ x rest. made from limit s x rest) (λ us. expression_agrees levels c.mode us)
+    (λ limit f. then levels (lua.step c.mode) (λ s. bind (lua.loop c) λ x. give (trees.NumericFor t.place n from limit s x)) (λ us. step_at levels c.mode us) (λ s g. loop_at levels c g >>= λ x rest. made from limit s x rest) (λ us. step_agrees levels c.mode us)
     (λ s g. then levels (lua.loop c) (λ x. give (trees.NumericFor t.place n from limit s x)) (λ us. loop_at levels c us) (λ x rest. made from limit s x rest) (λ us. loop_agrees levels c us) (λ x us. refl) g) f) d) b) a) ts
     ∙ sym (bind_again (sign_at symbols.Equal ts) _ _ ∙ bind_same (sign_at symbols.Equal ts) _ _ (λ y a. bind_again (part_at levels (Expression c.mode) a) _ _ ∙ bind_same (part_at levels (Expression c.mode) a) _ _ (λ from b. bind_again (sign_at symbols.Comma b) _ _ ∙ bind_same (sign_at symbols.Comma b) _ _
     (λ z d. bind_again (part_at levels (Expression c.mode) d) _ _ ∙ bind_same (part_at levels (Expression c.mode) d) _ _ (λ limit f. bind_again (step_at levels c.mode f) _ _ ∙ bind_same (step_at levels c.mode f) _ _ (λ s g. bind_again (loop_at levels c g) _ _))))))
@@ -268,11 +268,11 @@ numeric_agrees levels c t n ts =
     made from limit s x rest = Took (trees.NumericFor t.place n from limit s x) rest
 
 generic_agrees : (levels : ℕ) (c : Context) (t : Token) (ns : Tree) (ts : List Token) →
-    reading levels (bind (sign symbols.In) λ y. bind (expressions.expressions language c.mode) λ es. bind (lua.loop c) λ x. give (trees.GenericFor t.place ns es x)) ts ≡ (generic_at levels c ts >>= λ r rest. Took (trees.GenericFor t.place ns r.values r.block) rest)
+    reading levels (bind (sign symbols.In) λ y. bind (expressions.expressions c.mode) λ es. bind (lua.loop c) λ x. give (trees.GenericFor t.place ns es x)) ts ≡ (generic_at levels c ts >>= λ r rest. Took (trees.GenericFor t.place ns r.values r.block) rest)
 unfolding generic_at
 generic_agrees levels c t ns ts =
-    sign_then levels symbols.In (λ y. bind (expressions.expressions language c.mode) λ es. bind (lua.loop c) λ x. give (trees.GenericFor t.place ns es x)) (λ y a. expressions_at levels c.mode a >>= λ es b. loop_at levels c b >>= λ x rest. Took (trees.GenericFor t.place ns es x) rest)
-    (λ y a. then levels (expressions.expressions language c.mode) (λ es. bind (lua.loop c) λ x. give (trees.GenericFor t.place ns es x)) (λ us. expressions_at levels c.mode us) (λ es b. loop_at levels c b >>= λ x rest. Took (trees.GenericFor t.place ns es x) rest) (λ us. expressions_agree levels c.mode us)
+    sign_then levels symbols.In (λ y. bind (expressions.expressions c.mode) λ es. bind (lua.loop c) λ x. give (trees.GenericFor t.place ns es x)) (λ y a. expressions_at levels c.mode a >>= λ es b. loop_at levels c b >>= λ x rest. Took (trees.GenericFor t.place ns es x) rest)
+    (λ y a. then levels (expressions.expressions c.mode) (λ es. bind (lua.loop c) λ x. give (trees.GenericFor t.place ns es x)) (λ us. expressions_at levels c.mode us) (λ es b. loop_at levels c b >>= λ x rest. Took (trees.GenericFor t.place ns es x) rest) (λ us. expressions_agree levels c.mode us)
     (λ es b. then levels (lua.loop c) (λ x. give (trees.GenericFor t.place ns es x)) (λ us. loop_at levels c us) (λ x rest. Took (trees.GenericFor t.place ns es x) rest) (λ us. loop_agrees levels c us) (λ x us. refl) b) a) ts
     ∙ sym (bind_again (sign_at symbols.In ts) (λ y a. expressions_at levels c.mode a >>= λ es b. loop_at levels c b >>= λ x rest. Took (generic es x) rest) (λ r rest. Took (trees.GenericFor t.place ns r.values r.block) rest)
     ∙ bind_same (sign_at symbols.In ts) (λ y a. (expressions_at levels c.mode a >>= λ es b. loop_at levels c b >>= λ x rest. Took (generic es x) rest) >>= λ r rest. Took (trees.GenericFor t.place ns r.values r.block) rest) (λ y a. expressions_at levels c.mode a >>= λ es b. loop_at levels c b >>= λ x rest. Took (trees.GenericFor t.place ns es x) rest)
@@ -282,13 +282,13 @@ generic_agrees levels c t ns ts =
 
 -- ---- declarations
 
-values_agree : (levels : ℕ) (m : Mode) (ts : List Token) → reading levels (bind (sign symbols.Equal) λ y. expressions.expressions language m) ts ≡ values_at levels m ts
+values_agree : (levels : ℕ) (m : Mode) (ts : List Token) → reading levels (bind (sign symbols.Equal) λ y. expressions.expressions m) ts ≡ values_at levels m ts
 unfolding values_at
-values_agree levels m ts = sign_then levels symbols.Equal (λ y. expressions.expressions language m) (λ y a. expressions_at levels m a) (λ y us. expressions_agree levels m us) ts
+values_agree levels m ts = sign_then levels symbols.Equal (λ y. expressions.expressions m) (λ y a. expressions_at levels m a) (λ y us. expressions_agree levels m us) ts
 
-initial_values_agree : (levels : ℕ) (m : Mode) (ts : List Token) → reading levels (lua.initial_values language m) ts ≡ initial_values_at levels m ts
+initial_values_agree : (levels : ℕ) (m : Mode) (ts : List Token) → reading levels (lua.initial_values m) ts ≡ initial_values_at levels m ts
 unfolding initial_values_at
-initial_values_agree levels m ts = either_is (begins (is symbols.Equal) ts) (reading levels (bind (sign symbols.Equal) λ y. expressions.expressions language m) ts) (Took Nothing ts) (values_at levels m ts) (Took Nothing ts) (values_agree levels m ts) refl
+initial_values_agree levels m ts = either_is (begins (is symbols.Equal) ts) (reading levels (bind (sign symbols.Equal) λ y. expressions.expressions m) ts) (Took Nothing ts) (values_at levels m ts) (Took Nothing ts) (values_agree levels m ts) refl
 
 local_function_agrees : (levels : ℕ) (place : Place) (ts : List Token) →
     reading levels (bind (sign symbols.Function) λ y. bind name λ n. bind (opening symbols.OpenParen FunctionBody) λ b. give (trees.LocalFunction place n b.1)) ts ≡ local_function_at levels place ts
@@ -299,54 +299,49 @@ local_function_agrees levels place ts =
     (λ n b. open_then levels symbols.OpenParen FunctionBody (λ b. give (trees.LocalFunction place n b.1)) (λ t x rest. Took (trees.LocalFunction place n x) rest) (λ t x us. refl) b) a) ts
 
 local_names_agree : (levels : ℕ) (m : Mode) (place : Place) (ts : List Token) →
-    reading levels (bind names λ ns. bind (lua.initial_values language m) λ es. give (trees.Local place ns es)) ts ≡ local_names_at levels m place ts
+    reading levels (bind names λ ns. bind (lua.initial_values m) λ es. give (trees.Local place ns es)) ts ≡ local_names_at levels m place ts
 unfolding local_names_at
 local_names_agree levels m place ts =
-    then levels names (λ ns. bind (lua.initial_values language m) λ es. give (trees.Local place ns es)) (λ us. names_at levels us) (λ ns a. initial_values_at levels m a >>= λ es rest. Took (trees.Local place ns es) rest) (λ us. names_agree levels us)
-    (λ ns a. then levels (lua.initial_values language m) (λ es. give (trees.Local place ns es)) (λ us. initial_values_at levels m us) (λ es rest. Took (trees.Local place ns es) rest) (λ us. initial_values_agree levels m us) (λ es us. refl) a) ts
+    then levels names (λ ns. bind (lua.initial_values m) λ es. give (trees.Local place ns es)) (λ us. names_at levels us) (λ ns a. initial_values_at levels m a >>= λ es rest. Took (trees.Local place ns es) rest) (λ us. names_agree levels us)
+    (λ ns a. then levels (lua.initial_values m) (λ es. give (trees.Local place ns es)) (λ us. initial_values_at levels m us) (λ es rest. Took (trees.Local place ns es) rest) (λ us. initial_values_agree levels m us) (λ es us. refl) a) ts
 
 -- each token that has a place in both languages has it in the joint one
-kept_by : (b c : Bool) → cond b false (c && true) ≡ cond b false c
-kept_by true c = refl
-kept_by false true = refl
-kept_by false false = refl
-
-begins_local_terra_is : (ts : List Token) → begins (λ t. lua.begins_local_terra language t) ts ≡ begins (among definition_symbols) ts
+begins_local_terra_is : (ts : List Token) → begins (λ t. lua.begins_local_terra t) ts ≡ begins (among definition_symbols) ts
 begins_local_terra_is [] = refl
-begins_local_terra_is (t ∷ ts) = kept_by (is_bad t.symbol) (among definition_symbols t)
+begins_local_terra_is (t ∷ ts) = refl
 
-abbrev pub token_with : Symbol → List ℕ → Place → Bool → Token
-token_with symbol text place first = record { symbol = symbol; text = text; place = place; first_on_line = first }
+abbrev pub token_with : Symbol → List ℕ → Place → ℕ → Bool → Token
+token_with symbol text place offset first = record { symbol = symbol; text = text; place = place; offset = offset; first_on_line = first }
 
-begins_expression_by : (symbol : Symbol) (text : List ℕ) (place : Place) (first : Bool) → is_of (λ t. lua.begins_expression language t) (token_with symbol text place first) ≡ is_of (among first_symbols) (token_with symbol text place first)
-begins_expression_by (symbols.Bad kind) text place first = refl
-begins_expression_by _ text place first = refl
+begins_expression_by : (symbol : Symbol) (text : List ℕ) (place : Place) (offset : ℕ) (first : Bool) → is_of (λ t. lua.begins_expression t) (token_with symbol text place offset first) ≡ is_of (among first_symbols) (token_with symbol text place offset first)
+begins_expression_by (symbols.Bad kind) text place offset first = refl
+begins_expression_by _ text place offset first = refl
 
-begins_expression_is : (ts : List Token) → begins (λ t. lua.begins_expression language t) ts ≡ begins (among first_symbols) ts
+begins_expression_is : (ts : List Token) → begins (λ t. lua.begins_expression t) ts ≡ begins (among first_symbols) ts
 begins_expression_is [] = refl
-begins_expression_is (t ∷ ts) = begins_expression_by t.symbol t.text t.place t.first_on_line
+begins_expression_is (t ∷ ts) = begins_expression_by t.symbol t.text t.place t.offset t.first_on_line
 
-returned_values_agree : (levels : ℕ) (m : Mode) (ts : List Token) → reading levels (lua.returned_values language m) ts ≡ returned_values_at levels m ts
+returned_values_agree : (levels : ℕ) (m : Mode) (ts : List Token) → reading levels (lua.returned_values m) ts ≡ returned_values_at levels m ts
 unfolding returned_values_at
 returned_values_agree levels m ts =
-    ap (λ (b : Bool). cond b (reading levels (expressions.expressions language m) ts) (Took Nothing ts)) (begins_expression_is ts)
-    ∙ either_is (begins (among first_symbols) ts) (reading levels (expressions.expressions language m) ts) (Took Nothing ts) (expressions_at levels m ts) (Took Nothing ts) (expressions_agree levels m ts) refl
+    ap (λ (b : Bool). cond b (reading levels (expressions.expressions m) ts) (Took Nothing ts)) (begins_expression_is ts)
+    ∙ either_is (begins (among first_symbols) ts) (reading levels (expressions.expressions m) ts) (Took Nothing ts) (expressions_at levels m ts) (Took Nothing ts) (expressions_agree levels m ts) refl
 
 -- ---- calls and assignments
 
 target_agrees : (levels : ℕ) (m : Mode) (place : Place) (shape : Shape) (e : Tree) (t : Token) (ts : List Token) → t.place ≡ place →
-    reading levels (lua.call_or_assignment language m t shape e) ts ≡ cond (is_call shape) (Took (trees.Perform place e) ts) (more_targets_at levels m (More Nothing e) ts >>= λ targets c. values_at levels m c >>= λ es rest. Took (trees.Assign place targets es) rest)
+    reading levels (lua.call_or_assignment m t shape e) ts ≡ cond (is_call shape) (Took (trees.Perform place e) ts) (more_targets_at levels m (More Nothing e) ts >>= λ targets c. values_at levels m c >>= λ es rest. Took (trees.Assign place targets es) rest)
 unfolding more_targets_at
 target_agrees levels m place shape e t ts p = by shape
   where
-    assigns : reading levels (lua.assignment language m t e) ts ≡ (more_targets_at levels m (More Nothing e) ts >>= λ targets c. values_at levels m c >>= λ es rest. Took (trees.Assign place targets es) rest)
+    assigns : reading levels (lua.assignment m t e) ts ≡ (more_targets_at levels m (More Nothing e) ts >>= λ targets c. values_at levels m c >>= λ es rest. Took (trees.Assign place targets es) rest)
     assigns =
-        then levels (listed_behind (lua.variable m) (More Nothing e)) (λ targets. bind (sign symbols.Equal) λ y. bind (expressions.expressions language m) λ es. give (trees.Assign t.place targets es)) (λ us. more_targets_at levels m (More Nothing e) us) (λ targets c. values_at levels m c >>= λ es rest. Took (trees.Assign place targets es) rest) (λ us. refl)
-        (λ targets c. sym (bind_again (reading levels (sign symbols.Equal) c) (λ y us. reading levels (expressions.expressions language m) us) (λ es rest. Took (trees.Assign t.place targets es) rest))
+        then levels (listed_behind (lua.variable m) (More Nothing e)) (λ targets. bind (sign symbols.Equal) λ y. bind (expressions.expressions m) λ es. give (trees.Assign t.place targets es)) (λ us. more_targets_at levels m (More Nothing e) us) (λ targets c. values_at levels m c >>= λ es rest. Took (trees.Assign place targets es) rest) (λ us. refl)
+        (λ targets c. sym (bind_again (reading levels (sign symbols.Equal) c) (λ y us. reading levels (expressions.expressions m) us) (λ es rest. Took (trees.Assign t.place targets es) rest))
         ∙ ap (λ (o : Outcome Tree). o >>= λ es rest. Took (trees.Assign t.place targets es) rest) (values_agree levels m c)
         ∙ ap (λ (q : Place). values_at levels m c >>= λ es rest. Took (trees.Assign q targets es) rest) p) ts
 
-    by : (shape : Shape) → reading levels (lua.call_or_assignment language m t shape e) ts ≡ cond (is_call shape) (Took (trees.Perform place e) ts) (more_targets_at levels m (More Nothing e) ts >>= λ targets c. values_at levels m c >>= λ es rest. Took (trees.Assign place targets es) rest)
+    by : (shape : Shape) → reading levels (lua.call_or_assignment m t shape e) ts ≡ cond (is_call shape) (Took (trees.Perform place e) ts) (more_targets_at levels m (More Nothing e) ts >>= λ targets c. values_at levels m c >>= λ es rest. Took (trees.Assign place targets es) rest)
     by shapes.Call = ap (λ (q : Place). Took (trees.Perform q e) ts) p
     by shapes.Name = assigns
     by shapes.Variable = assigns
@@ -373,141 +368,141 @@ next_suffix_then levels m a ts = by (begins (λ t. expressions.is_suffix m t) ts
 
 -- what a statement has behind its first token
 abbrev behind : ℕ → Context → Token → List Token → Outcome Tree
-behind levels c t mid = opened_at levels (lua.statement_opens c (lua.statement_of t.symbol)) mid >>= λ x rest. reading levels (lua.statement language c (lua.statement_of t.symbol) t x) rest
+behind levels c t mid = opened_at levels (lua.statement_opens c (lua.statement_of t.symbol)) mid >>= λ x rest. reading levels (lua.statement c (lua.statement_of t.symbol) t x) rest
 
 -- what such a call or assignment has behind its prefix expression
 abbrev target_behind : ℕ → Mode → Place → Chained → List Token → Outcome Tree
 target_behind levels m place a b =
     cond (is_call a.shape) (Took (trees.Perform place a.tree) b) (more_targets_at levels m (More Nothing a.tree) b >>= λ targets c. values_at levels m c >>= λ es rest. Took (trees.Assign place targets es) rest)
 
-name_statement : (levels : ℕ) (c : Context) (text : List ℕ) (place : Place) (first : Bool) (ts : List Token) (b : Option SyntaxKind) →
-    let t : Token = token_with symbols.Name text place first in
+name_statement : (levels : ℕ) (c : Context) (text : List ℕ) (place : Place) (offset : ℕ) (first : Bool) (ts : List Token) (b : Option SyntaxKind) →
+    let t : Token = token_with symbols.Name text place offset first in
     (used_here b t ts >>= λ u mid. behind levels c t mid)
-    ≡ ((((used_here b t ts >>= λ t rest. Took (trees.Name t.place t.text) rest) >>= λ n rest. Took (chained n chain shapes.Name) rest) >>= λ d rest. cond (is_other d.shape && not (begins (λ t. expressions.is_suffix c.mode t) rest)) (unexpected rest) (suffixes_at levels c.mode d rest)) >>= λ a b. target_behind levels c.mode place a b)
+    ≡ ((((used_here b t ts >>= λ t rest. Took (trees.Name t.place t.offset t.text) rest) >>= λ n rest. Took (chained n chain shapes.Name) rest) >>= λ d rest. cond (is_other d.shape && not (begins (λ t. expressions.is_suffix c.mode t) rest)) (unexpected rest) (suffixes_at levels c.mode d rest)) >>= λ a b. target_behind levels c.mode place a b)
 unfolding suffixes_at
-name_statement levels c text place first ts (Some kind) = refl
-name_statement levels c text place first ts None =
-    let t : Token = token_with symbols.Name text place first in
-    bind_same (reading levels (expressions.suffixes c.mode (chained (trees.Name place text) chain shapes.Name)) ts) (λ a rest. reading levels (lua.call_or_assignment language c.mode t a.shape a.tree) rest) (λ a b. target_behind levels c.mode place a b) (λ a rest. target_agrees levels c.mode place a.shape a.tree t rest refl)
+name_statement levels c text place offset first ts (Some kind) = refl
+name_statement levels c text place offset first ts None =
+    let t : Token = token_with symbols.Name text place offset first in
+    bind_same (reading levels (expressions.suffixes c.mode (chained (trees.Name place offset text) chain shapes.Name)) ts) (λ a rest. reading levels (lua.call_or_assignment c.mode t a.shape a.tree) rest) (λ a b. target_behind levels c.mode place a b) (λ a rest. target_agrees levels c.mode place a.shape a.tree t rest refl)
 
-paren_statement : (levels : ℕ) (c : Context) (text : List ℕ) (place : Place) (first : Bool) (ts : List Token) (b : Option SyntaxKind) →
-    let t : Token = token_with symbols.OpenParen text place first in
+paren_statement : (levels : ℕ) (c : Context) (text : List ℕ) (place : Place) (offset : ℕ) (first : Bool) (ts : List Token) (b : Option SyntaxKind) →
+    let t : Token = token_with symbols.OpenParen text place offset first in
     (used_here b t ts >>= λ u mid. behind levels c t mid)
     ≡ (((used_here b t ts >>= λ t a. part_at (levels - 1) (Expression c.mode) a >>= λ x b. sign_at symbols.CloseParen b >>= λ y rest. Took (chained (trees.Paren t.place x) chain shapes.Other) rest) >>= λ d rest. cond (is_other d.shape && not (begins (λ t. expressions.is_suffix c.mode t) rest)) (unexpected rest) (suffixes_at levels c.mode d rest)) >>= λ a b. target_behind levels c.mode place a b)
-paren_statement levels c text place first ts (Some kind) = refl
-paren_statement levels c text place first ts None = inner (part_at (levels - 1) (Expression c.mode) ts)
+paren_statement levels c text place offset first ts (Some kind) = refl
+paren_statement levels c text place offset first ts None = inner (part_at (levels - 1) (Expression c.mode) ts)
   where
     t : Token
-    t = token_with symbols.OpenParen text place first
+    t = token_with symbols.OpenParen text place offset first
 
-    last : (x : Tree) (rest : List Token) → reading levels (bind (lua.next_suffix c.mode (chained (trees.Paren place x) chain shapes.Other)) λ b. bind (expressions.suffixes c.mode b) λ a. lua.call_or_assignment language c.mode t a.shape a.tree) rest
+    last : (x : Tree) (rest : List Token) → reading levels (bind (lua.next_suffix c.mode (chained (trees.Paren place x) chain shapes.Other)) λ b. bind (expressions.suffixes c.mode b) λ a. lua.call_or_assignment c.mode t a.shape a.tree) rest
         ≡ (cond (not (begins (λ t. expressions.is_suffix c.mode t) rest)) (unexpected rest) (suffixes_at levels c.mode (chained (trees.Paren place x) chain shapes.Other) rest) >>= λ a b. target_behind levels c.mode place a b)
     last x rest =
-        sym (bind_again (reading levels (lua.next_suffix c.mode (chained (trees.Paren place x) chain shapes.Other)) rest) (λ b mid. reading levels (expressions.suffixes c.mode b) mid) (λ a mid. reading levels (lua.call_or_assignment language c.mode t a.shape a.tree) mid))
-        ∙ ap (λ (o : Outcome Chained). o >>= λ a mid. reading levels (lua.call_or_assignment language c.mode t a.shape a.tree) mid) (next_suffix_then levels c.mode (chained (trees.Paren place x) chain shapes.Other) rest)
-        ∙ bind_same (cond (not (begins (λ t. expressions.is_suffix c.mode t) rest)) (unexpected rest) (suffixes_at levels c.mode (chained (trees.Paren place x) chain shapes.Other) rest)) (λ a mid. reading levels (lua.call_or_assignment language c.mode t a.shape a.tree) mid) (λ a b. target_behind levels c.mode place a b) (λ a mid. target_agrees levels c.mode place a.shape a.tree t mid refl)
+        sym (bind_again (reading levels (lua.next_suffix c.mode (chained (trees.Paren place x) chain shapes.Other)) rest) (λ b mid. reading levels (expressions.suffixes c.mode b) mid) (λ a mid. reading levels (lua.call_or_assignment c.mode t a.shape a.tree) mid))
+        ∙ ap (λ (o : Outcome Chained). o >>= λ a mid. reading levels (lua.call_or_assignment c.mode t a.shape a.tree) mid) (next_suffix_then levels c.mode (chained (trees.Paren place x) chain shapes.Other) rest)
+        ∙ bind_same (cond (not (begins (λ t. expressions.is_suffix c.mode t) rest)) (unexpected rest) (suffixes_at levels c.mode (chained (trees.Paren place x) chain shapes.Other) rest)) (λ a mid. reading levels (lua.call_or_assignment c.mode t a.shape a.tree) mid) (λ a b. target_behind levels c.mode place a b) (λ a mid. target_agrees levels c.mode place a.shape a.tree t mid refl)
 
-    close : (x : Tree) (o : Outcome Token) → (o >>= λ y rest. reading levels (bind (lua.next_suffix c.mode (chained (trees.Paren place x) chain shapes.Other)) λ b. bind (expressions.suffixes c.mode b) λ a. lua.call_or_assignment language c.mode t a.shape a.tree) rest)
+    close : (x : Tree) (o : Outcome Token) → (o >>= λ y rest. reading levels (bind (lua.next_suffix c.mode (chained (trees.Paren place x) chain shapes.Other)) λ b. bind (expressions.suffixes c.mode b) λ a. lua.call_or_assignment c.mode t a.shape a.tree) rest)
         ≡ (((o >>= λ y rest. Took (chained (trees.Paren place x) chain shapes.Other) rest) >>= λ d rest. cond (is_other d.shape && not (begins (λ t. expressions.is_suffix c.mode t) rest)) (unexpected rest) (suffixes_at levels c.mode d rest)) >>= λ a b. target_behind levels c.mode place a b)
     close x (Took y rest) = last x rest
     close x (Stop kind rest) = refl
 
-    inner : (o : Outcome Tree) → (o >>= λ x rest. reading levels (lua.statement language c lua.FromParen t x) rest)
+    inner : (o : Outcome Tree) → (o >>= λ x rest. reading levels (lua.statement c lua.FromParen t x) rest)
         ≡ (((o >>= λ x b. sign_at symbols.CloseParen b >>= λ y rest. Took (chained (trees.Paren place x) chain shapes.Other) rest) >>= λ d rest. cond (is_other d.shape && not (begins (λ t. expressions.is_suffix c.mode t) rest)) (unexpected rest) (suffixes_at levels c.mode d rest)) >>= λ a b. target_behind levels c.mode place a b)
     inner (Took x rest) =
-        sign_then levels symbols.CloseParen (λ y. bind (lua.next_suffix c.mode (chained (trees.Paren place x) chain shapes.Other)) λ b. bind (expressions.suffixes c.mode b) λ a. lua.call_or_assignment language c.mode t a.shape a.tree) (λ y us. reading levels (bind (lua.next_suffix c.mode (chained (trees.Paren place x) chain shapes.Other)) λ b. bind (expressions.suffixes c.mode b) λ a. lua.call_or_assignment language c.mode t a.shape a.tree) us) (λ y us. refl) rest
+        sign_then levels symbols.CloseParen (λ y. bind (lua.next_suffix c.mode (chained (trees.Paren place x) chain shapes.Other)) λ b. bind (expressions.suffixes c.mode b) λ a. lua.call_or_assignment c.mode t a.shape a.tree) (λ y us. reading levels (bind (lua.next_suffix c.mode (chained (trees.Paren place x) chain shapes.Other)) λ b. bind (expressions.suffixes c.mode b) λ a. lua.call_or_assignment c.mode t a.shape a.tree) us) (λ y us. refl) rest
         ∙ close x (sign_at symbols.CloseParen rest)
     inner (Stop kind rest) = refl
 
 if_behind : (levels : ℕ) (c : Context) (place : Place) (ts : List Token) →
-    reading levels (bind (lua.arm language c Nothing) λ first. bind (lua.arms language c first) λ all. bind (lua.otherwise language c) λ o. bind (sign symbols.End) λ y. give (trees.If place all o)) ts
+    reading levels (bind (lua.arm c Nothing) λ first. bind (lua.arms c first) λ all. bind (lua.otherwise c) λ o. bind (sign symbols.End) λ y. give (trees.If place all o)) ts
     ≡ (arms_at levels c ts >>= λ all b. otherwise_at levels c b >>= λ o d. sign_at symbols.End d >>= λ y rest. Took (trees.If place all o) rest)
 unfolding arms_at more_arms_at
 if_behind levels c place ts =
-    ap (λ (o : Outcome Tree). o >>= λ first a. reading levels (bind (lua.arms language c first) λ all. bind (lua.otherwise language c) λ o. bind (sign symbols.End) λ y. give (trees.If place all o)) a) (arm_agrees levels c Nothing ts)
-    ∙ bind_again (arm_at levels c ts) (λ x rest. Took (More Nothing x) rest) (λ first a. reading levels (bind (lua.arms language c first) λ all. bind (lua.otherwise language c) λ o. bind (sign symbols.End) λ y. give (trees.If place all o)) a)
-    ∙ bind_same (arm_at levels c ts) (λ x a. reading levels (bind (lua.arms language c (More Nothing x)) λ all. bind (lua.otherwise language c) λ o. bind (sign symbols.End) λ y. give (trees.If place all o)) a) (λ x a. more_arms_at levels c (More Nothing x) a >>= λ all b. otherwise_at levels c b >>= λ o d. sign_at symbols.End d >>= λ y rest. Took (trees.If place all o) rest)
-    (λ x a. then levels (lua.arms language c (More Nothing x)) (λ all. bind (lua.otherwise language c) λ o. bind (sign symbols.End) λ y. give (trees.If place all o)) (λ us. more_arms_at levels c (More Nothing x) us) (λ all b. otherwise_at levels c b >>= λ o d. sign_at symbols.End d >>= λ y rest. Took (trees.If place all o) rest) (λ us. refl)
-    (λ all b. then levels (lua.otherwise language c) (λ o. bind (sign symbols.End) λ y. give (trees.If place all o)) (λ us. otherwise_at levels c us) (λ o d. sign_at symbols.End d >>= λ y rest. Took (trees.If place all o) rest) (λ us. otherwise_agrees levels c us)
+    ap (λ (o : Outcome Tree). o >>= λ first a. reading levels (bind (lua.arms c first) λ all. bind (lua.otherwise c) λ o. bind (sign symbols.End) λ y. give (trees.If place all o)) a) (arm_agrees levels c Nothing ts)
+    ∙ bind_again (arm_at levels c ts) (λ x rest. Took (More Nothing x) rest) (λ first a. reading levels (bind (lua.arms c first) λ all. bind (lua.otherwise c) λ o. bind (sign symbols.End) λ y. give (trees.If place all o)) a)
+    ∙ bind_same (arm_at levels c ts) (λ x a. reading levels (bind (lua.arms c (More Nothing x)) λ all. bind (lua.otherwise c) λ o. bind (sign symbols.End) λ y. give (trees.If place all o)) a) (λ x a. more_arms_at levels c (More Nothing x) a >>= λ all b. otherwise_at levels c b >>= λ o d. sign_at symbols.End d >>= λ y rest. Took (trees.If place all o) rest)
+    (λ x a. then levels (lua.arms c (More Nothing x)) (λ all. bind (lua.otherwise c) λ o. bind (sign symbols.End) λ y. give (trees.If place all o)) (λ us. more_arms_at levels c (More Nothing x) us) (λ all b. otherwise_at levels c b >>= λ o d. sign_at symbols.End d >>= λ y rest. Took (trees.If place all o) rest) (λ us. refl)
+    (λ all b. then levels (lua.otherwise c) (λ o. bind (sign symbols.End) λ y. give (trees.If place all o)) (λ us. otherwise_at levels c us) (λ o d. sign_at symbols.End d >>= λ y rest. Took (trees.If place all o) rest) (λ us. otherwise_agrees levels c us)
     (λ o d. sign_then levels symbols.End (λ y. give (trees.If place all o)) (λ y rest. Took (trees.If place all o) rest) (λ y us. refl) d) b) a)
     ∙ sym (bind_again (arm_at levels c ts) (λ x a. more_arms_at levels c (More Nothing x) a) (λ all b. otherwise_at levels c b >>= λ o d. sign_at symbols.End d >>= λ y rest. Took (trees.If place all o) rest))
 
 for_behind : (levels : ℕ) (c : Context) (t : Token) (ts : List Token) →
-    reading levels (bind name λ n. when (is symbols.Equal) (lua.numeric_for language c t n) (lua.generic_for language c t n)) ts
+    reading levels (bind name λ n. when (is symbols.Equal) (lua.numeric_for c t n) (lua.generic_for c t n)) ts
     ≡ (name_at ts >>= λ n b. cond (begins (is symbols.Equal) b) (numeric_at levels c b >>= λ r rest. Took (trees.NumericFor t.place n r.from r.limit r.step r.block) rest)
     (more_names_at levels (More Nothing n) b >>= λ ns d. generic_at levels c d >>= λ r rest. Took (trees.GenericFor t.place ns r.values r.block) rest))
 unfolding more_names_at
 for_behind levels c t ts =
-    then levels name (λ n. when (is symbols.Equal) (lua.numeric_for language c t n) (lua.generic_for language c t n)) (λ us. name_at us)
+    then levels name (λ n. when (is symbols.Equal) (lua.numeric_for c t n) (lua.generic_for c t n)) (λ us. name_at us)
     (λ n b. cond (begins (is symbols.Equal) b) (numeric_at levels c b >>= λ r rest. Took (trees.NumericFor t.place n r.from r.limit r.step r.block) rest) (more_names_at levels (More Nothing n) b >>= λ ns d. generic_at levels c d >>= λ r rest. Took (trees.GenericFor t.place ns r.values r.block) rest))
     (λ us. name_agrees levels us)
-    (λ n b. either_is (begins (is symbols.Equal) b) (reading levels (lua.numeric_for language c t n) b) (reading levels (lua.generic_for language c t n) b) (numeric_at levels c b >>= λ r rest. Took (trees.NumericFor t.place n r.from r.limit r.step r.block) rest) (more_names_at levels (More Nothing n) b >>= λ ns d. generic_at levels c d >>= λ r rest. Took (trees.GenericFor t.place ns r.values r.block) rest)
+    (λ n b. either_is (begins (is symbols.Equal) b) (reading levels (lua.numeric_for c t n) b) (reading levels (lua.generic_for c t n) b) (numeric_at levels c b >>= λ r rest. Took (trees.NumericFor t.place n r.from r.limit r.step r.block) rest) (more_names_at levels (More Nothing n) b >>= λ ns d. generic_at levels c d >>= λ r rest. Took (trees.GenericFor t.place ns r.values r.block) rest)
     (numeric_agrees levels c t n b)
-    (then levels (listed_behind name (More Nothing n)) (λ ns. bind (sign symbols.In) λ y. bind (expressions.expressions language c.mode) λ es. bind (lua.loop c) λ x. give (trees.GenericFor t.place ns es x)) (λ us. more_names_at levels (More Nothing n) us) (λ ns d. generic_at levels c d >>= λ r rest. Took (trees.GenericFor t.place ns r.values r.block) rest) (λ us. refl) (λ ns d. generic_agrees levels c t ns d) b)) ts
+    (then levels (listed_behind name (More Nothing n)) (λ ns. bind (sign symbols.In) λ y. bind (expressions.expressions c.mode) λ es. bind (lua.loop c) λ x. give (trees.GenericFor t.place ns es x)) (λ us. more_names_at levels (More Nothing n) us) (λ ns d. generic_at levels c d >>= λ r rest. Took (trees.GenericFor t.place ns r.values r.block) rest) (λ us. refl) (λ ns d. generic_agrees levels c t ns d) b)) ts
 
 local_behind : (levels : ℕ) (c : Context) (t : Token) (ts : List Token) →
-    reading levels (lua.statement language c lua.FromLocal t Nothing) ts
+    reading levels (lua.statement c lua.FromLocal t Nothing) ts
     ≡ cond (begins (is symbols.Function) ts) (local_function_at levels t.place ts) (cond (begins (among definition_symbols) ts) (local_terra_at levels c.mode t.place ts) (local_names_at levels c.mode t.place ts))
 local_behind levels c t ts =
     either_is (begins (is symbols.Function) ts) (reading levels (bind (sign symbols.Function) λ y. bind name λ n. bind (opening symbols.OpenParen FunctionBody) λ b. give (trees.LocalFunction t.place n b.1)) ts)
-    (cond (begins (λ t. lua.begins_local_terra language t) ts) (reading levels (lua.local_terra language c t) ts) (reading levels (bind names λ ns. bind (lua.initial_values language c.mode) λ es. give (trees.Local t.place ns es)) ts))
+    (cond (begins (λ t. lua.begins_local_terra t) ts) (reading levels (lua.local_terra c t) ts) (reading levels (bind names λ ns. bind (lua.initial_values c.mode) λ es. give (trees.Local t.place ns es)) ts))
     (local_function_at levels t.place ts) (cond (begins (among definition_symbols) ts) (local_terra_at levels c.mode t.place ts) (local_names_at levels c.mode t.place ts))
     (local_function_agrees levels t.place ts)
-    (ap (λ (b : Bool). cond b (reading levels (lua.local_terra language c t) ts) (reading levels (bind names λ ns. bind (lua.initial_values language c.mode) λ es. give (trees.Local t.place ns es)) ts)) (begins_local_terra_is ts)
-    ∙ either_is (begins (among definition_symbols) ts) (reading levels (lua.local_terra language c t) ts) (reading levels (bind names λ ns. bind (lua.initial_values language c.mode) λ es. give (trees.Local t.place ns es)) ts)
+    (ap (λ (b : Bool). cond b (reading levels (lua.local_terra c t) ts) (reading levels (bind names λ ns. bind (lua.initial_values c.mode) λ es. give (trees.Local t.place ns es)) ts)) (begins_local_terra_is ts)
+    ∙ either_is (begins (among definition_symbols) ts) (reading levels (lua.local_terra c t) ts) (reading levels (bind names λ ns. bind (lua.initial_values c.mode) λ es. give (trees.Local t.place ns es)) ts)
     (local_terra_at levels c.mode t.place ts) (local_names_at levels c.mode t.place ts) (local_terra_agrees levels c t ts) (local_names_agree levels c.mode t.place ts))
 
-statement_by : (levels : ℕ) (c : Context) (symbol : Symbol) (text : List ℕ) (place : Place) (first : Bool) (ts : List Token) → is_of (λ t. lua.is_statement language c t) (token_with symbol text place first) ≡ true →
-    (used_here (barred (opens_any (lua.statement_opens c (lua.statement_of symbol))) levels Plain (token_with symbol text place first)) (token_with symbol text place first) ts >>= λ u mid. behind levels c (token_with symbol text place first) mid)
-    ≡ statement_at levels c (token_with symbol text place first ∷ ts)
+statement_by : (levels : ℕ) (c : Context) (symbol : Symbol) (text : List ℕ) (place : Place) (offset : ℕ) (first : Bool) (ts : List Token) → is_of (λ t. lua.is_statement c t) (token_with symbol text place offset first) ≡ true →
+    (used_here (barred (opens_any (lua.statement_opens c (lua.statement_of symbol))) levels Plain (token_with symbol text place offset first)) (token_with symbol text place offset first) ts >>= λ u mid. behind levels c (token_with symbol text place offset first) mid)
+    ≡ statement_at levels c (token_with symbol text place offset first ∷ ts)
 unfolding statement_at do_at while_at repeat_at if_at for_at function_statement_at local_at return_at break_at emit_at call_or_assignment_at applied_at base_at paren_at name_at sign_at open_at used
-statement_by levels c symbols.Do text place first ts h =
-    let t : Token = token_with symbols.Do text place first in
+statement_by levels c symbols.Do text place offset first ts h =
+    let t : Token = token_with symbols.Do text place offset first in
     use_same (barred true levels Plain t) t ts (λ u mid. behind levels c t mid) (λ t a. part_at (levels - 1) (Statements c) a >>= λ x b. sign_at symbols.End b >>= λ y rest. Took (trees.Do t.place x) rest)
     (bind_same (part_at (levels - 1) (Statements c) ts) (λ x rest. reading levels (bind (sign symbols.End) λ y. give (trees.Do place x)) rest) (λ x b. sign_at symbols.End b >>= λ y rest. Took (trees.Do place x) rest) (λ x b. sign_then levels symbols.End (λ y. give (trees.Do place x)) (λ y rest. Took (trees.Do place x) rest) (λ y us. refl) b))
-statement_by levels c symbols.While text place first ts h =
-    let t : Token = token_with symbols.While text place first in
+statement_by levels c symbols.While text place offset first ts h =
+    let t : Token = token_with symbols.While text place offset first in
     use_same (barred false levels Plain t) t ts (λ u mid. behind levels c t mid) (λ t a. part_at levels (Expression c.mode) a >>= λ e b. loop_at levels c b >>= λ x rest. Took (trees.While t.place e x) rest)
-    (then levels (expressions.expression language c.mode) (λ e. bind (lua.loop c) λ x. give (trees.While place e x)) (λ us. part_at levels (Expression c.mode) us) (λ e b. loop_at levels c b >>= λ x rest. Took (trees.While place e x) rest) (λ us. expression_agrees levels c.mode us)
+    (then levels (expressions.expression c.mode) (λ e. bind (lua.loop c) λ x. give (trees.While place e x)) (λ us. part_at levels (Expression c.mode) us) (λ e b. loop_at levels c b >>= λ x rest. Took (trees.While place e x) rest) (λ us. expression_agrees levels c.mode us)
     (λ e b. then levels (lua.loop c) (λ x. give (trees.While place e x)) (λ us. loop_at levels c us) (λ x rest. Took (trees.While place e x) rest) (λ us. loop_agrees levels c us) (λ x us. refl) b) ts)
-statement_by levels c symbols.Repeat text place first ts h =
-    let t : Token = token_with symbols.Repeat text place first in
+statement_by levels c symbols.Repeat text place offset first ts h =
+    let t : Token = token_with symbols.Repeat text place offset first in
     use_same (barred true levels Plain t) t ts (λ u mid. behind levels c t mid) (λ t a. part_at (levels - 1) (Statements (looped c)) a >>= λ x b. sign_at symbols.Until b >>= λ y d. part_at levels (Expression c.mode) d >>= λ e rest. Took (trees.Repeat t.place x e) rest)
-    (bind_same (part_at (levels - 1) (Statements (looped c)) ts) (λ x rest. reading levels (bind (sign symbols.Until) λ y. bind (expressions.expression language c.mode) λ e. give (trees.Repeat place x e)) rest) (λ x b. sign_at symbols.Until b >>= λ y d. part_at levels (Expression c.mode) d >>= λ e rest. Took (trees.Repeat place x e) rest)
-    (λ x b. sign_then levels symbols.Until (λ y. bind (expressions.expression language c.mode) λ e. give (trees.Repeat place x e)) (λ y d. part_at levels (Expression c.mode) d >>= λ e rest. Took (trees.Repeat place x e) rest)
-    (λ y d. then levels (expressions.expression language c.mode) (λ e. give (trees.Repeat place x e)) (λ us. part_at levels (Expression c.mode) us) (λ e rest. Took (trees.Repeat place x e) rest) (λ us. expression_agrees levels c.mode us) (λ e us. refl) d) b))
-statement_by levels c symbols.If text place first ts h =
-    let t : Token = token_with symbols.If text place first in
+    (bind_same (part_at (levels - 1) (Statements (looped c)) ts) (λ x rest. reading levels (bind (sign symbols.Until) λ y. bind (expressions.expression c.mode) λ e. give (trees.Repeat place x e)) rest) (λ x b. sign_at symbols.Until b >>= λ y d. part_at levels (Expression c.mode) d >>= λ e rest. Took (trees.Repeat place x e) rest)
+    (λ x b. sign_then levels symbols.Until (λ y. bind (expressions.expression c.mode) λ e. give (trees.Repeat place x e)) (λ y d. part_at levels (Expression c.mode) d >>= λ e rest. Took (trees.Repeat place x e) rest)
+    (λ y d. then levels (expressions.expression c.mode) (λ e. give (trees.Repeat place x e)) (λ us. part_at levels (Expression c.mode) us) (λ e rest. Took (trees.Repeat place x e) rest) (λ us. expression_agrees levels c.mode us) (λ e us. refl) d) b))
+statement_by levels c symbols.If text place offset first ts h =
+    let t : Token = token_with symbols.If text place offset first in
     use_same (barred false levels Plain t) t ts (λ u mid. behind levels c t mid) (λ t a. arms_at levels c a >>= λ all b. otherwise_at levels c b >>= λ o d. sign_at symbols.End d >>= λ y rest. Took (trees.If t.place all o) rest) (if_behind levels c place ts)
-statement_by levels c symbols.For text place first ts h =
-    let t : Token = token_with symbols.For text place first in
+statement_by levels c symbols.For text place offset first ts h =
+    let t : Token = token_with symbols.For text place offset first in
     use_same (barred false levels Plain t) t ts (λ u mid. behind levels c t mid)
     (λ t a. name_at a >>= λ n b. cond (begins (is symbols.Equal) b) (numeric_at levels c b >>= λ r rest. Took (trees.NumericFor t.place n r.from r.limit r.step r.block) rest) (more_names_at levels (More Nothing n) b >>= λ ns d. generic_at levels c d >>= λ r rest. Took (trees.GenericFor t.place ns r.values r.block) rest))
     (for_behind levels c t ts)
-statement_by levels c symbols.Function text place first ts h =
-    let t : Token = token_with symbols.Function text place first in
+statement_by levels c symbols.Function text place offset first ts h =
+    let t : Token = token_with symbols.Function text place offset first in
     use_same (barred false levels Plain t) t ts (λ u mid. behind levels c t mid) (λ t a. path_at levels a >>= λ p b. open_at symbols.OpenParen levels b >>= λ z d. part_at (levels - 1) FunctionBody d >>= λ x rest. Took (trees.DefineFunction t.place p x) rest)
     (then levels lua.path (λ p. bind (opening symbols.OpenParen FunctionBody) λ b. give (trees.DefineFunction place p b.1)) (λ us. path_at levels us) (λ p b. open_at symbols.OpenParen levels b >>= λ z d. part_at (levels - 1) FunctionBody d >>= λ x rest. Took (trees.DefineFunction place p x) rest) (λ us. path_agrees levels us)
     (λ p b. open_then levels symbols.OpenParen FunctionBody (λ b. give (trees.DefineFunction place p b.1)) (λ t x rest. Took (trees.DefineFunction place p x) rest) (λ t x us. refl) b) ts)
-statement_by levels c symbols.Local text place first ts h =
-    let t : Token = token_with symbols.Local text place first in
+statement_by levels c symbols.Local text place offset first ts h =
+    let t : Token = token_with symbols.Local text place offset first in
     use_same (barred false levels Plain t) t ts (λ u mid. behind levels c t mid) (λ t a. cond (begins (is symbols.Function) a) (local_function_at levels t.place a) (cond (begins (among definition_symbols) a) (local_terra_at levels c.mode t.place a) (local_names_at levels c.mode t.place a))) (local_behind levels c t ts)
-statement_by levels c symbols.Return text place first ts h =
-    let t : Token = token_with symbols.Return text place first in
+statement_by levels c symbols.Return text place offset first ts h =
+    let t : Token = token_with symbols.Return text place offset first in
     use_same (barred false levels Plain t) t ts (λ u mid. behind levels c t mid) (λ t a. returned_values_at levels c.mode a >>= λ es rest. Took (trees.Return t.place es) rest)
-    (then levels (lua.returned_values language c.mode) (λ es. give (trees.Return place es)) (λ us. returned_values_at levels c.mode us) (λ es rest. Took (trees.Return place es) rest) (λ us. returned_values_agree levels c.mode us) (λ es us. refl) ts)
-statement_by levels c symbols.Break text place first ts h =
-    let t : Token = token_with symbols.Break text place first in
+    (then levels (lua.returned_values c.mode) (λ es. give (trees.Return place es)) (λ us. returned_values_at levels c.mode us) (λ es rest. Took (trees.Return place es) rest) (λ us. returned_values_agree levels c.mode us) (λ es us. refl) ts)
+statement_by levels c symbols.Break text place offset first ts h =
+    let t : Token = token_with symbols.Break text place offset first in
     use_same (barred false levels Plain t) t ts (λ u mid. behind levels c t mid) (λ t rest. Took (trees.Break t.place) rest) refl
-statement_by levels c symbols.Emit text place first ts h =
-    let t : Token = token_with symbols.Emit text place first in
+statement_by levels c symbols.Emit text place offset first ts h =
+    let t : Token = token_with symbols.Emit text place offset first in
     use_same (barred false levels Plain t) t ts (λ u mid. behind levels c t mid) (λ t a. part_at levels (Expression c.mode) a >>= λ e rest. Took (trees.Emit t.place e) rest)
-    (then levels (expressions.expression language c.mode) (λ e. give (trees.Emit place e)) (λ us. part_at levels (Expression c.mode) us) (λ e rest. Took (trees.Emit place e) rest) (λ us. expression_agrees levels c.mode us) (λ e us. refl) ts)
-statement_by levels c symbols.Terra text place first ts h = define_terra_is levels c (token_with symbols.Terra text place first) ts refl
-statement_by levels c symbols.Struct text place first ts h = define_struct_is levels c (token_with symbols.Struct text place first) ts refl
-statement_by levels c symbols.Name text place first ts h = name_statement levels c text place first ts (barred false levels Plain (token_with symbols.Name text place first))
-statement_by levels c symbols.OpenParen text place first ts h = paren_statement levels c text place first ts (barred true levels Plain (token_with symbols.OpenParen text place first))
-statement_by levels c _ text place first ts h = absurd cc
+    (then levels (expressions.expression c.mode) (λ e. give (trees.Emit place e)) (λ us. part_at levels (Expression c.mode) us) (λ e rest. Took (trees.Emit place e) rest) (λ us. expression_agrees levels c.mode us) (λ e us. refl) ts)
+statement_by levels c symbols.Terra text place offset first ts h = define_terra_is levels c (token_with symbols.Terra text place offset first) ts refl
+statement_by levels c symbols.Struct text place offset first ts h = define_struct_is levels c (token_with symbols.Struct text place offset first) ts refl
+statement_by levels c symbols.Name text place offset first ts h = name_statement levels c text place offset first ts (barred false levels Plain (token_with symbols.Name text place offset first))
+statement_by levels c symbols.OpenParen text place offset first ts h = paren_statement levels c text place offset first ts (barred true levels Plain (token_with symbols.OpenParen text place offset first))
+statement_by levels c _ text place offset first ts h = absurd cc
 
 -- ---- blocks
 
@@ -522,10 +517,10 @@ semicolon_agrees levels v ts = by (begins (is symbols.Semicolon) ts)
     by true = ap (λ (o : Outcome (Token × Tree)). (o >>= λ y rest. Took Nothing rest) >>= λ y rest. Took v rest) (sign_is levels symbols.Semicolon ts) ∙ go (sign_at symbols.Semicolon ts)
     by false = refl
 
-ends_by : (symbol : Symbol) (text : List ℕ) (place : Place) (first : Bool) (ts : List Token) → lua.ends_block (lua.statement_of symbol) ≡ begins (among last_symbols) (token_with symbol text place first ∷ ts)
-ends_by symbols.Return text place first ts = refl
-ends_by symbols.Break text place first ts = refl
-ends_by _ text place first ts = refl
+ends_by : (symbol : Symbol) (text : List ℕ) (place : Place) (offset : ℕ) (first : Bool) (ts : List Token) → lua.ends_block (lua.statement_of symbol) ≡ begins (among last_symbols) (token_with symbol text place offset first ∷ ts)
+ends_by symbols.Return text place offset first ts = refl
+ends_by symbols.Break text place offset first ts = refl
+ends_by _ text place offset first ts = refl
 
 wider : (b x y : Bool) → cond b false (x && y) ≡ true → cond b false x ≡ true
 wider true x y h = absurd cc
@@ -533,7 +528,7 @@ wider false true y h = refl
 wider false false y h = absurd cc
 
 pub block_turn : (levels : ℕ) (c : Context) (tree : Tree) (ended : Bool) (piece : Token) (ts : List Token) → begins (λ t. goes_on c ended t) ts ≡ true →
-    reading levels (bind (token (λ t. goes_on c ended t) (λ t. Plain) (λ t. lua.statement_opens c (lua.statement_of t.symbol)) piece) λ x. bind (lua.statement language c (lua.statement_of x.0.symbol) x.0 x.1) λ s. bind semicolon λ y. give (sequence (More tree s) (lua.ends_block (lua.statement_of x.0.symbol)))) ts
+    reading levels (bind (token (λ t. goes_on c ended t) (λ t. Plain) (λ t. lua.statement_opens c (lua.statement_of t.symbol)) piece) λ x. bind (lua.statement c (lua.statement_of x.0.symbol) x.0 x.1) λ s. bind semicolon λ y. give (sequence (More tree s) (lua.ends_block (lua.statement_of x.0.symbol)))) ts
     ≡ (next_statement_at levels c ts >>= λ s rest. Took (sequence (More tree s.statements) s.ended) rest)
 unfolding next_statement_at
 block_turn levels c tree ended piece [] h = absurd cc
@@ -541,12 +536,12 @@ block_turn levels c tree ended piece (t ∷ ts) h =
     ap (λ (o : Outcome (Token × Tree)). o >>= λ x mid. step x mid) (token_is levels (λ t. goes_on c ended t) (λ t. Plain) (λ t. lua.statement_opens c (lua.statement_of t.symbol)) piece t ts)
     ∙ ap (λ (o : Outcome Token). (o >>= λ u mid. opened_at levels (lua.statement_opens c (lua.statement_of t.symbol)) mid >>= λ x rest. Took (both u x) rest) >>= λ x mid. step x mid) (used_use (λ t. goes_on c ended t) (opens_any (lua.statement_opens c (lua.statement_of t.symbol))) levels Plain t ts h)
     ∙ turn_of (barred (opens_any (lua.statement_opens c (lua.statement_of t.symbol))) levels Plain t)
-    ∙ ap (λ (o : Outcome Tree). o >>= λ s rest. semi s rest) (statement_by levels c t.symbol t.text t.place t.first_on_line ts (wider (is_bad t.symbol) (lua.is_statement language c t) (not ended) h))
+    ∙ ap (λ (o : Outcome Tree). o >>= λ s rest. semi s rest) (statement_by levels c t.symbol t.text t.place t.offset t.first_on_line ts (wider (is_bad t.symbol) (lua.is_statement c t) (not ended) h))
     ∙ bind_same (statement_at levels c (t ∷ ts)) (λ s rest. semi s rest) (λ s a. said s a >>= λ s rest. Took (sequence (More tree s.statements) s.ended) rest) (λ s a. same s a)
     ∙ sym (bind_again (statement_at levels c (t ∷ ts)) (λ s a. said s a) (λ s rest. Took (sequence (More tree s.statements) s.ended) rest))
   where
     step : Token × Tree → List Token → Outcome Sequence
-    step x mid = reading levels (bind (lua.statement language c (lua.statement_of x.0.symbol) x.0 x.1) λ s. bind semicolon λ y. give (sequence (More tree s) (lua.ends_block (lua.statement_of x.0.symbol)))) mid
+    step x mid = reading levels (bind (lua.statement c (lua.statement_of x.0.symbol) x.0 x.1) λ s. bind semicolon λ y. give (sequence (More tree s) (lua.ends_block (lua.statement_of x.0.symbol)))) mid
 
     semi : Tree → List Token → Outcome Sequence
     semi s rest = reading levels (bind semicolon λ y. give (sequence (More tree s) (lua.ends_block (lua.statement_of t.symbol)))) rest
@@ -558,7 +553,7 @@ block_turn levels c tree ended piece (t ∷ ts) h =
         ≡ ((used_here b t ts >>= λ u mid. behind levels c t mid) >>= λ s rest. semi s rest)
     turn_of None =
         bind_again (opened_at levels (lua.statement_opens c (lua.statement_of t.symbol)) ts) (λ x rest. Took (both t x) rest) (λ x mid. step x mid)
-        ∙ sym (bind_again (opened_at levels (lua.statement_opens c (lua.statement_of t.symbol)) ts) (λ x rest. reading levels (lua.statement language c (lua.statement_of t.symbol) t x) rest) (λ s rest. semi s rest))
+        ∙ sym (bind_again (opened_at levels (lua.statement_opens c (lua.statement_of t.symbol)) ts) (λ x rest. reading levels (lua.statement c (lua.statement_of t.symbol) t x) rest) (λ s rest. semi s rest))
     turn_of (Some kind) = refl
 
     go : (s : Tree) (e : Bool) (o : Outcome Token) → (o >>= λ y rest. Took (sequence (More tree s) e) rest) ≡ ((o >>= λ y rest. Took (sequence s e) rest) >>= λ s rest. Took (sequence (More tree s.statements) s.ended) rest)
@@ -573,7 +568,7 @@ block_turn levels c tree ended piece (t ∷ ts) h =
     same : (s : Tree) (a : List Token) → semi s a ≡ (said s a >>= λ s rest. Took (sequence (More tree s.statements) s.ended) rest)
     same s a =
         semicolon_agrees levels (sequence (More tree s) (lua.ends_block (lua.statement_of t.symbol))) a
-        ∙ ap (λ (e : Bool). cond (begins (is symbols.Semicolon) a) (sign_at symbols.Semicolon a >>= λ y rest. Took (sequence (More tree s) e) rest) (Took (sequence (More tree s) e) a)) (ends_by t.symbol t.text t.place t.first_on_line ts)
+        ∙ ap (λ (e : Bool). cond (begins (is symbols.Semicolon) a) (sign_at symbols.Semicolon a >>= λ y rest. Took (sequence (More tree s) e) rest) (Took (sequence (More tree s) e) a)) (ends_by t.symbol t.text t.place t.offset t.first_on_line ts)
         ∙ by (begins (is symbols.Semicolon) a) (begins (among last_symbols) (t ∷ ts)) s a
 
 -- ---- functions
@@ -626,8 +621,8 @@ parameters_agree levels ts =
 pub body_agrees : (levels : ℕ) (ts : List Token) → part_at levels FunctionBody ts ≡ body_at levels ts
 unfolding body_at part_at
 body_agrees levels ts =
-    then levels lua.parameters (λ p. bind (sign symbols.CloseParen) λ y. bind (lua.block language (fresh (body_mode p.variadic))) λ b. bind (sign symbols.End) λ z. give (trees.Body p.names p.variadic b)) (λ us. parameters_at levels us)
+    then levels lua.parameters (λ p. bind (sign symbols.CloseParen) λ y. bind (lua.block (fresh (body_mode p.variadic))) λ b. bind (sign symbols.End) λ z. give (trees.Body p.names p.variadic b)) (λ us. parameters_at levels us)
     (λ p a. sign_at symbols.CloseParen a >>= λ y b. part_at levels (Statements (fresh (body_mode p.variadic))) b >>= λ x d. sign_at symbols.End d >>= λ z rest. Took (trees.Body p.names p.variadic x) rest) (λ us. parameters_agree levels us)
-    (λ p a. sign_then levels symbols.CloseParen (λ y. bind (lua.block language (fresh (body_mode p.variadic))) λ b. bind (sign symbols.End) λ z. give (trees.Body p.names p.variadic b)) (λ y b. part_at levels (Statements (fresh (body_mode p.variadic))) b >>= λ x d. sign_at symbols.End d >>= λ z rest. Took (trees.Body p.names p.variadic x) rest)
-    (λ y b. then levels (lua.block language (fresh (body_mode p.variadic))) (λ x. bind (sign symbols.End) λ z. give (trees.Body p.names p.variadic x)) (λ us. part_at levels (Statements (fresh (body_mode p.variadic))) us) (λ x d. sign_at symbols.End d >>= λ z rest. Took (trees.Body p.names p.variadic x) rest) (λ us. refl)
+    (λ p a. sign_then levels symbols.CloseParen (λ y. bind (lua.block (fresh (body_mode p.variadic))) λ b. bind (sign symbols.End) λ z. give (trees.Body p.names p.variadic b)) (λ y b. part_at levels (Statements (fresh (body_mode p.variadic))) b >>= λ x d. sign_at symbols.End d >>= λ z rest. Took (trees.Body p.names p.variadic x) rest)
+    (λ y b. then levels (lua.block (fresh (body_mode p.variadic))) (λ x. bind (sign symbols.End) λ z. give (trees.Body p.names p.variadic x)) (λ us. part_at levels (Statements (fresh (body_mode p.variadic))) us) (λ x d. sign_at symbols.End d >>= λ z rest. Took (trees.Body p.names p.variadic x) rest) (λ us. refl)
     (λ x d. sign_then levels symbols.End (λ z. give (trees.Body p.names p.variadic x)) (λ z rest. Took (trees.Body p.names p.variadic x) rest) (λ z us. refl) d) b) a) ts

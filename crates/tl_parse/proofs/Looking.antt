@@ -16,10 +16,10 @@ use Rattle.tl_tree.specs.declared.symbol.Symbol.{Symbol}
 use Rattle.tl_tree.specs.declared.symbol.Symbol.TheVariants as symbols
 use Rattle.tl_tree.specs.Symbols.{number_of, is_bad, has, spelling, written, words, signs, last_bytes, symbol_of}
 use Rattle.tl_tree.specs.Tokens as tokens
-use Rattle.tl_tree.specs.Tokens.{Token, among, is, tokens_in}
+use Rattle.tl_tree.specs.Tokens.{Token, among, is, tokens_in, place_of}
 use Rattle.tl_tree.specs.Grammar.{begins, is_of, blame}
 use Rattle.tl_tree.specs.Nodes.{item_of}
-use Rattle.tl_parse.specs.Parsing.{token_of, with_token, unless_bad, tokens_left, end_of, Ready, items_of, place_of, blame_of, HasNext}
+use Rattle.tl_parse.specs.Parsing.{token_of, with_token, unless_bad, tokens_left, end_of, Ready, items_of, blame_of, HasNext}
 use Rattle.tl_tree.specs.declared.mode.Mode.{Mode}
 use Rattle.tl_tree.specs.declared.mode.Mode.TheVariants as modes
 use Rattle.tl_tree.specs.LuaExpressions.{is_suffix, suffix_symbols, stays, is_varargs}
@@ -269,3 +269,13 @@ begins_varargs _ ts = never ts
         go : (b : Bool) → cond b false false ≡ false
         go true = refl
         go false = refl
+
+-- where no token is left, the parser is at the end
+pub finish_is : (p : Parser) → Ready p → tokens_left p ≡ [] → p.current.place ≡ end_of p
+unfolding tokens_left Ready
+finish_is p r h = go p.current.is_end (is_bad p.current.symbol) r.1 h
+  where
+    go : (e b : Bool) → (e ≡ true → p.current.place ≡ end_of p) → with_token_by e b (token_of p.current) (tokens_in (answers_left p.lexer)).tokens ≡ [] → p.current.place ≡ end_of p
+    go true b r h = r refl
+    go false true r h = absurd cc
+    go false false r h = absurd cc

@@ -21,34 +21,34 @@ unfolding names_at more_names_at
 names_agree levels ts = ap (λ (o : Outcome Tree). o >>= λ n a. reading levels (listed_behind name (More Nothing n)) a) (name_agrees levels ts)
 
 pub path_turn : (levels : ℕ) (before : Tree) (ts : List Token) →
-    reading levels (bind (token (λ t. is symbols.Dot t) (λ t. Plain) (λ t. None) (sample symbols.Dot)) λ x. bind (sign symbols.Name) λ n. give (More before (trees.Name x.0.place n.0.text))) ts
+    reading levels (bind (token (λ t. is symbols.Dot t) (λ t. Plain) (λ t. None) (sample symbols.Dot)) λ x. bind (sign symbols.Name) λ n. give (More before (trees.Name x.0.place n.0.offset n.0.text))) ts
     ≡ (behind_sign_at symbols.Dot ts >>= λ n rest. Took (More before n) rest)
 unfolding behind_sign_at
 path_turn levels before ts =
-    sign_then levels symbols.Dot (λ x. bind (sign symbols.Name) λ n. give (More before (trees.Name x.0.place n.0.text))) (λ t a. sign_at symbols.Name a >>= λ n rest. Took (More before (trees.Name t.place n.text)) rest)
-    (λ t a. sign_then levels symbols.Name (λ n. give (More before (trees.Name t.place n.0.text))) (λ n rest. Took (More before (trees.Name t.place n.text)) rest) (λ n us. refl) a) ts
-    ∙ sym (bind_again (sign_at symbols.Dot ts) (λ t a. sign_at symbols.Name a >>= λ n rest. Took (trees.Name t.place n.text) rest) (λ n rest. Took (More before n) rest)
-    ∙ bind_same (sign_at symbols.Dot ts) (λ t a. (sign_at symbols.Name a >>= λ n rest. Took (trees.Name t.place n.text) rest) >>= λ n rest. Took (More before n) rest) (λ t a. sign_at symbols.Name a >>= λ n rest. Took (More before (trees.Name t.place n.text)) rest)
-    (λ t a. bind_again (sign_at symbols.Name a) (λ n rest. Took (trees.Name t.place n.text) rest) (λ n rest. Took (More before n) rest)))
+    sign_then levels symbols.Dot (λ x. bind (sign symbols.Name) λ n. give (More before (trees.Name x.0.place n.0.offset n.0.text))) (λ t a. sign_at symbols.Name a >>= λ n rest. Took (More before (trees.Name t.place n.offset n.text)) rest)
+    (λ t a. sign_then levels symbols.Name (λ n. give (More before (trees.Name t.place n.0.offset n.0.text))) (λ n rest. Took (More before (trees.Name t.place n.offset n.text)) rest) (λ n us. refl) a) ts
+    ∙ sym (bind_again (sign_at symbols.Dot ts) (λ t a. sign_at symbols.Name a >>= λ n rest. Took (trees.Name t.place n.offset n.text) rest) (λ n rest. Took (More before n) rest)
+    ∙ bind_same (sign_at symbols.Dot ts) (λ t a. (sign_at symbols.Name a >>= λ n rest. Took (trees.Name t.place n.offset n.text) rest) >>= λ n rest. Took (More before n) rest) (λ t a. sign_at symbols.Name a >>= λ n rest. Took (More before (trees.Name t.place n.offset n.text)) rest)
+    (λ t a. bind_again (sign_at symbols.Name a) (λ n rest. Took (trees.Name t.place n.offset n.text) rest) (λ n rest. Took (More before n) rest)))
 
 path_method_agrees : (levels : ℕ) (ns : Tree) (ts : List Token) → reading levels (lua.path_method ns) ts ≡ (path_method_at ts >>= λ o rest. Took (trees.Path ns o) rest)
 unfolding path_method_at behind_sign_at
 path_method_agrees levels ns ts = by (begins (is symbols.Colon) ts)
   where
-    by : (b : Bool) → cond b (reading levels (bind (sign symbols.Colon) λ c. bind (sign symbols.Name) λ n. give (trees.Path ns (Just (trees.Name c.0.place n.0.text)))) ts) (Took (trees.Path ns Nothing) ts)
-        ≡ (cond b ((sign_at symbols.Colon ts >>= λ t a. sign_at symbols.Name a >>= λ n rest. Took (trees.Name t.place n.text) rest) >>= λ n rest. Took (Just n) rest) (Took Nothing ts) >>= λ o rest. Took (trees.Path ns o) rest)
+    by : (b : Bool) → cond b (reading levels (bind (sign symbols.Colon) λ c. bind (sign symbols.Name) λ n. give (trees.Path ns (Just (trees.Name c.0.place n.0.offset n.0.text)))) ts) (Took (trees.Path ns Nothing) ts)
+        ≡ (cond b ((sign_at symbols.Colon ts >>= λ t a. sign_at symbols.Name a >>= λ n rest. Took (trees.Name t.place n.offset n.text) rest) >>= λ n rest. Took (Just n) rest) (Took Nothing ts) >>= λ o rest. Took (trees.Path ns o) rest)
     by false = refl
     by true =
-        sign_then levels symbols.Colon (λ c. bind (sign symbols.Name) λ n. give (trees.Path ns (Just (trees.Name c.0.place n.0.text)))) (λ t a. sign_at symbols.Name a >>= λ n rest. Took (trees.Path ns (Just (trees.Name t.place n.text))) rest)
-        (λ t a. sign_then levels symbols.Name (λ n. give (trees.Path ns (Just (trees.Name t.place n.0.text)))) (λ n rest. Took (trees.Path ns (Just (trees.Name t.place n.text))) rest) (λ n us. refl) a) ts
+        sign_then levels symbols.Colon (λ c. bind (sign symbols.Name) λ n. give (trees.Path ns (Just (trees.Name c.0.place n.0.offset n.0.text)))) (λ t a. sign_at symbols.Name a >>= λ n rest. Took (trees.Path ns (Just (trees.Name t.place n.offset n.text))) rest)
+        (λ t a. sign_then levels symbols.Name (λ n. give (trees.Path ns (Just (trees.Name t.place n.0.offset n.0.text)))) (λ n rest. Took (trees.Path ns (Just (trees.Name t.place n.offset n.text))) rest) (λ n us. refl) a) ts
         ∙ go (sign_at symbols.Colon ts)
       where
-        inner : (t : Token) (o : Outcome Token) → (o >>= λ n rest. Took (trees.Path ns (Just (trees.Name t.place n.text))) rest) ≡ (((o >>= λ n rest. Took (trees.Name t.place n.text) rest) >>= λ n rest. Took (Just n) rest) >>= λ o rest. Took (trees.Path ns o) rest)
+        inner : (t : Token) (o : Outcome Token) → (o >>= λ n rest. Took (trees.Path ns (Just (trees.Name t.place n.offset n.text))) rest) ≡ (((o >>= λ n rest. Took (trees.Name t.place n.offset n.text) rest) >>= λ n rest. Took (Just n) rest) >>= λ o rest. Took (trees.Path ns o) rest)
         inner t (Took n rest) = refl
         inner t (Stop kind rest) = refl
 
-        go : (o : Outcome Token) → (o >>= λ t a. sign_at symbols.Name a >>= λ n rest. Took (trees.Path ns (Just (trees.Name t.place n.text))) rest)
-            ≡ (((o >>= λ t a. sign_at symbols.Name a >>= λ n rest. Took (trees.Name t.place n.text) rest) >>= λ n rest. Took (Just n) rest) >>= λ o rest. Took (trees.Path ns o) rest)
+        go : (o : Outcome Token) → (o >>= λ t a. sign_at symbols.Name a >>= λ n rest. Took (trees.Path ns (Just (trees.Name t.place n.offset n.text))) rest)
+            ≡ (((o >>= λ t a. sign_at symbols.Name a >>= λ n rest. Took (trees.Name t.place n.offset n.text) rest) >>= λ n rest. Took (Just n) rest) >>= λ o rest. Took (trees.Path ns o) rest)
         go (Took t a) = inner t (sign_at symbols.Name a)
         go (Stop kind rest) = refl
 

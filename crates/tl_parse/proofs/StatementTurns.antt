@@ -18,7 +18,7 @@ use Rattle.tl_tree.specs.LuaExpressions as expressions
 use Rattle.tl_tree.specs.LuaStatements as lua
 use Rattle.tl_tree.specs.LuaStatements.{Sequence, sequence, parameters_of}
 use Rattle.tl_parse.specs.Parsing.{tokens_left, token_of, with_token_by, HasNext}
-use Rattle.tl_parse.specs.Using.{language, reading, part_at, sign_at}
+use Rattle.tl_parse.specs.Using.{reading, part_at, sign_at}
 use Rattle.tl_parse.specs.Expressions.{name_at, attached, shape_of, suffix_at}
 use Rattle.tl_parse.specs.Statements.{first_place, is_unsettled, settling, settle_at, variable_at, more_targets_at, next_target_at, arm_at, more_arms_at, next_arm_at, goes_on, block_at, more_statements_at, next_statement_at, more_parameters_at, parameter_at, next_parameter_at, with_parameter, body_at}
 use Rattle.tl_parse.specs.Paths.{more_names_at, next_name_at, behind_sign_at, path_names_at}
@@ -56,27 +56,27 @@ goes_on_never : (e : Bool) → false ≡ cond e false false
 goes_on_never true = refl
 goes_on_never false = refl
 
-goes_on_by : (c : Context) (ended : Bool) (symbol : Symbol) (text : List ℕ) (place : Place) (first : Bool) →
-    is_of (λ t. goes_on c ended t) (token_with symbol text place first) ≡ cond ended false (cond (is_of (is symbols.Break) (token_with symbol text place first)) c.in_loop (cond (is_of (is symbols.Emit) (token_with symbol text place first)) c.emits (is_of (among plain_statements) (token_with symbol text place first))))
-goes_on_by c ended symbols.Break text place first = goes_on_break c.in_loop ended
-goes_on_by c ended symbols.Emit text place first = goes_on_break c.emits ended
-goes_on_by c ended symbols.Name text place first = goes_on_break true ended
-goes_on_by c ended symbols.OpenParen text place first = goes_on_break true ended
-goes_on_by c ended symbols.Do text place first = goes_on_break true ended
-goes_on_by c ended symbols.While text place first = goes_on_break true ended
-goes_on_by c ended symbols.Repeat text place first = goes_on_break true ended
-goes_on_by c ended symbols.If text place first = goes_on_break true ended
-goes_on_by c ended symbols.For text place first = goes_on_break true ended
-goes_on_by c ended symbols.Function text place first = goes_on_break true ended
-goes_on_by c ended symbols.Local text place first = goes_on_break true ended
-goes_on_by c ended symbols.Return text place first = goes_on_break true ended
-goes_on_by c ended symbols.Terra text place first = goes_on_break true ended
-goes_on_by c ended symbols.Struct text place first = goes_on_break true ended
-goes_on_by c ended _ text place first = goes_on_never ended
+goes_on_by : (c : Context) (ended : Bool) (symbol : Symbol) (text : List ℕ) (place : Place) (offset : ℕ) (first : Bool) →
+    is_of (λ t. goes_on c ended t) (token_with symbol text place offset first) ≡ cond ended false (cond (is_of (is symbols.Break) (token_with symbol text place offset first)) c.in_loop (cond (is_of (is symbols.Emit) (token_with symbol text place offset first)) c.emits (is_of (among plain_statements) (token_with symbol text place offset first))))
+goes_on_by c ended symbols.Break text place offset first = goes_on_break c.in_loop ended
+goes_on_by c ended symbols.Emit text place offset first = goes_on_break c.emits ended
+goes_on_by c ended symbols.Name text place offset first = goes_on_break true ended
+goes_on_by c ended symbols.OpenParen text place offset first = goes_on_break true ended
+goes_on_by c ended symbols.Do text place offset first = goes_on_break true ended
+goes_on_by c ended symbols.While text place offset first = goes_on_break true ended
+goes_on_by c ended symbols.Repeat text place offset first = goes_on_break true ended
+goes_on_by c ended symbols.If text place offset first = goes_on_break true ended
+goes_on_by c ended symbols.For text place offset first = goes_on_break true ended
+goes_on_by c ended symbols.Function text place offset first = goes_on_break true ended
+goes_on_by c ended symbols.Local text place offset first = goes_on_break true ended
+goes_on_by c ended symbols.Return text place offset first = goes_on_break true ended
+goes_on_by c ended symbols.Terra text place offset first = goes_on_break true ended
+goes_on_by c ended symbols.Struct text place offset first = goes_on_break true ended
+goes_on_by c ended _ text place offset first = goes_on_never ended
 
 pub goes_on_is : (c : Context) (ended : Bool) (ts : List Token) → begins (λ t. goes_on c ended t) ts ≡ cond ended false (cond (begins (is symbols.Break) ts) c.in_loop (cond (begins (is symbols.Emit) ts) c.emits (begins (among plain_statements) ts)))
 goes_on_is c ended [] = goes_on_never ended
-goes_on_is c ended (t ∷ ts) = goes_on_by c ended t.symbol t.text t.place t.first_on_line
+goes_on_is c ended (t ∷ ts) = goes_on_by c ended t.symbol t.text t.place t.offset t.first_on_line
 
 -- ---- names and paths
 
@@ -97,15 +97,15 @@ name_shorter x ts rest e = list_shorter 0 name x ts rest (bind_same (sign_at sym
 pub path_goes : (levels : ℕ) (before : Tree) (ts : List Token) → begins (is symbols.Dot) ts ≡ true → path_names_at levels before ts ≡ (behind_sign_at symbols.Dot ts >>= λ e rest. path_names_at levels (More before e) rest)
 unfolding path_names_at
 path_goes levels before ts h =
-    repeats levels (λ b t. is symbols.Dot t) (λ b t. Plain) (λ b t. None) (λ t x b. bind (sign symbols.Name) λ n. give (More b (Name t.place n.0.text))) (sample symbols.Dot) before (behind_sign_at symbols.Dot ts) (λ e. More before e) ts h (path_turn levels before ts)
+    repeats levels (λ b t. is symbols.Dot t) (λ b t. Plain) (λ b t. None) (λ t x b. bind (sign symbols.Name) λ n. give (More b (Name t.place n.0.offset n.0.text))) (sample symbols.Dot) before (behind_sign_at symbols.Dot ts) (λ e. More before e) ts h (path_turn levels before ts)
 
 pub path_ends : (levels : ℕ) (before : Tree) (ts : List Token) → begins (is symbols.Dot) ts ≡ false → path_names_at levels before ts ≡ Took before ts
 unfolding path_names_at
-path_ends levels before ts h = ends levels (λ b t. is symbols.Dot t) (λ b t. Plain) (λ b t. None) (λ t x b. bind (sign symbols.Name) λ n. give (More b (Name t.place n.0.text))) before ts h
+path_ends levels before ts h = ends levels (λ b t. is symbols.Dot t) (λ b t. Plain) (λ b t. None) (λ t x b. bind (sign symbols.Name) λ n. give (More b (Name t.place n.0.offset n.0.text))) before ts h
 
 pub path_shorter : (x : Tree) (ts rest : List Token) → behind_sign_at symbols.Dot ts ≡ Took x rest → length rest < length ts
 path_shorter x ts rest e =
-    shorter_turn 0 (λ t. is symbols.Dot t) (λ t. Plain) (λ t. None) (sample symbols.Dot) (λ x. bind (sign symbols.Name) λ n. give (More Nothing (Name x.0.place n.0.text))) (behind_sign_at symbols.Dot ts) (λ e. More Nothing e) x ts rest (path_turn 0 Nothing ts) e
+    shorter_turn 0 (λ t. is symbols.Dot t) (λ t. Plain) (λ t. None) (sample symbols.Dot) (λ x. bind (sign symbols.Name) λ n. give (More Nothing (Name x.0.place n.0.offset n.0.text))) (behind_sign_at symbols.Dot ts) (λ e. More Nothing e) x ts rest (path_turn 0 Nothing ts) e
 
 -- ---- targets
 
@@ -148,16 +148,16 @@ target_shorter levels m x ts rest e = list_shorter levels (lua.variable m) x ts 
 pub arms_go : (levels : ℕ) (c : Context) (before : Tree) (ts : List Token) → begins (is symbols.Elseif) ts ≡ true → more_arms_at levels c before ts ≡ (next_arm_at levels c ts >>= λ e rest. more_arms_at levels c (More before e) rest)
 unfolding more_arms_at next_arm_at
 arms_go levels c before ts h =
-    repeats levels (λ b t. is symbols.Elseif t) (λ b t. Plain) (λ b t. None) (λ t x b. lua.arm language c b) (sample symbols.Elseif) before (sign_at symbols.Elseif ts >>= λ y a. arm_at levels c a) (λ e. More before e) ts h (arm_turn levels c before ts)
+    repeats levels (λ b t. is symbols.Elseif t) (λ b t. Plain) (λ b t. None) (λ t x b. lua.arm c b) (sample symbols.Elseif) before (sign_at symbols.Elseif ts >>= λ y a. arm_at levels c a) (λ e. More before e) ts h (arm_turn levels c before ts)
 
 pub arms_end : (levels : ℕ) (c : Context) (before : Tree) (ts : List Token) → begins (is symbols.Elseif) ts ≡ false → more_arms_at levels c before ts ≡ Took before ts
 unfolding more_arms_at
-arms_end levels c before ts h = ends levels (λ b t. is symbols.Elseif t) (λ b t. Plain) (λ b t. None) (λ t x b. lua.arm language c b) before ts h
+arms_end levels c before ts h = ends levels (λ b t. is symbols.Elseif t) (λ b t. Plain) (λ b t. None) (λ t x b. lua.arm c b) before ts h
 
 pub arm_shorter : (levels : ℕ) (c : Context) (x : Tree) (ts rest : List Token) → next_arm_at levels c ts ≡ Took x rest → length rest < length ts
 unfolding next_arm_at
 arm_shorter levels c x ts rest e =
-    shorter_turn levels (λ t. is symbols.Elseif t) (λ t. Plain) (λ t. None) (sample symbols.Elseif) (λ x. lua.arm language c Nothing) (sign_at symbols.Elseif ts >>= λ y a. arm_at levels c a) (λ e. More Nothing e) x ts rest (arm_turn levels c Nothing ts) e
+    shorter_turn levels (λ t. is symbols.Elseif t) (λ t. Plain) (λ t. None) (sample symbols.Elseif) (λ x. lua.arm c Nothing) (sign_at symbols.Elseif ts >>= λ y a. arm_at levels c a) (λ e. More Nothing e) x ts rest (arm_turn levels c Nothing ts) e
 
 -- ---- blocks
 
@@ -169,19 +169,19 @@ pub block_goes : (levels : ℕ) (c : Context) (tree : Tree) (ended : Bool) (ts :
 unfolding more_statements_at
 block_goes levels c tree ended ts h =
     repeats levels (λ a t. goes_on c a.ended t) (λ a t. Plain) (λ a t. lua.statement_opens c (lua.statement_of t.symbol))
-    (λ t x a. bind (lua.statement language c (lua.statement_of t.symbol) t x) λ s. bind semicolon λ y. give (sequence (More a.statements s) (lua.ends_block (lua.statement_of t.symbol)))) (sample symbols.Break) (sequence tree ended)
+    (λ t x a. bind (lua.statement c (lua.statement_of t.symbol) t x) λ s. bind semicolon λ y. give (sequence (More a.statements s) (lua.ends_block (lua.statement_of t.symbol)))) (sample symbols.Break) (sequence tree ended)
     (next_statement_at levels c ts) (λ s. sequence (More tree s.statements) s.ended) ts h (block_turn levels c tree ended (sample symbols.Break) ts h)
 
 pub block_ends : (levels : ℕ) (c : Context) (tree : Tree) (ended : Bool) (ts : List Token) → begins (λ t. goes_on c ended t) ts ≡ false → more_statements_at levels c tree ended ts ≡ Took (sequence tree ended) ts
 unfolding more_statements_at
 block_ends levels c tree ended ts h =
     ends levels (λ a t. goes_on c a.ended t) (λ a t. Plain) (λ a t. lua.statement_opens c (lua.statement_of t.symbol))
-    (λ t x a. bind (lua.statement language c (lua.statement_of t.symbol) t x) λ s. bind semicolon λ y. give (sequence (More a.statements s) (lua.ends_block (lua.statement_of t.symbol)))) (sequence tree ended) ts h
+    (λ t x a. bind (lua.statement c (lua.statement_of t.symbol) t x) λ s. bind semicolon λ y. give (sequence (More a.statements s) (lua.ends_block (lua.statement_of t.symbol)))) (sequence tree ended) ts h
 
 pub statement_shorter : (levels : ℕ) (c : Context) (ended : Bool) (x : Sequence) (ts rest : List Token) → begins (λ t. goes_on c ended t) ts ≡ true → next_statement_at levels c ts ≡ Took x rest → length rest < length ts
 statement_shorter levels c ended x ts rest h e =
     shorter_turn levels (λ t. goes_on c ended t) (λ t. Plain) (λ t. lua.statement_opens c (lua.statement_of t.symbol)) (sample symbols.Break)
-    (λ x. bind (lua.statement language c (lua.statement_of x.0.symbol) x.0 x.1) λ s. bind semicolon λ y. give (sequence (More Nothing s) (lua.ends_block (lua.statement_of x.0.symbol))))
+    (λ x. bind (lua.statement c (lua.statement_of x.0.symbol) x.0 x.1) λ s. bind semicolon λ y. give (sequence (More Nothing s) (lua.ends_block (lua.statement_of x.0.symbol))))
     (next_statement_at levels c ts) (λ s. sequence (More Nothing s.statements) s.ended) x ts rest (block_turn levels c Nothing ended (sample symbols.Break) ts h) e
 
 -- ---- functions

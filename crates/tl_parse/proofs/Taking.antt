@@ -6,14 +6,14 @@ use Rattle.tl_lex.specs.declared.SyntaxKind.{SyntaxKind}
 use Rattle.tl_lex.specs.declared.SyntaxKind.TheVariants as why
 use Rattle.tl_tree.specs.declared.mode.Extra.{Extra}
 use Rattle.tl_tree.specs.declared.mode.Extra.TheVariants.{Plain, Continues, Calls, LuaNumber, TerraNumber}
-use Rattle.tl_tree.specs.Tokens.{Token}
+use Rattle.tl_tree.specs.Tokens.{Token, place_of}
 use Rattle.std.specs.Prelude.{◌==◌}
 use Rattle.tl_lex.specs.Lexing.{answers_left}
 use Rattle.tl_tree.specs.Symbols.{is_bad}
 use Rattle.tl_tree.specs.Tokens.{tokens_in}
 use Rattle.tl_tree.specs.Tree.{FunctionBody}
 use Rattle.tl_tree.specs.Grammar.{Took, Stop, begins, is_of, blame, unless, is_none_left, opens_too_deep, down}
-use Rattle.tl_parse.specs.Parsing.{token_of, with_token_by, tokens_left, end_of, place_of, blame_of, Refuses, Stops, Fails, HasNext, TookToken}
+use Rattle.tl_parse.specs.Parsing.{token_of, with_token_by, tokens_left, end_of, blame_of, Refuses, Stops, Fails, HasNext, TookToken}
 use Rattle.tl_parse.specs.Looking.{Advanced}
 use Rattle.tl_parse.specs.Using.{barred, used, is_number}
 use Rattle.tl_parse.specs.Taking.{bar_of, barred_next, Uses, Barred}

@@ -75,29 +75,29 @@ unfolding terra_constant_at
 terra_constant_agrees levels s ts = sign_then levels s (λ x. give (terra_constant s x.0.place)) (λ t rest. Took (terra_constant s t.place) rest) (λ t us. refl) ts
 
 -- by the first token
-terra_primary_by : (levels left : ℕ) (symbol : Symbol) (text : List ℕ) (place : Place) (first : Bool) (ts : List Token) →
-    reading levels (terra.terra_primary left) (record { symbol = symbol; text = text; place = place; first_on_line = first } ∷ ts) ≡ terra_primary_at levels left (record { symbol = symbol; text = text; place = place; first_on_line = first } ∷ ts)
+terra_primary_by : (levels left : ℕ) (symbol : Symbol) (text : List ℕ) (place : Place) (offset : ℕ) (first : Bool) (ts : List Token) →
+    reading levels (terra.terra_primary left) (record { symbol = symbol; text = text; place = place; offset = offset; first_on_line = first } ∷ ts) ≡ terra_primary_at levels left (record { symbol = symbol; text = text; place = place; offset = offset; first_on_line = first } ∷ ts)
 unfolding terra_primary_at terra_simple_at
-terra_primary_by levels left symbols.Numeral text place first ts =
-    let us : List Token = record { symbol = symbols.Numeral; text = text; place = place; first_on_line = first } ∷ ts in lua.as_operand levels left terra.terra_number (terra_number_tree_at us) us (terra_number_agrees levels us)
-terra_primary_by levels left symbols.LongNumeral text place first ts =
-    let us : List Token = record { symbol = symbols.LongNumeral; text = text; place = place; first_on_line = first } ∷ ts in lua.as_operand levels left terra.terra_number (terra_number_tree_at us) us (terra_number_agrees levels us)
-terra_primary_by levels left symbols.UnsignedNumeral text place first ts =
-    let us : List Token = record { symbol = symbols.UnsignedNumeral; text = text; place = place; first_on_line = first } ∷ ts in lua.as_operand levels left terra.terra_number (terra_number_tree_at us) us (terra_number_agrees levels us)
-terra_primary_by levels left symbols.Literal text place first ts =
-    let us : List Token = record { symbol = symbols.Literal; text = text; place = place; first_on_line = first } ∷ ts in lua.as_operand levels left literal (literal_at us) us (literal_agrees levels us)
-terra_primary_by levels left symbols.Nil text place first ts =
-    let us : List Token = record { symbol = symbols.Nil; text = text; place = place; first_on_line = first } ∷ ts in lua.as_operand levels left terra.terra_nil (terra_constant_at symbols.Nil us) us (terra_constant_agrees levels symbols.Nil us)
-terra_primary_by levels left symbols.False text place first ts =
-    let us : List Token = record { symbol = symbols.False; text = text; place = place; first_on_line = first } ∷ ts in lua.as_operand levels left terra.terra_no (terra_constant_at symbols.False us) us (terra_constant_agrees levels symbols.False us)
-terra_primary_by levels left symbols.True text place first ts =
-    let us : List Token = record { symbol = symbols.True; text = text; place = place; first_on_line = first } ∷ ts in lua.as_operand levels left terra.terra_yes (terra_constant_at symbols.True us) us (terra_constant_agrees levels symbols.True us)
-terra_primary_by levels left symbol text place first ts = terra_prefix_agrees levels left (record { symbol = symbol; text = text; place = place; first_on_line = first } ∷ ts)
+terra_primary_by levels left symbols.Numeral text place offset first ts =
+    let us : List Token = record { symbol = symbols.Numeral; text = text; place = place; offset = offset; first_on_line = first } ∷ ts in lua.as_operand levels left terra.terra_number (terra_number_tree_at us) us (terra_number_agrees levels us)
+terra_primary_by levels left symbols.LongNumeral text place offset first ts =
+    let us : List Token = record { symbol = symbols.LongNumeral; text = text; place = place; offset = offset; first_on_line = first } ∷ ts in lua.as_operand levels left terra.terra_number (terra_number_tree_at us) us (terra_number_agrees levels us)
+terra_primary_by levels left symbols.UnsignedNumeral text place offset first ts =
+    let us : List Token = record { symbol = symbols.UnsignedNumeral; text = text; place = place; offset = offset; first_on_line = first } ∷ ts in lua.as_operand levels left terra.terra_number (terra_number_tree_at us) us (terra_number_agrees levels us)
+terra_primary_by levels left symbols.Literal text place offset first ts =
+    let us : List Token = record { symbol = symbols.Literal; text = text; place = place; offset = offset; first_on_line = first } ∷ ts in lua.as_operand levels left literal (literal_at us) us (literal_agrees levels us)
+terra_primary_by levels left symbols.Nil text place offset first ts =
+    let us : List Token = record { symbol = symbols.Nil; text = text; place = place; offset = offset; first_on_line = first } ∷ ts in lua.as_operand levels left terra.terra_nil (terra_constant_at symbols.Nil us) us (terra_constant_agrees levels symbols.Nil us)
+terra_primary_by levels left symbols.False text place offset first ts =
+    let us : List Token = record { symbol = symbols.False; text = text; place = place; offset = offset; first_on_line = first } ∷ ts in lua.as_operand levels left terra.terra_no (terra_constant_at symbols.False us) us (terra_constant_agrees levels symbols.False us)
+terra_primary_by levels left symbols.True text place offset first ts =
+    let us : List Token = record { symbol = symbols.True; text = text; place = place; offset = offset; first_on_line = first } ∷ ts in lua.as_operand levels left terra.terra_yes (terra_constant_at symbols.True us) us (terra_constant_agrees levels symbols.True us)
+terra_primary_by levels left symbol text place offset first ts = terra_prefix_agrees levels left (record { symbol = symbol; text = text; place = place; offset = offset; first_on_line = first } ∷ ts)
 
 pub terra_primary_agrees : (levels left : ℕ) (ts : List Token) → reading levels (terra.terra_primary left) ts ≡ terra_primary_at levels left ts
 unfolding terra_primary_at
 terra_primary_agrees levels left [] = terra_prefix_agrees levels left []
-terra_primary_agrees levels left (t ∷ ts) = terra_primary_by levels left t.symbol t.text t.place t.first_on_line ts
+terra_primary_agrees levels left (t ∷ ts) = terra_primary_by levels left t.symbol t.text t.place t.offset t.first_on_line ts
 
 -- ---- operators
 

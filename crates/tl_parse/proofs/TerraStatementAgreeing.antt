@@ -14,7 +14,7 @@ use Rattle.tl_tree.specs.declared.symbol.Symbol.TheVariants as symbols
 use Rattle.tl_tree.specs.Tokens.{Token, is, among}
 use Rattle.tl_tree.specs.Tree.{Tree, Nothing, More, Just, Name, TerraUnary, TerraParen, Escape, TerraAssign, Splice, TerraDo, TerraWhile, TerraRepeat, TerraIf, TerraFor, Var, EscapeBlock, TerraReturn, TerraBreak, Arm, Parameter, SpliceParameter, Variable, Part, Expression, Statements, TerraExpression, TerraOperand, TerraStatements}
 use Rattle.tl_tree.specs.Grammar.{Grammar, give, bind, when, Outcome, Took, Stop, ◌>>=◌, begins, is_of}
-use Rattle.tl_tree.specs.Forms.{sign, opening, listed, listed_behind, name, Chained, chained, chain, operand, operators, unary_of, comparisons, additive, multiplicative}
+use Rattle.tl_tree.specs.Forms.{sign, opening, listed, listed_behind, named, Chained, chained, chain, operand, operators, unary_of, comparisons, additive, multiplicative}
 use Rattle.tl_tree.specs.TerraExpressions.{shifts, terra_prefix_symbols}
 use Rattle.tl_tree.specs.TerraExpressions as expressions
 use Rattle.tl_tree.specs.TerraStatements as terra
@@ -28,8 +28,7 @@ use Rattle.tl_parse.specs.declared.terra_expressions.TerraPrecedence.TheVariants
 use Rattle.tl_parse.proofs.Uses.{bind_same, opens_any, opened_at}
 use Rattle.tl_parse.proofs.Following.{sign_then, open_then, then, either_is}
 use Rattle.tl_parse.proofs.Turns.{used_here, used_use}
-use Rattle.tl_parse.proofs.Agreeing.{name_agrees}
-use Rattle.tl_parse.proofs.TerraAgreeing.{escape_agrees, terra_name_agrees, terra_unary_agrees, terra_expression_agrees}
+use Rattle.tl_parse.proofs.TerraAgreeing.{terra_name_agrees, terra_unary_agrees, terra_expression_agrees}
 
 -- ---- one form after the other
 
@@ -87,11 +86,19 @@ pub terra_step_agrees : (levels : ℕ) (ts : List Token) → reading levels terr
 unfolding terra_step_at
 terra_step_agrees levels ts = optional levels symbols.Comma expressions.terra_expression (λ us. part_at levels TerraExpression us) (λ us. terra_expression_agrees levels us) ts
 
+variable_behind_agrees : (levels : ℕ) (place : Place) (n : Tree) (ts : List Token) → reading levels (terra.variable_behind place n) ts ≡ (written_type_at levels ts >>= λ e rest. Took (Variable place n e) rest)
+variable_behind_agrees levels place n ts = then_give levels terra.written_type (λ e. Variable place n e) (λ vs. written_type_at levels vs) (λ vs. written_type_agrees levels vs) ts
+
 pub terra_variable_agrees : (levels : ℕ) (ts : List Token) → reading levels terra.terra_variable ts ≡ terra_variable_at levels ts
 unfolding terra_variable_at
 terra_variable_agrees levels ts =
-    then levels expressions.terra_name (λ n. bind terra.written_type λ e. give (Variable n e)) (λ us. terra_name_at levels us) (λ n us. written_type_at levels us >>= λ e rest. Took (Variable n e) rest) (λ us. terra_name_agrees levels us)
-    (λ n us. then_give levels terra.written_type (λ e. Variable n e) (λ vs. written_type_at levels vs) (λ vs. written_type_agrees levels vs) us) ts
+    either_is (begins (is symbols.OpenBracket) ts) (reading levels (expressions.escaped terra.variable_behind) ts) (reading levels (named terra.variable_behind) ts)
+    (open_at symbols.OpenBracket levels ts >>= λ t a. part_at (levels - 1) (Expression modes.Plain) a >>= λ x b. sign_at symbols.CloseBracket b >>= λ y d. written_type_at levels d >>= λ e rest. Took (Variable t.place (Escape t.place x) e) rest)
+    (sign_at symbols.Name ts >>= λ n a. written_type_at levels a >>= λ e rest. Took (Variable n.place (Name n.place n.offset n.text) e) rest)
+    (open_then levels symbols.OpenBracket (Expression modes.Plain) (λ x. bind (sign symbols.CloseBracket) λ y. terra.variable_behind x.0.place (Escape x.0.place x.1)) (λ t x us. sign_at symbols.CloseBracket us >>= λ y d. written_type_at levels d >>= λ e rest. Took (Variable t.place (Escape t.place x) e) rest)
+    (λ t x us. sign_then levels symbols.CloseBracket (λ y. terra.variable_behind t.place (Escape t.place x)) (λ y d. written_type_at levels d >>= λ e rest. Took (Variable t.place (Escape t.place x) e) rest) (λ y vs. variable_behind_agrees levels t.place (Escape t.place x) vs) us) ts)
+    (sign_then levels symbols.Name (λ n. terra.variable_behind n.0.place (Name n.0.place n.0.offset n.0.text)) (λ n a. written_type_at levels a >>= λ e rest. Took (Variable n.place (Name n.place n.offset n.text) e) rest)
+    (λ n us. variable_behind_agrees levels n.place (Name n.place n.offset n.text) us) ts)
 
 pub terra_variables_agree : (levels : ℕ) (ts : List Token) → reading levels (listed terra.terra_variable) ts ≡ terra_variables_at levels ts
 unfolding terra_variables_at more_terra_variables_at
@@ -119,12 +126,14 @@ terra_returned_values_agree levels ts =
 pub terra_parameter_agrees : (levels : ℕ) (ts : List Token) → reading levels terra.terra_parameter ts ≡ terra_parameter_at levels ts
 unfolding terra_parameter_at
 terra_parameter_agrees levels ts =
-    either_is (begins (is symbols.OpenBracket) ts) (reading levels (bind expressions.escape λ e. give (SpliceParameter e)) ts) (reading levels (bind name λ n. bind (sign symbols.Colon) λ y. bind terra.terra_type λ e. give (Parameter n e)) ts)
-    (escape_at levels ts >>= λ e rest. Took (SpliceParameter e) rest) (name_at ts >>= λ n a. sign_at symbols.Colon a >>= λ y b. part_at levels (Expression modes.Types) b >>= λ e rest. Took (Parameter n e) rest)
-    (then_give levels expressions.escape (λ e. SpliceParameter e) (λ us. escape_at levels us) (λ us. escape_agrees levels us) ts)
-    (then levels name (λ n. bind (sign symbols.Colon) λ y. bind terra.terra_type λ e. give (Parameter n e)) (λ us. name_at us) (λ n a. sign_at symbols.Colon a >>= λ y b. part_at levels (Expression modes.Types) b >>= λ e rest. Took (Parameter n e) rest) (λ us. name_agrees levels us)
-    (λ n us. sign_then levels symbols.Colon (λ y. bind terra.terra_type λ e. give (Parameter n e)) (λ y b. part_at levels (Expression modes.Types) b >>= λ e rest. Took (Parameter n e) rest)
-    (λ y vs. then_give levels terra.terra_type (λ e. Parameter n e) (λ ws. part_at levels (Expression modes.Types) ws) (λ ws. type_agrees levels ws) vs) us) ts)
+    either_is (begins (is symbols.OpenBracket) ts) (reading levels (expressions.escaped λ place e. give (SpliceParameter place e)) ts) (reading levels (named λ place n. bind (sign symbols.Colon) λ y. bind terra.terra_type λ e. give (Parameter place n e)) ts)
+    (open_at symbols.OpenBracket levels ts >>= λ t a. part_at (levels - 1) (Expression modes.Plain) a >>= λ x b. sign_at symbols.CloseBracket b >>= λ y rest. Took (SpliceParameter t.place (Escape t.place x)) rest)
+    (sign_at symbols.Name ts >>= λ n a. sign_at symbols.Colon a >>= λ y b. part_at levels (Expression modes.Types) b >>= λ e rest. Took (Parameter n.place (Name n.place n.offset n.text) e) rest)
+    (open_then levels symbols.OpenBracket (Expression modes.Plain) (λ x. bind (sign symbols.CloseBracket) λ y. give (SpliceParameter x.0.place (Escape x.0.place x.1))) (λ t x us. sign_at symbols.CloseBracket us >>= λ y rest. Took (SpliceParameter t.place (Escape t.place x)) rest)
+    (λ t x us. sign_then levels symbols.CloseBracket (λ y. give (SpliceParameter t.place (Escape t.place x))) (λ y rest. Took (SpliceParameter t.place (Escape t.place x)) rest) (λ y vs. refl) us) ts)
+    (sign_then levels symbols.Name (λ n. bind (sign symbols.Colon) λ y. bind terra.terra_type λ e. give (Parameter n.0.place (Name n.0.place n.0.offset n.0.text) e)) (λ n a. sign_at symbols.Colon a >>= λ y b. part_at levels (Expression modes.Types) b >>= λ e rest. Took (Parameter n.place (Name n.place n.offset n.text) e) rest)
+    (λ n us. sign_then levels symbols.Colon (λ y. bind terra.terra_type λ e. give (Parameter n.place (Name n.place n.offset n.text) e)) (λ y b. part_at levels (Expression modes.Types) b >>= λ e rest. Took (Parameter n.place (Name n.place n.offset n.text) e) rest)
+    (λ y vs. then_give levels terra.terra_type (λ e. Parameter n.place (Name n.place n.offset n.text) e) (λ ws. part_at levels (Expression modes.Types) ws) (λ ws. type_agrees levels ws) vs) us) ts)
 
 pub terra_parameters_agree : (levels : ℕ) (ts : List Token) → reading levels terra.terra_parameters ts ≡ terra_parameters_at levels ts
 unfolding terra_parameters_at more_terra_parameters_at
@@ -272,11 +281,11 @@ name_is : (levels : ℕ) (t : Token) (ts : List Token) → is_of (is symbols.Nam
     reading levels (terra.terra_statement terra.FromName t Nothing) ts ≡ terra_simple_statement_at levels (t ∷ ts)
 unfolding terra_simple_statement_at terra_target_at terra_applied_at terra_base_at name_at
 name_is levels t ts h no_at no_paren no_bracket =
-    simple_behind_agrees levels t (chained (Name t.place t.text) chain shapes.Name) ts
+    simple_behind_agrees levels t (chained (Name t.place t.offset t.text) chain shapes.Name) ts
     ∙ sym (ap (λ (b : Bool). cond b (part_at levels TerraExpression (t ∷ ts) >>= λ e rest. Took (chained e chain shapes.Other) rest) (cond (begins (is symbols.OpenParen) (t ∷ ts)) (terra_paren_at levels (t ∷ ts)) (cond (begins (is symbols.OpenBracket) (t ∷ ts)) bracket named) >>= λ b rest. terra_suffixes_at levels b rest) >>= λ a rest. terra_statement_behind_at levels t.place a rest) no_at
     ∙ ap (λ (b : Bool). (cond b (terra_paren_at levels (t ∷ ts)) (cond (begins (is symbols.OpenBracket) (t ∷ ts)) bracket named) >>= λ b rest. terra_suffixes_at levels b rest) >>= λ a rest. terra_statement_behind_at levels t.place a rest) no_paren
     ∙ ap (λ (b : Bool). (cond b bracket named >>= λ b rest. terra_suffixes_at levels b rest) >>= λ a rest. terra_statement_behind_at levels t.place a rest) no_bracket
-    ∙ ap (λ (o : Outcome Token). (((o >>= λ t rest. Took (Name t.place t.text) rest) >>= λ n rest. Took (chained n chain shapes.Name) rest) >>= λ b rest. terra_suffixes_at levels b rest) >>= λ a rest. terra_statement_behind_at levels t.place a rest) (sign_first symbols.Name t ts h))
+    ∙ ap (λ (o : Outcome Token). (((o >>= λ t rest. Took (Name t.place t.offset t.text) rest) >>= λ n rest. Took (chained n chain shapes.Name) rest) >>= λ b rest. terra_suffixes_at levels b rest) >>= λ a rest. terra_statement_behind_at levels t.place a rest) (sign_first symbols.Name t ts h))
   where
     bracket : Outcome Chained
     bracket = escape_at levels (t ∷ ts) >>= λ e rest. Took (chained e chain shapes.Escape) rest
@@ -409,30 +418,30 @@ at_is levels t ts h is_prefix same_operator =
 abbrev pub statement_opens : Symbol → Option Part
 statement_opens s = terra.terra_statement_opens (terra.terra_statement_of s)
 
-pub statement_by : (levels : ℕ) (symbol : Symbol) (text : List ℕ) (place : Place) (first : Bool) (ts : List Token) → is_of (among terra.terra_statement_symbols) (record { symbol = symbol; text = text; place = place; first_on_line = first }) ≡ true →
-    (let t : Token = record { symbol = symbol; text = text; place = place; first_on_line = first } in
+pub statement_by : (levels : ℕ) (symbol : Symbol) (text : List ℕ) (place : Place) (offset : ℕ) (first : Bool) (ts : List Token) → is_of (among terra.terra_statement_symbols) (record { symbol = symbol; text = text; place = place; offset = offset; first_on_line = first }) ≡ true →
+    (let t : Token = record { symbol = symbol; text = text; place = place; offset = offset; first_on_line = first } in
     used_here (barred (opens_any (statement_opens t.symbol)) levels Plain t) t ts >>= λ u mid. opened_at levels (statement_opens t.symbol) mid >>= λ x rest. reading levels (terra.terra_statement (terra.terra_statement_of t.symbol) t x) rest)
-    ≡ terra_statement_at levels (record { symbol = symbol; text = text; place = place; first_on_line = first } ∷ ts)
+    ≡ terra_statement_at levels (record { symbol = symbol; text = text; place = place; offset = offset; first_on_line = first } ∷ ts)
 unfolding terra_statement_at
-statement_by levels symbols.Name text place first ts h = name_is levels (record { symbol = symbols.Name; text = text; place = place; first_on_line = first }) ts refl refl refl refl
-statement_by levels symbols.OpenParen text place first ts h = paren_is levels (record { symbol = symbols.OpenParen; text = text; place = place; first_on_line = first }) ts refl refl
-statement_by levels symbols.OpenBracket text place first ts h = bracket_is levels (record { symbol = symbols.OpenBracket; text = text; place = place; first_on_line = first }) ts refl refl refl
-statement_by levels symbols.At text place first ts h = at_is levels (record { symbol = symbols.At; text = text; place = place; first_on_line = first }) ts refl refl refl
-statement_by levels symbols.Do text place first ts h = do_is levels (record { symbol = symbols.Do; text = text; place = place; first_on_line = first }) ts refl
-statement_by levels symbols.While text place first ts h = while_is levels (record { symbol = symbols.While; text = text; place = place; first_on_line = first }) ts refl
-statement_by levels symbols.Repeat text place first ts h = repeat_is levels (record { symbol = symbols.Repeat; text = text; place = place; first_on_line = first }) ts refl
-statement_by levels symbols.If text place first ts h = if_is levels (record { symbol = symbols.If; text = text; place = place; first_on_line = first }) ts refl
-statement_by levels symbols.For text place first ts h = for_is levels (record { symbol = symbols.For; text = text; place = place; first_on_line = first }) ts refl
-statement_by levels symbols.Var text place first ts h = var_is levels (record { symbol = symbols.Var; text = text; place = place; first_on_line = first }) ts refl
-statement_by levels symbols.Escape text place first ts h = escape_is levels (record { symbol = symbols.Escape; text = text; place = place; first_on_line = first }) ts refl
-statement_by levels symbols.Return text place first ts h = return_is levels (record { symbol = symbols.Return; text = text; place = place; first_on_line = first }) ts refl
-statement_by levels symbols.Break text place first ts h = break_is levels (record { symbol = symbols.Break; text = text; place = place; first_on_line = first }) ts refl
-statement_by levels _ text place first ts h = absurd cc
+statement_by levels symbols.Name text place offset first ts h = name_is levels (record { symbol = symbols.Name; text = text; place = place; offset = offset; first_on_line = first }) ts refl refl refl refl
+statement_by levels symbols.OpenParen text place offset first ts h = paren_is levels (record { symbol = symbols.OpenParen; text = text; place = place; offset = offset; first_on_line = first }) ts refl refl
+statement_by levels symbols.OpenBracket text place offset first ts h = bracket_is levels (record { symbol = symbols.OpenBracket; text = text; place = place; offset = offset; first_on_line = first }) ts refl refl refl
+statement_by levels symbols.At text place offset first ts h = at_is levels (record { symbol = symbols.At; text = text; place = place; offset = offset; first_on_line = first }) ts refl refl refl
+statement_by levels symbols.Do text place offset first ts h = do_is levels (record { symbol = symbols.Do; text = text; place = place; offset = offset; first_on_line = first }) ts refl
+statement_by levels symbols.While text place offset first ts h = while_is levels (record { symbol = symbols.While; text = text; place = place; offset = offset; first_on_line = first }) ts refl
+statement_by levels symbols.Repeat text place offset first ts h = repeat_is levels (record { symbol = symbols.Repeat; text = text; place = place; offset = offset; first_on_line = first }) ts refl
+statement_by levels symbols.If text place offset first ts h = if_is levels (record { symbol = symbols.If; text = text; place = place; offset = offset; first_on_line = first }) ts refl
+statement_by levels symbols.For text place offset first ts h = for_is levels (record { symbol = symbols.For; text = text; place = place; offset = offset; first_on_line = first }) ts refl
+statement_by levels symbols.Var text place offset first ts h = var_is levels (record { symbol = symbols.Var; text = text; place = place; offset = offset; first_on_line = first }) ts refl
+statement_by levels symbols.Escape text place offset first ts h = escape_is levels (record { symbol = symbols.Escape; text = text; place = place; offset = offset; first_on_line = first }) ts refl
+statement_by levels symbols.Return text place offset first ts h = return_is levels (record { symbol = symbols.Return; text = text; place = place; offset = offset; first_on_line = first }) ts refl
+statement_by levels symbols.Break text place offset first ts h = break_is levels (record { symbol = symbols.Break; text = text; place = place; offset = offset; first_on_line = first }) ts refl
+statement_by levels _ text place offset first ts h = absurd cc
 
 -- `return` and `break` end a block
-pub ends_is : (symbol : Symbol) (text : List ℕ) (place : Place) (first : Bool) (ts : List Token) → is_of (among terra.terra_statement_symbols) (record { symbol = symbol; text = text; place = place; first_on_line = first }) ≡ true →
-    terra.ends_terra_block (terra.terra_statement_of symbol) ≡ begins (among last_symbols) (record { symbol = symbol; text = text; place = place; first_on_line = first } ∷ ts)
-ends_is (symbols.Bad kind) text place first ts h = absurd cc
-ends_is symbols.Return text place first ts h = refl
-ends_is symbols.Break text place first ts h = refl
-ends_is _ text place first ts h = refl
+pub ends_is : (symbol : Symbol) (text : List ℕ) (place : Place) (offset : ℕ) (first : Bool) (ts : List Token) → is_of (among terra.terra_statement_symbols) (record { symbol = symbol; text = text; place = place; offset = offset; first_on_line = first }) ≡ true →
+    terra.ends_terra_block (terra.terra_statement_of symbol) ≡ begins (among last_symbols) (record { symbol = symbol; text = text; place = place; offset = offset; first_on_line = first } ∷ ts)
+ends_is (symbols.Bad kind) text place offset first ts h = absurd cc
+ends_is symbols.Return text place offset first ts h = refl
+ends_is symbols.Break text place offset first ts h = refl
+ends_is _ text place offset first ts h = refl

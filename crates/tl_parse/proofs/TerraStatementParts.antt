@@ -1,5 +1,6 @@
 -- What reading the parts of Terra statements gives.
 use Rattle.std.proofs.Common.{◌≡◌, ℕ, Bool, true, false, cond, List, refl, sym, ◌∙◌}
+use Rattle.tl_base.specs.declared.place.Place.{Place}
 use Rattle.tl_tree.specs.declared.symbol.Symbol.TheVariants as symbols
 use Rattle.tl_tree.specs.Tokens.{Token, is}
 use Rattle.tl_tree.specs.Tree.{Tree, Nothing, Just, TerraBody, Quoted, TerraExpression, TerraStatements, TerraFunctionBody, QuotedCode}
@@ -22,22 +23,22 @@ block_agrees : (levels : ℕ) (ts : List Token) → reading levels terra.terra_b
 unfolding part_at
 block_agrees levels ts = refl
 
-function_body_agrees : (levels : ℕ) (ts : List Token) → reading levels terra.terra_function_body ts ≡ terra_function_body_at levels ts
+function_body_agrees : (levels : ℕ) (place : Place) (ts : List Token) → reading levels (terra.terra_function_body place) ts ≡ terra_function_body_at levels place ts
 unfolding terra_function_body_at
-function_body_agrees levels ts =
-    then levels terra.terra_parameters (λ ps. bind (sign symbols.CloseParen) λ y. bind terra.written_type λ r. bind terra.terra_block λ b. bind (sign symbols.End) λ z. give (TerraBody ps r b)) (λ us. terra_parameters_at levels us)
-    (λ ps a. sign_at symbols.CloseParen a >>= λ y b. written_type_at levels b >>= λ r d. part_at levels TerraStatements d >>= λ x e. sign_at symbols.End e >>= λ z rest. Took (TerraBody ps r x) rest) (λ us. terra_parameters_agree levels us)
-    (λ ps us. sign_then levels symbols.CloseParen (λ y. bind terra.written_type λ r. bind terra.terra_block λ b. bind (sign symbols.End) λ z. give (TerraBody ps r b)) (λ y b. written_type_at levels b >>= λ r d. part_at levels TerraStatements d >>= λ x e. sign_at symbols.End e >>= λ z rest. Took (TerraBody ps r x) rest)
-    (λ y us. then levels terra.written_type (λ r. bind terra.terra_block λ b. bind (sign symbols.End) λ z. give (TerraBody ps r b)) (λ vs. written_type_at levels vs) (λ r d. part_at levels TerraStatements d >>= λ x e. sign_at symbols.End e >>= λ z rest. Took (TerraBody ps r x) rest) (λ vs. written_type_agrees levels vs)
-    (λ r us. then levels terra.terra_block (λ b. bind (sign symbols.End) λ z. give (TerraBody ps r b)) (λ vs. part_at levels TerraStatements vs) (λ x e. sign_at symbols.End e >>= λ z rest. Took (TerraBody ps r x) rest) (λ vs. block_agrees levels vs)
-    (λ x us. sign_give levels symbols.End (TerraBody ps r x) us) us) us) us) ts
+function_body_agrees levels place ts =
+    then levels terra.terra_parameters (λ ps. bind (sign symbols.CloseParen) λ y. bind terra.written_type λ r. bind terra.terra_block λ b. bind (sign symbols.End) λ z. give (TerraBody place ps r b)) (λ us. terra_parameters_at levels us)
+    (λ ps a. sign_at symbols.CloseParen a >>= λ y b. written_type_at levels b >>= λ r d. part_at levels TerraStatements d >>= λ x e. sign_at symbols.End e >>= λ z rest. Took (TerraBody place ps r x) rest) (λ us. terra_parameters_agree levels us)
+    (λ ps us. sign_then levels symbols.CloseParen (λ y. bind terra.written_type λ r. bind terra.terra_block λ b. bind (sign symbols.End) λ z. give (TerraBody place ps r b)) (λ y b. written_type_at levels b >>= λ r d. part_at levels TerraStatements d >>= λ x e. sign_at symbols.End e >>= λ z rest. Took (TerraBody place ps r x) rest)
+    (λ y us. then levels terra.written_type (λ r. bind terra.terra_block λ b. bind (sign symbols.End) λ z. give (TerraBody place ps r b)) (λ vs. written_type_at levels vs) (λ r d. part_at levels TerraStatements d >>= λ x e. sign_at symbols.End e >>= λ z rest. Took (TerraBody place ps r x) rest) (λ vs. written_type_agrees levels vs)
+    (λ r us. then levels terra.terra_block (λ b. bind (sign symbols.End) λ z. give (TerraBody place ps r b)) (λ vs. part_at levels TerraStatements vs) (λ x e. sign_at symbols.End e >>= λ z rest. Took (TerraBody place ps r x) rest) (λ vs. block_agrees levels vs)
+    (λ x us. sign_give levels symbols.End (TerraBody place ps r x) us) us) us) us) ts
 
-function_body_is : (levels : ℕ) (ts : List Token) → part_at levels TerraFunctionBody ts ≡ reading levels terra.terra_function_body ts
+function_body_is : (levels : ℕ) (place : Place) (ts : List Token) → part_at levels (TerraFunctionBody place) ts ≡ reading levels (terra.terra_function_body place) ts
 unfolding part_at
-function_body_is levels ts = refl
+function_body_is levels place ts = refl
 
-pub terra_function_body_part : (levels : ℕ) (ts : List Token) → part_at levels TerraFunctionBody ts ≡ terra_function_body_at levels ts
-terra_function_body_part levels ts = function_body_is levels ts ∙ function_body_agrees levels ts
+pub terra_function_body_part : (levels : ℕ) (place : Place) (ts : List Token) → part_at levels (TerraFunctionBody place) ts ≡ terra_function_body_at levels place ts
+terra_function_body_part levels place ts = function_body_is levels place ts ∙ function_body_agrees levels place ts
 
 -- a block, and the expression behind it
 behind_block : (levels : ℕ) (b : Tree) (ts : List Token) →

@@ -179,9 +179,9 @@ unfolding next_terra_statement_at
 block_turn levels tree ended [] h = absurd cc
 block_turn levels tree ended (t ∷ ts) h =
     block_token levels tree ended t ts h
-    ∙ ap (λ (o : Outcome Tree). o >>= λ s mid. reading levels (bind semicolon λ y. give (sequence (More tree s) (terra.ends_terra_block (terra.terra_statement_of t.symbol)))) mid) (statement_by levels t.symbol t.text t.place t.first_on_line ts (begins_one ended t h))
+    ∙ ap (λ (o : Outcome Tree). o >>= λ s mid. reading levels (bind semicolon λ y. give (sequence (More tree s) (terra.ends_terra_block (terra.terra_statement_of t.symbol)))) mid) (statement_by levels t.symbol t.text t.place t.offset t.first_on_line ts (begins_one ended t h))
     ∙ line_behind levels tree (terra.ends_terra_block (terra.terra_statement_of t.symbol)) (terra_statement_at levels (t ∷ ts))
-    ∙ ap (λ (e : Bool). (terra_statement_at levels (t ∷ ts) >>= λ s a. cond (begins (is symbols.Semicolon) a) (sign_at symbols.Semicolon a >>= λ y rest. Took (sequence s e) rest) (Took (sequence s e) a)) >>= λ s rest. Took (sequence (More tree s.statements) s.ended) rest) (ends_is t.symbol t.text t.place t.first_on_line ts (begins_one ended t h))
+    ∙ ap (λ (e : Bool). (terra_statement_at levels (t ∷ ts) >>= λ s a. cond (begins (is symbols.Semicolon) a) (sign_at symbols.Semicolon a >>= λ y rest. Took (sequence s e) rest) (Took (sequence s e) a)) >>= λ s rest. Took (sequence (More tree s.statements) s.ended) rest) (ends_is t.symbol t.text t.place t.offset t.first_on_line ts (begins_one ended t h))
 
 pub terra_block_goes : (levels : ℕ) (tree : Tree) (ended : Bool) (ts : List Token) → begins (λ t. terra_goes_on ended t) ts ≡ true → more_terra_statements_at levels tree ended ts ≡ (next_terra_statement_at levels ts >>= λ s rest. more_terra_statements_at levels (More tree s.statements) s.ended rest)
 unfolding more_terra_statements_at

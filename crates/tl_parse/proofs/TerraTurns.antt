@@ -15,7 +15,7 @@ use Rattle.tl_tree.specs.Forms.{sign, opening, separator, Chained, chained, oper
 use Rattle.tl_tree.specs.LuaExpressions as lua
 use Rattle.tl_tree.specs.TerraExpressions as terra
 use Rattle.tl_tree.proofs.Unrolling.{bind_again}
-use Rattle.tl_parse.specs.Using.{language, reading, part_at, used, barred, sign_at, open_at, sign_among_at, operator_at, raise_at, call_at}
+use Rattle.tl_parse.specs.Using.{reading, part_at, used, barred, sign_at, open_at, sign_among_at, operator_at, raise_at, call_at}
 use Rattle.tl_parse.specs.Expressions.{name_at, separators, more_if}
 use Rattle.tl_parse.specs.TerraExpressions.{TerraSuffixed, terra_attached, terra_shape_of, terra_name_at, terra_call_suffix_at, terra_index_suffix_at, terra_select_suffix_at, terra_method_suffix_at, construct_suffix_at, terra_suffix_at, terra_suffixes_at, terra_symbols_of, terra_inner_of, terra_inner_at, terra_more_at, terra_one_more_at, more_terra_expressions_at, next_terra_expression_at, initialiser_of, initialiser_at, more_initialisers_at, next_initialiser_at}
 use Rattle.tl_parse.specs.TerraExpressions as suffixed
@@ -84,19 +84,19 @@ separator_agrees levels ts =
     (ap (λ (o : Outcome (Token × Tree)). o >>= λ y rest. Took Nothing rest) (plain_is levels (among separators) Plain (sample symbols.Semicolon) ts) ∙ bind_again (used (among separators) false 0 Plain ts) (λ t rest. Took (both t Nothing) rest) (λ y rest. Took Nothing rest))
     refl
 
-lua_expression_agrees : (levels : ℕ) (m : Mode) (ts : List Token) → reading levels (lua.expression language m) ts ≡ part_at levels (Expression m) ts
+lua_expression_agrees : (levels : ℕ) (m : Mode) (ts : List Token) → reading levels (lua.expression m) ts ≡ part_at levels (Expression m) ts
 unfolding part_at
 lua_expression_agrees levels m ts = refl
 
 entries_turn : (levels : ℕ) (m : Mode) (before : Tree) (ts : List Token) →
-    reading levels (bind (sign symbols.Name) λ x. bind (sign symbols.Colon) λ y. bind (lua.expression language m) λ e. bind separator λ z. give (More before (Entry (Name x.0.place x.0.text) e))) ts
+    reading levels (bind (sign symbols.Name) λ x. bind (sign symbols.Colon) λ y. bind (lua.expression m) λ e. bind separator λ z. give (More before (Entry (Name x.0.place x.0.offset x.0.text) e))) ts
     ≡ (entry_at levels m ts >>= λ e rest. Took (More before e) rest)
 unfolding entry_at name_at
 entries_turn levels m before ts =
-    sign_then levels symbols.Name (λ x. bind (sign symbols.Colon) λ y. bind (lua.expression language m) λ e. bind separator λ z. give (More before (Entry (Name x.0.place x.0.text) e))) (λ t a. behind_name (Name t.place t.text) a)
-    (λ t a. sign_then levels symbols.Colon (λ y. bind (lua.expression language m) λ e. bind separator λ z. give (More before (Entry (Name t.place t.text) e))) (λ y b. part_at levels (Expression m) b >>= λ e c. separator_at c >>= λ z rest. Took (More before (Entry (Name t.place t.text) e)) rest)
-    (λ y b. then levels (lua.expression language m) (λ e. bind separator λ z. give (More before (Entry (Name t.place t.text) e))) (λ us. part_at levels (Expression m) us) (λ e c. separator_at c >>= λ z rest. Took (More before (Entry (Name t.place t.text) e)) rest) (λ us. lua_expression_agrees levels m us)
-    (λ e c. then levels separator (λ z. give (More before (Entry (Name t.place t.text) e))) (λ us. separator_at us) (λ z rest. Took (More before (Entry (Name t.place t.text) e)) rest) (λ us. separator_agrees levels us) (λ z us. refl) c) b) a) ts
+    sign_then levels symbols.Name (λ x. bind (sign symbols.Colon) λ y. bind (lua.expression m) λ e. bind separator λ z. give (More before (Entry (Name x.0.place x.0.offset x.0.text) e))) (λ t a. behind_name (Name t.place t.offset t.text) a)
+    (λ t a. sign_then levels symbols.Colon (λ y. bind (lua.expression m) λ e. bind separator λ z. give (More before (Entry (Name t.place t.offset t.text) e))) (λ y b. part_at levels (Expression m) b >>= λ e c. separator_at c >>= λ z rest. Took (More before (Entry (Name t.place t.offset t.text) e)) rest)
+    (λ y b. then levels (lua.expression m) (λ e. bind separator λ z. give (More before (Entry (Name t.place t.offset t.text) e))) (λ us. part_at levels (Expression m) us) (λ e c. separator_at c >>= λ z rest. Took (More before (Entry (Name t.place t.offset t.text) e)) rest) (λ us. lua_expression_agrees levels m us)
+    (λ e c. then levels separator (λ z. give (More before (Entry (Name t.place t.offset t.text) e))) (λ us. separator_at us) (λ z rest. Took (More before (Entry (Name t.place t.offset t.text) e)) rest) (λ us. separator_agrees levels us) (λ z us. refl) c) b) a) ts
     ∙ sym (go (sign_at symbols.Name ts))
   where
     behind_name : Tree → List Token → Outcome Tree
@@ -110,25 +110,25 @@ entries_turn levels m before ts =
     colon n (Took y b) = value n (part_at levels (Expression m) b)
     colon n (Stop kind rest) = refl
 
-    go : (o : Outcome Token) → (((o >>= λ t rest. Took (Name t.place t.text) rest) >>= λ n a. sign_at symbols.Colon a >>= λ y b. part_at levels (Expression m) b >>= λ e c. separator_at c >>= λ z rest. Took (Entry n e) rest) >>= λ e rest. Took (More before e) rest)
-        ≡ (o >>= λ t a. behind_name (Name t.place t.text) a)
-    go (Took t a) = colon (Name t.place t.text) (sign_at symbols.Colon a)
+    go : (o : Outcome Token) → (((o >>= λ t rest. Took (Name t.place t.offset t.text) rest) >>= λ n a. sign_at symbols.Colon a >>= λ y b. part_at levels (Expression m) b >>= λ e c. separator_at c >>= λ z rest. Took (Entry n e) rest) >>= λ e rest. Took (More before e) rest)
+        ≡ (o >>= λ t a. behind_name (Name t.place t.offset t.text) a)
+    go (Took t a) = colon (Name t.place t.offset t.text) (sign_at symbols.Colon a)
     go (Stop kind rest) = refl
 
 pub entries_go : (levels : ℕ) (m : Mode) (before : Tree) (ts : List Token) → begins (is symbols.Name) ts ≡ true → more_entries_at levels m before ts ≡ (entry_at levels m ts >>= λ e rest. more_entries_at levels m (More before e) rest)
 unfolding more_entries_at
 entries_go levels m before ts h =
-    repeats levels (λ a t. is symbols.Name t) (λ a t. Plain) (λ a t. None) (λ t x a. bind (sign symbols.Colon) λ y. bind (lua.expression language m) λ e. bind separator λ z. give (More a (Entry (Name t.place t.text) e))) (sample symbols.Name) before
+    repeats levels (λ a t. is symbols.Name t) (λ a t. Plain) (λ a t. None) (λ t x a. bind (sign symbols.Colon) λ y. bind (lua.expression m) λ e. bind separator λ z. give (More a (Entry (Name t.place t.offset t.text) e))) (sample symbols.Name) before
     (entry_at levels m ts) (λ e. More before e) ts h (entries_turn levels m before ts)
 
 pub entries_end : (levels : ℕ) (m : Mode) (before : Tree) (ts : List Token) → begins (is symbols.Name) ts ≡ false → more_entries_at levels m before ts ≡ Took before ts
 unfolding more_entries_at
 entries_end levels m before ts h =
-    ends levels (λ a t. is symbols.Name t) (λ a t. Plain) (λ a t. None) (λ t x a. bind (sign symbols.Colon) λ y. bind (lua.expression language m) λ e. bind separator λ z. give (More a (Entry (Name t.place t.text) e))) before ts h
+    ends levels (λ a t. is symbols.Name t) (λ a t. Plain) (λ a t. None) (λ t x a. bind (sign symbols.Colon) λ y. bind (lua.expression m) λ e. bind separator λ z. give (More a (Entry (Name t.place t.offset t.text) e))) before ts h
 
 pub entry_shorter : (levels : ℕ) (m : Mode) (x : Tree) (ts rest : List Token) → entry_at levels m ts ≡ Took x rest → length rest < length ts
 entry_shorter levels m x ts rest e =
-    shorter_turn levels (λ t. is symbols.Name t) (λ t. Plain) (λ t. None) (sample symbols.Name) (λ x. bind (sign symbols.Colon) λ y. bind (lua.expression language m) λ e. bind separator λ z. give (More Nothing (Entry (Name x.0.place x.0.text) e)))
+    shorter_turn levels (λ t. is symbols.Name t) (λ t. Plain) (λ t. None) (sample symbols.Name) (λ x. bind (sign symbols.Colon) λ y. bind (lua.expression m) λ e. bind separator λ z. give (More Nothing (Entry (Name x.0.place x.0.offset x.0.text) e)))
     (entry_at levels m ts) (λ e. More Nothing e) x ts rest (entries_turn levels m Nothing ts) e
 
 -- ---- suffixes
@@ -192,37 +192,37 @@ method_behind levels a place ts =
     go (Took n b) = bracket n (open_at symbols.OpenParen levels b)
     go (Stop kind rest) = refl
 
-suffix_by : (levels : ℕ) (a : Chained) (symbol : Symbol) (text : List ℕ) (place : Place) (first : Bool) (ts : List Token) → is_of (λ t. terra.is_terra_suffix t) (record { symbol = symbol; text = text; place = place; first_on_line = first }) ≡ true →
-    (let t : Token = record { symbol = symbol; text = text; place = place; first_on_line = first } in used_here (barred (opens_any (terra.terra_suffix_opens (terra.terra_suffix_of t.symbol))) levels (lua.suffix_extra a t) t) t ts >>= λ u mid. behind levels a t mid)
-    ≡ (terra_suffix_at levels a.left (record { symbol = symbol; text = text; place = place; first_on_line = first } ∷ ts) >>= λ s rest. Took (with_suffix a s) rest)
+suffix_by : (levels : ℕ) (a : Chained) (symbol : Symbol) (text : List ℕ) (place : Place) (offset : ℕ) (first : Bool) (ts : List Token) → is_of (λ t. terra.is_terra_suffix t) (record { symbol = symbol; text = text; place = place; offset = offset; first_on_line = first }) ≡ true →
+    (let t : Token = record { symbol = symbol; text = text; place = place; offset = offset; first_on_line = first } in used_here (barred (opens_any (terra.terra_suffix_opens (terra.terra_suffix_of t.symbol))) levels (lua.suffix_extra a t) t) t ts >>= λ u mid. behind levels a t mid)
+    ≡ (terra_suffix_at levels a.left (record { symbol = symbol; text = text; place = place; offset = offset; first_on_line = first } ∷ ts) >>= λ s rest. Took (with_suffix a s) rest)
 unfolding terra_suffix_at terra_call_suffix_at terra_index_suffix_at terra_select_suffix_at terra_method_suffix_at construct_suffix_at call_at raise_at operator_at used
-suffix_by levels a symbols.OpenParen text place first ts h =
-    let t : Token = record { symbol = symbols.OpenParen; text = text; place = place; first_on_line = first } in
+suffix_by levels a symbols.OpenParen text place offset first ts h =
+    let t : Token = record { symbol = symbols.OpenParen; text = text; place = place; offset = offset; first_on_line = first } in
     use_behind (barred true levels (Calls a.left) t) t ts (λ mid. behind levels a t mid) (λ t b. part_at (levels - 1) TerraArguments b >>= λ x c. sign_at symbols.CloseParen c >>= λ y rest. Took (suffixed.Calls t.place x) rest) (λ r. with_suffix a r)
     (part_behind levels TerraArguments symbols.CloseParen a (λ x. lua.called a (TerraCall place a.tree x)) (λ x. suffixed.Calls place x) ts (λ x. refl))
-suffix_by levels a symbols.OpenBracket text place first ts h =
-    let t : Token = record { symbol = symbols.OpenBracket; text = text; place = place; first_on_line = first } in
+suffix_by levels a symbols.OpenBracket text place offset first ts h =
+    let t : Token = record { symbol = symbols.OpenBracket; text = text; place = place; offset = offset; first_on_line = first } in
     use_behind (barred true levels (Continues a.left) t) t ts (λ mid. behind levels a t mid) (λ t b. part_at (levels - 1) TerraExpression b >>= λ x c. sign_at symbols.CloseBracket c >>= λ y rest. Took (suffixed.Indexes t.place x) rest) (λ r. with_suffix a r)
     (part_behind levels TerraExpression symbols.CloseBracket a (λ x. lua.indexed a (TerraIndex place a.tree x)) (λ x. suffixed.Indexes place x) ts (λ x. refl))
-suffix_by levels a symbols.OpenBrace text place first ts h =
-    let t : Token = record { symbol = symbols.OpenBrace; text = text; place = place; first_on_line = first } in
+suffix_by levels a symbols.OpenBrace text place offset first ts h =
+    let t : Token = record { symbol = symbols.OpenBrace; text = text; place = place; offset = offset; first_on_line = first } in
     use_behind (barred true levels (Continues a.left) t) t ts (λ mid. behind levels a t mid) (λ t b. part_at (levels - 1) Initialisers b >>= λ x c. sign_at symbols.CloseBrace c >>= λ y rest. Took (suffixed.Constructs t.place x) rest) (λ r. with_suffix a r)
     (part_behind levels Initialisers symbols.CloseBrace a (λ x. chained (Construct place a.tree x) (down a.left) shapes.Other) (λ x. suffixed.Constructs place x) ts (λ x. refl))
-suffix_by levels a symbols.Dot text place first ts h =
-    let t : Token = record { symbol = symbols.Dot; text = text; place = place; first_on_line = first } in
+suffix_by levels a symbols.Dot text place offset first ts h =
+    let t : Token = record { symbol = symbols.Dot; text = text; place = place; offset = offset; first_on_line = first } in
     use_behind (barred false levels (Continues a.left) t) t ts (λ mid. behind levels a t mid) (λ t b. terra_name_at levels b >>= λ n rest. Took (suffixed.Selects t.place n) rest) (λ r. with_suffix a r)
     (ap (λ (o : Outcome Tree). o >>= λ n rest. Took (lua.indexed a (TerraSelect place a.tree n)) rest) (terra_name_agrees levels ts) ∙ sym (bind_again (terra_name_at levels ts) (λ n rest. Took (suffixed.Selects place n) rest) (λ r rest. Took (with_suffix a r) rest)))
-suffix_by levels a symbols.Colon text place first ts h =
-    let t : Token = record { symbol = symbols.Colon; text = text; place = place; first_on_line = first } in
+suffix_by levels a symbols.Colon text place offset first ts h =
+    let t : Token = record { symbol = symbols.Colon; text = text; place = place; offset = offset; first_on_line = first } in
     use_behind (barred false levels (Continues a.left) t) t ts (λ mid. behind levels a t mid)
     (λ t b. terra_name_at levels b >>= λ n c. open_at symbols.OpenParen levels c >>= λ u d. part_at (levels - 1) TerraArguments d >>= λ x e. sign_at symbols.CloseParen e >>= λ y rest. Took (suffixed.CallsMethod t.place n x) rest) (λ r. with_suffix a r) (method_behind levels a place ts)
-suffix_by levels a _ text place first ts h = absurd cc
+suffix_by levels a _ text place offset first ts h = absurd cc
 
 suffix_turn : (levels : ℕ) (a : Chained) (ts : List Token) → begins (λ t. terra.is_terra_suffix t) ts ≡ true →
     reading levels (bind (token (λ t. terra.is_terra_suffix t) (λ t. lua.suffix_extra a t) (λ t. terra.terra_suffix_opens (terra.terra_suffix_of t.symbol)) (sample symbols.Dot)) λ x. terra.terra_suffix (terra.terra_suffix_of x.0.symbol) x.0 x.1 a) ts
     ≡ (terra_suffix_at levels a.left ts >>= λ s rest. Took (with_suffix a s) rest)
 suffix_turn levels a [] h = absurd cc
-suffix_turn levels a (t ∷ ts) h = suffix_token levels a t ts h ∙ suffix_by levels a t.symbol t.text t.place t.first_on_line ts h
+suffix_turn levels a (t ∷ ts) h = suffix_token levels a t ts h ∙ suffix_by levels a t.symbol t.text t.place t.offset t.first_on_line ts h
 
 pub terra_suffixes_go : (levels : ℕ) (tree : Tree) (left : ℕ) (shape : Shape) (ts : List Token) → begins (λ t. terra.is_terra_suffix t) ts ≡ true → terra_suffixes_at levels (chained tree left shape) ts ≡ (terra_suffix_at levels left ts >>= λ s rest. terra_suffixes_at levels (chained (terra_attached s tree) (down left) (terra_shape_of s)) rest)
 unfolding terra_suffixes_at

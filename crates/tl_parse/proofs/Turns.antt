@@ -14,7 +14,7 @@ use Rattle.tl_tree.specs.Grammar.{Grammar, give, token, bind, when, Outcome, Too
 use Rattle.tl_tree.specs.Forms.{sign, Chained, chained, operand, listed_behind, operators}
 use Rattle.tl_tree.specs.LuaExpressions as lua
 use Rattle.tl_tree.proofs.Unrolling.{bind_again}
-use Rattle.tl_parse.specs.Using.{language, reading, part_at, used, barred, sign_at, sign_among_at, operator_at, raise_at, call_at}
+use Rattle.tl_parse.specs.Using.{reading, part_at, used, barred, sign_at, sign_among_at, operator_at, raise_at, call_at}
 use Rattle.tl_parse.specs.Expressions.{name_at, more_expressions_at, next_expression_at, Suffixed, attached, shape_of, call_suffix_at, index_suffix_at, select_suffix_at, method_arguments_at, method_suffix_at, table_suffix_at, literal_suffix_at, suffix_at, suffixes_at, symbols_of, inner_of, inner_at, more_at, one_more_at, separators, field_at, more_fields_at, next_field_at, more_if}
 use Rattle.tl_parse.specs.Expressions as suffixed
 use Rattle.tl_tree.specs.Tree as trees
@@ -49,15 +49,15 @@ list_shorter levels x e ts rest h =
 
 pub expressions_go : (levels : ℕ) (m : Mode) (before : Tree) (ts : List Token) → begins (is symbols.Comma) ts ≡ true → more_expressions_at levels m before ts ≡ (next_expression_at levels m ts >>= λ e rest. more_expressions_at levels m (More before e) rest)
 unfolding more_expressions_at next_expression_at part_at
-expressions_go levels m before ts h = list_goes levels (lua.expression language m) before ts h
+expressions_go levels m before ts h = list_goes levels (lua.expression m) before ts h
 
 pub expressions_end : (levels : ℕ) (m : Mode) (before : Tree) (ts : List Token) → begins (is symbols.Comma) ts ≡ false → more_expressions_at levels m before ts ≡ Took before ts
 unfolding more_expressions_at
-expressions_end levels m before ts h = list_ends levels (lua.expression language m) before ts h
+expressions_end levels m before ts h = list_ends levels (lua.expression m) before ts h
 
 pub expression_shorter : (levels : ℕ) (m : Mode) (x : Tree) (ts rest : List Token) → next_expression_at levels m ts ≡ Took x rest → length rest < length ts
 unfolding next_expression_at part_at
-expression_shorter levels m x ts rest e = list_shorter levels (lua.expression language m) x ts rest e
+expression_shorter levels m x ts rest e = list_shorter levels (lua.expression m) x ts rest e
 
 -- ---- operators that group to the left
 
@@ -117,18 +117,18 @@ fields_turn levels x x_at agrees before ts =
 pub fields_go : (levels : ℕ) (m : Mode) (before : Tree) (ts : List Token) → begins (among separators) ts ≡ true → more_fields_at levels m before ts ≡ (next_field_at levels m ts >>= λ f rest. more_fields_at levels m (more_if before f) rest)
 unfolding more_fields_at next_field_at
 fields_go levels m before ts h =
-    repeats levels (λ a t. among separators t) (λ a t. Plain) (λ a t. None) (λ t y a. when (is symbols.CloseBrace) (give a) (bind (lua.field language m) λ e. give (More a e))) (sample symbols.Comma) before (next_field_at levels m ts) (λ f. more_if before f) ts h
-    (fields_turn levels (lua.field language m) (λ us. field_at levels m us) (λ us. field_agrees levels m us) before ts)
+    repeats levels (λ a t. among separators t) (λ a t. Plain) (λ a t. None) (λ t y a. when (is symbols.CloseBrace) (give a) (bind (lua.field m) λ e. give (More a e))) (sample symbols.Comma) before (next_field_at levels m ts) (λ f. more_if before f) ts h
+    (fields_turn levels (lua.field m) (λ us. field_at levels m us) (λ us. field_agrees levels m us) before ts)
 
 pub fields_end : (levels : ℕ) (m : Mode) (before : Tree) (ts : List Token) → begins (among separators) ts ≡ false → more_fields_at levels m before ts ≡ Took before ts
 unfolding more_fields_at
-fields_end levels m before ts h = ends levels (λ a t. among separators t) (λ a t. Plain) (λ a t. None) (λ t y a. when (is symbols.CloseBrace) (give a) (bind (lua.field language m) λ e. give (More a e))) before ts h
+fields_end levels m before ts h = ends levels (λ a t. among separators t) (λ a t. Plain) (λ a t. None) (λ t y a. when (is symbols.CloseBrace) (give a) (bind (lua.field m) λ e. give (More a e))) before ts h
 
 pub field_shorter : (levels : ℕ) (m : Mode) (x : Option Tree) (ts rest : List Token) → next_field_at levels m ts ≡ Took x rest → length rest < length ts
 unfolding next_field_at
 field_shorter levels m x ts rest e =
-    shorter_turn levels (λ t. among separators t) (λ t. Plain) (λ t. None) (sample symbols.Comma) (λ y. when (is symbols.CloseBrace) (give Nothing) (bind (lua.field language m) λ e. give (More Nothing e))) (next_field_at levels m ts) (λ f. more_if Nothing f) x ts rest
-    (fields_turn levels (lua.field language m) (λ us. field_at levels m us) (λ us. field_agrees levels m us) Nothing ts) e
+    shorter_turn levels (λ t. among separators t) (λ t. Plain) (λ t. None) (sample symbols.Comma) (λ y. when (is symbols.CloseBrace) (give Nothing) (bind (lua.field m) λ e. give (More Nothing e))) (next_field_at levels m ts) (λ f. more_if Nothing f) x ts rest
+    (fields_turn levels (lua.field m) (λ us. field_at levels m us) (λ us. field_agrees levels m us) Nothing ts) e
 
 -- ---- suffixes
 
@@ -186,43 +186,43 @@ pub use_behind : {A : Type 0} (b : Option SyntaxKind) (t : Token) (ts : List Tok
 use_behind None t ts f k g h = h
 use_behind (Some kind) t ts f k g h = refl
 
-suffix_by : (levels : ℕ) (m : Mode) (a : Chained) (symbol : Symbol) (text : List ℕ) (place : Place) (first : Bool) (ts : List Token) → is_of (λ t. lua.is_suffix m t) (record { symbol = symbol; text = text; place = place; first_on_line = first }) ≡ true →
-    (let t : Token = record { symbol = symbol; text = text; place = place; first_on_line = first } in used_here (barred (opens_any (lua.suffix_opens m (lua.suffix_of t.symbol))) levels (lua.suffix_extra a t) t) t ts >>= λ u mid. behind levels m a t mid)
-    ≡ (suffix_at levels m a.left (record { symbol = symbol; text = text; place = place; first_on_line = first } ∷ ts) >>= λ s rest. Took (with_suffix a s) rest)
+suffix_by : (levels : ℕ) (m : Mode) (a : Chained) (symbol : Symbol) (text : List ℕ) (place : Place) (offset : ℕ) (first : Bool) (ts : List Token) → is_of (λ t. lua.is_suffix m t) (record { symbol = symbol; text = text; place = place; offset = offset; first_on_line = first }) ≡ true →
+    (let t : Token = record { symbol = symbol; text = text; place = place; offset = offset; first_on_line = first } in used_here (barred (opens_any (lua.suffix_opens m (lua.suffix_of t.symbol))) levels (lua.suffix_extra a t) t) t ts >>= λ u mid. behind levels m a t mid)
+    ≡ (suffix_at levels m a.left (record { symbol = symbol; text = text; place = place; offset = offset; first_on_line = first } ∷ ts) >>= λ s rest. Took (with_suffix a s) rest)
 unfolding suffix_at call_suffix_at index_suffix_at select_suffix_at method_suffix_at table_suffix_at literal_suffix_at call_at raise_at operator_at used
-suffix_by levels m a symbols.OpenParen text place first ts h =
-    let t : Token = record { symbol = symbols.OpenParen; text = text; place = place; first_on_line = first } in
+suffix_by levels m a symbols.OpenParen text place offset first ts h =
+    let t : Token = record { symbol = symbols.OpenParen; text = text; place = place; offset = offset; first_on_line = first } in
     use_behind (barred true levels (Calls a.left) t) t ts (λ mid. behind levels m a t mid) (λ t b. part_at (levels - 1) (Arguments m) b >>= λ x c. sign_at symbols.CloseParen c >>= λ y rest. Took (suffixed.Calls t.place x) rest) (λ r. with_suffix a r)
     (part_behind levels (Arguments m) symbols.CloseParen a (λ x. lua.called a (trees.Call place a.tree x)) (λ x. suffixed.Calls place x) ts (λ x. refl))
-suffix_by levels m a symbols.OpenBracket text place first ts h =
-    let t : Token = record { symbol = symbols.OpenBracket; text = text; place = place; first_on_line = first } in
+suffix_by levels m a symbols.OpenBracket text place offset first ts h =
+    let t : Token = record { symbol = symbols.OpenBracket; text = text; place = place; offset = offset; first_on_line = first } in
     use_behind (barred true levels (Continues a.left) t) t ts (λ mid. behind levels m a t mid) (λ t b. part_at (levels - 1) (Expression m) b >>= λ x c. sign_at symbols.CloseBracket c >>= λ y rest. Took (suffixed.Indexes t.place x) rest) (λ r. with_suffix a r)
     (part_behind levels (Expression m) symbols.CloseBracket a (λ x. lua.indexed a (trees.Index place a.tree x)) (λ x. suffixed.Indexes place x) ts (λ x. refl))
-suffix_by levels m a symbols.OpenBrace text place first ts h =
-    let t : Token = record { symbol = symbols.OpenBrace; text = text; place = place; first_on_line = first } in
+suffix_by levels m a symbols.OpenBrace text place offset first ts h =
+    let t : Token = record { symbol = symbols.OpenBrace; text = text; place = place; offset = offset; first_on_line = first } in
     use_behind (barred true levels (Continues a.left) t) t ts (λ mid. behind levels m a t mid) (λ t b. part_at (levels - 1) (Fields m) b >>= λ x c. sign_at symbols.CloseBrace c >>= λ y rest. Took (suffixed.Calls t.place (More Nothing (trees.Table t.place x))) rest) (λ r. with_suffix a r)
     (part_behind levels (Fields m) symbols.CloseBrace a (λ x. lua.called a (trees.Call place a.tree (More Nothing (trees.Table place x)))) (λ x. suffixed.Calls place (More Nothing (trees.Table place x))) ts (λ x. refl))
-suffix_by levels m a symbols.Dot text place first ts h =
-    let t : Token = record { symbol = symbols.Dot; text = text; place = place; first_on_line = first } in
+suffix_by levels m a symbols.Dot text place offset first ts h =
+    let t : Token = record { symbol = symbols.Dot; text = text; place = place; offset = offset; first_on_line = first } in
     use_behind (barred false levels (Continues a.left) t) t ts (λ mid. behind levels m a t mid) (λ t b. name_at b >>= λ n rest. Took (suffixed.Selects t.place n) rest) (λ r. with_suffix a r)
     (ap (λ (o : Outcome Tree). o >>= λ n rest. Took (lua.indexed a (trees.Select place a.tree n)) rest) (name_agrees levels ts) ∙ sym (bind_again (name_at ts) (λ n rest. Took (suffixed.Selects place n) rest) (λ r rest. Took (with_suffix a r) rest)))
-suffix_by levels m a symbols.Colon text place first ts h =
-    let t : Token = record { symbol = symbols.Colon; text = text; place = place; first_on_line = first } in
+suffix_by levels m a symbols.Colon text place offset first ts h =
+    let t : Token = record { symbol = symbols.Colon; text = text; place = place; offset = offset; first_on_line = first } in
     use_behind (barred false levels (Continues a.left) t) t ts (λ mid. behind levels m a t mid) (λ t b. name_at b >>= λ n c. method_arguments_at levels m c >>= λ x rest. Took (suffixed.CallsMethod t.place n x) rest) (λ r. with_suffix a r)
     (ap (λ (o : Outcome Tree). o >>= λ n mid. reading levels (lua.arguments m) mid >>= λ es rest. Took (lua.called a (trees.Method place a.tree n es)) rest) (name_agrees levels ts)
     ∙ bind_same (name_at ts) (λ n mid. reading levels (lua.arguments m) mid >>= λ es rest. Took (lua.called a (trees.Method place a.tree n es)) rest) (λ n c. (method_arguments_at levels m c >>= λ x rest. Took (suffixed.CallsMethod place n x) rest) >>= λ r rest. Took (with_suffix a r) rest)
     (λ n c. ap (λ (o : Outcome Tree). o >>= λ es rest. Took (lua.called a (trees.Method place a.tree n es)) rest) (method_arguments_agree levels m c) ∙ sym (bind_again (method_arguments_at levels m c) (λ x rest. Took (suffixed.CallsMethod place n x) rest) (λ r rest. Took (with_suffix a r) rest)))
     ∙ sym (bind_again (name_at ts) (λ n c. method_arguments_at levels m c >>= λ x rest. Took (suffixed.CallsMethod place n x) rest) (λ r rest. Took (with_suffix a r) rest)))
-suffix_by levels m a symbols.Literal text place first ts h =
-    let t : Token = record { symbol = symbols.Literal; text = text; place = place; first_on_line = first } in
+suffix_by levels m a symbols.Literal text place offset first ts h =
+    let t : Token = record { symbol = symbols.Literal; text = text; place = place; offset = offset; first_on_line = first } in
     use_behind (barred false levels (Continues a.left) t) t ts (λ mid. behind levels m a t mid) (λ t rest. Took (suffixed.Calls t.place (More Nothing (trees.Literal t.place t.text))) rest) (λ r. with_suffix a r) refl
-suffix_by levels m a _ text place first ts h = absurd cc
+suffix_by levels m a _ text place offset first ts h = absurd cc
 
 pub suffix_turn_of : (levels : ℕ) (class : Token → Bool) (m : Mode) (a : Chained) (ts : List Token) → begins class ts ≡ true → begins (λ t. lua.is_suffix m t) ts ≡ true →
     reading levels (bind (token class (λ t. lua.suffix_extra a t) (λ t. lua.suffix_opens m (lua.suffix_of t.symbol)) (sample symbols.Dot)) λ x. lua.suffix m (lua.suffix_of x.0.symbol) x.0 x.1 a) ts
     ≡ (suffix_at levels m a.left ts >>= λ s rest. Took (with_suffix a s) rest)
 suffix_turn_of levels class m a [] h k = absurd cc
-suffix_turn_of levels class m a (t ∷ ts) h k = suffix_token levels class m a t ts h ∙ suffix_by levels m a t.symbol t.text t.place t.first_on_line ts k
+suffix_turn_of levels class m a (t ∷ ts) h k = suffix_token levels class m a t ts h ∙ suffix_by levels m a t.symbol t.text t.place t.offset t.first_on_line ts k
 
 suffix_turn : (levels : ℕ) (m : Mode) (a : Chained) (ts : List Token) → begins (λ t. lua.is_suffix m t) ts ≡ true →
     reading levels (bind (token (λ t. lua.is_suffix m t) (λ t. lua.suffix_extra a t) (λ t. lua.suffix_opens m (lua.suffix_of t.symbol)) (sample symbols.Dot)) λ x. lua.suffix m (lua.suffix_of x.0.symbol) x.0 x.1 a) ts

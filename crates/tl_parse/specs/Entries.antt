@@ -8,7 +8,7 @@ use Rattle.tl_tree.specs.Tree.{Tree, Nothing, More, Name, Entry, Expression}
 use Rattle.tl_tree.specs.Grammar.{Grammar, Outcome, Took, ◌>>=◌, give, bind, many, begins}
 use Rattle.tl_tree.specs.Forms.{sign, separator}
 use Rattle.tl_tree.specs.LuaExpressions as lua
-use Rattle.tl_parse.specs.Using.{language, reading, part_at, sign_at, sign_among_at}
+use Rattle.tl_parse.specs.Using.{reading, part_at, sign_at, sign_among_at}
 use Rattle.tl_parse.specs.Expressions.{name_at, separators}
 
 -- a separator if one follows
@@ -23,7 +23,7 @@ entry_at levels m ts =
 abbrev pub entries_behind : Mode → Tree → Grammar Tree
 entries_behind m before =
     many (λ a t. is symbols.Name t) (λ a t. Plain) (λ a t. None)
-    (λ t x a. bind (sign symbols.Colon) λ y. bind (lua.expression language m) λ e. bind separator λ z. give (More a (Entry (Name t.place t.text) e)))
+    (λ t x a. bind (sign symbols.Colon) λ y. bind (lua.expression m) λ e. bind separator λ z. give (More a (Entry (Name t.place t.offset t.text) e)))
     before
 
 unfoldable pub more_entries_at : ℕ → Mode → Tree → List Token → Outcome Tree

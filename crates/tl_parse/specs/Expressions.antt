@@ -14,18 +14,18 @@ use Rattle.tl_tree.specs.Grammar.{Grammar, Outcome, Took, ◌>>=◌, begins, dow
 use Rattle.tl_tree.specs.Forms.{listed_behind, separated_behind, Chained, chained, chain, operand, in_chain, unary_of, comparisons, additive, multiplicative, operators}
 use Rattle.tl_tree.specs.LuaExpressions as lua
 use Rattle.tl_tree.specs.LuaExpressions.{is_varargs}
-use Rattle.tl_parse.specs.Using.{language, reading, part_at, sign_at, open_at, prefix_at, operator_at, raise_at, call_at, number_at, sign_among_at}
+use Rattle.tl_parse.specs.Using.{reading, part_at, sign_at, open_at, prefix_at, operator_at, raise_at, call_at, number_at, sign_among_at}
 use Rattle.tl_parse.specs.TerraCode.{terra_code_at}
 use Rattle.tl_parse.specs.declared.expressions.Precedence.{Precedence}
 use Rattle.tl_parse.specs.declared.expressions.Precedence.TheVariants as precedences
 
 unfoldable pub name_at : List Token → Outcome Tree
-name_at ts = sign_at symbols.Name ts >>= λ t rest. Took (Name t.place t.text) rest
+name_at ts = sign_at symbols.Name ts >>= λ t rest. Took (Name t.place t.offset t.text) rest
 
 -- ---- lists of expressions
 
 unfoldable pub more_expressions_at : ℕ → Mode → Tree → List Token → Outcome Tree
-more_expressions_at levels m before ts = reading levels (listed_behind (lua.expression language m) before) ts
+more_expressions_at levels m before ts = reading levels (listed_behind (lua.expression m) before) ts
 
 unfoldable pub next_expression_at : ℕ → Mode → List Token → Outcome Tree
 next_expression_at levels m ts = sign_at symbols.Comma ts >>= λ y mid. part_at levels (Expression m) mid
@@ -203,11 +203,11 @@ symbols_of precedences.Disjunction = symbols.Or ∷ []
 
 -- their operands
 abbrev pub inner_of : Precedence → Mode → ℕ → Grammar Chained
-inner_of precedences.Product m left = lua.unary language m left
-inner_of precedences.Sum m left = lua.product language m left
-inner_of precedences.Comparison m left = lua.concatenation language m left
-inner_of precedences.Conjunction m left = lua.comparison language m left
-inner_of precedences.Disjunction m left = lua.conjunction language m left
+inner_of precedences.Product m left = lua.unary m left
+inner_of precedences.Sum m left = lua.product m left
+inner_of precedences.Comparison m left = lua.concatenation m left
+inner_of precedences.Conjunction m left = lua.comparison m left
+inner_of precedences.Disjunction m left = lua.conjunction m left
 
 unfoldable pub inner_at : ℕ → Precedence → Mode → ℕ → List Token → Outcome Chained
 inner_at levels p m left ts = reading levels (inner_of p m left) ts
@@ -252,7 +252,7 @@ abbrev pub separators : List Symbol
 separators = symbols.Comma ∷ symbols.Semicolon ∷ []
 
 unfoldable pub more_fields_at : ℕ → Mode → Tree → List Token → Outcome Tree
-more_fields_at levels m before ts = reading levels (separated_behind (lua.field language m) before) ts
+more_fields_at levels m before ts = reading levels (separated_behind (lua.field m) before) ts
 
 -- a separator, and a field if one follows
 unfoldable pub next_field_at : ℕ → Mode → List Token → Outcome (Option Tree)

@@ -7,7 +7,7 @@ use Rattle.tl_lex.specs.Laws.{EndsOnce}
 use Rattle.tl_lex.specs.declared.SyntaxKind.{SyntaxKind}
 use Rattle.tl_lex.specs.declared.SyntaxKind.TheVariants as why
 use Rattle.tl_tree.specs.Symbols.{is_bad}
-use Rattle.tl_tree.specs.Tokens.{Token, tokens_in}
+use Rattle.tl_tree.specs.Tokens.{Token, tokens_in, place_of}
 use Rattle.tl_tree.specs.Tree.{Tree}
 use Rattle.tl_tree.specs.Item.{Item}
 use Rattle.tl_tree.specs.Nodes.{item_of, laid, last_of, if_any}
@@ -22,7 +22,7 @@ use Rattle.tl_parse.specs.declared.parser.Operand as operands
 
 -- a token of the code, without where its bytes lie in memory
 abbrev pub token_of : code.Next → Token
-token_of t = record { symbol = t.symbol; text = t.text.now; place = t.place; first_on_line = t.first_on_line }
+token_of t = record { symbol = t.symbol; text = t.text.now; place = t.place; offset = t.offset; first_on_line = t.first_on_line }
 
 -- a token that breaks a rule of tokens is the last
 abbrev pub unless_bad : Bool → Token → List Token → List Token
@@ -52,11 +52,6 @@ Ready p = EndsOnce (answers_left p.lexer) × (p.current.is_end ≡ true → p.cu
 -- the nodes that it made
 unfoldable pub items_of : Parser → List Item
 items_of p = map item_of p.nodes.items
-
--- the place of the next token, or of the end
-abbrev pub place_of : List Token → Place → Place
-place_of [] finish = finish
-place_of (t ∷ ts) finish = t.place
 
 -- the refusal of the next token, where the grammar does not go on with it
 abbrev pub blame_of : List Token → SyntaxKind

@@ -20,7 +20,7 @@ names_at levels ts = name_at ts >>= λ n a. more_names_at levels (More Nothing n
 
 -- a sign and a name behind it, with the place of the sign
 unfoldable pub behind_sign_at : Symbol → List Token → Outcome Tree
-behind_sign_at s ts = sign_at s ts >>= λ t a. sign_at symbols.Name a >>= λ n rest. Took (Name t.place n.text) rest
+behind_sign_at s ts = sign_at s ts >>= λ t a. sign_at symbols.Name a >>= λ n rest. Took (Name t.place n.offset n.text) rest
 
 unfoldable pub path_names_at : ℕ → Tree → List Token → Outcome Tree
 path_names_at levels before ts = reading levels (path_names before) ts

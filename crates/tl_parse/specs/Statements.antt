@@ -15,7 +15,7 @@ use Rattle.tl_tree.specs.Grammar.{Grammar, give, bind, many, Outcome, Took, ◌>
 use Rattle.tl_tree.specs.Forms.{semicolon, listed_behind, Chained}
 use Rattle.tl_tree.specs.LuaStatements as lua
 use Rattle.tl_tree.specs.LuaStatements.{looped, fresh, Sequence, sequence, Parameters, parameters_of, body_mode}
-use Rattle.tl_parse.specs.Using.{language, reading, part_at, sign_at, open_at}
+use Rattle.tl_parse.specs.Using.{reading, part_at, sign_at, open_at}
 use Rattle.tl_parse.specs.Expressions.{name_at, expressions_at, base_at, applied_at}
 use Rattle.tl_parse.specs.Paths.{more_names_at, names_at, path_at}
 use Rattle.tl_parse.specs.TerraDefinitions.{define_terra_at, define_struct_at, local_terra_at}
@@ -84,7 +84,7 @@ unfoldable pub arm_at : ℕ → Context → List Token → Outcome Tree
 arm_at levels c ts = part_at levels (Expression c.mode) ts >>= λ e a. open_at symbols.Then levels a >>= λ t b. part_at (levels - 1) (Statements c) b >>= λ x rest. Took (Arm e x) rest
 
 unfoldable pub more_arms_at : ℕ → Context → Tree → List Token → Outcome Tree
-more_arms_at levels c before ts = reading levels (lua.arms language c before) ts
+more_arms_at levels c before ts = reading levels (lua.arms c before) ts
 
 unfoldable pub next_arm_at : ℕ → Context → List Token → Outcome Tree
 next_arm_at levels c ts = sign_at symbols.Elseif ts >>= λ y a. arm_at levels c a
@@ -209,13 +209,13 @@ next_statement_at levels c ts =
 
 -- May a token be the first of one more statement of a block?
 abbrev pub goes_on : Context → Bool → Token → Bool
-goes_on c ended t = lua.is_statement language c t && not ended
+goes_on c ended t = lua.is_statement c t && not ended
 
 -- the statements behind those so far
 abbrev pub more_statements : Context → Sequence → Grammar Sequence
 more_statements c a =
     many (λ a t. goes_on c a.ended t) (λ a t. Plain) (λ a t. lua.statement_opens c (lua.statement_of t.symbol))
-    (λ t x a. bind (lua.statement language c (lua.statement_of t.symbol) t x) λ s. bind semicolon λ y. give (sequence (More a.statements s) (lua.ends_block (lua.statement_of t.symbol)))) a
+    (λ t x a. bind (lua.statement c (lua.statement_of t.symbol) t x) λ s. bind semicolon λ y. give (sequence (More a.statements s) (lua.ends_block (lua.statement_of t.symbol)))) a
 
 unfoldable pub more_statements_at : ℕ → Context → Tree → Bool → List Token → Outcome Sequence
 more_statements_at levels c tree ended ts = reading levels (more_statements c (sequence tree ended)) ts

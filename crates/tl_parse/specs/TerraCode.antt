@@ -10,7 +10,7 @@ use Rattle.tl_parse.specs.Using.{part_at, sign_at, open_at}
 
 unfoldable pub terra_function_at : ℕ → List Token → Outcome Tree
 terra_function_at levels ts =
-    sign_at symbols.Terra ts >>= λ t a. open_at symbols.OpenParen levels a >>= λ u b. part_at (levels - 1) TerraFunctionBody b >>= λ x rest. Took (TerraFunction t.place x) rest
+    sign_at symbols.Terra ts >>= λ t a. open_at symbols.OpenParen levels a >>= λ u b. part_at (levels - 1) (TerraFunctionBody u.place) b >>= λ x rest. Took (TerraFunction t.place x) rest
 
 -- the entries of a struct in their brackets
 unfoldable pub struct_body_at : ℕ → Mode → List Token → Outcome Tree

@@ -22,14 +22,14 @@ unfoldable pub define_terra_at : ℕ → Mode → List Token → Outcome Tree
 define_terra_at levels m ts =
     sign_at symbols.Terra ts >>= λ t a. path_at levels a >>= λ p b.
     if begins (is symbols.DoubleColon) b then (sign_at symbols.DoubleColon b >>= λ y d. part_at levels (Expression m) d >>= λ e rest. Took (DeclareTerra t.place p e) rest)
-    else (open_at symbols.OpenParen levels b >>= λ y d. part_at (levels - 1) TerraFunctionBody d >>= λ x rest. Took (DefineTerra t.place p x) rest)
+    else (open_at symbols.OpenParen levels b >>= λ y d. part_at (levels - 1) (TerraFunctionBody y.place) d >>= λ x rest. Took (DefineTerra t.place p x) rest)
 
 -- the same of a local variable, behind `local` at a place
 unfoldable pub local_terra_function_at : ℕ → Mode → Place → List Token → Outcome Tree
 local_terra_function_at levels m place ts =
     sign_at symbols.Terra ts >>= λ t a. name_at a >>= λ n b.
     if begins (is symbols.DoubleColon) b then (sign_at symbols.DoubleColon b >>= λ y d. part_at levels (Expression m) d >>= λ e rest. Took (LocalDeclareTerra place t.place n e) rest)
-    else (open_at symbols.OpenParen levels b >>= λ y d. part_at (levels - 1) TerraFunctionBody d >>= λ x rest. Took (LocalTerra place t.place n x) rest)
+    else (open_at symbols.OpenParen levels b >>= λ y d. part_at (levels - 1) (TerraFunctionBody y.place) d >>= λ x rest. Took (LocalTerra place t.place n x) rest)
 
 unfoldable pub local_struct_at : ℕ → Mode → Place → List Token → Outcome Tree
 local_struct_at levels m place ts =

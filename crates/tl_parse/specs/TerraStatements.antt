@@ -8,15 +8,14 @@ use Rattle.tl_tree.specs.declared.mode.Extra.TheVariants.{Plain}
 use Rattle.tl_tree.specs.declared.mode.Shape.{Shape}
 use Rattle.tl_tree.specs.declared.mode.Shape.TheVariants as shapes
 use Rattle.tl_tree.specs.Tokens.{Token, among, is}
-use Rattle.tl_tree.specs.Tree.{Tree, Nothing, More, Just, TerraAssign, TerraPerform, Splice, TerraDo, TerraWhile, TerraRepeat, TerraIf, TerraFor, Var, EscapeBlock, TerraReturn, TerraBreak, Block, Arm, Quoted, TerraBody, Parameter, SpliceParameter, Variable, Expression, Statements, TerraExpression, TerraStatements}
+use Rattle.tl_tree.specs.Tree.{Tree, Nothing, More, Just, Name, Escape, TerraAssign, TerraPerform, Splice, TerraDo, TerraWhile, TerraRepeat, TerraIf, TerraFor, Var, EscapeBlock, TerraReturn, TerraBreak, Block, Arm, Quoted, TerraBody, Parameter, SpliceParameter, Variable, Expression, Statements, TerraExpression, TerraStatements}
 use Rattle.tl_tree.specs.Grammar.{Grammar, give, bind, many, Outcome, Took, ◌>>=◌, begins}
 use Rattle.tl_tree.specs.Forms.{semicolon, listed_behind, Chained, chained, chain}
 use Rattle.tl_tree.specs.LuaStatements.{Sequence, sequence}
 use Rattle.tl_tree.specs.TerraStatements as terra
 use Rattle.tl_parse.specs.Using.{reading, part_at, sign_at, open_at}
-use Rattle.tl_parse.specs.Expressions.{name_at}
 use Rattle.tl_parse.specs.Statements.{first_place, is_call, last_symbols}
-use Rattle.tl_parse.specs.TerraExpressions.{escape_at, terra_name_at, terra_expressions_at, more_terra_expressions_at, terra_applied_at}
+use Rattle.tl_parse.specs.TerraExpressions.{terra_name_at, terra_expressions_at, more_terra_expressions_at, terra_applied_at}
 
 -- ---- parts of statements
 
@@ -49,7 +48,11 @@ terra_step_at levels ts =
     if begins (is symbols.Comma) ts then (sign_at symbols.Comma ts >>= λ y a. part_at levels TerraExpression a >>= λ e rest. Took (Just e) rest) else Took Nothing ts
 
 unfoldable pub terra_variable_at : ℕ → List Token → Outcome Tree
-terra_variable_at levels ts = terra_name_at levels ts >>= λ n a. written_type_at levels a >>= λ e rest. Took (Variable n e) rest
+terra_variable_at levels ts =
+    if begins (is symbols.OpenBracket) ts then
+    (open_at symbols.OpenBracket levels ts >>= λ t a. part_at (levels - 1) (Expression modes.Plain) a >>= λ x b. sign_at symbols.CloseBracket b >>= λ y d.
+    written_type_at levels d >>= λ e rest. Took (Variable t.place (Escape t.place x) e) rest)
+    else (sign_at symbols.Name ts >>= λ n a. written_type_at levels a >>= λ e rest. Took (Variable n.place (Name n.place n.offset n.text) e) rest)
 
 unfoldable pub next_terra_variable_at : ℕ → List Token → Outcome Tree
 next_terra_variable_at levels ts = sign_at symbols.Comma ts >>= λ y a. terra_variable_at levels a
@@ -177,8 +180,12 @@ terra_block_at levels ts = more_terra_statements_at levels Nothing false ts >>= 
 
 unfoldable pub terra_parameter_at : ℕ → List Token → Outcome Tree
 terra_parameter_at levels ts =
-    if begins (is symbols.OpenBracket) ts then (escape_at levels ts >>= λ e rest. Took (SpliceParameter e) rest)
-    else (name_at ts >>= λ n a. sign_at symbols.Colon a >>= λ y b. part_at levels (Expression modes.Types) b >>= λ e rest. Took (Parameter n e) rest)
+    if begins (is symbols.OpenBracket) ts then
+    (open_at symbols.OpenBracket levels ts >>= λ t a. part_at (levels - 1) (Expression modes.Plain) a >>= λ x b. sign_at symbols.CloseBracket b >>= λ y rest.
+    Took (SpliceParameter t.place (Escape t.place x)) rest)
+    else
+    (sign_at symbols.Name ts >>= λ n a. sign_at symbols.Colon a >>= λ y b. part_at levels (Expression modes.Types) b >>= λ e rest.
+    Took (Parameter n.place (Name n.place n.offset n.text) e) rest)
 
 unfoldable pub next_terra_parameter_at : ℕ → List Token → Outcome Tree
 next_terra_parameter_at levels ts = sign_at symbols.Comma ts >>= λ y a. terra_parameter_at levels a
@@ -190,10 +197,11 @@ unfoldable pub terra_parameters_at : ℕ → List Token → Outcome Tree
 terra_parameters_at levels ts =
     if begins (is symbols.CloseParen) ts then Took Nothing ts else (terra_parameter_at levels ts >>= λ p rest. more_terra_parameters_at levels (More Nothing p) rest)
 
-unfoldable pub terra_function_body_at : ℕ → List Token → Outcome Tree
-terra_function_body_at levels ts =
+-- behind a "(" at this place
+unfoldable pub terra_function_body_at : ℕ → Place → List Token → Outcome Tree
+terra_function_body_at levels place ts =
     terra_parameters_at levels ts >>= λ ps a. sign_at symbols.CloseParen a >>= λ y b. written_type_at levels b >>= λ r d. part_at levels TerraStatements d >>= λ x e.
-    sign_at symbols.End e >>= λ z rest. Took (TerraBody ps r x) rest
+    sign_at symbols.End e >>= λ z rest. Took (TerraBody place ps r x) rest
 
 unfoldable pub quoted_expression_at : ℕ → List Token → Outcome Tree
 quoted_expression_at levels ts =

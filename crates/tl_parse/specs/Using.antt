@@ -9,20 +9,15 @@ use Rattle.tl_tree.specs.declared.mode.Extra.TheVariants.{Plain, Continues, Call
 use Rattle.tl_tree.specs.Tokens.{Token, among, is}
 use Rattle.tl_tree.specs.Tree.{Tree, Part, FunctionBody}
 use Rattle.tl_tree.specs.Grammar.{Grammar, Outcome, Took, Stop, blame, run, below, bar, is_of, unless}
-use Rattle.tl_tree.specs.Forms.{Language, Joint}
 use Rattle.tl_tree.specs.Syntax.{syntax_of}
-
--- the language that the code reads
-abbrev pub language : Language
-language = Joint
 
 -- reading a grammar, with so many levels left
 abbrev pub reading : {A : Type 0} → ℕ → Grammar A → List Token → Outcome A
-reading levels g ts = run levels (λ part us. below (syntax_of language) levels part us) g ts
+reading levels g ts = run levels (λ part us. below syntax_of levels part us) g ts
 
 -- reading a part, with so many levels left in it
 unfoldable pub part_at : ℕ → Part → List Token → Outcome Tree
-part_at levels part ts = reading levels (syntax_of language part) ts
+part_at levels part ts = reading levels (syntax_of part) ts
 
 -- the limits on a token that opens a level or doesn't
 abbrev pub barred : Bool → ℕ → Extra → Token → Option SyntaxKind

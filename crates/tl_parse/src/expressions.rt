@@ -112,7 +112,7 @@ impl<'a> Parser<'a> {
         ensures err { IfErr result (λ e. Fails self.old (name_at (tokens_left self.old)) e) }
     {
         let token = read!(self.take(Symbol::Name));
-        self.push(Node::Name(token.place, token.text))
+        self.push(Node::Name(token.place, token.offset, token.text))
     }
 
     /// A number.

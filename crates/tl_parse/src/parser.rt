@@ -101,6 +101,7 @@ pub(crate) struct Next<'a> {
     pub(crate) symbol: Symbol,
     pub(crate) text: &'a str,
     pub(crate) place: Place,
+    pub(crate) offset: u32,
     pub(crate) first_on_line: bool,
     is_end: bool,
 }
@@ -132,6 +133,7 @@ impl<'a> Next<'a> {
                 symbol: symbol_of(token.kind, token.text),
                 text: token.text,
                 place: token.place,
+                offset: token.offset,
                 first_on_line: token.first_on_line,
                 is_end: is_end(token.kind),
             },
@@ -139,6 +141,7 @@ impl<'a> Next<'a> {
                 symbol: Symbol::Bad(error.kind),
                 text: "",
                 place: error.place,
+                offset: 0,
                 first_on_line: error.place.word == 1,
                 is_end: false,
             },
@@ -253,6 +256,16 @@ impl<'a> Parser<'a> {
         ensures more { result ≡ false → tokens_left self.now ≡ [] → ⊥ }
     {
         self.current.is_end
+    }
+
+    /// The place where the text ends, of which no token is left.
+    #[tactic(auto, using(crate::proofs::Looking::finish_is))]
+    pub(crate) fn finish(&self) -> Place
+        requires ready { Ready self.now }
+        requires end { tokens_left self.now ≡ [] }
+        ensures { result ≡ end_of self.now }
+    {
+        self.current.place
     }
 
     /// The refusal of the next token, where the grammar does not go on with it.

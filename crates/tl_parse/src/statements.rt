@@ -140,7 +140,7 @@ impl<'a> Parser<'a> {
     {
         let token = read!(self.take(symbol));
         let name = read!(self.take(Symbol::Name));
-        self.push(Node::Name(token.place, name.text))
+        self.push(Node::Name(token.place, name.offset, name.text))
     }
 
     /// The method's name of a path, if it has one.

@@ -24,8 +24,8 @@ impl<'a> Parser<'a> {
         ensures err { IfErr result (λ e. Fails self.old (terra_function_at levels (tokens_left self.old)) e) }
     {
         let token = read!(self.take(Symbol::Terra));
-        read!(self.open(Symbol::OpenParen, levels));
-        let body = read!(self.terra_function_body(levels - 1));
+        let paren = read!(self.open(Symbol::OpenParen, levels));
+        let body = read!(self.terra_function_body(paren.place, levels - 1));
         self.push(Node::Expression(token.place, Expression::Terra(body)))
     }
 

@@ -41,8 +41,8 @@ impl<'a> Parser<'a> {
             let declared = read!(self.expression(mode, levels));
             return self.push(Node::Statement(token.place, Statement::DeclareTerra(path, declared)));
         }
-        read!(self.open(Symbol::OpenParen, levels));
-        let body = read!(self.terra_function_body(levels - 1));
+        let paren = read!(self.open(Symbol::OpenParen, levels));
+        let body = read!(self.terra_function_body(paren.place, levels - 1));
         self.push(Node::Statement(token.place, Statement::Terra(path, body)))
     }
 
@@ -69,8 +69,8 @@ impl<'a> Parser<'a> {
                 Statement::LocalDeclareTerra(token.place, name, declared),
             ));
         }
-        read!(self.open(Symbol::OpenParen, levels));
-        let body = read!(self.terra_function_body(levels - 1));
+        let paren = read!(self.open(Symbol::OpenParen, levels));
+        let body = read!(self.terra_function_body(paren.place, levels - 1));
         self.push(Node::Statement(place, Statement::LocalTerra(token.place, name, body)))
     }
 

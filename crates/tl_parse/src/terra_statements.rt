@@ -13,7 +13,9 @@ use crate::error::SyntaxError;
 use crate::parser::{CHAIN, Operand, Parser, add};
 use crate::statements::is_call;
 use tl_base::{NodeId, Place};
-use tl_tree::{Context, Mode, Node, NodeList, Piece, Shape, Symbol, TerraStatement};
+use tl_tree::{
+    Context, Mode, Node, NodeList, Piece, Shape, Symbol, TerraExpression, TerraStatement,
+};
 
 /// The block of an `escape`.
 const EMITTING: Context = Context {
@@ -183,9 +185,19 @@ impl<'a> Parser<'a> {
         ensures ok { IfOk result (λ r. TookTree self.old self.new (terra_variable_at levels (tokens_left self.old)) r) }
         ensures err { IfErr result (λ e. Fails self.old (terra_variable_at levels (tokens_left self.old)) e) }
     {
-        let name = read!(self.terra_name(levels));
+        if self.next_is(Symbol::OpenBracket) {
+            let token = read!(self.open(Symbol::OpenBracket, levels));
+            let code = read!(self.expression(Mode::Plain, levels - 1));
+            read!(self.take(Symbol::CloseBracket));
+            let escape = Node::TerraExpression(token.place, TerraExpression::Escape(code));
+            let name = read!(self.push(escape));
+            let written = read!(self.written_type(levels));
+            return self.push(Node::Piece(Piece::Variable(token.place, name, written)));
+        }
+        let token = read!(self.take(Symbol::Name));
+        let name = read!(self.push(Node::Name(token.place, token.offset, token.text)));
         let written = read!(self.written_type(levels));
-        self.push(Node::Piece(Piece::Variable(name, written)))
+        self.push(Node::Piece(Piece::Variable(token.place, name, written)))
     }
 
     /// A `,` and a name that `var` declares.
@@ -521,13 +533,18 @@ impl<'a> Parser<'a> {
         ensures err { IfErr result (λ e. Fails self.old (terra_parameter_at levels (tokens_left self.old)) e) }
     {
         if self.next_is(Symbol::OpenBracket) {
-            let escape = read!(self.escape(levels));
-            return self.push(Node::Piece(Piece::SpliceParameter(escape)));
+            let token = read!(self.open(Symbol::OpenBracket, levels));
+            let code = read!(self.expression(Mode::Plain, levels - 1));
+            read!(self.take(Symbol::CloseBracket));
+            let escape = Node::TerraExpression(token.place, TerraExpression::Escape(code));
+            let name = read!(self.push(escape));
+            return self.push(Node::Piece(Piece::SpliceParameter(token.place, name)));
         }
-        let name = read!(self.name());
+        let token = read!(self.take(Symbol::Name));
+        let name = read!(self.push(Node::Name(token.place, token.offset, token.text)));
         read!(self.take(Symbol::Colon));
         let written = read!(self.expression(Mode::Types, levels));
-        self.push(Node::Piece(Piece::Parameter(name, written)))
+        self.push(Node::Piece(Piece::Parameter(token.place, name, written)))
     }
 
     /// A `,` and a parameter.
@@ -566,28 +583,32 @@ impl<'a> Parser<'a> {
     /// The parameters, the result type and the block of a Terra function, up to its `end`.
     #[cycle(parser)]
     #[tactic(auto, using(crate::proofs::Failing::fails_bind, crate::proofs::Failing::fails_after), unfolding(crate::specs::TerraStatements::terra_function_body_at))]
-    fn terra_body(&mut self, levels: u32) -> Result<NodeId, SyntaxError>
+    fn terra_body(&mut self, place: Place, levels: u32) -> Result<NodeId, SyntaxError>
         requires { Ready self.old }
-        ensures ok { IfOk result (λ r. TookTree self.old self.new (terra_function_body_at levels (tokens_left self.old)) r) }
-        ensures err { IfErr result (λ e. Fails self.old (terra_function_body_at levels (tokens_left self.old)) e) }
+        ensures ok { IfOk result (λ r. TookTree self.old self.new (terra_function_body_at levels place (tokens_left self.old)) r) }
+        ensures err { IfErr result (λ e. Fails self.old (terra_function_body_at levels place (tokens_left self.old)) e) }
     {
         let parameters = read!(self.terra_parameters(levels));
         read!(self.take(Symbol::CloseParen));
         let written = read!(self.written_type(levels));
         let block = read!(self.terra_block(levels));
         read!(self.take(Symbol::End));
-        self.push(Node::Piece(Piece::TerraBody(parameters, written, block)))
+        self.push(Node::Piece(Piece::TerraBody(place, parameters, written, block)))
     }
 
-    /// What the `(` of a Terra function's parameters opens.
+    /// What the `(` of a Terra function's parameters, at this place, opens.
     #[cycle(parser)]
     #[tactic(auto, using(crate::proofs::TerraStatementParts::terra_function_body_part, crate::proofs::Failing::fails_same))]
-    pub(crate) fn terra_function_body(&mut self, levels: u32) -> Result<NodeId, SyntaxError>
+    pub(crate) fn terra_function_body(
+        &mut self,
+        place: Place,
+        levels: u32,
+    ) -> Result<NodeId, SyntaxError>
         requires { Ready self.old }
-        ensures ok { IfOk result (λ r. TookTree self.old self.new (part_at levels parts.TerraFunctionBody (tokens_left self.old)) r) }
-        ensures err { IfErr result (λ e. Fails self.old (part_at levels parts.TerraFunctionBody (tokens_left self.old)) e) }
+        ensures ok { IfOk result (λ r. TookTree self.old self.new (part_at levels (parts.TerraFunctionBody place) (tokens_left self.old)) r) }
+        ensures err { IfErr result (λ e. Fails self.old (part_at levels (parts.TerraFunctionBody place) (tokens_left self.old)) e) }
     {
-        self.terra_body(levels)
+        self.terra_body(place, levels)
     }
 
     /// The expression of a quote behind `in`, if there is one.

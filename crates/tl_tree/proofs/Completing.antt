@@ -1,7 +1,7 @@
 -- What was not refused can be completed: some tokens after it make the grammar read it.
 use Rattle.std.proofs.Common.{◌≡◌, ℕ, zero, suc, ◌≤◌, Bool, true, false, cond, List, [], ◌∷◌, ◌++◌, length, Option, Some, None, refl, sym, ap, ◌∙◌, subst, append_assoc, append-nil, arith, inl, inr, length-append}
 use Rattle.std.proofs.lemmas.List.{append_cancel_right}
-use Rattle.tl_base.specs.declared.place.Place.{Place}
+use Rattle.tl_lex.specs.Answers.{Position}
 use Rattle.tl_tree.specs.Tokens.{Token}
 use Rattle.tl_tree.specs.declared.symbol.Symbol.{Symbol}
 use Rattle.tl_tree.specs.declared.symbol.Symbol.TheVariants.{Bad}
@@ -46,7 +46,7 @@ Forgives (Stop why []) rule tail = Unit {0}
 Forgives (Stop why (t ∷ rest)) rule tail = (role : Use) → bar role t ≡ Some why → rule role (t ∷ tail) ≡ true
 
 -- tokens that complete the front, from this place on and whatever follows them, if its first token is of the class after
-pub record Completion {A : Type 0} (R : Rule → List Token → A → List Token → Type 0) (p : Place) (o : Outcome A) (first after : Token → Bool) (front : List Token) : Type 0 where
+pub record Completion {A : Type 0} (R : Rule → List Token → A → List Token → Type 0) (p : Position) (o : Outcome A) (first after : Token → Bool) (front : List Token) : Type 0 where
   pub more : List Token
   pub spelled : Spelled p more
   pub value : A
@@ -54,7 +54,7 @@ pub record Completion {A : Type 0} (R : Rule → List Token → A → List Token
   pub reads : (close : List Token) → fits after close ≡ true → (rule : Rule) → Allows rule → Lenient rule (length (more ++ close)) → Forgives o rule (more ++ close) → R rule (front ++ (more ++ close)) value close
 
 -- the same from nothing on
-pub record Bare {A : Type 0} (R : Rule → List Token → A → List Token → Type 0) (p : Place) (first after : Token → Bool) : Type 0 where
+pub record Bare {A : Type 0} (R : Rule → List Token → A → List Token → Type 0) (p : Position) (first after : Token → Bool) : Type 0 where
   pub more : List Token
   pub spelled : Spelled p more
   pub value : A
@@ -108,13 +108,13 @@ apart b class h (t ∷ ts) e = h t e
 abbrev pub Both : {A B : Type 0} → (Rule → List Token → A → List Token → Type 0) → (Rule → A → List Token → B → List Token → Type 0) → Rule → List Token → B → List Token → Type 0
 Both {A} Reads1 Reads2 rule ts b rest = (a : A) × (m : List Token) × Reads1 rule ts a m × Reads2 rule a m b rest
 
-module _ {A B : Type 0} (o1 : List Token → Outcome A) (Reads1 : Rule → List Token → A → List Token → Type 0) (o2 : A → List Token → Outcome B) (Reads2 : Rule → A → List Token → B → List Token → Type 0) (p : Place) (first mid after : Token → Bool) (n : ℕ)
+module _ {A B : Type 0} (o1 : List Token → Outcome A) (Reads1 : Rule → List Token → A → List Token → Type 0) (o2 : A → List Token → Outcome B) (Reads2 : Rule → A → List Token → B → List Token → Type 0) (p : Position) (first mid after : Token → Bool) (n : ℕ)
     (leaves1 : (ts : List Token) → Leaves (rest_of (o1 ts)) ts)
     (steady1 : (front r x b : List Token) (t : Token) → rest_of (o1 (front ++ r)) ≡ t ∷ (b ++ r) → o1 (front ++ x) ≡ with_rest (t ∷ (b ++ x)) (o1 (front ++ r)))
     (sound1 : (rule : Rule) → Allows rule → (ts : List Token) (a : A) (rest : List Token) → o1 ts ≡ Took a rest → Reads1 rule ts a rest)
     (leaves2 : (a : A) (ts : List Token) → Leaves (rest_of (o2 a ts)) ts)
     (completes1 : (front r : List Token) → Shows (o1 (front ++ r)) r → Completion Reads1 p (o1 (front ++ r)) first mid front)
-    (bare2 : (q : Place) (a : A) → Bare (λ rule ts b rest. Reads2 rule a ts b rest) q mid after)
+    (bare2 : (q : Position) (a : A) → Bare (λ rule ts b rest. Reads2 rule a ts b rest) q mid after)
     (completes2 : (a : A) (front r : List Token) → length (front ++ r) ≤ n → Shows (o2 a (front ++ r)) r → Completion (λ rule ts b rest. Reads2 rule a ts b rest) p (o2 a (front ++ r)) mid after front) where
   join : (o : Outcome A) (o' : Outcome B) (front : List Token) → Completion Reads1 p o first mid front → ((rule : Rule) (tail : List Token) → Forgives o' rule tail → Forgives o rule tail) → Completion (Both Reads1 Reads2) p o' first after front
   join o o' front c1 pass =
@@ -182,7 +182,7 @@ fits_also a b h (t ∷ ts) e = h t e
 
 -- ---- the completions from nothing, form by form
 
-pub bare-both : {A B : Type 0} (Reads1 : Rule → List Token → A → List Token → Type 0) (Reads2 : Rule → A → List Token → B → List Token → Type 0) (p : Place) (first mid after : Token → Bool) → Bare Reads1 p first mid → ((q : Place) (a : A) → Bare (λ rule ts b rest. Reads2 rule a ts b rest) q mid after) → Bare (Both Reads1 Reads2) p first after
+pub bare-both : {A B : Type 0} (Reads1 : Rule → List Token → A → List Token → Type 0) (Reads2 : Rule → A → List Token → B → List Token → Type 0) (p : Position) (first mid after : Token → Bool) → Bare Reads1 p first mid → ((q : Position) (a : A) → Bare (λ rule ts b rest. Reads2 rule a ts b rest) q mid after) → Bare (Both Reads1 Reads2) p first after
 bare-both Reads1 Reads2 p first mid after c1 h =
     let c2 = h (behind p c1.more) c1.value in
     record {
@@ -203,7 +203,7 @@ bare-both Reads1 Reads2 p first mid after c1 h =
 module _ (levels : ℕ) (parts : Rule → Parts) where
   -- a grammar that some tokens complete, from each place on
   abbrev pub Starts : {A : Type 0} → Grammar A → (Token → Bool) → (Token → Bool) → Type 0
-  Starts g first after = (p : Place) → Bare (λ rule ts a rest. Reads rule levels (parts rule) g ts a rest) p first after
+  Starts g first after = (p : Position) → Bare (λ rule ts a rest. Reads rule levels (parts rule) g ts a rest) p first after
 
   pub bare-within : {A : Type 0} (g : Grammar A) (first first' after after' : Token → Bool) → ((t : Token) → first t ≡ true → first' t ≡ true) → ((t : Token) → after' t ≡ true → after t ≡ true) → Starts g first after → Starts g first' after'
   bare-within g first first' after after' wider narrower starts p =
@@ -213,7 +213,7 @@ module _ (levels : ℕ) (parts : Rule → Parts) where
   pub bare-give : {A : Type 0} (a : A) (after : Token → Bool) → Starts (give a) after after
   bare-give a after p = record { more = []; spelled = tt; value = a; starts = λ close k. k; reads = λ close k rule al le. (refl, refl) }
 
-  pub bare-opened : (class : Token → Bool) (extra : Token → Extra) (opens : Token → Option Part) (sample : Token) (k : Symbol) (p : Place) (first other after : Token → Bool) → is_written k ≡ true → is_of class (placed p k) ≡ true → first (placed p k) ≡ true → Bare (λ rule ts x rest. Opened (parts rule) (opens (placed p k)) ts x rest) (next_word p) other after → Bare (λ rule ts a rest. Reads rule levels (parts rule) (token class extra opens sample) ts a rest) p first after
+  pub bare-opened : (class : Token → Bool) (extra : Token → Extra) (opens : Token → Option Part) (sample : Token) (k : Symbol) (p : Position) (first other after : Token → Bool) → is_written k ≡ true → is_of class (placed p k) ≡ true → first (placed p k) ≡ true → Bare (λ rule ts x rest. Opened (parts rule) (opens (placed p k)) ts x rest) (next_word p k) other after → Bare (λ rule ts a rest. Reads rule levels (parts rule) (token class extra opens sample) ts a rest) p first after
   bare-opened class extra opens sample k p first other after written good good_first c =
       let t : Token = placed p k in
       record {
@@ -225,12 +225,12 @@ module _ (levels : ℕ) (parts : Rule → Parts) where
             (c.more ++ close, refl, good, le (record { opens = opens t; levels = levels; extra = extra t }) (t ∷ (c.more ++ close)) (omega arith), c.reads close h rule al (λ role ts short. le role ts (omega arith)));
       }
 
-  pub bare-none : (p : Place) (after : Token → Bool) → Bare (λ rule ts x rest. Opened (parts rule) None ts x rest) p after after
+  pub bare-none : (p : Position) (after : Token → Bool) → Bare (λ rule ts x rest. Opened (parts rule) None ts x rest) p after after
   bare-none p after = record { more = []; spelled = tt; value = Nothing; starts = λ close k. k; reads = λ close k rule al le. (refl, refl) }
 
-  pub bare-token : (class : Token → Bool) (extra : Token → Extra) (opens : Token → Option Part) (sample : Token) (k : Symbol) (first after : Token → Bool) → is_written k ≡ true → ((p : Place) → is_of class (placed p k) ≡ true) → ((p : Place) → first (placed p k) ≡ true) → ((p : Place) → opens (placed p k) ≡ None) → Starts (token class extra opens sample) first after
+  pub bare-token : (class : Token → Bool) (extra : Token → Extra) (opens : Token → Option Part) (sample : Token) (k : Symbol) (first after : Token → Bool) → is_written k ≡ true → ((p : Position) → is_of class (placed p k) ≡ true) → ((p : Position) → first (placed p k) ≡ true) → ((p : Position) → opens (placed p k) ≡ None) → Starts (token class extra opens sample) first after
   bare-token class extra opens sample k first after written good good_first none p =
-      bare-opened class extra opens sample k p first after after written (good p) (good_first p) (subst (λ (o : Option Part). Bare (λ rule ts x rest. Opened (parts rule) o ts x rest) (next_word p) after after) (sym (none p)) (bare-none (next_word p) after))
+      bare-opened class extra opens sample k p first after after written (good p) (good_first p) (subst (λ (o : Option Part). Bare (λ rule ts x rest. Opened (parts rule) o ts x rest) (next_word p k) after after) (sym (none p)) (bare-none (next_word p k) after))
 
   pub bare-bind : {A B : Type 0} (g : Grammar A) (h : A → Grammar B) (first mid after : Token → Bool) → Starts g first mid → ((a : A) → Starts (h a) mid after) → Starts (bind g h) first after
   bare-bind g h first mid after c d p = bare-both (λ rule ts a rest. Reads rule levels (parts rule) g ts a rest) (λ rule a ts b rest. Reads rule levels (parts rule) (h a) ts b rest) p first mid after (c p) (λ q a. d a q)
@@ -249,28 +249,28 @@ module _ (levels : ℕ) (parts : Rule → Parts) where
 module _ (levels : ℕ) (readers : Readers) (parts : Rule → Parts) (part_after : Part → Token → Bool)
     (readers_leave : ReadersLeave readers) (readers_steady : ReadersSteady readers)
     (readers_sound : (rule : Rule) → Allows rule → ReadersSound levels readers (parts rule))
-    (parts_bare : (part : Part) (p : Place) → Bare (λ rule ts x rest. parts rule part ts x rest) p (λ t. true) (part_after part))
-    (readers_complete : is_none_left levels ≡ false → (part : Part) (p : Place) (front r : List Token) → Shows (readers part (front ++ r)) r → Completion (λ rule ts x rest. parts rule part ts x rest) p (readers part (front ++ r)) (λ t. true) (part_after part) front) where
+    (parts_bare : (part : Part) (p : Position) → Bare (λ rule ts x rest. parts rule part ts x rest) p (λ t. true) (part_after part))
+    (readers_complete : is_none_left levels ≡ false → (part : Part) (p : Position) (front r : List Token) → Shows (readers part (front ++ r)) r → Completion (λ rule ts x rest. parts rule part ts x rest) p (readers part (front ++ r)) (λ t. true) (part_after part) front) where
   -- what is completed by what follows
   abbrev pub Covers : (Token → Bool) → Option Part → Type 0
   Covers after None = Unit {0}
   Covers after (Some part) = (t : Token) → after t ≡ true → part_after part t ≡ true
 
   abbrev pub Completes : {A : Type 0} → Grammar A → (Token → Bool) → (Token → Bool) → Type 0
-  Completes g first after = (p : Place) (front r : List Token) → Shows (run levels readers g (front ++ r)) r → Completion (λ rule ts a rest. Reads rule levels (parts rule) g ts a rest) p (run levels readers g (front ++ r)) first after front
+  Completes g first after = (p : Position) (front r : List Token) → Shows (run levels readers g (front ++ r)) r → Completion (λ rule ts a rest. Reads rule levels (parts rule) g ts a rest) p (run levels readers g (front ++ r)) first after front
 
   pub starts_of : {A : Type 0} (g : Grammar A) (first after : Token → Bool) → Completes g first after → Starts levels parts g first after
   starts_of g first after completes p =
       let c = completes p [] [] (shows_nothing (run levels readers g []) (leaves levels readers readers_leave g [])) in
       record { more = c.more; spelled = c.spelled; value = c.value; starts = λ close k. c.starts refl close k; reads = λ close k rule al le. c.reads close k rule al le (forgives_nothing (run levels readers g []) rule (c.more ++ close) (leaves levels readers readers_leave g [])) }
 
-  opened_bare : (o : Option Part) (p : Place) (after : Token → Bool) → Covers after o → Bare (λ rule ts x rest. Opened (parts rule) o ts x rest) p (λ t. true) after
+  opened_bare : (o : Option Part) (p : Position) (after : Token → Bool) → Covers after o → Bare (λ rule ts x rest. Opened (parts rule) o ts x rest) p (λ t. true) after
   opened_bare None p after h = record { more = []; spelled = tt; value = Nothing; starts = λ close k. all_fit close; reads = λ close k rule al le. (refl, refl) }
   opened_bare (Some part) p after h =
       let c = parts_bare part p in
       record { more = c.more; spelled = c.spelled; value = c.value; starts = λ close k. all_fit (c.more ++ close); reads = λ close k rule al le. c.reads close (fits_also after (part_after part) h close k) rule al le }
 
-  opened_completes : (extra : Extra) (t : Token) (o : Option Part) (p : Place) (after : Token → Bool) → Covers after o → bar (record { opens = o; levels = levels; extra = extra }) t ≡ None → (front r : List Token) → Shows (opened readers o (front ++ r)) r → Completion (λ rule ts x rest. Opened (parts rule) o ts x rest) p (opened readers o (front ++ r)) (λ t. true) after front
+  opened_completes : (extra : Extra) (t : Token) (o : Option Part) (p : Position) (after : Token → Bool) → Covers after o → bar (record { opens = o; levels = levels; extra = extra }) t ≡ None → (front r : List Token) → Shows (opened readers o (front ++ r)) r → Completion (λ rule ts x rest. Opened (parts rule) o ts x rest) p (opened readers o (front ++ r)) (λ t. true) after front
   opened_completes extra t None p after h k [] r s = record { more = []; spelled = tt; value = Nothing; starts = λ none close k2. all_fit close; reads = λ close k2 rule al le fo. (refl, refl) }
   opened_completes extra t None p after h k (u ∷ front) r s = absurd cc
   opened_completes extra t (Some part) p after h k front r s =
@@ -286,9 +286,9 @@ module _ (levels : ℕ) (readers : Readers) (parts : Rule → Parts) (part_after
   completes-give a after p [] r sh = record { more = []; spelled = tt; value = a; starts = λ none close k. k; reads = λ close k rule al le fo. (refl, refl) }
   completes-give a after p (t ∷ front) r sh = absurd cc
 
-  pub completes-token : (class : Token → Bool) (extra : Token → Extra) (opens : Token → Option Part) (sample : Token) (k : Symbol) (first after : Token → Bool) → is_written k ≡ true → ((p : Place) → is_of class (placed p k) ≡ true) → ((p : Place) → first (placed p k) ≡ true) → ((t : Token) → is_of class t ≡ true → Covers after (opens t)) → Completes (token class extra opens sample) first after
+  pub completes-token : (class : Token → Bool) (extra : Token → Extra) (opens : Token → Option Part) (sample : Token) (k : Symbol) (first after : Token → Bool) → is_written k ≡ true → ((p : Position) → is_of class (placed p k) ≡ true) → ((p : Position) → first (placed p k) ≡ true) → ((t : Token) → is_of class t ≡ true → Covers after (opens t)) → Completes (token class extra opens sample) first after
   completes-token class extra opens sample k first after written good good_first covers p [] r sh =
-      let c = bare-opened levels parts class extra opens sample k p first (λ t. true) after written (good p) (good_first p) (opened_bare (opens (placed p k)) (next_word p) after (covers (placed p k) (good p))) in
+      let c = bare-opened levels parts class extra opens sample k p first (λ t. true) after written (good p) (good_first p) (opened_bare (opens (placed p k)) (next_word p k) after (covers (placed p k) (good p))) in
       record { more = c.more; spelled = c.spelled; value = c.value; starts = λ none close h. c.starts close h; reads = λ close h rule al le fo. c.reads close h rule al le }
   completes-token class extra opens sample k first after written good good_first covers p (t ∷ front) r sh = go (is_of class t) refl (bar (use_of t) t) refl sh
     where
@@ -345,10 +345,10 @@ module _ (levels : ℕ) (readers : Readers) (parts : Rule → Parts) (part_after
       front r (omega arith) (run levels readers g (front ++ r)) refl sh
 
   -- a token and what follows it, which begins in a class that depends on the token
-  pub completes-then : {A : Type 0} (class : Token → Bool) (extra : Token → Extra) (opens : Token → Option Part) (sample : Token) (s : Symbol) (h : Token × Tree → Grammar A) (first : Token → Bool) (other : Token → Token → Bool) (after : Token → Bool) → is_written s ≡ true → ((p : Place) → is_of class (placed p s) ≡ true) → ((p : Place) → first (placed p s) ≡ true) → ((t : Token) → is_of class t ≡ true → Covers (other t) (opens t)) → ((x : Token × Tree) → is_of class x.0 ≡ true → Completes (h x) (other x.0) after) → Completes (bind (token class extra opens sample) h) first after
+  pub completes-then : {A : Type 0} (class : Token → Bool) (extra : Token → Extra) (opens : Token → Option Part) (sample : Token) (s : Symbol) (h : Token × Tree → Grammar A) (first : Token → Bool) (other : Token → Token → Bool) (after : Token → Bool) → is_written s ≡ true → ((p : Position) → is_of class (placed p s) ≡ true) → ((p : Position) → first (placed p s) ≡ true) → ((t : Token) → is_of class t ≡ true → Covers (other t) (opens t)) → ((x : Token × Tree) → is_of class x.0 ≡ true → Completes (h x) (other x.0) after) → Completes (bind (token class extra opens sample) h) first after
   completes-then {A} class extra opens sample s h first other after written good good_first covers next p [] r sh =
       let t : Token = placed p s in
-      let c = bare-both (λ rule ts x rest. Opened (parts rule) (opens t) ts x rest) (λ rule x ts y rest. Reads rule levels (parts rule) (h (t, x)) ts y rest) (next_word p) (λ t. true) (other t) after (opened_bare (opens t) (next_word p) (other t) (covers t (good p))) (λ q x. starts_of (h (t, x)) (other t) after (next (t, x) (good p)) q) in
+      let c = bare-both (λ rule ts x rest. Opened (parts rule) (opens t) ts x rest) (λ rule x ts y rest. Reads rule levels (parts rule) (h (t, x)) ts y rest) (next_word p s) (λ t. true) (other t) after (opened_bare (opens t) (next_word p s) (other t) (covers t (good p))) (λ q x. starts_of (h (t, x)) (other t) after (next (t, x) (good p)) q) in
       record {
         more = t ∷ c.more;
         spelled = ((s, written, refl), c.spelled);
@@ -455,10 +455,10 @@ module _ (levels : ℕ) (readers : Readers) (parts : Rule → Parts) (part_after
         let s = bind_took (opened readers (opens a t) inner) (λ x mid. run levels readers (step t x a) mid) y next e in
         (s.0, s.1, sound-opened levels readers (parts rule) (readers_sound rule al) (extra a t) t (opens a t) k inner s.0 s.1 s.2, sound rule al levels readers (parts rule) readers_leave (readers_sound rule al) (step t s.0 a) s.1 y next s.3)
 
-    inside_bare : (p : Place) (a : A) (t : Token) → is_of (class a) t ≡ true → Bare (λ rule inner y next. Inside rule a t inner y next) p (λ t. true) after
+    inside_bare : (p : Position) (a : A) (t : Token) → is_of (class a) t ≡ true → Bare (λ rule inner y next. Inside rule a t inner y next) p (λ t. true) after
     inside_bare p a t h = bare-both (λ rule ts x rest. Opened (parts rule) (opens a t) ts x rest) (λ rule x ts y rest. Reads rule levels (parts rule) (step t x a) ts y rest) p (λ t. true) (other t) after (opened_bare (opens a t) p (other t) (covers a t h)) (λ q x. starts_of (step t x a) (other t) after (step_completes t x a h) q)
 
-    inside_completes : (p : Place) (a : A) (t : Token) → is_of (class a) t ≡ true → bar (record { opens = opens a t; levels = levels; extra = extra a t }) t ≡ None → (front r : List Token) → Shows (go_on a t (front ++ r)) r → Completion (λ rule inner y next. Inside rule a t inner y next) p (go_on a t (front ++ r)) (λ t. true) after front
+    inside_completes : (p : Position) (a : A) (t : Token) → is_of (class a) t ≡ true → bar (record { opens = opens a t; levels = levels; extra = extra a t }) t ≡ None → (front r : List Token) → Shows (go_on a t (front ++ r)) r → Completion (λ rule inner y next. Inside rule a t inner y next) p (go_on a t (front ++ r)) (λ t. true) after front
     inside_completes p a t h k front r s =
         seq (λ ts. opened readers (opens a t) ts) (λ rule ts x rest. Opened (parts rule) (opens a t) ts x rest) (λ x ts. run levels readers (step t x a) ts) (λ rule x ts y rest. Reads rule levels (parts rule) (step t x a) ts y rest) p (λ t. true) (other t) after (length (front ++ r))
         (λ ts. leaves-opened readers readers_leave (opens a t) ts) (λ f s x b u e. steady-opened readers readers_steady (opens a t) f s x b u e)
@@ -466,7 +466,7 @@ module _ (levels : ℕ) (readers : Readers) (parts : Rule → Parts) (part_after
         (opened_completes (extra a t) t (opens a t) p (other t) (covers a t h) k) (λ q x. starts_of (step t x a) (other t) after (step_completes t x a h) q) (λ x f s le k2. step_completes t x a h p f s k2)
         front r (omega arith) (opened readers (opens a t) (front ++ r)) refl s
 
-    completes-runs : (p : Place) (n : ℕ) (a : A) (front r : List Token) → length (front ++ r) ≤ n → Shows (runs n a (front ++ r)) r → Completion (λ rule ts b rest. Turns class (Turn rule) a ts b rest) p (runs n a (front ++ r)) after after front
+    completes-runs : (p : Position) (n : ℕ) (a : A) (front r : List Token) → length (front ++ r) ≤ n → Shows (runs n a (front ++ r)) r → Completion (λ rule ts b rest. Turns class (Turn rule) a ts b rest) p (runs n a (front ++ r)) after after front
     completes-runs p n a [] r le sh =
         record { more = []; spelled = tt; value = a; starts = λ none close k. k; reads = λ close k rule al le2 fo. stop (apart after (class a) (far a) close k) }
     completes-runs p zero a (t ∷ front) r le sh = absurd (omega arith)

@@ -1,6 +1,6 @@
 -- Reading gives a tree exactly where the tokens have it, and refuses a token exactly where the first row holds.
 use Rattle.std.proofs.Common.{◌≡◌, ℕ, zero, suc, ◌<◌, ◌≤◌, Bool, true, false, not, cond, eqb, List, [], ◌∷◌, ◌++◌, length, Option, Some, None, refl, sym, ap, ◌∙◌, subst, append_assoc, append-nil, arith, inl, inr, ◌⊎◌, length-append, eq-eqb}
-use Rattle.tl_base.specs.declared.place.Place.{Place}
+use Rattle.tl_lex.specs.Answers.{Position}
 use Rattle.tl_tree.specs.Tokens.{Token}
 use Rattle.tl_tree.specs.declared.symbol.Symbol.{Symbol}
 use Rattle.tl_tree.specs.declared.symbol.Symbol.TheVariants.{Bad}
@@ -557,7 +557,7 @@ module _ {A : Type 0} (o : List Token → Outcome A) (Reads : Language A) (meets
 -- ---- what goes on
 
 -- The front breaks no rule of tokens, and goes on from this place with tokens that stand one behind the other, the limits aside.
-pub record GoesOn {A : Type 0} (Reads : Language A) (p : Place) (front : List Token) : Type 0 where
+pub record GoesOn {A : Type 0} (Reads : Language A) (p : Position) (front : List Token) : Type 0 where
   pub good : AllGood front
   pub more : List Token
   pub tree : A

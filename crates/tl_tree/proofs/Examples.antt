@@ -19,7 +19,6 @@ use Rattle.tl_tree.specs.Symbols.{spelling}
 use Rattle.tl_tree.specs.Tokens.{Token}
 use Rattle.tl_tree.specs.Tree as t
 use Rattle.tl_tree.specs.Refusing.{Answer, IsTree, Refused}
-use Rattle.tl_tree.specs.Forms.{LuaAlone, Joint}
 use Rattle.tl_tree.proofs.Answering.{reads}
 
 -- ---- tokens and trees
@@ -30,18 +29,18 @@ p w = record { line = 1; word = w }
 -- tokens on a line, from a word on
 abbrev pub row : ℕ → ℕ → List Symbol → List Token
 row line w [] = []
-row line w (s ∷ more) = record { symbol = s; text = spelling s; place = record { line = line; word = w }; first_on_line = w == 1 } ∷ row line (w + 1) more
+row line w (s ∷ more) = record { symbol = s; text = spelling s; place = record { line = line; word = w }; offset = w; first_on_line = w == 1 } ∷ row line (w + 1) more
 
 abbrev pub text : List Symbol → List Token
 text ss = row 1 1 ss
 
 -- the numeral with these bytes
 abbrev pub numeral : ℕ → Symbol → List ℕ → Token
-numeral w s bytes = record { symbol = s; text = bytes; place = p w; first_on_line = false }
+numeral w s bytes = record { symbol = s; text = bytes; place = p w; offset = w; first_on_line = false }
 
 -- the name `x` at a word
 abbrev pub x : ℕ → t.Tree
-x w = t.Name (p w) (spelling Name)
+x w = t.Name (p w) w (spelling Name)
 
 infixl 5 ◌&◌
 abbrev pub ◌&◌ : t.Tree → t.Tree → t.Tree
@@ -61,12 +60,12 @@ refused kind n ts = Refused kind (drop n ts)
 -- ---- Lua code
 
 -- local x = = 1
-second_equal : reads Joint (text (Local ∷ Name ∷ Equal ∷ Equal ∷ Numeral ∷ [])) ≡ refused why.Unexpected 3 (text (Local ∷ Name ∷ Equal ∷ Equal ∷ Numeral ∷ []))
+second_equal : reads (text (Local ∷ Name ∷ Equal ∷ Equal ∷ Numeral ∷ [])) ≡ refused why.Unexpected 3 (text (Local ∷ Name ∷ Equal ∷ Equal ∷ Numeral ∷ []))
 second_equal = refl
 
 -- x = x or x and x < x .. x .. x + x * - x ^ x ^ x
 precedence :
-    reads LuaAlone (text (Name ∷ Equal ∷ Name ∷ Or ∷ Name ∷ And ∷ Name ∷ Less ∷ Name ∷ DoubleDot ∷ Name ∷ DoubleDot ∷ Name ∷ Plus ∷ Name ∷ Star ∷ Minus ∷ Name ∷ Caret ∷ Name ∷ Caret ∷ Name ∷ []))
+    reads (text (Name ∷ Equal ∷ Name ∷ Or ∷ Name ∷ And ∷ Name ∷ Less ∷ Name ∷ DoubleDot ∷ Name ∷ DoubleDot ∷ Name ∷ Plus ∷ Name ∷ Star ∷ Minus ∷ Name ∷ Caret ∷ Name ∷ Caret ∷ Name ∷ []))
     ≡ chunk_of
     (t.Assign (p 1) (none & x 1)
     (none
@@ -80,7 +79,7 @@ precedence = refl
 
 -- x = x - x - x ; x = x -> x -> x
 groups_left_and_right :
-    reads LuaAlone (text (Name ∷ Equal ∷ Name ∷ Minus ∷ Name ∷ Minus ∷ Name ∷ Semicolon ∷ Name ∷ Equal ∷ Name ∷ Arrow ∷ Name ∷ Arrow ∷ Name ∷ []))
+    reads (text (Name ∷ Equal ∷ Name ∷ Minus ∷ Name ∷ Minus ∷ Name ∷ Semicolon ∷ Name ∷ Equal ∷ Name ∷ Arrow ∷ Name ∷ Arrow ∷ Name ∷ []))
     ≡ IsTree
     (t.Block
     (none & t.Assign (p 1) (none & x 1) (none & t.Binary (p 6) binary.Subtract (t.Binary (p 4) binary.Subtract (x 3) (x 5)) (x 7))
@@ -89,7 +88,7 @@ groups_left_and_right = refl
 
 -- x.x:x(x)[x], x = x {}, x ''
 targets :
-    reads LuaAlone (text (Name ∷ Dot ∷ Name ∷ Colon ∷ Name ∷ OpenParen ∷ Name ∷ CloseParen ∷ OpenBracket ∷ Name ∷ CloseBracket ∷ Comma ∷ Name ∷ Equal ∷ Name ∷ OpenBrace ∷ CloseBrace ∷ Comma ∷ Name ∷ Literal ∷ []))
+    reads (text (Name ∷ Dot ∷ Name ∷ Colon ∷ Name ∷ OpenParen ∷ Name ∷ CloseParen ∷ OpenBracket ∷ Name ∷ CloseBracket ∷ Comma ∷ Name ∷ Equal ∷ Name ∷ OpenBrace ∷ CloseBrace ∷ Comma ∷ Name ∷ Literal ∷ []))
     ≡ chunk_of
     (t.Assign (p 1) (none & t.Index (p 9) (t.Method (p 4) (t.Select (p 2) (x 1) (x 3)) (x 5) (none & x 7)) (x 10) & x 13)
     (none & t.Call (p 16) (x 15) (none & t.Table (p 16) none) & t.Call (p 20) (x 19) (none & t.Literal (p 20) (39 ∷ 39 ∷ []))))
@@ -97,61 +96,61 @@ targets = refl
 
 -- x, (x)().x = x
 called_target :
-    reads LuaAlone (text (Name ∷ Comma ∷ OpenParen ∷ Name ∷ CloseParen ∷ OpenParen ∷ CloseParen ∷ Dot ∷ Name ∷ Equal ∷ Name ∷ []))
+    reads (text (Name ∷ Comma ∷ OpenParen ∷ Name ∷ CloseParen ∷ OpenParen ∷ CloseParen ∷ Dot ∷ Name ∷ Equal ∷ Name ∷ []))
     ≡ chunk_of (t.Assign (p 1) (none & x 1 & t.Select (p 8) (t.Call (p 6) (t.Paren (p 3) (x 4)) none) (x 9)) (none & x 11))
 called_target = refl
 
 -- no target: x, x() = x ; x() = x ; (x) = x ; x
-call_is_no_target : reads LuaAlone (text (Name ∷ Comma ∷ Name ∷ OpenParen ∷ CloseParen ∷ Equal ∷ [])) ≡ refused why.Unexpected 5 (text (Name ∷ Comma ∷ Name ∷ OpenParen ∷ CloseParen ∷ Equal ∷ []))
+call_is_no_target : reads (text (Name ∷ Comma ∷ Name ∷ OpenParen ∷ CloseParen ∷ Equal ∷ [])) ≡ refused why.Unexpected 5 (text (Name ∷ Comma ∷ Name ∷ OpenParen ∷ CloseParen ∷ Equal ∷ []))
 call_is_no_target = refl
 
-first_call_is_no_target : reads LuaAlone (text (Name ∷ OpenParen ∷ CloseParen ∷ Equal ∷ [])) ≡ refused why.Unexpected 3 (text (Name ∷ OpenParen ∷ CloseParen ∷ Equal ∷ []))
+first_call_is_no_target : reads (text (Name ∷ OpenParen ∷ CloseParen ∷ Equal ∷ [])) ≡ refused why.Unexpected 3 (text (Name ∷ OpenParen ∷ CloseParen ∷ Equal ∷ []))
 first_call_is_no_target = refl
 
-brackets_are_no_target : reads LuaAlone (text (OpenParen ∷ Name ∷ CloseParen ∷ Equal ∷ [])) ≡ refused why.Unexpected 3 (text (OpenParen ∷ Name ∷ CloseParen ∷ Equal ∷ []))
+brackets_are_no_target : reads (text (OpenParen ∷ Name ∷ CloseParen ∷ Equal ∷ [])) ≡ refused why.Unexpected 3 (text (OpenParen ∷ Name ∷ CloseParen ∷ Equal ∷ []))
 brackets_are_no_target = refl
 
-name_alone : reads LuaAlone (text (Name ∷ [])) ≡ Refused why.Unexpected []
+name_alone : reads (text (Name ∷ [])) ≡ Refused why.Unexpected []
 name_alone = refl
 
 -- x = { x = x , [ x ] = x ; x , }
 table :
-    reads LuaAlone (text (Name ∷ Equal ∷ OpenBrace ∷ Name ∷ Equal ∷ Name ∷ Comma ∷ OpenBracket ∷ Name ∷ CloseBracket ∷ Equal ∷ Name ∷ Semicolon ∷ Name ∷ Comma ∷ CloseBrace ∷ []))
+    reads (text (Name ∷ Equal ∷ OpenBrace ∷ Name ∷ Equal ∷ Name ∷ Comma ∷ OpenBracket ∷ Name ∷ CloseBracket ∷ Equal ∷ Name ∷ Semicolon ∷ Name ∷ Comma ∷ CloseBrace ∷ []))
     ≡ chunk_of (t.Assign (p 1) (none & x 1) (none & t.Table (p 3) (none & t.NamedField (x 4) (x 6) & t.KeyedField (x 9) (x 12) & x 14)))
 table = refl
 
 -- function x.x:x(x, ...) return ... ; end
 function_statement :
-    reads LuaAlone (text (Function ∷ Name ∷ Dot ∷ Name ∷ Colon ∷ Name ∷ OpenParen ∷ Name ∷ Comma ∷ Ellipsis ∷ CloseParen ∷ Return ∷ Ellipsis ∷ Semicolon ∷ End ∷ []))
+    reads (text (Function ∷ Name ∷ Dot ∷ Name ∷ Colon ∷ Name ∷ OpenParen ∷ Name ∷ Comma ∷ Ellipsis ∷ CloseParen ∷ Return ∷ Ellipsis ∷ Semicolon ∷ End ∷ []))
     ≡ chunk_of
-    (t.DefineFunction (p 1) (t.Path (none & x 2 & t.Name (p 3) (spelling Name)) (t.Just (t.Name (p 5) (spelling Name)))) (t.Body (none & x 8) true (t.Block (none & t.Return (p 12) (none & t.Varargs (p 13))))))
+    (t.DefineFunction (p 1) (t.Path (none & x 2 & t.Name (p 3) 4 (spelling Name)) (t.Just (t.Name (p 5) 6 (spelling Name)))) (t.Body (none & x 8) true (t.Block (none & t.Return (p 12) (none & t.Varargs (p 13))))))
 function_statement = refl
 
 -- function x(..., x): nothing follows `...`
-nothing_behind_dots : reads LuaAlone (text (Function ∷ Name ∷ OpenParen ∷ Ellipsis ∷ Comma ∷ [])) ≡ refused why.Unexpected 4 (text (Function ∷ Name ∷ OpenParen ∷ Ellipsis ∷ Comma ∷ []))
+nothing_behind_dots : reads (text (Function ∷ Name ∷ OpenParen ∷ Ellipsis ∷ Comma ∷ [])) ≡ refused why.Unexpected 4 (text (Function ∷ Name ∷ OpenParen ∷ Ellipsis ∷ Comma ∷ []))
 nothing_behind_dots = refl
 
 -- local function x() return ...: this function has none
-no_dots : reads LuaAlone (text (Local ∷ Function ∷ Name ∷ OpenParen ∷ CloseParen ∷ Return ∷ Ellipsis ∷ [])) ≡ refused why.Unexpected 6 (text (Local ∷ Function ∷ Name ∷ OpenParen ∷ CloseParen ∷ Return ∷ Ellipsis ∷ []))
+no_dots : reads (text (Local ∷ Function ∷ Name ∷ OpenParen ∷ CloseParen ∷ Return ∷ Ellipsis ∷ [])) ≡ refused why.Unexpected 6 (text (Local ∷ Function ∷ Name ∷ OpenParen ∷ CloseParen ∷ Return ∷ Ellipsis ∷ []))
 no_dots = refl
 
 -- while x do break end
-breaks_loop : reads LuaAlone (text (While ∷ Name ∷ Do ∷ Break ∷ End ∷ [])) ≡ chunk_of (t.While (p 1) (x 2) (t.Block (none & t.Break (p 4))))
+breaks_loop : reads (text (While ∷ Name ∷ Do ∷ Break ∷ End ∷ [])) ≡ chunk_of (t.While (p 1) (x 2) (t.Block (none & t.Break (p 4))))
 breaks_loop = refl
 
 -- while x do x = function() break: the function is in no loop
-breaks_no_loop : reads LuaAlone (text (While ∷ Name ∷ Do ∷ Name ∷ Equal ∷ Function ∷ OpenParen ∷ CloseParen ∷ Break ∷ [])) ≡ refused why.Unexpected 8 (text (While ∷ Name ∷ Do ∷ Name ∷ Equal ∷ Function ∷ OpenParen ∷ CloseParen ∷ Break ∷ []))
+breaks_no_loop : reads (text (While ∷ Name ∷ Do ∷ Name ∷ Equal ∷ Function ∷ OpenParen ∷ CloseParen ∷ Break ∷ [])) ≡ refused why.Unexpected 8 (text (While ∷ Name ∷ Do ∷ Name ∷ Equal ∷ Function ∷ OpenParen ∷ CloseParen ∷ Break ∷ []))
 breaks_no_loop = refl
 
 -- if x then elseif x then return else end
 choice :
-    reads LuaAlone (text (If ∷ Name ∷ Then ∷ Elseif ∷ Name ∷ Then ∷ Return ∷ Else ∷ End ∷ []))
+    reads (text (If ∷ Name ∷ Then ∷ Elseif ∷ Name ∷ Then ∷ Return ∷ Else ∷ End ∷ []))
     ≡ chunk_of (t.If (p 1) (none & t.Arm (x 2) (t.Block none) & t.Arm (x 5) (t.Block (none & t.Return (p 7) none))) (t.Just (t.Block none)))
 choice = refl
 
 -- for x = x, x, x do end  for x, x in x do end  repeat until x  do end
 loops :
-    reads LuaAlone (text (For ∷ Name ∷ Equal ∷ Name ∷ Comma ∷ Name ∷ Comma ∷ Name ∷ Do ∷ End ∷ For ∷ Name ∷ Comma ∷ Name ∷ In ∷ Name ∷ Do ∷ End ∷ Repeat ∷ Until ∷ Name ∷ Do ∷ End ∷ []))
+    reads (text (For ∷ Name ∷ Equal ∷ Name ∷ Comma ∷ Name ∷ Comma ∷ Name ∷ Do ∷ End ∷ For ∷ Name ∷ Comma ∷ Name ∷ In ∷ Name ∷ Do ∷ End ∷ Repeat ∷ Until ∷ Name ∷ Do ∷ End ∷ []))
     ≡ IsTree
     (t.Block
     (none & t.NumericFor (p 1) (x 2) (x 4) (x 6) (t.Just (x 8)) (t.Block none) & t.GenericFor (p 11) (none & x 12 & x 14) (none & x 16) (t.Block none) & t.Repeat (p 19) (t.Block none) (x 21)
@@ -159,17 +158,17 @@ loops :
 loops = refl
 
 -- return return
-returns_once : reads LuaAlone (text (Return ∷ Return ∷ [])) ≡ refused why.Unexpected 1 (text (Return ∷ Return ∷ []))
+returns_once : reads (text (Return ∷ Return ∷ [])) ≡ refused why.Unexpected 1 (text (Return ∷ Return ∷ []))
 returns_once = refl
 
 -- x() and on the next line (x)()
 ambiguous :
-    reads LuaAlone (row 1 1 (Name ∷ OpenParen ∷ CloseParen ∷ []) ++ row 2 1 (OpenParen ∷ Name ∷ CloseParen ∷ OpenParen ∷ CloseParen ∷ []))
+    reads (row 1 1 (Name ∷ OpenParen ∷ CloseParen ∷ []) ++ row 2 1 (OpenParen ∷ Name ∷ CloseParen ∷ OpenParen ∷ CloseParen ∷ []))
     ≡ Refused why.Ambiguous (row 2 1 (OpenParen ∷ Name ∷ CloseParen ∷ OpenParen ∷ CloseParen ∷ []))
 ambiguous = refl
 
 -- x:x and on the next line (x)
-method_is_clear : reads LuaAlone (row 1 1 (Name ∷ Colon ∷ Name ∷ []) ++ row 2 1 (OpenParen ∷ CloseParen ∷ [])) ≡ chunk_of (t.Perform (p 1) (t.Method (p 2) (x 1) (x 3) none))
+method_is_clear : reads (row 1 1 (Name ∷ Colon ∷ Name ∷ []) ++ row 2 1 (OpenParen ∷ CloseParen ∷ [])) ≡ chunk_of (t.Perform (p 1) (t.Method (p 2) (x 1) (x 3) none))
 method_is_clear = refl
 
 -- a hundred blocks are open, and one more
@@ -177,25 +176,25 @@ abbrev times : ℕ → Symbol → List Symbol
 times zero s = []
 times (suc n) s = s ∷ times n s
 
-open_blocks : reads LuaAlone (text (times 100 Do)) ≡ Refused why.Unexpected []
+open_blocks : reads (text (times 100 Do)) ≡ Refused why.Unexpected []
 open_blocks = refl
 
-too_many_blocks : reads LuaAlone (text (times 101 Do)) ≡ refused why.TooDeep 100 (text (times 101 Do))
+too_many_blocks : reads (text (times 101 Do)) ≡ refused why.TooDeep 100 (text (times 101 Do))
 too_many_blocks = refl
 
 -- numbers
 abbrev returned : Token → List Token
-returned n = record { symbol = Return; text = codes "return"; place = p 1; first_on_line = true } ∷ n ∷ []
+returned n = record { symbol = Return; text = codes "return"; place = p 1; offset = 1; first_on_line = true } ∷ n ∷ []
 
-largest : reads LuaAlone (returned (numeral 2 Numeral (codes "99999999999999"))) ≡ chunk_of (t.Return (p 1) (none & t.Numeral (p 2) (codes "99999999999999")))
+largest : reads (returned (numeral 2 Numeral (codes "99999999999999"))) ≡ chunk_of (t.Return (p 1) (none & t.Numeral (p 2) (codes "99999999999999")))
 unfolding Rattle.tl_tree.specs.Numbers.value_of
 largest = refl
 
-larger : reads LuaAlone (returned (numeral 2 Numeral (codes "100000000000000"))) ≡ Refused why.BadNumber (numeral 2 Numeral (codes "100000000000000") ∷ [])
+larger : reads (returned (numeral 2 Numeral (codes "100000000000000"))) ≡ Refused why.BadNumber (numeral 2 Numeral (codes "100000000000000") ∷ [])
 unfolding Rattle.tl_tree.specs.Numbers.value_of
 larger = refl
 
-suffix_in_lua : reads Joint (returned (numeral 2 LongNumeral (codes "5LL"))) ≡ Refused why.Unexpected (numeral 2 LongNumeral (codes "5LL") ∷ [])
+suffix_in_lua : reads (returned (numeral 2 LongNumeral (codes "5LL"))) ≡ Refused why.Unexpected (numeral 2 LongNumeral (codes "5LL") ∷ [])
 suffix_in_lua = refl
 
 -- so many times `.x`, and so many times `+ x`
@@ -203,15 +202,15 @@ abbrev selections : ℕ → List Symbol
 selections zero = []
 selections (suc n) = Dot ∷ Name ∷ selections n
 
-too_many_suffixes : reads LuaAlone (text (Name ∷ selections 1001)) ≡ refused why.TooDeep 2001 (text (Name ∷ selections 1001))
+too_many_suffixes : reads (text (Name ∷ selections 1001)) ≡ refused why.TooDeep 2001 (text (Name ∷ selections 1001))
 too_many_suffixes = refl
 
-all_suffixes : reads LuaAlone (text (Name ∷ selections 1000)) ≡ Refused why.Unexpected []
+all_suffixes : reads (text (Name ∷ selections 1000)) ≡ Refused why.Unexpected []
 all_suffixes = refl
 
 -- local function x() end  local x, x = x  (x).x''  x:x{x}
 more_statements :
-    reads LuaAlone (text (Local ∷ Function ∷ Name ∷ OpenParen ∷ CloseParen ∷ End ∷ Local ∷ Name ∷ Comma ∷ Name ∷ Equal ∷ Name ∷ Semicolon ∷ OpenParen ∷ Name ∷ CloseParen ∷ Dot ∷ Name ∷ Literal ∷ Name ∷ Colon ∷ Name ∷ OpenBrace ∷ Name ∷ CloseBrace ∷ []))
+    reads (text (Local ∷ Function ∷ Name ∷ OpenParen ∷ CloseParen ∷ End ∷ Local ∷ Name ∷ Comma ∷ Name ∷ Equal ∷ Name ∷ Semicolon ∷ OpenParen ∷ Name ∷ CloseParen ∷ Dot ∷ Name ∷ Literal ∷ Name ∷ Colon ∷ Name ∷ OpenBrace ∷ Name ∷ CloseBrace ∷ []))
     ≡ IsTree
     (t.Block
     (none & t.LocalFunction (p 1) (x 3) (t.Body none false (t.Block none)) & t.Local (p 7) (none & x 8 & x 10) (none & x 12)
@@ -221,7 +220,7 @@ more_statements = refl
 
 -- return nil, false, true, #x, not x, function() end
 operands :
-    reads LuaAlone (text (Return ∷ Nil ∷ Comma ∷ False ∷ Comma ∷ True ∷ Comma ∷ Hash ∷ Name ∷ Comma ∷ Not ∷ Name ∷ Comma ∷ Function ∷ OpenParen ∷ CloseParen ∷ End ∷ []))
+    reads (text (Return ∷ Nil ∷ Comma ∷ False ∷ Comma ∷ True ∷ Comma ∷ Hash ∷ Name ∷ Comma ∷ Not ∷ Name ∷ Comma ∷ Function ∷ OpenParen ∷ CloseParen ∷ End ∷ []))
     ≡ chunk_of
     (t.Return (p 1)
     (none & t.Nil (p 2) & t.False (p 4) & t.True (p 6) & t.Unary (p 8) unary.Length (x 9) & t.Unary (p 11) unary.Not (x 12) & t.Function (p 14) (t.Body none false (t.Block none))))
@@ -238,15 +237,15 @@ nodes_in (Refused kind rest) = []
 
 -- x = x:x{x}: children come before their node, in order of the text
 nodes_of_assignment :
-    nodes_in (reads LuaAlone (text (Name ∷ Equal ∷ Name ∷ Colon ∷ Name ∷ OpenBrace ∷ Name ∷ CloseBrace ∷ [])))
-    ≡ items.Name (p 1) (spelling Name) ∷ items.Name (p 3) (spelling Name) ∷ items.Name (p 5) (spelling Name) ∷ items.Name (p 7) (spelling Name)
+    nodes_in (reads (text (Name ∷ Equal ∷ Name ∷ Colon ∷ Name ∷ OpenBrace ∷ Name ∷ CloseBrace ∷ [])))
+    ≡ items.Name (p 1) 1 (spelling Name) ∷ items.Name (p 3) 3 (spelling Name) ∷ items.Name (p 5) 5 (spelling Name) ∷ items.Name (p 7) 7 (spelling Name)
     ∷ items.Expression (p 6) (expressions.Table (n 3 ∷ [])) ∷ items.Expression (p 4) (expressions.Method (n 1) (n 2) (n 4 ∷ []))
     ∷ items.Statement (p 1) (statements.Assign (n 0 ∷ []) (n 5 ∷ [])) ∷ items.Piece (pieces.Block (n 6 ∷ [])) ∷ []
 nodes_of_assignment = refl
 
 -- if x then else end
 nodes_of_choice :
-    nodes_in (reads LuaAlone (text (If ∷ Name ∷ Then ∷ Else ∷ End ∷ [])))
-    ≡ items.Name (p 2) (spelling Name) ∷ items.Piece (pieces.Block []) ∷ items.Piece (pieces.Arm (n 0) (n 1)) ∷ items.Piece (pieces.Block [])
+    nodes_in (reads (text (If ∷ Name ∷ Then ∷ Else ∷ End ∷ [])))
+    ≡ items.Name (p 2) 2 (spelling Name) ∷ items.Piece (pieces.Block []) ∷ items.Piece (pieces.Arm (n 0) (n 1)) ∷ items.Piece (pieces.Block [])
     ∷ items.Statement (p 1) (statements.If (n 2 ∷ []) (Some (n 3))) ∷ items.Piece (pieces.Block (n 4 ∷ [])) ∷ []
 nodes_of_choice = refl

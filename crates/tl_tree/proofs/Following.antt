@@ -35,7 +35,7 @@ following TerraOperand = after_expression
 following TerraArguments = one symbols.CloseParen
 following Initialisers = one symbols.CloseBrace
 following TerraStatements = after_block
-following TerraFunctionBody = after_expression
+following (TerraFunctionBody place) = after_expression
 following QuotedCode = one symbols.End
 
 abbrev pub after_part : Part → Token → Bool

@@ -1,5 +1,6 @@
 -- The completions of each form of grammar, by lists of symbols: what the shortest text begins with, and what may follow.
 use Rattle.std.proofs.Common.{◌≡◌, ℕ, Bool, true, false, List, [], ◌∷◌, Option, Some, None, refl}
+use Rattle.tl_lex.specs.Answers.{Position}
 use Rattle.tl_base.specs.declared.place.Place.{Place}
 use Rattle.tl_tree.specs.declared.symbol.Symbol.{Symbol}
 use Rattle.tl_tree.specs.declared.mode.Extra.{Extra}
@@ -7,7 +8,7 @@ use Rattle.tl_tree.specs.declared.mode.Extra.TheVariants.{Plain}
 use Rattle.tl_tree.specs.Tokens.{Token, among, is, sample}
 use Rattle.tl_tree.specs.Tree.{Tree, Part}
 use Rattle.tl_tree.specs.Grammar.{Grammar, give, token, bind, when, many, Rule, Parts, is_of}
-use Rattle.tl_tree.specs.Forms.{sign, opening}
+use Rattle.tl_tree.specs.Forms.{sign, opening, opening_at}
 use Rattle.tl_tree.proofs.Classes.{subset, within}
 use Rattle.tl_tree.proofs.Spelled.{is_written, placed, among_one}
 use Rattle.tl_tree.proofs.Completing.{Starts, bare-give, bare-token, bare-bind, bare-when, bare-many, bare-within, completes-within, completes-give, completes-token, completes-bind, completes-then, completes-when, completes-many}
@@ -86,18 +87,21 @@ module _ {part_after : Part → Token → Bool} {s : Setting part_after} where
       }
 
   -- a token that opens a part, and what follows it
-  pub goes-open : {A : Type 0} {h : Token × Tree → Grammar A} {mid after : List Symbol} (k : Symbol) (part : Part) → ((x : Token × Tree) → Goes s (h x) mid after) → is_of (is k) (sample k) ≡ true → is_written k ≡ true → ((t : Token) → among mid t ≡ true → part_after part t ≡ true) → Goes s (bind (opening k part) h) (one k) after
-  goes-open {A} {h} {mid} {after} k part q good written covers =
+  pub goes-open_at : {A : Type 0} {h : Token × Tree → Grammar A} {mid after : List Symbol} (k : Symbol) (part : Place → Part) → ((x : Token × Tree) → Goes s (h x) mid after) → is_of (is k) (sample k) ≡ true → is_written k ≡ true → ((place : Place) (t : Token) → among mid t ≡ true → part_after (part place) t ≡ true) → Goes s (bind (opening_at k part) h) (one k) after
+  goes-open_at {A} {h} {mid} {after} k part q good written covers =
       record {
         completes =
-            completes-bind s.levels s.readers s.parts part_after s.leave s.steady s.sound s.bare s.below (opening k part) h (among (one k)) (among mid) (among after)
-            (completes-token s.levels s.readers s.parts part_after s.leave s.steady s.sound s.bare s.below (is k) (λ t. Plain) (λ t. Some part) (sample k) k (among (one k)) (among mid) written (λ p. good) (λ p. among_one k p) (λ t h. covers))
+            completes-bind s.levels s.readers s.parts part_after s.leave s.steady s.sound s.bare s.below (opening_at k part) h (among (one k)) (among mid) (among after)
+            (completes-token s.levels s.readers s.parts part_after s.leave s.steady s.sound s.bare s.below (is k) (λ t. Plain) (λ t. Some (part t.place)) (sample k) k (among (one k)) (among mid) written (λ p. good) (λ p. among_one k p) (λ t h. covers t.place))
             (λ a. (q a).completes);
-        turned = turned-bind s.deep (opening k part) h (among (one k)) (among mid) (among after) (turned-token s.deep (is k) (λ t. Plain) (λ t. Some part) (sample k) k (among (one k)) (among mid) written (λ p. good) (λ p. among_one k p) (λ t h. covers)) (λ a. (q a).turned);
+        turned = turned-bind s.deep (opening_at k part) h (among (one k)) (among mid) (among after) (turned-token s.deep (is k) (λ t. Plain) (λ t. Some (part t.place)) (sample k) k (among (one k)) (among mid) written (λ p. good) (λ p. among_one k p) (λ t h. covers t.place)) (λ a. (q a).turned);
       }
 
+  pub goes-open : {A : Type 0} {h : Token × Tree → Grammar A} {mid after : List Symbol} (k : Symbol) (part : Part) → ((x : Token × Tree) → Goes s (h x) mid after) → is_of (is k) (sample k) ≡ true → is_written k ≡ true → ((t : Token) → among mid t ≡ true → part_after part t ≡ true) → Goes s (bind (opening k part) h) (one k) after
+  goes-open k part q good written covers = goes-open_at k (λ place. part) q good written (λ place. covers)
+
   -- a token of a class, with all its uses, and what follows it
-  pub goes-token : {A : Type 0} {class : Token → Bool} {extra : Token → Extra} {opens : Token → Option Part} {h : Token × Tree → Grammar A} {after : List Symbol} (k : Symbol) (other : Token → List Symbol) → ((t : Token) → is_of class t ≡ true → CoveredBy s (among (other t)) (opens t)) → ((x : Token × Tree) → is_of class x.0 ≡ true → Goes s (h x) (other x.0) after) → ((p : Place) → is_of class (placed p k) ≡ true) → is_written k ≡ true → Goes s (bind (token class extra opens (sample k)) h) (one k) after
+  pub goes-token : {A : Type 0} {class : Token → Bool} {extra : Token → Extra} {opens : Token → Option Part} {h : Token × Tree → Grammar A} {after : List Symbol} (k : Symbol) (other : Token → List Symbol) → ((t : Token) → is_of class t ≡ true → CoveredBy s (among (other t)) (opens t)) → ((x : Token × Tree) → is_of class x.0 ≡ true → Goes s (h x) (other x.0) after) → ((p : Position) → is_of class (placed p k) ≡ true) → is_written k ≡ true → Goes s (bind (token class extra opens (sample k)) h) (one k) after
   goes-token {A} {class} {extra} {opens} {h} {after} k other covers next good written =
       record {
         completes =

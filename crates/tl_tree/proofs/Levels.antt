@@ -1,6 +1,6 @@
 -- Reading part within part, level by level, meets the language of whole texts.
 use Rattle.std.proofs.Common.{◌≡◌, ℕ, zero, suc, Bool, true, false, List, [], ◌∷◌, ◌++◌, refl, sym, ap, ◌∙◌, subst, append-nil, inr}
-use Rattle.tl_base.specs.declared.place.Place.{Place}
+use Rattle.tl_lex.specs.Answers.{Position}
 use Rattle.tl_lex.specs.Answers.{place_at}
 use Rattle.tl_tree.specs.Tokens.{Token}
 use Rattle.tl_tree.specs.Tree.{Tree, Part}
@@ -73,7 +73,7 @@ module _ (table : Table) (after : Part → Token → Bool) (begun : Begun table 
     keeping : (part : Part) → Keeping (λ ts x rest. parts_within depth levels part ts x rest) (λ ts x rest. parts_within (suc depth) levels part ts x rest)
     ending : (part : Part) → Ending (λ ts x rest. parts_within depth levels part ts x rest) (λ ts x rest. parts_within (suc depth) levels part ts x rest) (after part)
 
-  bare_within : (depth levels : ℕ) (part : Part) (p : Place) → Bare (λ rule ts x rest. parts_within (suc depth) levels part ts x rest) p (λ t. true) (after part)
+  bare_within : (depth levels : ℕ) (part : Part) (p : Position) → Bare (λ rule ts x rest. parts_within (suc depth) levels part ts x rest) p (λ t. true) (after part)
   bare_within depth levels part p =
       let c = begun levels (λ rule q us y r. parts_within depth (down levels) q us y r) part p in
       record { more = c.more; spelled = c.spelled; value = c.value; starts = c.starts; reads = λ close k rule al le. c.reads close k any (λ role t ts e. refl) (λ role ts e. refl) }
@@ -120,7 +120,7 @@ module _ (table : Table) (after : Part → Token → Bool) (begun : Begun table 
   first_good (t ∷ front) more h = (h.0, first_good front more h.1)
 
   -- what begins a whole text, the limits aside, goes on from each place with tokens that stand one behind the other
-  pub viable_goes : (part : Part) (p : Place) (front : List Token) → Viable (λ rule ts tree. Whole table part rule ts tree) front → GoesOn (λ rule ts tree. Whole table part rule ts tree) p front
+  pub viable_goes : (part : Part) (p : Position) (front : List Token) → Viable (λ rule ts tree. Whole table part rule ts tree) front → GoesOn (λ rule ts tree. Whole table part rule ts tree) p front
   viable_goes part p front v = go v.2.0 v.2.1
     where
       go : (depth : ℕ) → parts_at table any depth all_levels part (front ++ v.0) v.1 [] → GoesOn (λ rule ts tree. Whole table part rule ts tree) p front
@@ -138,7 +138,7 @@ module _ (table : Table) (after : Part → Token → Bool) (begun : Begun table 
           }
 
 module _ (table : Table) (after : Part → Token → Bool) (begun : Begun table after) (completed : Completed table after) where
-  completes_at : (levels : ℕ) (part : Part) (p : Place) (front r : List Token) → Shows (readers_at table levels part (front ++ r)) r → Completion (λ rule ts x rest. parts_at table rule (suc (suc levels)) levels part ts x rest) p (readers_at table levels part (front ++ r)) (λ t. true) (after part) front
+  completes_at : (levels : ℕ) (part : Part) (p : Position) (front r : List Token) → Shows (readers_at table levels part (front ++ r)) r → Completion (λ rule ts x rest. parts_at table rule (suc (suc levels)) levels part ts x rest) p (readers_at table levels part (front ++ r)) (λ t. true) (after part) front
   completes_at zero part place front r sh =
       completed (lowest table after begun (deep_of table after begun zero zero (no_facts table after begun zero))) part place front r sh
   completes_at (suc levels) part place front r sh =
@@ -165,6 +165,6 @@ module _ (table : Table) (after : Part → Token → Bool) (begun : Begun table 
         sound = λ rule al ts a e. (suc (suc all_levels), sound_at table rule al all_levels part ts a [] e);
         complete = λ rule ts a p. complete_at table rule p.0 all_levels part ts a [] p.1;
         completes = λ front r sh.
-            let c = completes_at all_levels part (place_at 1 1) front r sh in
+            let c = completes_at all_levels part (record { place = place_at 1 1; offset = 0 }) front r sh in
             (c.more ++ [], c.value, λ rule al le fo. (suc (suc all_levels), c.reads [] refl rule al le fo));
       }

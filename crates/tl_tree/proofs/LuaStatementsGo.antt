@@ -1,6 +1,6 @@
 -- The completions of Lua statements and functions, one for each name of the grammar.
 use Rattle.std.proofs.Common.{◌≡◌, ◌&&◌, ℕ, Bool, true, not, List, [], ◌∷◌, refl}
-use Rattle.tl_base.specs.declared.place.Place.{Place}
+use Rattle.tl_lex.specs.Answers.{Position}
 use Rattle.tl_tree.specs.declared.symbol.Symbol.{Symbol}
 use Rattle.tl_tree.specs.declared.symbol.Symbol.TheVariants as symbols
 use Rattle.tl_tree.specs.declared.mode.Mode.{Mode}
@@ -11,25 +11,25 @@ use Rattle.tl_tree.specs.declared.mode.Shape.TheVariants as shapes
 use Rattle.tl_tree.specs.Tokens.{Token, among}
 use Rattle.tl_tree.specs.Tree.{Tree, Statements, FunctionBody, TerraFunctionBody}
 use Rattle.tl_tree.specs.Grammar.{Rule, Parts, is_of}
-use Rattle.tl_tree.specs.Forms.{Language, has_terra, Chained}
-use Rattle.tl_tree.specs.LuaExpressions.{suffix_symbols, stays, is_suffix, suffix_of, terra_symbols}
+use Rattle.tl_tree.specs.Forms.{Chained}
+use Rattle.tl_tree.specs.LuaExpressions.{suffix_symbols, stays, is_suffix, suffix_of, begins_terra}
 use Rattle.tl_tree.specs.LuaStatements.{looped, fresh, next_suffix, call_symbols, index_symbols, to_variable, settled, variable_suffixes, variable, path_method, path, struct_path, loop, Statement, FromName, FromParen, FromDo, FromWhile, FromRepeat, FromIf, FromFor, FromFunction, FromLocal, FromReturn, FromBreak, FromTerra, FromStruct, FromEmit, statement_of, statement_symbols, has_place, is_statement, statement_opens, parameter, parameters, body_mode, expression_symbols, assignment, call_or_assignment, arm, arms, otherwise, step, numeric_for, generic_for, initial_values, returned_values, terra_definition, local_terra, statement, block, function_body}
 use Rattle.tl_tree.proofs.Classes.{disjoint, apart_from, apart_from_and, apart_and, apart_or, within}
 use Rattle.tl_tree.proofs.Spelled.{placed}
 use Rattle.tl_tree.proofs.Settings.{Setting, CoveredBy}
-use Rattle.tl_tree.proofs.Going.{one, Apart, Begins, begins-give, begins-bind, begins-next, begins-then, begins-when, begins-many, Goes, goes-within, goes-give, goes-bind, goes-next, goes-then, goes-open, goes-token, goes-when, goes-many}
+use Rattle.tl_tree.proofs.Going.{one, Apart, Begins, begins-give, begins-bind, begins-next, begins-then, begins-when, begins-many, Goes, goes-within, goes-give, goes-bind, goes-next, goes-then, goes-open, goes-open_at, goes-token, goes-when, goes-many}
 use Rattle.tl_tree.proofs.Following.{after_block, after_expression, after_part, begins-name, goes-closed, goes-name, goes-listed_behind, goes-listed, goes-semicolon, goes-path_names}
 use Rattle.tl_tree.proofs.LuaExpressionsGo.{only_name, suffix_first, terra_apart, goes-paren, suffix_covers, goes-suffix, goes-suffixes, goes-struct_body, goes-expression, goes-expressions}
 
-statement_apart : (l : Language) (c : Context) (ended : Bool) (xs : List Symbol) → disjoint xs statement_symbols ≡ true → Apart xs (λ t. is_statement l c t && not ended)
-statement_apart l c ended xs d = apart_and xs (is_statement l c) (λ t. not ended) (apart_from_and xs statement_symbols (has_place l c) d)
+statement_apart : (c : Context) (ended : Bool) (xs : List Symbol) → disjoint xs statement_symbols ≡ true → Apart xs (λ t. is_statement c t && not ended)
+statement_apart c ended xs d = apart_and xs (is_statement c) (λ t. not ended) (apart_from_and xs statement_symbols (has_place c) d)
 
-dot_is_suffix : (m : Mode) (p : Place) → is_of (is_suffix m) (placed p symbols.Dot) ≡ true
+dot_is_suffix : (m : Mode) (p : Position) → is_of (is_suffix m) (placed p symbols.Dot) ≡ true
 dot_is_suffix Plain p = refl
 dot_is_suffix Variadic p = refl
 dot_is_suffix Types p = refl
 
-dot_is_index : (m : Mode) (p : Place) → is_of (λ t. among index_symbols t && is_suffix m t) (placed p symbols.Dot) ≡ true
+dot_is_index : (m : Mode) (p : Position) → is_of (λ t. among index_symbols t && is_suffix m t) (placed p symbols.Dot) ≡ true
 dot_is_index Plain p = refl
 dot_is_index Variadic p = refl
 dot_is_index Types p = refl
@@ -37,8 +37,8 @@ dot_is_index Types p = refl
 -- ---- from nothing on
 
 module _ {levels : ℕ} {parts : Rule → Parts} where
-  pub begins-block : (l : Language) {c : Context} → Begins levels parts (block l c) after_block after_block
-  begins-block l {c} = begins-next (begins-many (λ b. statement_apart l c b.ended after_block refl)) (λ a. begins-give)
+  pub begins-block : {c : Context} → Begins levels parts (block c) after_block after_block
+  begins-block {c} = begins-next (begins-many (λ b. statement_apart c b.ended after_block refl)) (λ a. begins-give)
 
   begins-parameters : Begins levels parts parameters only_name (one symbols.CloseParen)
   begins-parameters =
@@ -47,10 +47,10 @@ module _ {levels : ℕ} {parts : Rule → Parts} where
       (λ p. begins-many (λ b. apart_from_and (one symbols.CloseParen) (one symbols.Comma) (λ u. not b.variadic) refl)))
       (apart_from only_name (one symbols.CloseParen) refl)
 
-  pub begins-function_body : (l : Language) → Begins levels parts (function_body l) only_name after_expression
-  begins-function_body l =
+  pub begins-function_body : Begins levels parts (function_body) only_name after_expression
+  begins-function_body =
       begins-next begins-parameters
-      (λ p. begins-then symbols.CloseParen (λ y. begins-bind (begins-block l) (λ b. begins-then symbols.End (λ z. begins-give) refl refl) refl) refl refl)
+      (λ p. begins-then symbols.CloseParen (λ y. begins-bind (begins-block) (λ b. begins-then symbols.End (λ z. begins-give) refl refl) refl) refl refl)
 
 -- ---- from any front
 
@@ -116,87 +116,87 @@ module _ {s : Setting after_part} where
   goes-loop : (c : Context) {xs : List Symbol} → Goes s (loop c) (one symbols.Do) xs
   goes-loop c = goes-open symbols.Do (Statements (looped c)) (λ x. goes-closed symbols.End refl refl) refl refl (within (one symbols.End) after_block refl)
 
-  goes-assignment : (l : Language) (m : Mode) (t : Token) (e : Tree) → Goes s (assignment l m t e) (one symbols.Equal) after_block
-  goes-assignment l m t e =
-      goes-next (goes-listed_behind (one symbols.Equal) (goes-variable m) refl) (λ targets. goes-then symbols.Equal (λ y. goes-next (goes-expressions l after_block refl refl) (λ es. goes-give)) refl refl)
+  goes-assignment : (m : Mode) (t : Token) (e : Tree) → Goes s (assignment m t e) (one symbols.Equal) after_block
+  goes-assignment m t e =
+      goes-next (goes-listed_behind (one symbols.Equal) (goes-variable m) refl) (λ targets. goes-then symbols.Equal (λ y. goes-next (goes-expressions after_block refl refl) (λ es. goes-give)) refl refl)
 
-  goes-call_or_assignment : (l : Language) (m : Mode) (t : Token) (shape : Shape) (e : Tree) → Goes s (call_or_assignment l m t shape e) after_prefix after_block
-  goes-call_or_assignment l m t shapes.Call e = goes-within {first = after_block} {after = after_block} goes-give refl refl
-  goes-call_or_assignment l m t _ e = goes-within (goes-assignment l m t e) refl refl
+  goes-call_or_assignment : (m : Mode) (t : Token) (shape : Shape) (e : Tree) → Goes s (call_or_assignment m t shape e) after_prefix after_block
+  goes-call_or_assignment m t shapes.Call e = goes-within {first = after_block} {after = after_block} goes-give refl refl
+  goes-call_or_assignment m t _ e = goes-within (goes-assignment m t e) refl refl
 
-  goes-arm : (l : Language) {c : Context} {a : Tree} → Goes s (arm l c a) only_name (one symbols.End)
-  goes-arm l {c} = goes-bind (goes-expression l) (λ e. goes-open symbols.Then (Statements c) (λ x. goes-give) refl refl (within (one symbols.End) after_block refl)) refl
+  goes-arm : {c : Context} {a : Tree} → Goes s (arm c a) only_name (one symbols.End)
+  goes-arm {c} = goes-bind (goes-expression) (λ e. goes-open symbols.Then (Statements c) (λ x. goes-give) refl refl (within (one symbols.End) after_block refl)) refl
 
-  goes-arms : (l : Language) {c : Context} {a : Tree} → Goes s (arms l c a) (one symbols.End) (one symbols.End)
-  goes-arms l = goes-many (λ t. only_name) (λ b t h. tt) (λ t x b h. goes-arm l) (λ b. apart_from (one symbols.End) (one symbols.Elseif) refl)
+  goes-arms : {c : Context} {a : Tree} → Goes s (arms c a) (one symbols.End) (one symbols.End)
+  goes-arms = goes-many (λ t. only_name) (λ b t h. tt) (λ t x b h. goes-arm) (λ b. apart_from (one symbols.End) (one symbols.Elseif) refl)
 
-  goes-otherwise : (l : Language) {c : Context} → Goes s (otherwise l c) (one symbols.End) (one symbols.End)
-  goes-otherwise l {c} =
+  goes-otherwise : {c : Context} → Goes s (otherwise c) (one symbols.End) (one symbols.End)
+  goes-otherwise {c} =
       goes-when (goes-open symbols.Else (Statements c) (λ x. goes-give) refl refl (within (one symbols.End) after_block refl)) goes-give (apart_from (one symbols.End) (one symbols.Else) refl)
 
-  goes-step : (l : Language) {m : Mode} → Goes s (step l m) (one symbols.Do) (one symbols.Do)
-  goes-step l = goes-when (goes-then symbols.Comma (λ y. goes-bind (goes-expression l) (λ e. goes-give) refl) refl refl) goes-give (apart_from (one symbols.Do) (one symbols.Comma) refl)
+  goes-step : {m : Mode} → Goes s (step m) (one symbols.Do) (one symbols.Do)
+  goes-step = goes-when (goes-then symbols.Comma (λ y. goes-bind (goes-expression) (λ e. goes-give) refl) refl refl) goes-give (apart_from (one symbols.Do) (one symbols.Comma) refl)
 
-  goes-numeric_for : (l : Language) (c : Context) (t : Token) (n : Tree) → Goes s (numeric_for l c t n) (one symbols.Equal) after_block
-  goes-numeric_for l c t n =
+  goes-numeric_for : (c : Context) (t : Token) (n : Tree) → Goes s (numeric_for c t n) (one symbols.Equal) after_block
+  goes-numeric_for c t n =
       goes-then symbols.Equal
-      (λ y. goes-bind (goes-expression l)
-      (λ a. goes-then symbols.Comma (λ z. goes-bind (goes-expression l) (λ b. goes-next (goes-step l) (λ st. goes-next (goes-loop c) (λ x. goes-give))) refl) refl refl)
+      (λ y. goes-bind (goes-expression)
+      (λ a. goes-then symbols.Comma (λ z. goes-bind (goes-expression) (λ b. goes-next (goes-step) (λ st. goes-next (goes-loop c) (λ x. goes-give))) refl) refl refl)
       refl)
       refl refl
 
-  goes-generic_for : (l : Language) (c : Context) (t : Token) (n : Tree) → Goes s (generic_for l c t n) (one symbols.In) after_block
-  goes-generic_for l c t n =
+  goes-generic_for : (c : Context) (t : Token) (n : Tree) → Goes s (generic_for c t n) (one symbols.In) after_block
+  goes-generic_for c t n =
       goes-next (goes-listed_behind (one symbols.In) goes-name refl)
-      (λ ns. goes-then symbols.In (λ y. goes-next (goes-expressions l (one symbols.Do) refl refl) (λ es. goes-next (goes-loop c) (λ x. goes-give))) refl refl)
+      (λ ns. goes-then symbols.In (λ y. goes-next (goes-expressions (one symbols.Do) refl refl) (λ es. goes-next (goes-loop c) (λ x. goes-give))) refl refl)
 
-  goes-initial_values : (l : Language) {m : Mode} → Goes s (initial_values l m) after_block after_block
-  goes-initial_values l = goes-when (goes-then symbols.Equal (λ y. goes-expressions l after_block refl refl) refl refl) goes-give (apart_from after_block (one symbols.Equal) refl)
+  goes-initial_values : {m : Mode} → Goes s (initial_values m) after_block after_block
+  goes-initial_values = goes-when (goes-then symbols.Equal (λ y. goes-expressions after_block refl refl) refl refl) goes-give (apart_from after_block (one symbols.Equal) refl)
 
-  goes-returned_values : (l : Language) {m : Mode} → Goes s (returned_values l m) after_block after_block
-  goes-returned_values l =
-      goes-when (goes-expressions l after_block refl refl) goes-give (apart_or after_block (among expression_symbols) (λ t. among terra_symbols t && has_terra l) (apart_from after_block expression_symbols refl) (terra_apart l after_block refl))
+  goes-returned_values : {m : Mode} → Goes s (returned_values m) after_block after_block
+  goes-returned_values =
+      goes-when (goes-expressions after_block refl refl) goes-give (apart_or after_block (among expression_symbols) begins_terra (apart_from after_block expression_symbols refl) (terra_apart after_block refl))
 
-  goes-terra_definition : (l : Language) (c : Context) (declare define : Tree → Tree) → Goes s (terra_definition l c declare define) (one symbols.OpenParen) after_block
-  goes-terra_definition l c declare define =
-      goes-when (goes-then symbols.DoubleColon (λ y. goes-bind (goes-expression l) (λ e. goes-give) refl) refl refl)
-      (goes-open symbols.OpenParen TerraFunctionBody (λ b. goes-give) refl refl (within after_block after_expression refl)) (apart_from (one symbols.OpenParen) (one symbols.DoubleColon) refl)
+  goes-terra_definition : (c : Context) (declare define : Tree → Tree) → Goes s (terra_definition c declare define) (one symbols.OpenParen) after_block
+  goes-terra_definition c declare define =
+      goes-when (goes-then symbols.DoubleColon (λ y. goes-bind (goes-expression) (λ e. goes-give) refl) refl refl)
+      (goes-open_at symbols.OpenParen TerraFunctionBody (λ b. goes-give) refl refl (λ place. within after_block after_expression refl)) (apart_from (one symbols.OpenParen) (one symbols.DoubleColon) refl)
 
-  goes-local_terra : (l : Language) (c : Context) (t : Token) → Goes s (local_terra l c t) (one symbols.Terra) after_block
-  goes-local_terra l c t =
+  goes-local_terra : (c : Context) (t : Token) → Goes s (local_terra c t) (one symbols.Terra) after_block
+  goes-local_terra c t =
       goes-when (goes-then symbols.Struct (λ y. goes-next goes-name (λ n. goes-next goes-struct_body (λ es. goes-give))) refl refl)
-      (goes-then symbols.Terra (λ y. goes-next goes-name (λ n. goes-terra_definition l c _ _)) refl refl) (apart_from (one symbols.Terra) (one symbols.Struct) refl)
+      (goes-then symbols.Terra (λ y. goes-next goes-name (λ n. goes-terra_definition c _ _)) refl refl) (apart_from (one symbols.Terra) (one symbols.Struct) refl)
 
-  goes-statement : (l : Language) (c : Context) (f : Statement) (t : Token) (x : Tree) → Goes s (statement l c f t x) (statement_first f) after_block
-  goes-statement l c FromName t x = goes-next (goes-suffixes after_prefix refl) (λ a. goes-call_or_assignment l c.mode t a.shape a.tree)
-  goes-statement l c FromParen t x =
+  goes-statement : (c : Context) (f : Statement) (t : Token) (x : Tree) → Goes s (statement c f t x) (statement_first f) after_block
+  goes-statement c FromName t x = goes-next (goes-suffixes after_prefix refl) (λ a. goes-call_or_assignment c.mode t a.shape a.tree)
+  goes-statement c FromParen t x =
       goes-then symbols.CloseParen
-      (λ y. goes-next (goes-next_suffix c.mode _ after_prefix) (λ b. goes-next (goes-suffixes after_prefix refl) (λ a. goes-call_or_assignment l c.mode t a.shape a.tree)))
+      (λ y. goes-next (goes-next_suffix c.mode _ after_prefix) (λ b. goes-next (goes-suffixes after_prefix refl) (λ a. goes-call_or_assignment c.mode t a.shape a.tree)))
       refl refl
-  goes-statement l c FromDo t x = goes-closed symbols.End refl refl
-  goes-statement l c FromWhile t x = goes-bind (goes-expression l) (λ e. goes-next (goes-loop c) (λ b. goes-give)) refl
-  goes-statement l c FromRepeat t x = goes-then symbols.Until (λ y. goes-bind (goes-expression l) (λ e. goes-give) refl) refl refl
-  goes-statement l c FromIf t x = goes-next (goes-arm l) (λ first. goes-next (goes-arms l) (λ all. goes-next (goes-otherwise l) (λ o. goes-closed symbols.End refl refl)))
-  goes-statement l c FromFor t x = goes-next goes-name (λ n. goes-when (goes-numeric_for l c t n) (goes-generic_for l c t n) (apart_from (one symbols.In) (one symbols.Equal) refl))
-  goes-statement l c FromFunction t x =
+  goes-statement c FromDo t x = goes-closed symbols.End refl refl
+  goes-statement c FromWhile t x = goes-bind (goes-expression) (λ e. goes-next (goes-loop c) (λ b. goes-give)) refl
+  goes-statement c FromRepeat t x = goes-then symbols.Until (λ y. goes-bind (goes-expression) (λ e. goes-give) refl) refl refl
+  goes-statement c FromIf t x = goes-next (goes-arm) (λ first. goes-next (goes-arms) (λ all. goes-next (goes-otherwise) (λ o. goes-closed symbols.End refl refl)))
+  goes-statement c FromFor t x = goes-next goes-name (λ n. goes-when (goes-numeric_for c t n) (goes-generic_for c t n) (apart_from (one symbols.In) (one symbols.Equal) refl))
+  goes-statement c FromFunction t x =
       goes-next (goes-path (one symbols.OpenParen) refl refl) (λ p. goes-open symbols.OpenParen FunctionBody (λ b. goes-give) refl refl (within after_block after_expression refl))
-  goes-statement l c FromLocal t x =
+  goes-statement c FromLocal t x =
       goes-when (goes-then symbols.Function (λ y. goes-next goes-name (λ n. goes-open symbols.OpenParen FunctionBody (λ b. goes-give) refl refl (within after_block after_expression refl))) refl refl)
-      (goes-when (goes-local_terra l c t) (goes-next (goes-listed after_block goes-name refl) (λ ns. goes-next (goes-initial_values l) (λ es. goes-give)))
-      (apart_from_and only_name (symbols.Terra ∷ symbols.Struct ∷ []) (λ u. has_terra l) refl))
+      (goes-when (goes-local_terra c t) (goes-next (goes-listed after_block goes-name refl) (λ ns. goes-next (goes-initial_values) (λ es. goes-give)))
+      (apart_from only_name (symbols.Terra ∷ symbols.Struct ∷ []) refl))
       (apart_from only_name (one symbols.Function) refl)
-  goes-statement l c FromReturn t x = goes-next (goes-returned_values l) (λ es. goes-give)
-  goes-statement l c FromBreak t x = goes-give
-  goes-statement l c FromTerra t x = goes-next (goes-path (one symbols.OpenParen) refl refl) (λ p. goes-terra_definition l c _ _)
-  goes-statement l c FromStruct t x = goes-next goes-struct_path (λ p. goes-next goes-struct_body (λ es. goes-give))
-  goes-statement l c FromEmit t x = goes-bind (goes-expression l) (λ e. goes-give) refl
+  goes-statement c FromReturn t x = goes-next (goes-returned_values) (λ es. goes-give)
+  goes-statement c FromBreak t x = goes-give
+  goes-statement c FromTerra t x = goes-next (goes-path (one symbols.OpenParen) refl refl) (λ p. goes-terra_definition c _ _)
+  goes-statement c FromStruct t x = goes-next goes-struct_path (λ p. goes-next goes-struct_body (λ es. goes-give))
+  goes-statement c FromEmit t x = goes-bind (goes-expression) (λ e. goes-give) refl
 
-  pub goes-block : (l : Language) (c : Context) → Goes s (block l c) after_block after_block
-  goes-block l c =
+  pub goes-block : (c : Context) → Goes s (block c) after_block after_block
+  goes-block c =
       goes-next
       (goes-many (λ t. statement_first (statement_of t.symbol)) (λ b t h. statement_covers s c (statement_of t.symbol))
-      (λ t x b h. goes-next (goes-statement l c (statement_of t.symbol) t x) (λ st. goes-next (goes-semicolon after_block refl) (λ y. goes-give)))
-      (λ b. statement_apart l c b.ended after_block refl))
+      (λ t x b h. goes-next (goes-statement c (statement_of t.symbol) t x) (λ st. goes-next (goes-semicolon after_block refl) (λ y. goes-give)))
+      (λ b. statement_apart c b.ended after_block refl))
       (λ a. goes-give)
 
   goes-parameter : {before : Tree} → Goes s (parameter before) only_name (one symbols.CloseParen)
@@ -209,6 +209,6 @@ module _ {s : Setting after_part} where
       (λ p. goes-many (λ t. only_name) (λ b t h. tt) (λ t x b h. goes-parameter) (λ b. apart_from_and (one symbols.CloseParen) (one symbols.Comma) (λ u. not b.variadic) refl)))
       (apart_from only_name (one symbols.CloseParen) refl)
 
-  pub goes-function_body : (l : Language) → Goes s (function_body l) only_name after_expression
-  goes-function_body l =
-      goes-next goes-parameters (λ p. goes-then symbols.CloseParen (λ y. goes-bind (goes-block l (fresh (body_mode p.variadic))) (λ b. goes-closed symbols.End refl refl) refl) refl refl)
+  pub goes-function_body : Goes s (function_body) only_name after_expression
+  goes-function_body =
+      goes-next goes-parameters (λ p. goes-then symbols.CloseParen (λ y. goes-bind (goes-block (fresh (body_mode p.variadic))) (λ b. goes-closed symbols.End refl refl) refl) refl refl)

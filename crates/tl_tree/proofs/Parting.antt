@@ -1,7 +1,7 @@
 -- A reading that is parted at some token, the limits aside: what was read before the place is read whatever follows it, and shortest
 -- tokens complete the rest.
 use Rattle.std.proofs.Common.{◌≡◌, ℕ, Bool, true, false, List, [], ◌∷◌, ◌++◌, length, Option, Some, None, refl, sym, ap, ◌∙◌, subst, append_assoc, arith, inl, inr, ◌⊎◌, length-append}
-use Rattle.tl_base.specs.declared.place.Place.{Place}
+use Rattle.tl_lex.specs.Answers.{Position}
 use Rattle.tl_tree.specs.declared.symbol.Symbol.{Symbol}
 use Rattle.tl_tree.specs.declared.mode.Extra.{Extra}
 use Rattle.tl_tree.specs.Tokens.{Token}
@@ -29,7 +29,7 @@ abbrev pub Keeping : {A : Type 0} → Reading A → Reading A → Type 0
 Keeping {A} In Out = (front r x b : List Token) (t : Token) (a : A) → In (front ++ r) a (t ∷ (b ++ r)) → Out (front ++ x) a (t ∷ (b ++ x))
 
 -- tokens that complete the front, if its first is of the class after
-pub record Ended {A : Type 0} (Out : Reading A) (p : Place) (after : Token → Bool) (front : List Token) : Type 0 where
+pub record Ended {A : Type 0} (Out : Reading A) (p : Position) (after : Token → Bool) (front : List Token) : Type 0 where
   pub more : List Token
   pub spelled : Spelled p more
   pub value : A
@@ -37,13 +37,13 @@ pub record Ended {A : Type 0} (Out : Reading A) (p : Place) (after : Token → B
 
 -- what is read beyond a front is completed behind it in the second way
 abbrev pub Ending : {A : Type 0} → Reading A → Reading A → (Token → Bool) → Type 0
-Ending {A} In Out after = (p : Place) (t : Token) (f r : List Token) (a : A) (rest : List Token) → In (t ∷ (f ++ r)) a rest → Behind rest r → Ended Out p after (t ∷ f)
+Ending {A} In Out after = (p : Position) (t : Token) (f r : List Token) (a : A) (rest : List Token) → In (t ∷ (f ++ r)) a rest → Behind rest r → Ended Out p after (t ∷ f)
 
 -- the same for a front that may be empty
 abbrev pub EndingAny : {A : Type 0} → Reading A → Reading A → (Token → Bool) → Type 0
-EndingAny {A} In Out after = (p : Place) (front r : List Token) (a : A) (rest : List Token) → In (front ++ r) a rest → Behind rest r → Ended Out p after front
+EndingAny {A} In Out after = (p : Position) (front r : List Token) (a : A) (rest : List Token) → In (front ++ r) a rest → Behind rest r → Ended Out p after front
 
-pub ending_any : {A : Type 0} (In : Reading A) (Out : Rule → Reading A) (first after : Token → Bool) → ((p : Place) → Bare Out p first after) → Ending In (Out any) after → EndingAny In (Out any) after
+pub ending_any : {A : Type 0} (In : Reading A) (Out : Rule → Reading A) (first after : Token → Bool) → ((p : Position) → Bare Out p first after) → Ending In (Out any) after → EndingAny In (Out any) after
 ending_any In Out first after bare ending p [] r a rest h k =
     let c = bare p in
     record { more = c.more; spelled = c.spelled; value = c.value; reads = λ close g. c.reads close g any (λ role t ts e. refl) (λ role ts e. refl) }
@@ -80,7 +80,7 @@ keeping_then First FirstOut Second SecondOut first_keeps second_keeps second_lea
       second_keeps h.0 (n.0 ∷ n.1) r x b t y (subst (λ (m : List Token). Second h.0 m y (t ∷ (b ++ r))) n.2 h.3),
     )
 
-pub ending_then : {A B : Type 0} (First FirstOut : Reading A) (Second : A → Reading B) (SecondOut : A → Rule → Reading B) (mid after : Token → Bool) → Leaving First → Keeping First FirstOut → EndingAny First FirstOut mid → ((a : A) (p : Place) → Bare (SecondOut a) p mid after) → ((a : A) → Ending (Second a) (SecondOut a any) after) → EndingAny (Then First Second) (Then FirstOut (λ a. SecondOut a any)) after
+pub ending_then : {A B : Type 0} (First FirstOut : Reading A) (Second : A → Reading B) (SecondOut : A → Rule → Reading B) (mid after : Token → Bool) → Leaving First → Keeping First FirstOut → EndingAny First FirstOut mid → ((a : A) (p : Position) → Bare (SecondOut a) p mid after) → ((a : A) → Ending (Second a) (SecondOut a any) after) → EndingAny (Then First Second) (Then FirstOut (λ a. SecondOut a any)) after
 ending_then {A} {B} First FirstOut Second SecondOut mid after first_leaves first_keeps first_ends second_bare second_ends p front r b rest h k = go (parted front r left.0 h.1 left.1)
   where
     left : Leaves h.1 (front ++ r)
@@ -137,7 +137,7 @@ module _ {A : Type 0} (class : A → Token → Bool) (In : A → Token → Readi
         subst (λ (z : Token). Turns class Out a (z ∷ (front ++ x)) b (t ∷ (c ++ x))) same.0 (turn h first (keeping_turns y mid b rest later (n.0 ∷ n.1) r x c t n.2 g))
 
     module _ (after : Token → Bool) (turn_ends : (a : A) (t : Token) → is_of (class a) t ≡ true → EndingAny (In a t) (Out a t) after) (far : (a : A) (t : Token) → after t ≡ true → is_of (class a) t ≡ false) where
-      pub ending_turns : (a : A) (ts : List Token) (b : A) (rest : List Token) → Turns class In a ts b rest → (p : Place) (t : Token) (f r : List Token) → ts ≡ t ∷ (f ++ r) → Behind rest r → Ended (λ us y left. Turns class Out a us y left) p after (t ∷ f)
+      pub ending_turns : (a : A) (ts : List Token) (b : A) (rest : List Token) → Turns class In a ts b rest → (p : Position) (t : Token) (f r : List Token) → ts ≡ t ∷ (f ++ r) → Behind rest r → Ended (λ us y left. Turns class Out a us y left) p after (t ∷ f)
       ending_turns a [] b rest (stop e) p t f r g k = absurd cc
       ending_turns a (u ∷ ts) b rest (stop e) p t f r g k = absurd (never_behind t f r (subst (λ (z : List Token). Behind z r) g k))
       ending_turns a (u ∷ ts) b rest (turn {x = y} {mid = mid} h here later) p t f r g k = go (parted f r left.0 mid (sym same.1 ∙ left.1)) (λ w c e. ending_turns y mid b rest later p w c r e k)
@@ -181,7 +181,7 @@ pub record Deep (part_after : Part → Token → Bool) : Type 1 where
   pub outer : Parts
   pub leaving : (part : Part) → Leaving (λ ts x rest. inner part ts x rest)
   pub keeping : (part : Part) → Keeping (λ ts x rest. inner part ts x rest) (λ ts x rest. outer part ts x rest)
-  pub bare : (part : Part) (p : Place) → Bare (λ rule ts x rest. outer part ts x rest) p (λ t. true) (part_after part)
+  pub bare : (part : Part) (p : Position) → Bare (λ rule ts x rest. outer part ts x rest) p (λ t. true) (part_after part)
   pub ending : (part : Part) → Ending (λ ts x rest. inner part ts x rest) (λ ts x rest. outer part ts x rest) (part_after part)
 
 module _ {part_after : Part → Token → Bool} (d : Deep part_after) where
@@ -209,7 +209,7 @@ module _ {part_after : Part → Token → Bool} (d : Deep part_after) where
   opened_keeping None front r x b t y h = (h.0, sym (same_back front r x b t (sym h.1)))
   opened_keeping (Some part) front r x b t y h = d.keeping part front r x b t y h
 
-  opened_bare : (o : Option Part) (after : Token → Bool) → Covering after o → (p : Place) → Bare (OpenedOut o) p (λ t. true) after
+  opened_bare : (o : Option Part) (after : Token → Bool) → Covering after o → (p : Position) → Bare (OpenedOut o) p (λ t. true) after
   opened_bare None after c p = record { more = []; spelled = tt; value = Nothing; starts = λ close k. all_fit close; reads = λ close k rule al le. (refl, refl) }
   opened_bare (Some part) after c p =
       let b = d.bare part p in
@@ -294,10 +294,10 @@ module _ {part_after : Part → Token → Bool} (d : Deep part_after) where
   pub turned-give : {A : Type 0} (a : A) (after : Token → Bool) → Turned d (give a) after after
   turned-give a after = record { starts = bare-give d.levels (λ rule. d.outer) a after; ends = λ p t f r x rest h k. absurd (never_behind t f r (subst (λ (z : List Token). Behind z r) h.1 k)) }
 
-  pub turned-token : (class : Token → Bool) (extra : Token → Extra) (opens : Token → Option Part) (sample : Token) (k : Symbol) (first after : Token → Bool) → is_written k ≡ true → ((p : Place) → is_of class (placed p k) ≡ true) → ((p : Place) → first (placed p k) ≡ true) → ((t : Token) → is_of class t ≡ true → Covering d after (opens t)) → Turned d (token class extra opens sample) first after
+  pub turned-token : (class : Token → Bool) (extra : Token → Extra) (opens : Token → Option Part) (sample : Token) (k : Symbol) (first after : Token → Bool) → is_written k ≡ true → ((p : Position) → is_of class (placed p k) ≡ true) → ((p : Position) → first (placed p k) ≡ true) → ((t : Token) → is_of class t ≡ true → Covering d after (opens t)) → Turned d (token class extra opens sample) first after
   turned-token class extra opens sample k first after written good good_first covers =
       record {
-        starts = λ p. bare-opened d.levels (λ rule. d.outer) class extra opens sample k p first (λ t. true) after written (good p) (good_first p) (opened_bare d (opens (placed p k)) after (covers (placed p k) (good p)) (next_word p));
+        starts = λ p. bare-opened d.levels (λ rule. d.outer) class extra opens sample k p first (λ t. true) after written (good p) (good_first p) (opened_bare d (opens (placed p k)) after (covers (placed p k) (good p)) (next_word p k));
         ends = λ p t f r a rest h n.
             let same = heads t a.0 (f ++ r) h.0 h.1 in
             let fine : is_of class t ≡ true = subst (λ (z : Token). is_of class z ≡ true) (sym same.0) h.2 in
@@ -315,16 +315,16 @@ module _ {part_after : Part → Token → Bool} (d : Deep part_after) where
       }
 
   -- a token and what follows it, which begins in a class that depends on the token
-  pub turned-then : {A : Type 0} (class : Token → Bool) (extra : Token → Extra) (opens : Token → Option Part) (sample : Token) (s : Symbol) (h : Token × Tree → Grammar A) (first : Token → Bool) (other : Token → Token → Bool) (after : Token → Bool) → is_written s ≡ true → ((p : Place) → is_of class (placed p s) ≡ true) → ((p : Place) → first (placed p s) ≡ true) → ((t : Token) → is_of class t ≡ true → Covering d (other t) (opens t)) → ((x : Token × Tree) → is_of class x.0 ≡ true → Turned d (h x) (other x.0) after) → Turned d (bind (token class extra opens sample) h) first after
+  pub turned-then : {A : Type 0} (class : Token → Bool) (extra : Token → Extra) (opens : Token → Option Part) (sample : Token) (s : Symbol) (h : Token × Tree → Grammar A) (first : Token → Bool) (other : Token → Token → Bool) (after : Token → Bool) → is_written s ≡ true → ((p : Position) → is_of class (placed p s) ≡ true) → ((p : Position) → first (placed p s) ≡ true) → ((t : Token) → is_of class t ≡ true → Covering d (other t) (opens t)) → ((x : Token × Tree) → is_of class x.0 ≡ true → Turned d (h x) (other x.0) after) → Turned d (bind (token class extra opens sample) h) first after
   turned-then {A} class extra opens sample s h first other after written good good_first covers next = record { starts = begins_at; ends = ends_at }
     where
       opened_then : (t : Token) → is_of class t ≡ true → EndingAny (Then (OpenedIn d (opens t)) (λ x. ReadsIn d (h (t, x)))) (Then (OpenedOut d (opens t) any) (λ x. ReadsOut d (h (t, x)) any)) after
       opened_then t e = ending_then (OpenedIn d (opens t)) (OpenedOut d (opens t) any) (λ x. ReadsIn d (h (t, x))) (λ x. ReadsOut d (h (t, x))) (other t) after (opened_leaving d (opens t)) (opened_keeping d (opens t)) (opened_any d (opens t) (other t) (covers t e)) (λ x p. (next (t, x) e).starts p) (λ x. (next (t, x) e).ends)
 
-      begins_at : (p : Place) → Bare (ReadsOut d (bind (token class extra opens sample) h)) p first after
+      begins_at : (p : Position) → Bare (ReadsOut d (bind (token class extra opens sample) h)) p first after
       begins_at p =
           let t : Token = placed p s in
-          let c = bare-both (OpenedOut d (opens t)) (λ rule x ts y rest. Reads rule d.levels d.outer (h (t, x)) ts y rest) (next_word p) (λ u. true) (other t) after (opened_bare d (opens t) (other t) (covers t (good p)) (next_word p)) (λ q x. (next (t, x) (good p)).starts q) in
+          let c = bare-both (OpenedOut d (opens t)) (λ rule x ts y rest. Reads rule d.levels d.outer (h (t, x)) ts y rest) (next_word p s) (λ u. true) (other t) after (opened_bare d (opens t) (other t) (covers t (good p)) (next_word p s)) (λ q x. (next (t, x) (good p)).starts q) in
           record {
             more = t ∷ c.more;
             spelled = ((s, written, refl), c.spelled);

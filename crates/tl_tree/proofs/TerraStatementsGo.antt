@@ -1,20 +1,22 @@
 -- The completions of Terra statements, functions and quotes, one for each name of the grammar.
 use Rattle.std.proofs.Common.{◌≡◌, ◌&&◌, ℕ, Bool, true, not, List, [], ◌∷◌, refl}
+use Rattle.tl_base.specs.declared.place.Place.{Place}
 use Rattle.tl_tree.specs.declared.symbol.Symbol.{Symbol}
 use Rattle.tl_tree.specs.declared.symbol.Symbol.TheVariants as symbols
+use Rattle.tl_tree.specs.declared.mode.Mode.TheVariants as modes
 use Rattle.tl_tree.specs.declared.mode.Shape.{Shape}
 use Rattle.tl_tree.specs.declared.mode.Shape.TheVariants as shapes
 use Rattle.tl_tree.specs.Tokens.{Token, among}
-use Rattle.tl_tree.specs.Tree.{Tree, TerraStatements}
+use Rattle.tl_tree.specs.Tree.{Tree, Expression, TerraStatements}
 use Rattle.tl_tree.specs.Grammar.{Rule, Parts}
-use Rattle.tl_tree.specs.Forms.{Joint, Chained}
-use Rattle.tl_tree.specs.TerraStatements.{terra_assignment, terra_simple_statement, written_type, terra_loop, terra_arm, terra_arms, terra_otherwise, terra_step, terra_variable, terra_initial_values, terra_expression_symbols, terra_returned_values, TerraStatement, FromName, FromParen, FromBracket, FromAt, FromDo, FromWhile, FromRepeat, FromIf, FromFor, FromVar, FromEscape, FromReturn, FromBreak, terra_statement_of, terra_statement_symbols, terra_statement_opens, terra_simple_behind, terra_statement, terra_block, terra_parameter, terra_parameters, terra_function_body, quoted_code}
+use Rattle.tl_tree.specs.Forms.{Chained}
+use Rattle.tl_tree.specs.TerraStatements.{terra_assignment, terra_simple_statement, written_type, terra_loop, terra_arm, terra_arms, terra_otherwise, terra_step, variable_behind, terra_variable, terra_initial_values, terra_expression_symbols, terra_returned_values, TerraStatement, FromName, FromParen, FromBracket, FromAt, FromDo, FromWhile, FromRepeat, FromIf, FromFor, FromVar, FromEscape, FromReturn, FromBreak, terra_statement_of, terra_statement_symbols, terra_statement_opens, terra_simple_behind, terra_statement, terra_block, terra_parameter, terra_parameters, terra_function_body, quoted_code}
 use Rattle.tl_tree.proofs.Classes.{disjoint, subset, apart_from, apart_from_and, within}
 use Rattle.tl_tree.proofs.Settings.{Setting, CoveredBy}
 use Rattle.tl_tree.proofs.Going.{one, Apart, Begins, begins-give, begins-bind, begins-next, begins-then, begins-when, begins-many, Goes, goes-within, goes-give, goes-bind, goes-next, goes-then, goes-open, goes-when, goes-many}
-use Rattle.tl_tree.proofs.Following.{after_block, after_expression, after_part, begins-name, begins-listed, goes-closed, goes-name, goes-listed_behind, goes-listed, goes-semicolon}
+use Rattle.tl_tree.proofs.Following.{after_block, after_expression, after_part, begins-listed, goes-closed, goes-listed_behind, goes-listed, goes-semicolon}
 use Rattle.tl_tree.proofs.LuaExpressionsGo.{only_name, begins-expression, goes-expression}
-use Rattle.tl_tree.proofs.TerraExpressionsGo.{goes-escape, goes-terra_name, goes-terra_suffixes, goes-terra_expression_behind, goes-terra_expression, goes-terra_expressions}
+use Rattle.tl_tree.proofs.TerraExpressionsGo.{goes-terra_name, goes-terra_suffixes, goes-terra_expression_behind, goes-terra_expression, goes-terra_expressions}
 
 -- what may follow a block of a quote, of a function, of a statement
 terra_statement_apart : (ended : Bool) (xs : List Symbol) → disjoint xs terra_statement_symbols ≡ true → Apart xs (λ t. among terra_statement_symbols t && not ended)
@@ -31,12 +33,12 @@ module _ {levels : ℕ} {parts : Rule → Parts} where
 
   begins-terra_parameter : Begins levels parts terra_parameter only_name (one symbols.CloseParen)
   begins-terra_parameter =
-      begins-when (begins-next begins-name (λ n. begins-then symbols.Colon (λ y. begins-bind (begins-expression Joint) (λ e. begins-give) refl) refl refl)) (apart_from only_name (one symbols.OpenBracket) refl)
+      begins-when (begins-then symbols.Name (λ n. begins-then symbols.Colon (λ y. begins-bind begins-expression (λ e. begins-give) refl) refl refl) refl refl) (apart_from only_name (one symbols.OpenBracket) refl)
 
   begins-terra_parameters : Begins levels parts terra_parameters only_name (one symbols.CloseParen)
   begins-terra_parameters = begins-when (begins-listed (one symbols.CloseParen) begins-terra_parameter refl) (apart_from only_name (one symbols.CloseParen) refl)
 
-  pub begins-terra_function_body : Begins levels parts terra_function_body only_name after_expression
+  pub begins-terra_function_body : {place : Place} → Begins levels parts (terra_function_body place) only_name after_expression
   begins-terra_function_body =
       begins-next begins-terra_parameters
       (λ ps. begins-then symbols.CloseParen (λ y. begins-next (begins-written_type after_block refl) (λ r. begins-bind begins-terra_block (λ b. begins-then symbols.End (λ z. begins-give) refl refl) refl)) refl refl)
@@ -87,7 +89,7 @@ module _ {s : Setting after_part} where
   goes-terra_simple_behind t b = goes-next (goes-terra_suffixes b after_simple refl) (λ a. goes-terra_simple_statement t a.shape a.tree)
 
   goes-written_type : (xs : List Symbol) → subset xs after_expression ≡ true → disjoint xs (one symbols.Colon) ≡ true → Goes s written_type xs xs
-  goes-written_type xs w d = goes-when (goes-then symbols.Colon (λ y. goes-bind (goes-expression Joint) (λ e. goes-give) w) refl refl) goes-give (apart_from xs (one symbols.Colon) d)
+  goes-written_type xs w d = goes-when (goes-then symbols.Colon (λ y. goes-bind goes-expression (λ e. goes-give) w) refl refl) goes-give (apart_from xs (one symbols.Colon) d)
 
   goes-terra_loop : {xs : List Symbol} → Goes s terra_loop (one symbols.Do) xs
   goes-terra_loop = goes-open symbols.Do TerraStatements (λ x. goes-closed symbols.End refl refl) refl refl (within (one symbols.End) after_block refl)
@@ -104,8 +106,15 @@ module _ {s : Setting after_part} where
   goes-terra_step : Goes s terra_step (one symbols.Do) (one symbols.Do)
   goes-terra_step = goes-when (goes-then symbols.Comma (λ y. goes-bind goes-terra_expression (λ e. goes-give) refl) refl refl) goes-give (apart_from (one symbols.Do) (one symbols.Comma) refl)
 
+  goes-variable_behind : {place : Place} {n : Tree} → Goes s (variable_behind place n) after_block after_block
+  goes-variable_behind = goes-next (goes-written_type after_block refl refl) (λ e. goes-give)
+
   goes-terra_variable : Goes s terra_variable only_name after_block
-  goes-terra_variable = goes-next goes-terra_name (λ n. goes-next (goes-written_type after_block refl refl) (λ e. goes-give))
+  goes-terra_variable =
+      goes-when
+      (goes-open symbols.OpenBracket (Expression modes.Plain) (λ x. goes-then symbols.CloseBracket (λ y. goes-variable_behind) refl refl) refl refl (within (one symbols.CloseBracket) after_expression refl))
+      (goes-then symbols.Name (λ n. goes-variable_behind) refl refl)
+      (apart_from only_name (one symbols.OpenBracket) refl)
 
   goes-terra_initial_values : Goes s terra_initial_values after_block after_block
   goes-terra_initial_values = goes-when (goes-then symbols.Equal (λ y. goes-terra_expressions after_block refl refl) refl refl) goes-give (apart_from after_block (one symbols.Equal) refl)
@@ -144,13 +153,15 @@ module _ {s : Setting after_part} where
 
   goes-terra_parameter : Goes s terra_parameter only_name (one symbols.CloseParen)
   goes-terra_parameter =
-      goes-when (goes-next goes-escape (λ e. goes-give)) (goes-next goes-name (λ n. goes-then symbols.Colon (λ y. goes-bind (goes-expression Joint) (λ e. goes-give) refl) refl refl))
+      goes-when
+      (goes-open symbols.OpenBracket (Expression modes.Plain) (λ x. goes-closed symbols.CloseBracket refl refl) refl refl (within (one symbols.CloseBracket) after_expression refl))
+      (goes-then symbols.Name (λ n. goes-then symbols.Colon (λ y. goes-bind goes-expression (λ e. goes-give) refl) refl refl) refl refl)
       (apart_from only_name (one symbols.OpenBracket) refl)
 
   goes-terra_parameters : Goes s terra_parameters only_name (one symbols.CloseParen)
   goes-terra_parameters = goes-when goes-give (goes-listed (one symbols.CloseParen) goes-terra_parameter refl) (apart_from only_name (one symbols.CloseParen) refl)
 
-  pub goes-terra_function_body : Goes s terra_function_body only_name after_expression
+  pub goes-terra_function_body : {place : Place} → Goes s (terra_function_body place) only_name after_expression
   goes-terra_function_body =
       goes-next goes-terra_parameters
       (λ ps. goes-then symbols.CloseParen (λ y. goes-next (goes-written_type after_block refl refl) (λ r. goes-bind goes-terra_block (λ b. goes-closed symbols.End refl refl) refl)) refl refl)

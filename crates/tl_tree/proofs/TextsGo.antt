@@ -2,21 +2,21 @@
 use Rattle.std.proofs.Common.{◌≡◌, ℕ, Bool, true, false, List, [], ◌∷◌, ◌++◌, map, Ok, Err, refl, sym, ap, ◌∙◌, subst, append-nil}
 use Rattle.std.specs.Str.{IsUtf8}
 use Rattle.std.proofs.lemmas.Str.{IsUtf8-append, IsUtf8-nil}
-use Rattle.tl_base.specs.declared.place.Place.{Place}
+use Rattle.tl_lex.specs.Answers.{Position}
 use Rattle.tl_lex.specs.Answers as lexed
 use Rattle.tl_lex.specs.Fronts.{front_of}
 use Rattle.tl_lex.specs.Lexing.{answers_from}
 use Rattle.tl_lex.specs.declared.TokenKind.{TokenKind}
 use Rattle.tl_lex.specs.declared.TokenKind.TheVariants as kinds
 use Rattle.tl_lex.proofs.CutLemmas.{Spaced}
-use Rattle.tl_lex.proofs.CutTexts.{oks, NoEnd, cut_text, answers_spaced}
+use Rattle.tl_lex.proofs.CutTexts.{oks, NoEnd, cut_text, spaced, answers_spaced}
 use Rattle.tl_tree.specs.declared.symbol.Symbol.{Symbol}
 use Rattle.tl_tree.specs.Symbols.{spelling, is_bad}
 use Rattle.tl_tree.specs.Tokens.{Token, token_of, Tokens, put_answer, tokens_in, tokens_of}
 use Rattle.tl_tree.specs.Refusing.{Language}
 use Rattle.tl_tree.specs.Texts.{TextGoesOn}
 use Rattle.tl_tree.proofs.Reading.{AllGood}
-use Rattle.tl_tree.proofs.Spelled.{is_written, placed, next_word, Spelled}
+use Rattle.tl_tree.proofs.Spelled.{is_written, placed, next_at, next_word, Spelled}
 use Rattle.tl_tree.proofs.Spelt.{ascii_utf8, spelt}
 use Rattle.tl_tree.proofs.Exact.{GoesOn}
 
@@ -92,41 +92,41 @@ unfolding bytes_of
 bytes_spaced [] = tt
 bytes_spaced (t ∷ ts) = refl
 
-no_tokens : (p : Place) → tokens_by (answers_from [] p) ≡ []
+no_tokens : (p : Position) → tokens_by (answers_from [] p) ≡ []
 unfolding answers_from front_of
 no_tokens p = refl
 
 -- the first is read back
-spelled_first : (p : Place) (s : Symbol) → is_written s ≡ true → (w : List ℕ) → Spaced w → tokens_by (answers_from (32 ∷ (spelling s ++ w)) p) ≡ placed p s ∷ tokens_by (answers_from w (next_word p))
-spelled_first p s written w spaced =
+spelled_first : (p : Position) (s : Symbol) → is_written s ≡ true → (w : List ℕ) → Spaced w → tokens_by (answers_from (32 ∷ (spelling s ++ w)) p) ≡ placed p s ∷ tokens_by (answers_from w (next_word p s))
+spelled_first p s written w h =
     let k = spelt s written in
-    let t : lexed.Token = lexed.token_at k.kind (spelling s) p in
-    ap (λ (x : List lexed.Answer). tokens_by x) (answers_spaced k.kind (spelling s) w p k.alone k.black k.ends spaced)
-    ∙ put_token k.kind t (tokens_in (answers_from w (next_word p))) k.no_end
-    ∙ ap (λ (x : Symbol). record { symbol = x; text = spelling s; place = p; first_on_line = t.first_on_line } ∷ tokens_by (answers_from w (next_word p))) k.symbol
+    let t : lexed.Token = lexed.token_at k.kind (spelling s) (spaced p) in
+    ap (λ (x : List lexed.Answer). tokens_by x) (answers_spaced k.kind (spelling s) w p k.alone k.black k.ends h)
+    ∙ put_token k.kind t (tokens_in (answers_from w (next_word p s))) k.no_end
+    ∙ ap (λ (x : Symbol). record { symbol = x; text = spelling s; place = t.place; offset = t.offset; first_on_line = t.first_on_line } ∷ tokens_by (answers_from w (next_word p s))) k.symbol
 
-spelled_tokens : (ts : List Token) (p : Place) → Spelled p ts → tokens_by (answers_from (bytes_of ts) p) ≡ ts
+spelled_tokens : (ts : List Token) (p : Position) → Spelled p ts → tokens_by (answers_from (bytes_of ts) p) ≡ ts
 unfolding bytes_of
 spelled_tokens [] p h = no_tokens p
 spelled_tokens (t ∷ ts) p h =
     ap (λ (x : Token). tokens_by (answers_from (32 ∷ (x.text ++ bytes_of ts)) p)) h.0.2
     ∙ spelled_first p h.0.0 h.0.1 (bytes_of ts) (bytes_spaced ts)
-    ∙ ap (λ (x : Token). x ∷ tokens_by (answers_from (bytes_of ts) (next_word p))) (sym h.0.2)
-    ∙ ap (λ (x : List Token). t ∷ x) (spelled_tokens ts (next_word p) h.1)
+    ∙ ap (λ (x : Token). x ∷ tokens_by (answers_from (bytes_of ts) (next_at p x.text))) (sym h.0.2)
+    ∙ ap (λ (x : List Token). t ∷ x) (spelled_tokens ts (next_at p t.text) h.1)
 
-spelled_utf8 : (ts : List Token) (p : Place) → Spelled p ts → IsUtf8 (bytes_of ts)
+spelled_utf8 : (ts : List Token) (p : Position) → Spelled p ts → IsUtf8 (bytes_of ts)
 unfolding bytes_of
 spelled_utf8 [] p h = IsUtf8-nil
 spelled_utf8 (t ∷ ts) p h =
     let first : IsUtf8 t.text = subst (λ (x : Token). IsUtf8 x.text) (sym h.0.2) (ascii_utf8 (spelling h.0.0) (spelt h.0.0 h.0.1).ascii) in
-    IsUtf8-append (32 ∷ []) (t.text ++ bytes_of ts) (ascii_utf8 (32 ∷ []) refl) (IsUtf8-append t.text (bytes_of ts) first (spelled_utf8 ts (next_word p) h.1))
+    IsUtf8-append (32 ∷ []) (t.text ++ bytes_of ts) (ascii_utf8 (32 ∷ []) refl) (IsUtf8-append t.text (bytes_of ts) first (spelled_utf8 ts (next_at p t.text) h.1))
 
 -- ---- texts
 
 -- Where the tokens that a text begins with go on from each place, the text goes on.
-pub text_goes : {A : Type 0} (Reads : Language A) (text : List ℕ) (front rest : List Token) → tokens_of text ≡ front ++ rest → ((p : Place) → GoesOn Reads p front) → TextGoesOn Reads text front
+pub text_goes : {A : Type 0} (Reads : Language A) (text : List ℕ) (front rest : List Token) → tokens_of text ≡ front ++ rest → ((p : Position) → GoesOn Reads p front) → TextGoesOn Reads text front
 text_goes Reads text front rest e goes =
-    let l = lexed_front (lexed.answers_of text) front rest (goes (lexed.place_at 1 1)).good e in
+    let l = lexed_front (lexed.answers_of text) front rest (goes (record { place = lexed.place_at 1 1; offset = 0 })).good e in
     let c = cut_text text l.ts l.others l.no_end l.parts in
     let g = goes c.place in
     let with_tokens : (w : List ℕ) → Spaced w → tokens_of (c.begun ++ w) ≡ front ++ tokens_by (answers_from w c.place) = λ w s.

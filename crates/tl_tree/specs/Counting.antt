@@ -10,7 +10,7 @@ abbrev pub nodes_of : Tree → ℕ
 nodes_of t.Nothing = 0
 nodes_of (t.More before next) = nodes_of before + nodes_of next
 nodes_of (t.Just a) = nodes_of a
-nodes_of (t.Name place text) = 1
+nodes_of (t.Name place offset text) = 1
 nodes_of (t.Numeral place text) = 1
 nodes_of (t.Literal place text) = 1
 -- expressions of Lua code
@@ -87,7 +87,7 @@ nodes_of (t.NamedField name value) = nodes_of value
 nodes_of (t.KeyedField key value) = nodes_of key + nodes_of value
 nodes_of (t.Entry name type) = nodes_of type
 nodes_of (t.Quoted block value) = nodes_of block + nodes_of value
-nodes_of (t.TerraBody parameters result block) = 1 + nodes_of parameters + nodes_of result + nodes_of block
-nodes_of (t.Parameter name type) = 1 + nodes_of type
-nodes_of (t.SpliceParameter escape) = nodes_of escape
-nodes_of (t.Variable name type) = 1 + (nodes_of name - 1) + nodes_of type
+nodes_of (t.TerraBody place parameters result block) = 1 + nodes_of parameters + nodes_of result + nodes_of block
+nodes_of (t.Parameter place name type) = 1 + nodes_of type
+nodes_of (t.SpliceParameter place escape) = nodes_of escape
+nodes_of (t.Variable place name type) = 1 + (nodes_of name - 1) + nodes_of type

@@ -1,5 +1,6 @@
 -- What the grammars of Lua and Terra code are made of.
-use Rattle.std.specs.Prelude.{ℕ, Bool, true, false, List, [], ◌∷◌, Some, None}
+use Rattle.std.specs.Prelude.{ℕ, List, [], ◌∷◌, Some, None}
+use Rattle.tl_base.specs.declared.place.Place.{Place}
 use Rattle.tl_tree.specs.declared.symbol.Symbol.{Symbol}
 use Rattle.tl_tree.specs.declared.symbol.Symbol.TheVariants as symbols
 use Rattle.tl_tree.specs.declared.mode.Extra.TheVariants.{Plain, Continues}
@@ -17,9 +18,13 @@ use Rattle.tl_tree.specs.Grammar.{Grammar, give, token, bind, when, many, down}
 abbrev pub sign : Symbol → Grammar (Token × Tree)
 sign s = token (is s) (λ t. Plain) (λ t. None) (sample s)
 
+-- a token with a symbol, and the part that it opens, which depends on its place
+abbrev pub opening_at : Symbol → (Place → Part) → Grammar (Token × Tree)
+opening_at s part = token (is s) (λ t. Plain) (λ t. Some (part t.place)) (sample s)
+
 -- a token with a symbol, and the part that it opens
 abbrev pub opening : Symbol → Part → Grammar (Token × Tree)
-opening s part = token (is s) (λ t. Plain) (λ t. Some part) (sample s)
+opening s part = opening_at s (λ place. part)
 
 -- {"," x}, behind a list
 abbrev pub listed_behind : Grammar Tree → Tree → Grammar Tree
@@ -35,9 +40,13 @@ separated_behind x before =
     many (λ a t. among (symbols.Comma ∷ symbols.Semicolon ∷ []) t) (λ a t. Plain) (λ a t. None)
     (λ t y a. when (is symbols.CloseBrace) (give a) (bind x λ e. give (More a e))) before
 
+-- Name, and what depends on its place and on it
+abbrev pub named : {A : Type 0} → (Place → Tree → Grammar A) → Grammar A
+named goes = bind (sign symbols.Name) λ n. goes n.0.place (Name n.0.place n.0.offset n.0.text)
+
 -- Name
 abbrev pub name : Grammar Tree
-name = bind (sign symbols.Name) λ n. give (Name n.0.place n.0.text)
+name = named λ place n. give n
 
 -- Name {"," Name}
 abbrev pub names : Grammar Tree
@@ -57,17 +66,7 @@ separator =
 -- {"." Name}: the names of a path have the places of their "."
 abbrev pub path_names : Tree → Grammar Tree
 path_names a =
-    many (λ b t. is symbols.Dot t) (λ b t. Plain) (λ b t. None) (λ t x b. bind (sign symbols.Name) λ n. give (More b (Name t.place n.0.text))) a
-
--- ---- languages
-
--- what a source may hold: Lua code alone, or Lua and Terra code
-pub data Language : Type 0 where
-  LuaAlone Joint : Language
-
-abbrev pub has_terra : Language → Bool
-has_terra LuaAlone = false
-has_terra Joint = true
+    many (λ b t. is symbols.Dot t) (λ b t. Plain) (λ b t. None) (λ t x b. bind (sign symbols.Name) λ n. give (More b (Name t.place n.0.offset n.0.text))) a
 
 -- ---- chains
 

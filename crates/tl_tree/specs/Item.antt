@@ -8,7 +8,8 @@ use Rattle.tl_tree.specs.declared.node.TerraStatement as terra_statements
 use Rattle.tl_tree.specs.declared.node.Piece as pieces
 
 pub data Item : Type 0 where
-  Name Numeral Literal : Place → List ℕ → Item
+  Name : Place → ℕ → List ℕ → Item
+  Numeral Literal : Place → List ℕ → Item
   Expression : Place → expressions.Expression → Item
   Statement : Place → statements.Statement → Item
   TerraExpression : Place → terra_expressions.TerraExpression → Item

@@ -1,19 +1,14 @@
--- The languages of whole texts, and that reading has one answer.
+-- The language of whole texts, and that reading has one answer.
 use Rattle.std.specs.Prelude.{◌≡◌, ℕ, List}
 use Rattle.tl_tree.specs.Tokens.{Token, tokens_of}
 use Rattle.tl_tree.specs.Tree.{Tree}
 use Rattle.tl_tree.specs.Grammar.{Whole}
 use Rattle.tl_tree.specs.Refusing.{Language, HasTree, Answer, Says}
-use Rattle.tl_tree.specs.Forms.{LuaAlone, Joint}
 use Rattle.tl_tree.specs.Syntax.{syntax_of, chunk}
-
--- The tokens are a chunk of Lua code, of this tree.
-abbrev pub IsLuaChunk : Language Tree
-IsLuaChunk rule ts tree = Whole (syntax_of LuaAlone) chunk rule ts tree
 
 -- The tokens are a chunk of Lua and Terra code, of this tree.
 abbrev pub IsChunk : Language Tree
-IsChunk rule ts tree = Whole (syntax_of Joint) chunk rule ts tree
+IsChunk rule ts tree = Whole syntax_of chunk rule ts tree
 
 -- each list of tokens has one tree, or is refused at one token for one reason
 abbrev pub HasOneAnswer : Language Tree → Type 0

@@ -11,7 +11,7 @@ use Rattle.tl_tree.specs.declared.mode.Shape.TheVariants as shapes
 use Rattle.tl_tree.specs.Tokens.{Token, among, is, sample}
 use Rattle.tl_tree.specs.Tree.{Tree, Nothing, More, Name, Numeral, Literal, Nil, False, True, Varargs, Function, Table, Binary, Unary, Paren, Index, Select, Call, Method, NamedField, KeyedField, TerraFunction, Struct, Quote, Backtick, Entry, Part, Expression, Operand, Concatenation, Arguments, Fields, FunctionBody, Entries, TerraFunctionBody, QuotedCode, TerraExpression}
 use Rattle.tl_tree.specs.Grammar.{Grammar, give, token, bind, when, many, down}
-use Rattle.tl_tree.specs.Forms.{sign, opening, listed, separated_behind, separator, name, Language, has_terra, chain, Chained, chained, operand, in_chain, binary_of, unary_of, comparisons, additive, multiplicative, operators, right_operator}
+use Rattle.tl_tree.specs.Forms.{sign, opening, opening_at, listed, separated_behind, separator, name, chain, Chained, chained, operand, in_chain, binary_of, unary_of, comparisons, additive, multiplicative, operators, right_operator}
 
 -- ---- prefix expressions, and what may follow them
 
@@ -130,7 +130,7 @@ table m = bind (opening symbols.OpenBrace (Fields m)) λ x. bind (sign symbols.C
 
 -- "terra" tbody
 abbrev pub terra_function : Grammar Tree
-terra_function = bind (sign symbols.Terra) λ t. bind (opening symbols.OpenParen TerraFunctionBody) λ x. give (TerraFunction t.0.place x.1)
+terra_function = bind (sign symbols.Terra) λ t. bind (opening_at symbols.OpenParen TerraFunctionBody) λ x. give (TerraFunction t.0.place x.1)
 
 -- "{" {Name ":" exp ["," | ";"]} "}"
 abbrev pub struct_body : Mode → Grammar Tree
@@ -152,8 +152,8 @@ backtick = bind (opening symbols.Backtick TerraExpression) λ x. give (Backtick 
 abbrev pub terra_symbols : List Symbol
 terra_symbols = symbols.Terra ∷ symbols.Struct ∷ symbols.Quote ∷ symbols.Backtick ∷ []
 
-abbrev pub begins_terra : Language → Token → Bool
-begins_terra l t = among terra_symbols t && has_terra l
+abbrev pub begins_terra : Token → Bool
+begins_terra t = among terra_symbols t
 
 abbrev pub terra_code : Mode → Grammar Tree
 terra_code m = when (is symbols.Terra) terra_function (when (is symbols.Struct) (struct m) (when (is symbols.Quote) quote backtick))
@@ -165,103 +165,102 @@ operation t a b = Binary t.place (binary_of t.symbol) a b
 abbrev pub prefix_symbols : List Symbol
 prefix_symbols = symbols.Not ∷ symbols.Hash ∷ symbols.Minus ∷ symbols.Ampersand ∷ []
 
-module _ (l : Language) where
-  abbrev pub primary : Mode → ℕ → Grammar Chained
-  primary m left =
-      when (is symbols.Numeral) (as_operand left number)
-      (when (is symbols.Literal) (as_operand left literal)
-      (when (is symbols.Nil) (as_operand left nil)
-      (when (is symbols.False) (as_operand left no)
-      (when (is symbols.True) (as_operand left yes)
-      (when (is_varargs m) (as_operand left varargs)
-      (when (is symbols.Function) (as_operand left function)
-      (when (is symbols.OpenBrace) (as_operand left (table m))
-      (when (begins_terra l) (as_operand left (terra_code m))
-      (prefix m left)))))))))
+abbrev pub primary : Mode → ℕ → Grammar Chained
+primary m left =
+    when (is symbols.Numeral) (as_operand left number)
+    (when (is symbols.Literal) (as_operand left literal)
+    (when (is symbols.Nil) (as_operand left nil)
+    (when (is symbols.False) (as_operand left no)
+    (when (is symbols.True) (as_operand left yes)
+    (when (is_varargs m) (as_operand left varargs)
+    (when (is symbols.Function) (as_operand left function)
+    (when (is symbols.OpenBrace) (as_operand left (table m))
+    (when begins_terra (as_operand left (terra_code m))
+    (prefix m left)))))))))
 
-  -- ---- operators, one definition for each level of precedence
+-- ---- operators, one definition for each level of precedence
 
-  -- `^` binds more than a prefix operator on its left, and less than one on its right.
-  abbrev pub power : Mode → ℕ → Grammar Chained
-  power m left = bind (primary m left) λ a. right_operator symbols.Caret (Operand m) operation a
+-- `^` binds more than a prefix operator on its left, and less than one on its right.
+abbrev pub power : Mode → ℕ → Grammar Chained
+power m left = bind (primary m left) λ a. right_operator symbols.Caret (Operand m) operation a
 
-  abbrev pub unary : Mode → ℕ → Grammar Chained
-  unary m left =
-      when (among prefix_symbols)
-      (bind (token (among prefix_symbols) (λ t. Plain) (λ t. Some (Operand m)) (sample symbols.Minus)) λ x.
-      give (operand left (Unary x.0.place (unary_of x.0.symbol) x.1)))
-      (power m left)
+abbrev pub unary : Mode → ℕ → Grammar Chained
+unary m left =
+    when (among prefix_symbols)
+    (bind (token (among prefix_symbols) (λ t. Plain) (λ t. Some (Operand m)) (sample symbols.Minus)) λ x.
+    give (operand left (Unary x.0.place (unary_of x.0.symbol) x.1)))
+    (power m left)
 
-  -- `*` `/` `%`
-  abbrev pub product : Mode → ℕ → Grammar Chained
-  product m left = bind (unary m left) λ a. operators multiplicative (unary m) operation a
+-- `*` `/` `%`
+abbrev pub product : Mode → ℕ → Grammar Chained
+product m left = bind (unary m left) λ a. operators multiplicative (unary m) operation a
 
-  -- `+` `-`
-  abbrev pub sum : Mode → ℕ → Grammar Chained
-  sum m left = bind (product m left) λ a. operators additive (product m) operation a
+-- `+` `-`
+abbrev pub sum : Mode → ℕ → Grammar Chained
+sum m left = bind (product m left) λ a. operators additive (product m) operation a
 
-  -- `..`
-  abbrev pub concatenation : Mode → ℕ → Grammar Chained
-  concatenation m left = bind (sum m left) λ a. right_operator symbols.DoubleDot (Concatenation m) operation a
+-- `..`
+abbrev pub concatenation : Mode → ℕ → Grammar Chained
+concatenation m left = bind (sum m left) λ a. right_operator symbols.DoubleDot (Concatenation m) operation a
 
-  -- `<` `>` `<=` `>=` `~=` `==`
-  abbrev pub comparison : Mode → ℕ → Grammar Chained
-  comparison m left = bind (concatenation m left) λ a. operators comparisons (concatenation m) operation a
+-- `<` `>` `<=` `>=` `~=` `==`
+abbrev pub comparison : Mode → ℕ → Grammar Chained
+comparison m left = bind (concatenation m left) λ a. operators comparisons (concatenation m) operation a
 
-  abbrev pub conjunction : Mode → ℕ → Grammar Chained
-  conjunction m left = bind (comparison m left) λ a. operators (symbols.And ∷ []) (comparison m) operation a
+abbrev pub conjunction : Mode → ℕ → Grammar Chained
+conjunction m left = bind (comparison m left) λ a. operators (symbols.And ∷ []) (comparison m) operation a
 
-  abbrev pub disjunction : Mode → ℕ → Grammar Chained
-  disjunction m left = bind (conjunction m left) λ a. operators (symbols.Or ∷ []) (conjunction m) operation a
+abbrev pub disjunction : Mode → ℕ → Grammar Chained
+disjunction m left = bind (conjunction m left) λ a. operators (symbols.Or ∷ []) (conjunction m) operation a
 
-  -- `->`
-  abbrev pub chained_expression : Mode → Grammar Chained
-  chained_expression m = bind (disjunction m chain) λ a. right_operator symbols.Arrow (Expression m) operation a
+-- `->`
+abbrev pub chained_expression : Mode → Grammar Chained
+chained_expression m = bind (disjunction m chain) λ a. right_operator symbols.Arrow (Expression m) operation a
 
-  abbrev pub expression : Mode → Grammar Tree
-  expression m = bind (chained_expression m) λ a. give a.tree
+abbrev pub expression : Mode → Grammar Tree
+expression m = bind (chained_expression m) λ a. give a.tree
 
-  -- exp {"," exp}
-  abbrev pub expressions : Mode → Grammar Tree
-  expressions m = listed (expression m)
+-- exp {"," exp}
+abbrev pub expressions : Mode → Grammar Tree
+expressions m = listed (expression m)
 
-  -- ---- what the tokens of expressions open
+-- ---- what the tokens of expressions open
 
-  -- the operand of a prefix operator, and the right operand of `^`
-  abbrev pub operand_of : Mode → Grammar Tree
-  operand_of m = bind (unary m chain) λ a. give a.tree
+-- the operand of a prefix operator, and the right operand of `^`
+abbrev pub operand_of : Mode → Grammar Tree
+operand_of m = bind (unary m chain) λ a. give a.tree
 
-  -- the right operand of `..`
-  abbrev pub concatenation_of : Mode → Grammar Tree
-  concatenation_of m = bind (concatenation m chain) λ a. give a.tree
+-- the right operand of `..`
+abbrev pub concatenation_of : Mode → Grammar Tree
+concatenation_of m = bind (concatenation m chain) λ a. give a.tree
 
-  -- [exps], up to a ")"
-  abbrev pub arguments_of : Mode → Grammar Tree
-  arguments_of m = when (is symbols.CloseParen) (give Nothing) (expressions m)
+-- [exps], up to a ")"
+abbrev pub arguments_of : Mode → Grammar Tree
+arguments_of m = when (is symbols.CloseParen) (give Nothing) (expressions m)
 
-  -- A name alone before "=" names a field.
-  abbrev pub field_behind : Mode → Shape → Tree → Grammar Tree
-  field_behind m shapes.Name e =
-      when (is symbols.Equal) (bind (sign symbols.Equal) λ y. bind (expression m) λ v. give (NamedField e v)) (give e)
-  field_behind m _ e = give e
+-- A name alone before "=" names a field.
+abbrev pub field_behind : Mode → Shape → Tree → Grammar Tree
+field_behind m shapes.Name e =
+    when (is symbols.Equal) (bind (sign symbols.Equal) λ y. bind (expression m) λ v. give (NamedField e v)) (give e)
+field_behind m _ e = give e
 
-  -- "[" exp "]" "=" exp
-  abbrev pub keyed_field : Mode → Grammar Tree
-  keyed_field m =
-      bind (opening symbols.OpenBracket (Expression m)) λ k. bind (sign symbols.CloseBracket) λ y. bind (sign symbols.Equal) λ z.
-      bind (expression m) λ v. give (KeyedField k.1 v)
+-- "[" exp "]" "=" exp
+abbrev pub keyed_field : Mode → Grammar Tree
+keyed_field m =
+    bind (opening symbols.OpenBracket (Expression m)) λ k. bind (sign symbols.CloseBracket) λ y. bind (sign symbols.Equal) λ z.
+    bind (expression m) λ v. give (KeyedField k.1 v)
 
-  -- field = "[" exp "]" "=" exp | Name "=" exp | exp
-  abbrev pub field : Mode → Grammar Tree
-  field m = when (is symbols.OpenBracket) (keyed_field m) (bind (chained_expression m) λ e. field_behind m e.shape e.tree)
+-- field = "[" exp "]" "=" exp | Name "=" exp | exp
+abbrev pub field : Mode → Grammar Tree
+field m = when (is symbols.OpenBracket) (keyed_field m) (bind (chained_expression m) λ e. field_behind m e.shape e.tree)
 
-  -- [field {("," | ";") field} ["," | ";"]], up to a "}"
-  abbrev pub fields : Mode → Grammar Tree
-  fields m = when (is symbols.CloseBrace) (give Nothing) (bind (field m) λ f. separated_behind (field m) (More Nothing f))
+-- [field {("," | ";") field} ["," | ";"]], up to a "}"
+abbrev pub fields : Mode → Grammar Tree
+fields m = when (is symbols.CloseBrace) (give Nothing) (bind (field m) λ f. separated_behind (field m) (More Nothing f))
 
-  -- {Name ":" exp ["," | ";"]}, up to a "}"
-  abbrev pub entries : Mode → Grammar Tree
-  entries m =
-      many (λ a t. is symbols.Name t) (λ a t. Plain) (λ a t. None)
-      (λ t x a. bind (sign symbols.Colon) λ y. bind (expression m) λ e. bind separator λ z. give (More a (Entry (Name t.place t.text) e)))
-      Nothing
+-- {Name ":" exp ["," | ";"]}, up to a "}"
+abbrev pub entries : Mode → Grammar Tree
+entries m =
+    many (λ a t. is symbols.Name t) (λ a t. Plain) (λ a t. None)
+    (λ t x a. bind (sign symbols.Colon) λ y. bind (expression m) λ e. bind separator λ z. give (More a (Entry (Name t.place t.offset t.text) e)))
+    Nothing

@@ -11,7 +11,7 @@ use Rattle.tl_tree.specs.declared.mode.Shape.TheVariants as shapes
 use Rattle.tl_tree.specs.Tokens.{Token, among, is, sample}
 use Rattle.tl_tree.specs.Tree.{Tree, Nothing, More, Just, Name, Paren, Assign, Perform, Do, While, Repeat, If, NumericFor, GenericFor, DefineFunction, LocalFunction, Local, Return, Break, DefineTerra, DeclareTerra, LocalTerra, LocalDeclareTerra, DefineStruct, LocalStruct, Emit, Block, Arm, Body, Path, Part, Expression, Statements, FunctionBody, TerraFunctionBody}
 use Rattle.tl_tree.specs.Grammar.{Grammar, give, token, bind, when, many}
-use Rattle.tl_tree.specs.Forms.{sign, opening, listed_behind, name, names, path_names, semicolon, Language, has_terra, chain, Chained, chained}
+use Rattle.tl_tree.specs.Forms.{sign, opening, opening_at, listed_behind, name, names, path_names, semicolon, chain, Chained, chained}
 use Rattle.tl_tree.specs.LuaExpressions.{paren, is_suffix, suffix_of, suffix_opens, suffix_extra, suffix, suffixes, struct_body, begins_terra, expression, expressions}
 
 -- ---- contexts
@@ -71,7 +71,7 @@ variable m =
 abbrev pub path_method : Tree → Grammar Tree
 path_method ns =
     when (is symbols.Colon)
-    (bind (sign symbols.Colon) λ c. bind (sign symbols.Name) λ n. give (Path ns (Just (Name c.0.place n.0.text))))
+    (bind (sign symbols.Colon) λ c. bind (sign symbols.Name) λ n. give (Path ns (Just (Name c.0.place n.0.offset n.0.text))))
     (give (Path ns Nothing))
 
 -- path = Name {"." Name} [":" Name]
@@ -113,15 +113,12 @@ statement_symbols =
     symbols.Name ∷ symbols.OpenParen ∷ symbols.Do ∷ symbols.While ∷ symbols.Repeat ∷ symbols.If ∷ symbols.For ∷ symbols.Function ∷ symbols.Local
     ∷ symbols.Return ∷ symbols.Break ∷ symbols.Terra ∷ symbols.Struct ∷ symbols.Emit ∷ []
 
--- `break` stands in a loop, `emit` in an `escape`, and `terra` and `struct` where there is Terra code.
-abbrev pub has_place : Language → Context → Token → Bool
-has_place l c t =
-    if is symbols.Break t then c.in_loop
-    else (if is symbols.Emit t then c.emits
-    else (if among (symbols.Terra ∷ symbols.Struct ∷ []) t then has_terra l else true))
+-- `break` stands in a loop, and `emit` in an `escape`.
+abbrev pub has_place : Context → Token → Bool
+has_place c t = if is symbols.Break t then c.in_loop else (if is symbols.Emit t then c.emits else true)
 
-abbrev pub is_statement : Language → Context → Token → Bool
-is_statement l c t = among statement_symbols t && has_place l c t
+abbrev pub is_statement : Context → Token → Bool
+is_statement c t = among statement_symbols t && has_place c t
 
 -- what the first token of a statement opens
 abbrev pub statement_opens : Context → Statement → Option Part
@@ -175,116 +172,115 @@ expression_symbols =
     symbols.Name ∷ symbols.Numeral ∷ symbols.Literal ∷ symbols.Nil ∷ symbols.False ∷ symbols.True ∷ symbols.Ellipsis ∷ symbols.Function
     ∷ symbols.OpenParen ∷ symbols.OpenBrace ∷ symbols.Not ∷ symbols.Hash ∷ symbols.Minus ∷ symbols.Ampersand ∷ []
 
-module _ (l : Language) where
-  -- {"," var} "=" exps, behind the first variable
-  abbrev pub assignment : Mode → Token → Tree → Grammar Tree
-  assignment m t e =
-      bind (listed_behind (variable m) (More Nothing e)) λ targets. bind (sign symbols.Equal) λ y. bind (expressions l m) λ es. give (Assign t.place targets es)
+-- {"," var} "=" exps, behind the first variable
+abbrev pub assignment : Mode → Token → Tree → Grammar Tree
+assignment m t e =
+    bind (listed_behind (variable m) (More Nothing e)) λ targets. bind (sign symbols.Equal) λ y. bind (expressions m) λ es. give (Assign t.place targets es)
 
-  -- A call alone is a statement; a variable is assigned to.
-  abbrev pub call_or_assignment : Mode → Token → Shape → Tree → Grammar Tree
-  call_or_assignment m t shapes.Call e = give (Perform t.place e)
-  call_or_assignment m t _ e = assignment m t e
+-- A call alone is a statement; a variable is assigned to.
+abbrev pub call_or_assignment : Mode → Token → Shape → Tree → Grammar Tree
+call_or_assignment m t shapes.Call e = give (Perform t.place e)
+call_or_assignment m t _ e = assignment m t e
 
-  -- ---- parts of statements
+-- ---- parts of statements
 
-  -- exp "then" block
-  abbrev pub arm : Context → Tree → Grammar Tree
-  arm c a = bind (expression l c.mode) λ e. bind (opening symbols.Then (Statements c)) λ x. give (More a (Arm e x.1))
+-- exp "then" block
+abbrev pub arm : Context → Tree → Grammar Tree
+arm c a = bind (expression c.mode) λ e. bind (opening symbols.Then (Statements c)) λ x. give (More a (Arm e x.1))
 
-  -- {"elseif" exp "then" block}
-  abbrev pub arms : Context → Tree → Grammar Tree
-  arms c a = many (λ b t. is symbols.Elseif t) (λ b t. Plain) (λ b t. None) (λ t x b. arm c b) a
+-- {"elseif" exp "then" block}
+abbrev pub arms : Context → Tree → Grammar Tree
+arms c a = many (λ b t. is symbols.Elseif t) (λ b t. Plain) (λ b t. None) (λ t x b. arm c b) a
 
-  -- ["else" block]
-  abbrev pub otherwise : Context → Grammar Tree
-  otherwise c = when (is symbols.Else) (bind (opening symbols.Else (Statements c)) λ x. give (Just x.1)) (give Nothing)
+-- ["else" block]
+abbrev pub otherwise : Context → Grammar Tree
+otherwise c = when (is symbols.Else) (bind (opening symbols.Else (Statements c)) λ x. give (Just x.1)) (give Nothing)
 
-  -- ["," exp]
-  abbrev pub step : Mode → Grammar Tree
-  step m = when (is symbols.Comma) (bind (sign symbols.Comma) λ y. bind (expression l m) λ e. give (Just e)) (give Nothing)
+-- ["," exp]
+abbrev pub step : Mode → Grammar Tree
+step m = when (is symbols.Comma) (bind (sign symbols.Comma) λ y. bind (expression m) λ e. give (Just e)) (give Nothing)
 
-  -- "for" Name "=" exp "," exp ["," exp] "do" block "end"
-  abbrev pub numeric_for : Context → Token → Tree → Grammar Tree
-  numeric_for c t n =
-      bind (sign symbols.Equal) λ y. bind (expression l c.mode) λ a. bind (sign symbols.Comma) λ z. bind (expression l c.mode) λ b. bind (step c.mode) λ s.
-      bind (loop c) λ x. give (NumericFor t.place n a b s x)
+-- "for" Name "=" exp "," exp ["," exp] "do" block "end"
+abbrev pub numeric_for : Context → Token → Tree → Grammar Tree
+numeric_for c t n =
+    bind (sign symbols.Equal) λ y. bind (expression c.mode) λ a. bind (sign symbols.Comma) λ z. bind (expression c.mode) λ b. bind (step c.mode) λ s.
+    bind (loop c) λ x. give (NumericFor t.place n a b s x)
 
-  -- "for" names "in" exps "do" block "end"
-  abbrev pub generic_for : Context → Token → Tree → Grammar Tree
-  generic_for c t n =
-      bind (listed_behind name (More Nothing n)) λ ns. bind (sign symbols.In) λ y. bind (expressions l c.mode) λ es. bind (loop c) λ x.
-      give (GenericFor t.place ns es x)
+-- "for" names "in" exps "do" block "end"
+abbrev pub generic_for : Context → Token → Tree → Grammar Tree
+generic_for c t n =
+    bind (listed_behind name (More Nothing n)) λ ns. bind (sign symbols.In) λ y. bind (expressions c.mode) λ es. bind (loop c) λ x.
+    give (GenericFor t.place ns es x)
 
-  -- ["=" exps]
-  abbrev pub initial_values : Mode → Grammar Tree
-  initial_values m = when (is symbols.Equal) (bind (sign symbols.Equal) λ y. expressions l m) (give Nothing)
+-- ["=" exps]
+abbrev pub initial_values : Mode → Grammar Tree
+initial_values m = when (is symbols.Equal) (bind (sign symbols.Equal) λ y. expressions m) (give Nothing)
 
-  abbrev pub begins_expression : Token → Bool
-  begins_expression t = among expression_symbols t || begins_terra l t
+abbrev pub begins_expression : Token → Bool
+begins_expression t = among expression_symbols t || begins_terra t
 
-  -- [exps] behind "return"
-  abbrev pub returned_values : Mode → Grammar Tree
-  returned_values m = when begins_expression (expressions l m) (give Nothing)
+-- [exps] behind "return"
+abbrev pub returned_values : Mode → Grammar Tree
+returned_values m = when begins_expression (expressions m) (give Nothing)
 
-  -- "::" exp, or tbody, behind "terra" and a path or name
-  abbrev pub terra_definition : Context → (Tree → Tree) → (Tree → Tree) → Grammar Tree
-  terra_definition c declare define =
-      when (is symbols.DoubleColon)
-      (bind (sign symbols.DoubleColon) λ y. bind (expression l c.mode) λ e. give (declare e))
-      (bind (opening symbols.OpenParen TerraFunctionBody) λ b. give (define b.1))
+-- "::" exp, or tbody, behind "terra" and a path or name
+abbrev pub terra_definition : Context → (Tree → Tree) → (Tree → Tree) → Grammar Tree
+terra_definition c declare define =
+    when (is symbols.DoubleColon)
+    (bind (sign symbols.DoubleColon) λ y. bind (expression c.mode) λ e. give (declare e))
+    (bind (opening_at symbols.OpenParen TerraFunctionBody) λ b. give (define b.1))
 
-  -- "terra" Name .. | "struct" Name sbody, behind "local"
-  abbrev pub local_terra : Context → Token → Grammar Tree
-  local_terra c t =
-      when (is symbols.Struct)
-      (bind (sign symbols.Struct) λ y. bind name λ n. bind (struct_body c.mode) λ es. give (LocalStruct t.place y.0.place n es))
-      (bind (sign symbols.Terra) λ y. bind name λ n. terra_definition c (LocalDeclareTerra t.place y.0.place n) (LocalTerra t.place y.0.place n))
+-- "terra" Name .. | "struct" Name sbody, behind "local"
+abbrev pub local_terra : Context → Token → Grammar Tree
+local_terra c t =
+    when (is symbols.Struct)
+    (bind (sign symbols.Struct) λ y. bind name λ n. bind (struct_body c.mode) λ es. give (LocalStruct t.place y.0.place n es))
+    (bind (sign symbols.Terra) λ y. bind name λ n. terra_definition c (LocalDeclareTerra t.place y.0.place n) (LocalTerra t.place y.0.place n))
 
-  -- the tokens of declarations of Terra code behind "local"
-  abbrev pub begins_local_terra : Token → Bool
-  begins_local_terra t = among (symbols.Terra ∷ symbols.Struct ∷ []) t && has_terra l
+-- the tokens of declarations of Terra code behind "local"
+abbrev pub begins_local_terra : Token → Bool
+begins_local_terra t = among (symbols.Terra ∷ symbols.Struct ∷ []) t
 
-  -- ---- statements
+-- ---- statements
 
-  -- what a statement has behind its first token and what that opens
-  abbrev pub statement : Context → Statement → Token → Tree → Grammar Tree
-  statement c FromName t x =
-      bind (suffixes c.mode (chained (Name t.place t.text) chain shapes.Name)) λ a. call_or_assignment c.mode t a.shape a.tree
-  statement c FromParen t x =
-      bind (sign symbols.CloseParen) λ y. bind (next_suffix c.mode (chained (Paren t.place x) chain shapes.Other)) λ b. bind (suffixes c.mode b) λ a.
-      call_or_assignment c.mode t a.shape a.tree
-  statement c FromDo t x = bind (sign symbols.End) λ y. give (Do t.place x)
-  statement c FromWhile t x = bind (expression l c.mode) λ e. bind (loop c) λ b. give (While t.place e b)
-  statement c FromRepeat t x = bind (sign symbols.Until) λ y. bind (expression l c.mode) λ e. give (Repeat t.place x e)
-  statement c FromIf t x =
-      bind (arm c Nothing) λ first. bind (arms c first) λ all. bind (otherwise c) λ o. bind (sign symbols.End) λ y. give (If t.place all o)
-  statement c FromFor t x = bind name λ n. when (is symbols.Equal) (numeric_for c t n) (generic_for c t n)
-  statement c FromFunction t x = bind path λ p. bind (opening symbols.OpenParen FunctionBody) λ b. give (DefineFunction t.place p b.1)
-  statement c FromLocal t x =
-      when (is symbols.Function)
-      (bind (sign symbols.Function) λ y. bind name λ n. bind (opening symbols.OpenParen FunctionBody) λ b. give (LocalFunction t.place n b.1))
-      (when begins_local_terra (local_terra c t) (bind names λ ns. bind (initial_values c.mode) λ es. give (Local t.place ns es)))
-  statement c FromReturn t x = bind (returned_values c.mode) λ es. give (Return t.place es)
-  statement c FromBreak t x = give (Break t.place)
-  statement c FromTerra t x = bind path λ p. terra_definition c (DeclareTerra t.place p) (DefineTerra t.place p)
-  statement c FromStruct t x = bind struct_path λ p. bind (struct_body c.mode) λ es. give (DefineStruct t.place p es)
-  statement c FromEmit t x = bind (expression l c.mode) λ e. give (Emit t.place e)
+-- what a statement has behind its first token and what that opens
+abbrev pub statement : Context → Statement → Token → Tree → Grammar Tree
+statement c FromName t x =
+    bind (suffixes c.mode (chained (Name t.place t.offset t.text) chain shapes.Name)) λ a. call_or_assignment c.mode t a.shape a.tree
+statement c FromParen t x =
+    bind (sign symbols.CloseParen) λ y. bind (next_suffix c.mode (chained (Paren t.place x) chain shapes.Other)) λ b. bind (suffixes c.mode b) λ a.
+    call_or_assignment c.mode t a.shape a.tree
+statement c FromDo t x = bind (sign symbols.End) λ y. give (Do t.place x)
+statement c FromWhile t x = bind (expression c.mode) λ e. bind (loop c) λ b. give (While t.place e b)
+statement c FromRepeat t x = bind (sign symbols.Until) λ y. bind (expression c.mode) λ e. give (Repeat t.place x e)
+statement c FromIf t x =
+    bind (arm c Nothing) λ first. bind (arms c first) λ all. bind (otherwise c) λ o. bind (sign symbols.End) λ y. give (If t.place all o)
+statement c FromFor t x = bind name λ n. when (is symbols.Equal) (numeric_for c t n) (generic_for c t n)
+statement c FromFunction t x = bind path λ p. bind (opening symbols.OpenParen FunctionBody) λ b. give (DefineFunction t.place p b.1)
+statement c FromLocal t x =
+    when (is symbols.Function)
+    (bind (sign symbols.Function) λ y. bind name λ n. bind (opening symbols.OpenParen FunctionBody) λ b. give (LocalFunction t.place n b.1))
+    (when begins_local_terra (local_terra c t) (bind names λ ns. bind (initial_values c.mode) λ es. give (Local t.place ns es)))
+statement c FromReturn t x = bind (returned_values c.mode) λ es. give (Return t.place es)
+statement c FromBreak t x = give (Break t.place)
+statement c FromTerra t x = bind path λ p. terra_definition c (DeclareTerra t.place p) (DefineTerra t.place p)
+statement c FromStruct t x = bind struct_path λ p. bind (struct_body c.mode) λ es. give (DefineStruct t.place p es)
+statement c FromEmit t x = bind (expression c.mode) λ e. give (Emit t.place e)
 
-  -- ---- blocks
+-- ---- blocks
 
-  -- block = { stat [";"] } [ last [";"] ]
-  abbrev pub block : Context → Grammar Tree
-  block c =
-      bind (many (λ a t. is_statement l c t && not a.ended) (λ a t. Plain) (λ a t. statement_opens c (statement_of t.symbol))
-      (λ t x a. bind (statement c (statement_of t.symbol) t x) λ s. bind semicolon λ y. give (sequence (More a.statements s) (ends_block (statement_of t.symbol))))
-      (sequence Nothing false)) λ a.
-      give (Block a.statements)
+-- block = { stat [";"] } [ last [";"] ]
+abbrev pub block : Context → Grammar Tree
+block c =
+    bind (many (λ a t. is_statement c t && not a.ended) (λ a t. Plain) (λ a t. statement_opens c (statement_of t.symbol))
+    (λ t x a. bind (statement c (statement_of t.symbol) t x) λ s. bind semicolon λ y. give (sequence (More a.statements s) (ends_block (statement_of t.symbol))))
+    (sequence Nothing false)) λ a.
+    give (Block a.statements)
 
-  -- ---- functions
+-- ---- functions
 
-  -- the parameters, ")" block "end"
-  abbrev pub function_body : Grammar Tree
-  function_body =
-      bind parameters λ p. bind (sign symbols.CloseParen) λ y. bind (block (fresh (body_mode p.variadic))) λ b. bind (sign symbols.End) λ z.
-      give (Body p.names p.variadic b)
+-- the parameters, ")" block "end"
+abbrev pub function_body : Grammar Tree
+function_body =
+    bind parameters λ p. bind (sign symbols.CloseParen) λ y. bind (block (fresh (body_mode p.variadic))) λ b. bind (sign symbols.End) λ z.
+    give (Body p.names p.variadic b)

@@ -15,7 +15,7 @@ use Rattle.tl_tree.specs.Tree.{Tree, Nothing, More, Just, Name, Numeral, Literal
 
 -- what the code keeps of a node, without where its text lies in memory
 abbrev pub item_of : code.Node → Item
-item_of (nodes.Name place text) = kept.Name place text.now
+item_of (nodes.Name place offset text) = kept.Name place offset text.now
 item_of (nodes.Numeral place text) = kept.Numeral place text.now
 item_of (nodes.Literal place text) = kept.Literal place text.now
 item_of (nodes.Expression place e) = kept.Expression place e
@@ -53,7 +53,7 @@ laid Nothing items = record { items = items; numbers = [] }
 laid (More before next) items =
     let x = laid before items in let y = laid next x.items in record { items = y.items; numbers = x.numbers ++ last y ∷ [] }
 laid (Just a) items = let x = laid a items in record { items = x.items; numbers = last x ∷ [] }
-laid (Name place text) items = node items (kept.Name place text)
+laid (Name place offset text) items = node items (kept.Name place offset text)
 laid (Numeral place text) items = node items (kept.Numeral place text)
 laid (Literal place text) items = node items (kept.Literal place text)
 -- expressions of Lua code
@@ -186,13 +186,13 @@ laid (Entry a b) items =
     let x = laid a items in let y = laid b x.items in node y.items (kept.Piece (pieces.Entry (last x) (last y)))
 laid (Quoted a b) items =
     let x = laid a items in let y = laid b x.items in node y.items (kept.Piece (pieces.Quoted (last x) (if_any y)))
-laid (TerraBody a b c) items =
-    let x = laid a items in let y = laid b x.items in let z = laid c y.items in node z.items (kept.Piece (pieces.TerraBody x.numbers (if_any y) (last z)))
-laid (Parameter a b) items =
-    let x = laid a items in let y = laid b x.items in node y.items (kept.Piece (pieces.Parameter (last x) (last y)))
-laid (SpliceParameter a) items = let x = laid a items in node x.items (kept.Piece (pieces.SpliceParameter (last x)))
-laid (Variable a b) items =
-    let x = laid a items in let y = laid b x.items in node y.items (kept.Piece (pieces.Variable (last x) (if_any y)))
+laid (TerraBody place a b c) items =
+    let x = laid a items in let y = laid b x.items in let z = laid c y.items in node z.items (kept.Piece (pieces.TerraBody place x.numbers (if_any y) (last z)))
+laid (Parameter place a b) items =
+    let x = laid a items in let y = laid b x.items in node y.items (kept.Piece (pieces.Parameter place (last x) (last y)))
+laid (SpliceParameter place a) items = let x = laid a items in node x.items (kept.Piece (pieces.SpliceParameter place (last x)))
+laid (Variable place a b) items =
+    let x = laid a items in let y = laid b x.items in node y.items (kept.Piece (pieces.Variable place (last x) (if_any y)))
 
 -- the nodes so far, with those of a tree behind them
 abbrev pub lay : Tree → List Item → List Item

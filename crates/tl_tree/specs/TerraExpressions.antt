@@ -1,5 +1,6 @@
 -- The grammar of Terra expressions, one definition for each of its names.
 use Rattle.std.specs.Prelude.{ℕ, Bool, List, [], ◌∷◌, ◌&&◌, Option, Some, None}
+use Rattle.tl_base.specs.declared.place.Place.{Place}
 use Rattle.tl_tree.specs.declared.symbol.Symbol.{Symbol}
 use Rattle.tl_tree.specs.declared.symbol.Symbol.TheVariants as symbols
 use Rattle.tl_tree.specs.declared.mode.Mode.TheVariants as modes
@@ -14,9 +15,13 @@ use Rattle.tl_tree.specs.LuaExpressions.{stays, suffix_extra, called, indexed, a
 
 -- ---- names, and what may follow them
 
+-- "[" exp "]", and what depends on its place and on it
+abbrev pub escaped : {A : Type 0} → (Place → Tree → Grammar A) → Grammar A
+escaped goes = bind (opening symbols.OpenBracket (Expression modes.Plain)) λ x. bind (sign symbols.CloseBracket) λ y. goes x.0.place (Escape x.0.place x.1)
+
 -- "[" exp "]", where an expression stands and where a name does
 abbrev pub escape : Grammar Tree
-escape = bind (opening symbols.OpenBracket (Expression modes.Plain)) λ x. bind (sign symbols.CloseBracket) λ y. give (Escape x.0.place x.1)
+escape = escaped λ place e. give e
 
 -- tname = Name | "[" exp "]"
 abbrev pub terra_name : Grammar Tree

@@ -1,5 +1,6 @@
 -- The grammar of Terra statements, functions and quotes, one definition for each of its names.
 use Rattle.std.specs.Prelude.{Bool, true, false, not, List, [], ◌∷◌, ◌&&◌, Option, Some, None}
+use Rattle.tl_base.specs.declared.place.Place.{Place}
 use Rattle.tl_tree.specs.declared.symbol.Symbol.{Symbol}
 use Rattle.tl_tree.specs.declared.symbol.Symbol.TheVariants as symbols
 use Rattle.tl_tree.specs.declared.mode.Mode.TheVariants as modes
@@ -11,10 +12,10 @@ use Rattle.tl_tree.specs.declared.node.UnaryOperator.TheVariants as unary
 use Rattle.tl_tree.specs.Tokens.{Token, among, is}
 use Rattle.tl_tree.specs.Tree.{Tree, Nothing, More, Just, Name, TerraUnary, TerraParen, Escape, TerraAssign, TerraPerform, Splice, TerraDo, TerraWhile, TerraRepeat, TerraIf, TerraFor, Var, EscapeBlock, TerraReturn, TerraBreak, Block, Arm, Quoted, TerraBody, Parameter, SpliceParameter, Variable, Part, Expression, Statements, TerraExpression, TerraOperand, TerraStatements}
 use Rattle.tl_tree.specs.Grammar.{Grammar, give, bind, when, many}
-use Rattle.tl_tree.specs.Forms.{sign, opening, listed, listed_behind, name, semicolon, Joint, chain, Chained, chained, operand}
+use Rattle.tl_tree.specs.Forms.{sign, opening, listed, listed_behind, named, semicolon, chain, Chained, chained, operand}
 use Rattle.tl_tree.specs.LuaExpressions.{expression}
 use Rattle.tl_tree.specs.LuaStatements.{sequence}
-use Rattle.tl_tree.specs.TerraExpressions.{escape, terra_name, terra_suffixes, terra_expression_behind, terra_expression, terra_expressions}
+use Rattle.tl_tree.specs.TerraExpressions.{escaped, terra_name, terra_suffixes, terra_expression_behind, terra_expression, terra_expressions}
 
 -- ---- assignments, calls and splices
 
@@ -34,7 +35,7 @@ terra_simple_statement t _ e = terra_assignment t e
 
 -- a type of Terra code is Lua code
 abbrev pub terra_type : Grammar Tree
-terra_type = expression Joint modes.Types
+terra_type = expression modes.Types
 
 -- [":" exp]
 abbrev pub written_type : Grammar Tree
@@ -60,9 +61,13 @@ terra_otherwise = when (is symbols.Else) (bind (opening symbols.Else TerraStatem
 abbrev pub terra_step : Grammar Tree
 terra_step = when (is symbols.Comma) (bind (sign symbols.Comma) λ y. bind terra_expression λ e. give (Just e)) (give Nothing)
 
+-- [":" exp], behind the name of a variable
+abbrev pub variable_behind : Place → Tree → Grammar Tree
+variable_behind place n = bind written_type λ e. give (Variable place n e)
+
 -- tvar = tname [":" exp]
 abbrev pub terra_variable : Grammar Tree
-terra_variable = bind terra_name λ n. bind written_type λ e. give (Variable n e)
+terra_variable = when (is symbols.OpenBracket) (escaped variable_behind) (named variable_behind)
 
 -- ["=" texps]
 abbrev pub terra_initial_values : Grammar Tree
@@ -125,7 +130,7 @@ terra_simple_behind t b = bind (terra_suffixes b) λ a. terra_simple_statement t
 
 -- what a statement has behind its first token and what that opens
 abbrev pub terra_statement : TerraStatement → Token → Tree → Grammar Tree
-terra_statement FromName t x = terra_simple_behind t (chained (Name t.place t.text) chain shapes.Name)
+terra_statement FromName t x = terra_simple_behind t (chained (Name t.place t.offset t.text) chain shapes.Name)
 terra_statement FromParen t x = bind (sign symbols.CloseParen) λ y. terra_simple_behind t (chained (TerraParen t.place x) chain shapes.Other)
 terra_statement FromBracket t x = bind (sign symbols.CloseBracket) λ y. terra_simple_behind t (chained (Escape t.place x) chain shapes.Escape)
 terra_statement FromAt t x =
@@ -164,18 +169,18 @@ terra_block =
 -- param = Name ":" exp | "[" exp "]"
 abbrev pub terra_parameter : Grammar Tree
 terra_parameter =
-    when (is symbols.OpenBracket) (bind escape λ e. give (SpliceParameter e))
-    (bind name λ n. bind (sign symbols.Colon) λ y. bind terra_type λ e. give (Parameter n e))
+    when (is symbols.OpenBracket) (escaped λ place e. give (SpliceParameter place e))
+    (named λ place n. bind (sign symbols.Colon) λ y. bind terra_type λ e. give (Parameter place n e))
 
 -- [param {"," param}], up to a ")"
 abbrev pub terra_parameters : Grammar Tree
 terra_parameters = when (is symbols.CloseParen) (give Nothing) (listed terra_parameter)
 
--- the parameters, ")" [":" exp] tblock "end"
-abbrev pub terra_function_body : Grammar Tree
-terra_function_body =
+-- the parameters, ")" [":" exp] tblock "end", behind a "(" at this place
+abbrev pub terra_function_body : Place → Grammar Tree
+terra_function_body place =
     bind terra_parameters λ ps. bind (sign symbols.CloseParen) λ y. bind written_type λ r. bind terra_block λ b. bind (sign symbols.End) λ z.
-    give (TerraBody ps r b)
+    give (TerraBody place ps r b)
 
 -- tblock ["in" texp], behind "quote"
 abbrev pub quoted_code : Grammar Tree

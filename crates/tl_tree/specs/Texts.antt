@@ -1,32 +1,40 @@
--- What is said of texts: each has one answer, and what goes on as a list of tokens goes on as a text.
-use Rattle.std.specs.Prelude.{◌≡◌, ℕ, List, [], ◌∷◌, ◌++◌}
+-- Reading, as one promise: which text has which tree, which text is refused where and why, that each text has one of the two, and that
+-- what goes on as a list of tokens goes on as a text.
+use Rattle.std.specs.Prelude.{◌≡◌, ℕ, List, ◌++◌}
 use Rattle.std.specs.Str.{IsUtf8}
 use Rattle.tl_base.specs.declared.place.Place.{Place}
 use Rattle.tl_lex.specs.declared.SyntaxKind.{SyntaxKind}
-use Rattle.tl_tree.specs.Tokens.{Token, tokens_of, finish_of}
+use Rattle.tl_tree.specs.Tokens.{Token, tokens_of, place_of, finish_of}
 use Rattle.tl_tree.specs.Tree.{Tree}
-use Rattle.tl_tree.specs.Refusing.{Language, HasTree, Refuses, NoRow, Viable, any}
+use Rattle.tl_tree.specs.Refusing.{Language, HasTree, NoRow, Viable, any}
+use Rattle.tl_tree.specs.Refusing as of_tokens
+use Rattle.tl_tree.specs.Laws.{IsChunk}
 
 -- ---- the answer
+
+-- The text is a chunk of Lua and Terra code, of this tree.
+abbrev pub Reads : List ℕ → Tree → Type 0
+Reads text tree = HasTree IsChunk (tokens_of text) tree
+
+-- The text is refused for this reason at this place: at the first token of the rest, or at the end where there is none.
+pub record Refuses (text : List ℕ) (kind : SyntaxKind) (place : Place) : Type 0 where
+  pub rest : List Token
+  pub refuses : of_tokens.Refuses IsChunk (tokens_of text) kind rest
+  pub is_there : place ≡ place_of rest (finish_of text)
 
 -- a text's tree, or why and where it is refused
 pub data TextAnswer : Type 0 where
   TreeOf : Tree → TextAnswer
   RefusedAt : SyntaxKind → Place → TextAnswer
 
--- the place of the first of the tokens that are left, or where the text ends
-abbrev pub place_of : List ℕ → List Token → Place
-place_of text [] = finish_of text
-place_of text (t ∷ rest) = t.place
-
 -- what an answer says of a text
-abbrev pub SaysOf : Language Tree → List ℕ → TextAnswer → Type 0
-SaysOf Reads text (TreeOf tree) = HasTree Reads (tokens_of text) tree
-SaysOf Reads text (RefusedAt kind place) = (rest : List Token) × Refuses Reads (tokens_of text) kind rest × (place ≡ place_of text rest)
+abbrev pub SaysOf : List ℕ → TextAnswer → Type 0
+SaysOf text (TreeOf tree) = Reads text tree
+SaysOf text (RefusedAt kind place) = Refuses text kind place
 
 -- a text has one tree, or is refused at one place for one reason
-abbrev pub HasOneTextAnswer : Language Tree → List ℕ → Type 0
-HasOneTextAnswer Reads text = (x : TextAnswer) × SaysOf Reads text x × ((y : TextAnswer) → SaysOf Reads text y → y ≡ x)
+abbrev pub HasOneTextAnswer : List ℕ → Type 0
+HasOneTextAnswer text = (x : TextAnswer) × SaysOf text x × ((y : TextAnswer) → SaysOf text y → y ≡ x)
 
 -- ---- what goes on
 

@@ -8,7 +8,7 @@ use Rattle.tl_tree.specs.declared.node.UnaryOperator.{UnaryOperator}
 
 -- The place of a tree is that of its first token, with these exceptions: a binary operator has the operator's; a call, index, selection
 -- or method call that of its `(`, `[`, `.` or `:`, and a call whose argument is a table or text alone that argument's; a
--- constructor has that of its `{`.
+-- constructor has that of its `{`. A name in a path has that of the `.` or `:` before it.
 pub data Tree : Type 0 where
   -- no tree, and the empty list
   Nothing : Tree
@@ -17,8 +17,9 @@ pub data Tree : Type 0 where
   -- a tree where there may be none
   Just : Tree → Tree
   -- ---- tokens with a text
-  -- a name, where an expression stands and where one is declared, selected or called
-  Name Numeral Literal : Place → List ℕ → Tree
+  -- a name, where an expression stands and where one is declared, selected or called, with the offset of its token
+  Name : Place → ℕ → List ℕ → Tree
+  Numeral Literal : Place → List ℕ → Tree
   -- ---- expressions of Lua code (Lua 5.1 manual, section 2.5)
   Nil False True Varargs : Place → Tree
   -- its body
@@ -136,13 +137,13 @@ pub data Tree : Type 0 where
   -- the block of a quote, and its expression if there is one
   Quoted : Tree → Tree → Tree
   -- the parameters of a Terra function, its result type if it is written, and its block
-  TerraBody : Tree → Tree → Tree → Tree
+  TerraBody : Place → Tree → Tree → Tree → Tree
   -- the name and the type of a Terra function's parameter
-  Parameter : Tree → Tree → Tree
+  Parameter : Place → Tree → Tree → Tree
   -- Lua code in `[` and `]` that is a parameter
-  SpliceParameter : Tree → Tree
+  SpliceParameter : Place → Tree → Tree
   -- a name that `var` declares, and its type if it is written
-  Variable : Tree → Tree → Tree
+  Variable : Place → Tree → Tree → Tree
 
 -- What is read one level of nesting deeper than the token before it.
 pub data Part : Type 0 where
@@ -159,7 +160,7 @@ pub data Part : Type 0 where
   TerraExpression TerraOperand TerraArguments Initialisers : Part
   -- the statements of a block of Terra code
   TerraStatements : Part
-  -- the parameters of a Terra function, its result type, its block and its `end`
-  TerraFunctionBody : Part
+  -- the parameters of a Terra function behind their `(`, which stands at this place, its result type, its block and its `end`
+  TerraFunctionBody : Place → Part
   -- the statements of a quote, and its expression
   QuotedCode : Part

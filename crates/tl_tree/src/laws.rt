@@ -1,24 +1,21 @@
 //! Laws of the grammar. The functions do nothing: their contracts are the laws.
 
-ghost use Rattle.tl_tree.specs.Laws.{HasOneAnswer, HasOneTree, IsLuaChunk, IsChunk};
+ghost use Rattle.tl_tree.specs.Laws.{HasOneAnswer, HasOneTree, IsChunk};
 ghost use Rattle.tl_tree.specs.Texts.{HasOneTextAnswer, GoesOnUnrefused, GoesOnAsText};
 
-/// Each list of tokens has exactly one tree or exactly one refusal, as a chunk of Lua and Terra code and as one of Lua code alone.
+/// A text has exactly one tree, or is refused at exactly one place for exactly one reason.
+pub fn one_answer_of_text(text: &str)
+    ensures { HasOneTextAnswer text.now }
+{}
+
+/// Each list of tokens has exactly one tree or exactly one refusal.
 pub fn one_answer()
-    ensures chunks { HasOneAnswer IsChunk }
-    ensures lua_chunks { HasOneAnswer IsLuaChunk }
+    ensures { HasOneAnswer IsChunk }
 {}
 
 /// A text has at most one tree.
 pub fn one_tree(text: &str)
-    ensures chunks { HasOneTree IsChunk text.now }
-    ensures lua_chunks { HasOneTree IsLuaChunk text.now }
-{}
-
-/// A text has exactly one tree, or is refused at exactly one place for exactly one reason.
-pub fn one_answer_of_text(text: &str)
-    ensures chunks { HasOneTextAnswer IsChunk text.now }
-    ensures lua_chunks { HasOneTextAnswer IsLuaChunk text.now }
+    ensures { HasOneTree IsChunk text.now }
 {}
 
 /// What goes on as a list of tokens goes on as a text: where some list of tokens that begins with the first tokens of a text is
@@ -27,7 +24,5 @@ pub fn one_answer_of_text(text: &str)
 /// text, it goes on behind them too.
 pub fn goes_on_as_text()
     ensures chunks { GoesOnAsText IsChunk }
-    ensures lua_chunks { GoesOnAsText IsLuaChunk }
     ensures unrefused_chunks { GoesOnUnrefused IsChunk }
-    ensures unrefused_lua_chunks { GoesOnUnrefused IsLuaChunk }
 {}

@@ -227,21 +227,22 @@ pub enum Piece {
     Entry(NodeId, NodeId),
     /// The block of a quote, and its expression.
     Quoted(NodeId, Option<NodeId>),
-    /// The parameters of a Terra function, its result type and its block.
-    TerraBody(NodeList, Option<NodeId>, NodeId),
-    /// `name : type` of a Terra function.
-    Parameter(NodeId, NodeId),
-    /// `[e]` as a parameter of a Terra function.
-    SpliceParameter(NodeId),
-    /// A name that `var` declares, and its type.
-    Variable(NodeId, Option<NodeId>),
+    /// The parameters of a Terra function, its result type and its block, with the place of its `(`.
+    TerraBody(Place, NodeList, Option<NodeId>, NodeId),
+    /// `name : type` of a Terra function, with the place of the name.
+    Parameter(Place, NodeId, NodeId),
+    /// `[e]` as a parameter of a Terra function, with the place of its `[`.
+    SpliceParameter(Place, NodeId),
+    /// A name that `var` declares, and its type, with the place of the name.
+    Variable(Place, NodeId, Option<NodeId>),
 }
 
 /// A node of a tree. Texts are slices of the source.
 #[derive(Debug, Drop)]
 pub enum Node<'a> {
-    /// A name: an expression where one stands, and else what is declared, selected or called.
-    Name(Place, &'a str),
+    /// A name: an expression where one stands, and else what is declared, selected or called. Between its place and its text is the
+    /// offset of its token, in bytes of the source.
+    Name(Place, u32, &'a str),
     Numeral(Place, &'a str),
     /// A text in quotes or in long brackets.
     Literal(Place, &'a str),

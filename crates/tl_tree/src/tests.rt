@@ -97,12 +97,13 @@ fn nodes_of_a_tree(rt: HostRuntime) -> Result<(), Fail> {
     let mut statements = NodeList::new(rt.alloc());
     statements.push(NodeId(1))?;
     let mut nodes = Vec::new(rt.alloc());
-    nodes.push(Node::Name(place(2), "x"))?;
+    nodes.push(Node::Name(place(2), 7, "x"))?;
     nodes.push(Node::Statement(place(1), Statement::Return(values)))?;
     nodes.push(Node::Piece(Piece::Block(statements)))?;
-    let tree = Tree::new(nodes);
+    let tree = Tree::new(nodes, place(3));
+    assert!(rt; tree.finish() == place(3));
     assert!(rt; tree.root() == NodeId(2));
-    assert!(rt; matches!(tree.node(NodeId(0)), Node::Name(at, "x") if *at == place(2)));
+    assert!(rt; matches!(tree.node(NodeId(0)), Node::Name(at, 7, "x") if *at == place(2)));
     assert!(rt;
         matches!(tree.node(NodeId(1)), Node::Statement(_, Statement::Return(list)) if list.as_slice() == [NodeId(0)].as_slice())
     );

@@ -9,6 +9,8 @@ use tl_base::{NodeId, Place};
 #[derive(Debug, Drop)]
 pub struct Tree<'a> {
     nodes: Vec<Node<'a>>,
+    /// The place of the end of the text.
+    finish: Place,
     /// Stands for nodes that the tree has not.
     absent: Node<'a>,
     ghost absent_is: { item_of absent ≡ absent_item },
@@ -17,16 +19,25 @@ pub struct Tree<'a> {
 impl<'a> Tree<'a> {
     ghost use Rattle.std.specs.Prelude.{◌<◌, ◌≤◌, length, map};
     ghost use Rattle.tl_tree.specs.Nodes.{last_of, item_at};
-    ghost use Rattle.tl_tree.specs.Arena.{items_of};
+    ghost use Rattle.tl_tree.specs.Arena.{items_of, end_of};
 
-    /// The tree with these nodes.
-    pub fn new(nodes: Vec<Node<'a>>) -> Tree<'a>
-        ensures { items_of result ≡ map item_of nodes.entry.items }
+    /// The tree with these nodes, of a text that ends at this place.
+    pub fn new(nodes: Vec<Node<'a>>, finish: Place) -> Tree<'a>
+        ensures nodes { items_of result ≡ map item_of nodes.entry.items }
+        ensures finish { end_of result ≡ finish }
     {
         Tree {
             nodes,
+            finish,
             absent: Node::Expression(Place { line: 0, word: 0 }, Expression::Nil),
         }
+    }
+
+    /// The place of the end of the text: its line, and one more than the tokens that begin on it.
+    pub fn finish(&self) -> Place
+        ensures { result ≡ end_of self.now }
+    {
+        self.finish
     }
 
     /// The number of the root, which is the chunk's block.

@@ -47,13 +47,13 @@ returns-then-levels-eq0-clause-finds t c =
 
 pub returns-in-Some-clause-finds : goal.returns-in-Some-clause-finds
 returns-in-Some-clause-finds t c =
-    let e : item_at (items_of c.args.tree.now) c.args.id ≡ kept.Name c.in-Name.field-0 c.in-Name.name.now = search rules in
+    let e : item_at (items_of c.args.tree.now) c.args.id ≡ kept.Name c.in-Name.field-0 c.in-Name.field-1 c.in-Name.name.now = search rules in
     let p : position_of c.in-Name.name.now (names_of c.args.parameters.now) ≡ Some c.in-Some.position = search rules in
     subst (λ (o : Option _). Finds (items_of c.args.tree.now) (names_of c.args.parameters.now) c.args.levels c.args.operators c.args.id (leaf Parameter c.args.operators o)) p (name e)
 
 pub returns-in-None-clause-finds : goal.returns-in-None-clause-finds
 returns-in-None-clause-finds t c =
-    let e : item_at (items_of c.args.tree.now) c.args.id ≡ kept.Name c.in-Name.field-0 c.in-Name.name.now = search rules in
+    let e : item_at (items_of c.args.tree.now) c.args.id ≡ kept.Name c.in-Name.field-0 c.in-Name.field-1 c.in-Name.name.now = search rules in
     let p : position_of c.in-Name.name.now (names_of c.args.parameters.now) ≡ None = search rules in
     subst (λ (o : Option _). Finds (items_of c.args.tree.now) (names_of c.args.parameters.now) c.args.levels c.args.operators c.args.id (leaf Parameter c.args.operators o)) p (name e)
 

@@ -13,5 +13,5 @@ returns-then-not-at_end c =
 
 pub returns : goal.returns
 returns c =
-    let a = gives_tree c.args.text.now c.new-parser.result c.block.new.self c.in-Ok.x c.new.result c.new-parser.ensures c.in-Ok.ensures.ok (c.at_end.ensures.end c.if-not-at_end.false) (c.new.ensures ∙ c.into_nodes.ensures) in
+    let a = gives_tree c.args.text.now c.new-parser.result c.block.new.self c.in-Ok.x c.new.result c.new-parser.ensures c.in-Ok.ensures.ok (c.at_end.ensures.end c.if-not-at_end.false) (c.new.ensures.nodes ∙ c.into_nodes.ensures) (c.new.ensures.finish ∙ c.finish-finish.ensures) in
     record { tree = a.tree; refused = a.refused; only = a.only }
