@@ -12,6 +12,7 @@ use Rattle.layer_examples.specs.declared.sums.SumAnswer.{SumAnswer}
 use Rattle.layer_examples.specs.declared.sums.SumAnswer.TheVariants.{Go as SumGo, Number}
 use Rattle.layer_examples.specs.declared.sums.SumEnd.{SumEnd}
 use Rattle.layer_examples.specs.declared.sums.SumEnd.TheVariants.{Sum as SumIs, Full}
+use Rattle.layer_examples.specs.declared.total.Table.{Table}
 use Rattle.layer_examples.specs.declared.staged.Task.{Task}
 use Rattle.layer_examples.specs.declared.staged.Task.TheVariants.{SumUp, Descend, Add, Fail}
 use Rattle.layer_examples.specs.declared.staged.Staged.{Staged}
@@ -55,20 +56,20 @@ sum_fitting = record { part = λ w. w.given; with_part = λ w n. record w { give
 abbrev pub failing : ℕ → Meaning World Task Answer End
 failing error first later = Ended (Raised error) first.state
 
--- what each task means
-abbrev pub task_meaning : Task → Meaning World Task Answer End
-task_meaning (SumUp from) = within total_fitting (total from)
-task_meaning (Descend depth) = within nest_fitting (nest depth)
-task_meaning (Add numbers) = within sum_fitting (sum numbers)
-task_meaning (Fail error) = failing error
+-- what each task means, over a table
+abbrev pub task_meaning : Table → Task → Meaning World Task Answer End
+task_meaning table (SumUp from) = within total_fitting (total table from)
+task_meaning table (Descend depth) = within nest_fitting (nest depth)
+task_meaning table (Add numbers) = within sum_fitting (sum numbers)
+task_meaning table (Fail error) = failing error
 
 -- an end as an answer to the layer that asked
 abbrev pub answer_of : End → Answer
 answer_of (Done x) = AnswerDone x
 answer_of (Raised e) = Raise e
 
-abbrev pub example_stage : Stage World Task Answer End
-example_stage = record { meaning = task_meaning; go = Go; answer_of = answer_of }
+abbrev pub example_stage : Table → Stage World Task Answer End
+example_stage table = record { meaning = task_meaning table; go = Go; answer_of = answer_of }
 
 -- what remains to be done by a layer of the stage
 abbrev pub staged_rest : Staged → Meaning World Task Answer End

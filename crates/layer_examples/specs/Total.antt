@@ -1,5 +1,5 @@
--- The meaning of a total: a list is read from the world, and one question is asked for each of its numbers.
-use Rattle.std.specs.Prelude.{ℕ, List, [], ◌∷◌, drop}
+-- The meaning of a total, over a table: a list is read from the world, and one question is asked for each of its numbers.
+use Rattle.std.specs.Prelude.{ℕ, List, [], ◌∷◌, drop, min}
 use Rattle.tl_base.specs.Layer.{Meaning}
 use Rattle.tl_base.specs.Plan.{Plan, Give, AskFor, Read, Write}
 use Rattle.tl_base.specs.Machine.{Rules, meaning_of}
@@ -8,6 +8,7 @@ use Rattle.layer_examples.specs.declared.end.Answer.{Answer}
 use Rattle.layer_examples.specs.declared.end.End.{End}
 use Rattle.layer_examples.specs.declared.end.Flow.{Flow}
 use Rattle.layer_examples.specs.declared.end.Flow.TheVariants.{Value, Thrown, Left}
+use Rattle.layer_examples.specs.declared.total.Table.{Table}
 use Rattle.layer_examples.specs.declared.total.TotalFrame.{TotalFrame}
 use Rattle.layer_examples.specs.declared.total.NoJob.{NoJob}
 use Rattle.layer_examples.specs.Ends.{added, reply_of, end_of}
@@ -25,25 +26,25 @@ on_value Left go = Give Left
 abbrev pub counted : World → World
 counted w = record w { totals = added w.totals 1 }
 
--- asks for each number, adds the answers, and counts the total
-abbrev pub total_of : List ℕ → ℕ → TotalPlan
-total_of [] sum = Read (λ w. Write (counted w) (Give (Value sum)))
-total_of (x ∷ xs) sum = AskFor x (λ a. on_value (reply_of a) (λ y. total_of xs (added sum y)))
+-- asks for each number, or for the table's largest in place of a larger one, adds the answers, and counts the total
+abbrev pub total_of : Table → List ℕ → ℕ → TotalPlan
+total_of table [] sum = Read (λ w. Write (counted w) (Give (Value sum)))
+total_of table (x ∷ xs) sum = AskFor (min x table.largest) (λ a. on_value (reply_of a) (λ y. total_of table xs (added sum y)))
 
 -- a task is the number from which it counts
-abbrev pub first_plan : ℕ → TotalPlan
-first_plan from = Read (λ w. total_of w.numbers.items from)
+abbrev pub first_plan : Table → ℕ → TotalPlan
+first_plan table from = Read (λ w. total_of table w.numbers.items from)
 
 -- there are no jobs
 abbrev pub no_plan : NoJob → TotalPlan
 no_plan job = Give Left
 
 -- how a frame goes on with the end that it waited for
-abbrev pub after : TotalFrame → Flow → TotalPlan
-after f r = on_value r (λ y. total_of (drop f.at f.numbers.items) (added f.sum y))
+abbrev pub after : Table → TotalFrame → Flow → TotalPlan
+after table f r = on_value r (λ y. total_of table (drop f.at f.numbers.items) (added f.sum y))
 
-abbrev pub total_rules : Rules ℕ NoJob World ℕ Answer Flow End TotalFrame
-total_rules = record { first = first_plan; plan = no_plan; after = after; reply = reply_of; close = end_of }
+abbrev pub total_rules : Table → Rules ℕ NoJob World ℕ Answer Flow End TotalFrame
+total_rules table = record { first = first_plan table; plan = no_plan; after = after table; reply = reply_of; close = end_of }
 
-abbrev pub total : ℕ → Meaning World ℕ Answer End
-total = meaning_of total_rules
+abbrev pub total : Table → ℕ → Meaning World ℕ Answer End
+total table = meaning_of (total_rules table)

@@ -1,6 +1,7 @@
 //! Small layers, and the stage that they make: how a layer and a stage are written.
 //!
-//! - `total` reads a list from the world, and asks one question for each of its numbers, for which nothing is paid;
+//! - `total` reads a list from the world, and asks one question for each of its numbers, for which nothing is paid; it borrows a table,
+//!   as others will borrow a tree;
 //! - `nest` asks for the task below it, for which nothing is paid either, down to the innermost one, which does one job;
 //! - `sums` asks for numbers other than zero, pays inside a step, and has a part of the world for its own;
 //! - `staged` makes one stage of them, in which each question names a layer.

@@ -6,7 +6,7 @@ ghost use Rattle.layer_examples.specs.Staged.{total_question, sum_question, sum_
 use crate::end::{Answer, End};
 use crate::nest::Nest;
 use crate::sums::{Sum, SumAnswer, SumEnd};
-use crate::total::Total;
+use crate::total::{Table, Total};
 use crate::world::World;
 use stage_form::Stages;
 use std::alloc::Global;
@@ -65,15 +65,15 @@ fn end_of_sum(end: SumEnd) -> End
 
 /// A layer of the stage, which is to begin, or is suspended.
 #[derive(Drop)]
-pub enum Staged {
-    Total(Total),
+pub enum Staged<'a> {
+    Total(Total<'a>),
     Nest(Nest),
     Sum(Sum),
     /// It ends at once.
     Failing(u64),
 }
 
-impl Layer for Staged {
+impl Layer for Staged<'_> {
     ghost use Rattle.layer_examples.specs.Ends.{is_go};
     ghost use Rattle.layer_examples.specs.Kept.{KeepsWorld};
     ghost use Rattle.layer_examples.specs.Staged.{staged_rest, StagedFits};
@@ -123,11 +123,13 @@ impl Layer for Staged {
     }
 }
 
-/// The stage of these layers.
+/// The stage of these layers, over a table.
 #[derive(Clone, Copy, Debug)]
-pub struct Examples;
+pub struct Examples<'a> {
+    pub table: &'a Table,
+}
 
-impl Stages for Examples {
+impl<'a> Stages for Examples<'a> {
     ghost use Rattle.layer_examples.specs.Kept.{keeps_world_self, keeps_world_on};
     ghost use Rattle.layer_examples.specs.Staged.{example_stage, ends_follow};
 
@@ -139,9 +141,9 @@ impl Stages for Examples {
 
     type End = End;
 
-    type Staged = Staged;
+    type Staged = Staged<'a>;
 
-    ghost stage = { λ stages. example_stage };
+    ghost stage = { λ stages. example_stage stages.table.now };
 
     ghost ends_follow = { λ stages question asked now end kept paid. ends_follow end };
 
@@ -149,9 +151,9 @@ impl Stages for Examples {
 
     ghost keeps_on = { keeps_world_on };
 
-    fn start(&self, alloc: Global, question: Task) -> Staged {
+    fn start(&self, alloc: Global, question: Task) -> Staged<'a> {
         match question {
-            Task::SumUp(from) => Staged::Total(Total::start(alloc, from)),
+            Task::SumUp(from) => Staged::Total(Total::start(alloc, self.table, from)),
             Task::Descend(depth) => Staged::Nest(Nest::start(alloc, depth)),
             Task::Add(numbers) => Staged::Sum(Sum::start(alloc, numbers)),
             Task::Fail(error) => Staged::Failing(error),

@@ -2,22 +2,26 @@
 
 use crate::end::End;
 use crate::staged::{Examples, Task};
+use crate::total::Table;
 use crate::world::World;
 use stage_form::{Outcome, run};
 use std::test::Fail;
 use tl_base::{Budget, MemSink, Sink, Text, Text2};
 
 // Each number but zero is nested so deep, and comes to itself. To begin a total, to ask, and to nest are free: only the loop of the
-// innermost task and its one turn pay, two units for each number. A zero is raised, and ends the total.
+// innermost task and its one turn pay, two units for each number. A number above 250 is asked for as 250. A zero is raised, and ends
+// the total.
 #[test]
 fn questions_are_free(rt: HostRuntime) -> Result<(), Fail> {
     let rows = [
         ([3u64, 2, 1], 6u64, Some(End::Done(106)), 0u64, 1u64),
-        ([300, 200, 100], 7, Some(End::Done(700)), 1, 1),
+        ([300, 200, 100], 7, Some(End::Done(650)), 1, 1),
         ([3, 0, 1], 6, Some(End::Raised(0)), 4, 0),
         ([3, 2, 1], 5, None, 0, 0),
         ([3, 2, 1], 0, None, 0, 0),
     ];
+    let table = Table { largest: 250 };
+    let stage = Examples { table: &table };
     for (numbers, units, sum, left, totals) in rows {
         let mut world = World {
             numbers: Vec::from_array(rt.alloc(), numbers)?,
@@ -27,7 +31,7 @@ fn questions_are_free(rt: HostRuntime) -> Result<(), Fail> {
         let mut budget = Budget::new(units);
         let outcome = run(
             rt.alloc(),
-            &Examples,
+            &stage,
             Task::SumUp(100),
             &mut world,
             &mut budget,
@@ -55,6 +59,8 @@ fn sums_pay_and_ask(rt: HostRuntime) -> Result<(), Fail> {
         (4, None, 0, 0),
         (3, None, 1, 0),
     ];
+    let table = Table { largest: 0 };
+    let stage = Examples { table: &table };
     for (units, sum, left, given) in rows {
         let mut world = World {
             numbers: Vec::new(rt.alloc()),
@@ -62,7 +68,7 @@ fn sums_pay_and_ask(rt: HostRuntime) -> Result<(), Fail> {
             given: 0,
         };
         let mut budget = Budget::new(units);
-        let outcome = run(rt.alloc(), &Examples, Task::Add(2), &mut world, &mut budget)?;
+        let outcome = run(rt.alloc(), &stage, Task::Add(2), &mut world, &mut budget)?;
         let mut end = None;
         if let Outcome::Ends(value) = outcome {
             end = Some(value);

@@ -10,6 +10,13 @@ use crate::world::World;
 use std::alloc::Global;
 use tl_base::{Budget, Layer, Machine, NoMemory, Step, Suspended, Turn};
 
+/// What totals look up: it is borrowed, as the tree of a source is.
+#[derive(Debug, Drop)]
+pub struct Table {
+    /// A larger number is asked for as this one.
+    pub largest: u64,
+}
+
 /// There is no job in a total.
 #[derive(Drop)]
 pub enum NoJob {}
@@ -27,6 +34,7 @@ type TotalStep = Step<NoJob, Flow, u64>;
 // Goes on with the numbers from `at` on: asks for the first of them, or ends.
 #[tactic(auto, using(tl_base::proofs::Steps::pushes, crate::proofs::Numbers::total_next, crate::proofs::Numbers::total_end))]
 fn next_number(
+    table: &Table,
     frames: &mut Vec<TotalFrame>,
     world: &mut World,
     numbers: Vec<u64>,
@@ -34,12 +42,12 @@ fn next_number(
     sum: u64,
 ) -> Result<TotalStep, NoMemory>
     ensures means { IfOk result (λ step.
-        GoesOnFree total_rules frames.old.items (total_of (drop at numbers.items) sum) world.old
+        GoesOnFree (total_rules table.now) frames.old.items (total_of table.now (drop at numbers.items) sum) world.old
         frames.new.items step world.new) }
     ensures kept { OnOk result (KeepsWorld world.old world.new) }
 {
     if at < numbers.len() {
-        let question = numbers[at];
+        let question = numbers[at].min(table.largest);
         frames.push(TotalFrame {
             numbers,
             at: at + 1,
@@ -53,9 +61,11 @@ fn next_number(
 
 // The steps of totals.
 #[derive(Drop)]
-struct Totals;
+struct Totals<'a> {
+    table: &'a Table,
+}
 
-impl Machine for Totals {
+impl Machine for Totals<'_> {
     ghost use Rattle.layer_examples.specs.Kept.{keeps_world_self, keeps_world_on};
     ghost use Rattle.layer_examples.specs.Ends.{is_go};
 
@@ -75,7 +85,7 @@ impl Machine for Totals {
 
     type End = End;
 
-    ghost rules = { λ totals. total_rules };
+    ghost rules = { λ totals. total_rules totals.table.now };
 
     ghost keeps = { KeepsWorld };
 
@@ -93,7 +103,7 @@ impl Machine for Totals {
         from: u64,
     ) -> Result<TotalStep, NoMemory> {
         let numbers = world.numbers.clone()?;
-        let step = next_number(frames, world, numbers, 0, from)?;
+        let step = next_number(self.table, frames, world, numbers, 0, from)?;
         Ok(step)
     }
 
@@ -118,7 +128,8 @@ impl Machine for Totals {
         match end {
             Flow::Value(value) => {
                 let TotalFrame { numbers, at, sum } = frame;
-                let step = next_number(frames, world, numbers, at, sum.saturating_add(value))?;
+                let sum = sum.saturating_add(value);
+                let step = next_number(self.table, frames, world, numbers, at, sum)?;
                 Ok(step)
             }
             Flow::Thrown(error) => Ok(Step::Return(Flow::Thrown(error))),
@@ -137,28 +148,28 @@ impl Machine for Totals {
 
 /// A total that suspends itself to ask about numbers.
 #[derive(Drop)]
-pub struct Total {
-    machine: Suspended<Totals>,
+pub struct Total<'a> {
+    machine: Suspended<Totals<'a>>,
 }
 
-impl Total {
+impl<'a> Total<'a> {
     ghost use Rattle.layer_examples.specs.Ends.{WorldGiven};
     ghost use Rattle.layer_examples.specs.Total.{total};
     ghost use Rattle.layer_examples.specs.Rest.{total_rest, TotalFits};
 
     /// A total that is to begin with `Go`, and counts from a number.
-    pub fn start(alloc: Global, from: u64) -> Total
+    pub fn start(alloc: Global, table: &'a Table, from: u64) -> Total<'a>
         ensures means { (first : WorldGiven) (later : List WorldGiven) →
-            total_rest result first later ≡ total from first later }
+            total_rest result first later ≡ total table.now from first later }
         ensures fits { (first : WorldGiven) → first.answer ≡ Answer.Go → TotalFits result first }
     {
         Total {
-            machine: Suspended::start(alloc, Totals, from),
+            machine: Suspended::start(alloc, Totals { table }, from),
         }
     }
 }
 
-impl Layer for Total {
+impl Layer for Total<'_> {
     ghost use Rattle.layer_examples.specs.Ends.{is_go};
     ghost use Rattle.layer_examples.specs.Rest.{total_rest, TotalFits};
 

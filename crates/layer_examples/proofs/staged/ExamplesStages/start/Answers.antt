@@ -13,7 +13,7 @@ use Rattle.layer_examples.proofs.staged.ExamplesStages.start.Goals as goal
 -- each layer means what its task does
 pub returns-in-SumUp-clause-means : goal.returns-in-SumUp-clause-means
 returns-in-SumUp-clause-means c = λ first later.
-    rw c.in-SumUp.is (within_same total_fitting (total_rest c.start.result) (total c.in-SumUp.from) c.start.ensures.means first later)
+    rw c.in-SumUp.is (within_same total_fitting (total_rest c.start.result) (total c.args.self.now.table.now c.in-SumUp.from) c.start.ensures.means first later)
 
 pub returns-in-Descend-clause-means : goal.returns-in-Descend-clause-means
 returns-in-Descend-clause-means c = λ first later.
