@@ -139,7 +139,7 @@ fn applied(
 #[cycle(shown)]
 fn node(tree: &Tree, id: NodeId, out: &mut String) -> Result<(), NoMemory> {
     match tree.node(id) {
-        Node::Name(_, text) => out.push_str(text)?,
+        Node::Name(_, _, text) => out.push_str(text)?,
         Node::Numeral(_, text) => out.push_str(text)?,
         Node::Literal(_, text) => out.push_str(text)?,
         Node::Expression(_, e) => expression(tree, e, id, out)?,
@@ -409,9 +409,9 @@ fn piece(tree: &Tree, p: &Piece, id: NodeId, out: &mut String) -> Result<(), NoM
         Piece::NamedField(name, value) => pair(tree, "(", *name, " = ", *value, id, out)?,
         Piece::KeyedField(key, value) => pair(tree, "([", *key, "] = ", *value, id, out)?,
         Piece::Entry(name, written) => pair(tree, "(", *name, " : ", *written, id, out)?,
-        Piece::Parameter(name, written) => pair(tree, "(", *name, " : ", *written, id, out)?,
-        Piece::SpliceParameter(code) => form(tree, "splice", &[*code], id, out)?,
-        Piece::Variable(name, written) => match written {
+        Piece::Parameter(_, name, written) => pair(tree, "(", *name, " : ", *written, id, out)?,
+        Piece::SpliceParameter(_, code) => form(tree, "splice", &[*code], id, out)?,
+        Piece::Variable(_, name, written) => match written {
             Some(written) => pair(tree, "(", *name, " : ", *written, id, out)?,
             None => list(tree, "", &[*name], "", id, out)?,
         },
@@ -421,7 +421,7 @@ fn piece(tree: &Tree, p: &Piece, id: NodeId, out: &mut String) -> Result<(), NoM
                 list(tree, " in ", &[*value], "", id, out)?;
             }
         }
-        Piece::TerraBody(names, written, block) => {
+        Piece::TerraBody(_, names, written, block) => {
             terra_body(tree, names.as_slice(), *written, *block, id, out)?
         }
     }

@@ -1,5 +1,5 @@
 use Rattle.std.proofs.Common.{◌+◌, ◌*◌}
-use Rattle.tree_text.proofs.text.+shown.Given as goal
+use Rattle.parse_tests.proofs.text.+shown.Given as goal
 
 abbrev pub decreases-node : goal.decreases-node
 decreases-node l = 8 * l.id.0 + 7

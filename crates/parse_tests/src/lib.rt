@@ -11,6 +11,8 @@ mod limit_tests;
 #[cfg(test)]
 mod lua_tests;
 #[cfg(test)]
+mod place_tests;
+#[cfg(test)]
 mod refusal_tests;
 #[cfg(test)]
 mod terra_tests;

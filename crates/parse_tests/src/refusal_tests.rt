@@ -6,8 +6,11 @@ use tl_lex::SyntaxKind;
 use tl_parse::SyntaxError;
 
 /// Texts, and the kind, line and word of their refusals.
-static REFUSALS: [(&str, SyntaxKind, u32, u32); 82] = [
+static REFUSALS: [(&str, SyntaxKind, u32, u32); 84] = [
     ("local x = = 1", SyntaxKind::Unexpected, 1, 4),
+    // A statement that begins with Lua code in brackets goes on with what can continue it.
+    ("terra f() [a] [b] end", SyntaxKind::Unexpected, 1, 11),
+    ("terra f() [a] (x) = 1 end", SyntaxKind::Unexpected, 1, 11),
     ("x = 1.5", SyntaxKind::BadNumber, 1, 3),
     ("\"abc", SyntaxKind::OpenText, 1, 1),
     ("f()\n(g)()", SyntaxKind::Ambiguous, 2, 1),
