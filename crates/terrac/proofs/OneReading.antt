@@ -2,16 +2,16 @@
 use Rattle.std.proofs.Common.{◌≡◌, ℕ, List, [], Option, Some, None, Ok, refl, sym, ap, subst, ◌∙◌, arith}
 use Rattle.tl_base.specs.declared.place.Place.{Place}
 use Rattle.tl_lex.specs.declared.SyntaxKind.{SyntaxKind}
-use Rattle.tl_tree.specs.Tokens.{Token, tokens_of, finish_of}
+use Rattle.tl_tree.specs.Tokens.{Token, tokens_of, finish_of, place_of}
 use Rattle.tl_tree.specs.Tree.{Tree}
 use Rattle.tl_tree.specs.declared.tree.Tree as code
 use Rattle.tl_tree.specs.Nodes.{lay}
 use Rattle.tl_tree.specs.Arena.{items_of}
 use Rattle.tl_tree.specs.Refusing.{Language, Answer, Says, IsTree, Refused}
 use Rattle.tl_tree.specs.Laws.{HasOneAnswer, IsChunk}
+use Rattle.tl_tree.specs.Texts as texts
 use Rattle.tl_tree.proofs.Answering.{chunks_one}
-use Rattle.tl_parse.specs.Parsing.{place_of}
-use Rattle.tl_parse.specs.Whole.{TextHasTree, TextIsRefused, ComesOf}
+use Rattle.tl_parse.specs.Whole.{ComesOf}
 use Rattle.first_form.specs.Formula.{SourceFunction, IsWithin}
 use Rattle.first_form.specs.Form.{function_of}
 use Rattle.first_form.specs.Layout.{IsSingle}
@@ -23,13 +23,13 @@ use Rattle.terrac.specs.Due.{Reading, IsRefused, IsFunction, reading_of, IsTextR
 one : (Reads : Language Tree) → HasOneAnswer Reads → (ts : List Token) (y z : Answer Tree) → Says Reads ts y → Says Reads ts z → y ≡ z
 one Reads law ts y z p q = (law ts).2 y p ∙ sym ((law ts).2 z q)
 
-one_tree : (text : List ℕ) (a b : Tree) → TextHasTree text a → TextHasTree text b → a ≡ b
+one_tree : (text : List ℕ) (a b : Tree) → texts.Reads text a → texts.Reads text b → a ≡ b
 one_tree text a b p q = tree_is (one IsChunk chunks_one (tokens_of text) (IsTree a) (IsTree b) p q)
   where
     tree_is : IsTree a ≡ IsTree b → a ≡ b
     tree_is e = cc
 
-no_both : (text : List ℕ) (a : Tree) (kind : SyntaxKind) (place : Place) → TextHasTree text a → TextIsRefused text kind place → ⊥
+no_both : (text : List ℕ) (a : Tree) (kind : SyntaxKind) (place : Place) → texts.Reads text a → texts.Refuses text kind place → ⊥
 no_both text a kind place p q =
     apart (one IsChunk chunks_one (tokens_of text) (IsTree a) (Refused kind q.rest) p q.refuses)
   where
@@ -40,7 +40,7 @@ no_both text a kind place p q =
 abbrev answer_of : SyntaxKind → List Token → Answer Tree
 answer_of kind rest = Refused kind rest
 
-one_refusal : (text : List ℕ) (kind other : SyntaxKind) (place there : Place) → TextIsRefused text kind place → TextIsRefused text other there → IsRefused kind place ≡ IsRefused other there
+one_refusal : (text : List ℕ) (kind other : SyntaxKind) (place there : Place) → texts.Refuses text kind place → texts.Refuses text other there → IsRefused kind place ≡ IsRefused other there
 one_refusal text kind other place there p q =
     same (one IsChunk chunks_one (tokens_of text) (Refused kind p.rest) (Refused other q.rest) p.refuses q.refuses)
   where
@@ -71,7 +71,7 @@ one_reading source _ _ (IsText a l u p) (IsText b m v q) = one_text source a b p
 -- ---- what a tree is
 
 -- one tree stands wherever one is to stand
-pub single : (text : List ℕ) (tree : Tree) → TextHasTree text tree → IsSingle tree
+pub single : (text : List ℕ) (tree : Tree) → texts.Reads text tree → IsSingle tree
 single text tree p = single_chunk (tokens_of text) tree p
 
 function_within : (o : Option SourceFunction) (f : SourceFunction) → ((g : SourceFunction) → o ≡ Some g → IsWithin g) → reading_of o ≡ IsFunction f → IsWithin f

@@ -9,7 +9,7 @@ use Rattle.tl_base.specs.declared.place.Place.{Place}
 use Rattle.tl_lex.specs.declared.SyntaxKind.{SyntaxKind}
 use Rattle.tl_lex.specs.declared.SyntaxKind.TheVariants.{BadByte, OpenText, BadEscape, BadNumber, NameTooLong, TextTooLong, TooDeep, Ambiguous, Unexpected, TooLong, NotUtf8}
 use Rattle.tl_tree.specs.Tree.{Tree}
-use Rattle.tl_parse.specs.Whole.{TextHasTree, TextIsRefused}
+use Rattle.tl_tree.specs.Texts.{Reads, Refuses}
 use Rattle.first_form.specs.Formula.{SourceFunction}
 use Rattle.first_form.specs.Form.{function_of}
 use Rattle.terra_meaning.specs.Meaning.{meaning}
@@ -67,8 +67,8 @@ reading_of (Some function) = IsFunction function
 
 -- A text reads as what its tree is, or is refused.
 pub data IsTextReadAs (text : List ℕ) : Reading → Type 0 where
-  HasTree : (tree : Tree) → TextHasTree text tree → IsTextReadAs text (reading_of (function_of tree))
-  HasNone : (kind : SyntaxKind) (place : Place) → TextIsRefused text kind place → IsTextReadAs text (IsRefused kind place)
+  HasTree : (tree : Tree) → Reads text tree → IsTextReadAs text (reading_of (function_of tree))
+  HasNone : (kind : SyntaxKind) (place : Place) → Refuses text kind place → IsTextReadAs text (IsRefused kind place)
 
 -- A source is refused where it is too long; else where it is not UTF-8; and else it reads as its text does.
 pub data IsReadAs (source : List ℕ) : Reading → Type 0 where
