@@ -21,3 +21,8 @@ pub mod PartsGo
 pub mod Answering
 pub mod Examples
 pub mod TerraExamples
+pub mod Giving
+pub mod LuaGives
+pub mod TerraGives
+pub mod WellFormedTrees
+pub mod OwnNumbers

@@ -1,5 +1,7 @@
 -- The language of whole texts, and that reading has one answer.
-use Rattle.std.specs.Prelude.{◌≡◌, ℕ, List}
+use Rattle.std.specs.Prelude.{◌≡◌, ℕ, true, List, ◌⊎◌}
+use Rattle.tl_tree.specs.declared.symbol.Symbol.{Symbol}
+use Rattle.tl_tree.specs.Symbols.{number_of, is_bad}
 use Rattle.tl_tree.specs.Tokens.{Token, tokens_of}
 use Rattle.tl_tree.specs.Tree.{Tree}
 use Rattle.tl_tree.specs.Grammar.{Whole}
@@ -17,3 +19,7 @@ HasOneAnswer Reads = (ts : List Token) → (x : Answer Tree) × Says Reads ts x 
 -- a text has one tree at most
 abbrev pub HasOneTree : Language Tree → List ℕ → Type 0
 HasOneTree Reads text = (a b : Tree) → HasTree Reads (tokens_of text) a → HasTree Reads (tokens_of text) b → a ≡ b
+
+-- Classes of tokens go by the numbers of symbols: two symbols have one number only if they are one, or both break a rule of tokens.
+abbrev pub HasOwnNumbers : Type 0
+HasOwnNumbers = (a b : Symbol) → number_of a ≡ number_of b → (a ≡ b) ⊎ ((is_bad a ≡ true) × (is_bad b ≡ true))

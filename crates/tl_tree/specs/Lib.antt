@@ -16,3 +16,4 @@ pub mod Syntax
 pub mod Laws
 pub mod Texts
 pub mod Arena
+pub mod Kinds

@@ -1,6 +1,7 @@
 //! Laws of the grammar. The functions do nothing: their contracts are the laws.
 
-ghost use Rattle.tl_tree.specs.Laws.{HasOneAnswer, HasOneTree, IsChunk};
+ghost use Rattle.tl_tree.specs.Laws.{HasOneAnswer, HasOneTree, HasOwnNumbers, IsChunk};
+ghost use Rattle.tl_tree.specs.Kinds.{HasWellFormedTrees};
 ghost use Rattle.tl_tree.specs.Texts.{HasOneTextAnswer, GoesOnUnrefused, GoesOnAsText};
 
 /// A text has exactly one tree, or is refused at exactly one place for exactly one reason.
@@ -25,4 +26,16 @@ pub fn one_tree(text: &str)
 pub fn goes_on_as_text()
     ensures chunks { GoesOnAsText IsChunk }
     ensures unrefused_chunks { GoesOnUnrefused IsChunk }
+{}
+
+/// The tree of a text is a block of Lua code, in which each child is of the kind that its parent wants: an expression where one stands, a
+/// name where one is declared, as a target of an assignment no call, and so on. A list stands only where one is wanted.
+pub fn well_formed_trees(text: &str)
+    ensures { HasWellFormedTrees text.now }
+{}
+
+/// Each symbol has a number of its own, but for those that break a rule of tokens. So a class of tokens, which goes by these numbers,
+/// holds the tokens of its symbols and no others.
+pub fn own_numbers()
+    ensures { HasOwnNumbers }
 {}
