@@ -1,17 +1,17 @@
 //! Laws of the division of texts into tokens. The functions do nothing: their contracts are the laws.
 
-ghost use Rattle.std.specs.Prelude.{◌≡◌, ℕ};
+ghost use Rattle.std.specs.Prelude.{◌≡◌, ℕ, drop};
 ghost use Rattle.tl_lex.specs.Fronts.{front_of};
-ghost use Rattle.tl_lex.specs.Answers.{answers_of};
+ghost use Rattle.tl_lex.specs.Answers.{first_line_len, answers_of};
 ghost use Rattle.tl_lex.specs.Laws.{HasOneDivision, EndsOnce, AreSlices, IsLongestToken, IsOnlyLiteral, BeginsNoToken, BeginsNoLiteral};
 ghost use Rattle.tl_lex.specs.declared.SyntaxKind.TheVariants as why;
 ghost use Rattle.tl_lex.specs.declared.TokenKind.{TokenKind};
 ghost use Rattle.tl_lex.specs.declared.front.Front.TheVariants as fronts;
 
-/// A text has exactly one division into white space, comments and tokens, which ends with the text or with its first refusal.
-/// Its answers are tokens and then one end token or one refusal.
+/// A text, behind a first line that begins with `#`, has exactly one division into white space, comments and tokens, which ends with the
+/// text or with its first refusal. Its answers are tokens and then one end token or one refusal.
 pub fn one_division(text: &str)
-    ensures division { HasOneDivision text.now }
+    ensures division { HasOneDivision (drop (first_line_len text.now) text.now) }
     ensures answers { EndsOnce (answers_of text.now) }
 {}
 
