@@ -7,5 +7,7 @@ pub mod Structs
 pub mod Begun
 pub mod Spreading
 pub mod Measures
+pub mod Walking
+pub mod Settling
 pub mod SpotLemmas
 pub mod Examples

@@ -14,11 +14,11 @@ use Rattle.terra_types.specs.declared.types.TypeForm.TheVariants as forms
 use Rattle.terra_types.specs.Elements.{elements_of, spread}
 use Rattle.terra_types.specs.Kept.{AreKept, forms_in, elements_in, elements_for, kept_at, own_measure, by_elements, kept_measure}
 use Rattle.terra_types.specs.Opening.{NamesBelow}
-use Rattle.terra_types.specs.Sizes.{for_some, measured, measure_of, repeated}
+use Rattle.terra_types.specs.Sizes.{Within, for_some, measured, measure_of, repeated}
 use Rattle.terra_types.proofs.Growing.{is_array, array-measure, plain-measure, past-measure}
 use Rattle.terra_types.proofs.Keys.{length-forms}
 use Rattle.terra_types.proofs.Pushing.{form-at}
-use Rattle.terra_types.proofs.Spreading.{Within, spread-first, spread-next, spread-within}
+use Rattle.terra_types.proofs.Spreading.{spread-first, spread-next, spread-within}
 
 -- ---- what follows one option follows another
 
@@ -119,25 +119,25 @@ module _ (es : List (TypeKey × Kept)) (k : AreKept es) where
   -- ---- within the limit
 
   own-within : (i : ℕ) (e : TypeKey × Kept) (form : TypeForm) → slice_get es i ≡ Some e → e.1.form ≡ form → IfSome (measured [] form) Within
-  own-within i e (forms.Integer Int8) at same = (lit≤ tt, lit≤ tt)
-  own-within i e (forms.Integer Int16) at same = (lit≤ tt, lit≤ tt)
-  own-within i e (forms.Integer Int32) at same = (lit≤ tt, lit≤ tt)
-  own-within i e (forms.Integer Int64) at same = (lit≤ tt, lit≤ tt)
-  own-within i e (forms.Integer Uint8) at same = (lit≤ tt, lit≤ tt)
-  own-within i e (forms.Integer Uint16) at same = (lit≤ tt, lit≤ tt)
-  own-within i e (forms.Integer Uint32) at same = (lit≤ tt, lit≤ tt)
-  own-within i e (forms.Integer Uint64) at same = (lit≤ tt, lit≤ tt)
-  own-within i e forms.Bool at same = (lit≤ tt, lit≤ tt)
-  own-within i e forms.Unit at same = (lit≤ tt, lit≤ tt)
-  own-within i e (forms.Pointer t) at same = (lit≤ tt, lit≤ tt)
+  own-within i e (forms.Integer Int8) at same = (lit≤ tt, lit≤ tt, lit≤ tt)
+  own-within i e (forms.Integer Int16) at same = (lit≤ tt, lit≤ tt, lit≤ tt)
+  own-within i e (forms.Integer Int32) at same = (lit≤ tt, lit≤ tt, lit≤ tt)
+  own-within i e (forms.Integer Int64) at same = (lit≤ tt, lit≤ tt, lit≤ tt)
+  own-within i e (forms.Integer Uint8) at same = (lit≤ tt, lit≤ tt, lit≤ tt)
+  own-within i e (forms.Integer Uint16) at same = (lit≤ tt, lit≤ tt, lit≤ tt)
+  own-within i e (forms.Integer Uint32) at same = (lit≤ tt, lit≤ tt, lit≤ tt)
+  own-within i e (forms.Integer Uint64) at same = (lit≤ tt, lit≤ tt, lit≤ tt)
+  own-within i e forms.Bool at same = (lit≤ tt, lit≤ tt, lit≤ tt)
+  own-within i e forms.Unit at same = (lit≤ tt, lit≤ tt, lit≤ tt)
+  own-within i e (forms.Pointer t) at same = (lit≤ tt, lit≤ tt, lit≤ tt)
   own-within i e (forms.Array t n) at same = tt
-  own-within i e (forms.Function ps r) at same = (lit≤ tt, lit≤ tt)
+  own-within i e (forms.Function ps r) at same = (lit≤ tt, lit≤ tt, lit≤ tt)
   own-within i e (forms.Struct n p None) at same = tt
   own-within i e (forms.Struct n p (Some l)) at same = k.lawful.limited i n p l (form-at es i e at ∙ ap Some same)
 
   spread-all : (x : Elements) → x.count ≤ x.largest → (o : Option Measure) → IfSome o Within → IfSome (for_some o (spread x)) Within
   spread-all x c None h = tt
-  spread-all x c (Some m) h = spread-within x m c h.1
+  spread-all x c (Some m) h = spread-within x m c h
 
   base-within : (x : Elements) → (o : Option (TypeKey × Kept)) → slice_get es x.of.0 ≡ o → IfSome (for_some (option_map (λ e. e.1) o) own_measure) Within
   base-within x None at = tt
@@ -154,3 +154,6 @@ module _ (es : List (TypeKey × Kept)) (k : AreKept es) where
       step : (o : Option (TypeKey × Kept)) → slice_get es t.0 ≡ o → IfSome (for_some (option_map (λ e. e.1) o) (λ kept. by_elements es kept kept.elements)) Within
       step None at = tt
       step (Some e) at = by-within t.0 e e.1.elements at refl
+
+  pub measure-within : (t : TypeId) → IfSome (measure_of (forms_in es) t) Within
+  measure-within t = subst (λ o. IfSome o Within) (measure-kept t) (kept-within t)

@@ -15,7 +15,7 @@ use Rattle.terra_types.specs.declared.types.Integer.TheVariants.{Int8, Int16, In
 use Rattle.terra_types.specs.declared.types.TypeForm.{TypeForm}
 use Rattle.terra_types.specs.declared.types.TypeForm.TheVariants as forms
 use Rattle.terra_types.specs.Kept.{AllFit, Fits, AreKept, AreLawful, forms_in, elements_in, elements_for}
-use Rattle.terra_types.specs.Sizes.{largest_size}
+use Rattle.terra_types.specs.Sizes.{Within, settled}
 use Rattle.terra_types.specs.Elements.{elements_of}
 use Rattle.terra_types.proofs.Keys.{length-forms}
 use Rattle.terra_types.specs.Making.{is_same, same_types, structs_in}
@@ -116,7 +116,7 @@ numbered-push types form l c i number place layout (last e same) =
     c.numbered number place layout same ∙
     ap (λ ts. structs_in ts + 1) (sym (ap (λ n. take n (types ++ form ∷ [])) e ∙ (take-push types form (length types) (omega arith) ∙ take-all types)))
 
-limited-push : (types : List TypeForm) (form : TypeForm) → AreLawful types → Comes types form → (i number : ℕ) (place : Place) (layout : Layout) → Where types form i (forms.Struct number place (Some layout)) → (layout.size ≤ largest_size) × (1 ≤ layout.align)
+limited-push : (types : List TypeForm) (form : TypeForm) → AreLawful types → Comes types form → (i number : ℕ) (place : Place) (layout : Layout) → Where types form i (forms.Struct number place (Some layout)) → Within (settled layout)
 limited-push types form l c i number place layout (before lt at) = l.limited i number place layout at
 limited-push types form l c i number place layout (last e same) = absurd (c.unsettled number place layout same)
 

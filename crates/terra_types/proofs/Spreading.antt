@@ -8,7 +8,7 @@ use Rattle.tl_base.specs.declared.ids.TypeId.{TypeId}
 use Rattle.terra_types.specs.declared.elements.Elements.{Elements}
 use Rattle.terra_types.specs.declared.measure.Measure.{Measure}
 use Rattle.terra_types.specs.Elements.{bounded_product, elements_of, spread}
-use Rattle.terra_types.specs.Sizes.{largest_size, for_some, repeated}
+use Rattle.terra_types.specs.Sizes.{Within, largest_size, for_some, repeated}
 
 -- ---- tests
 
@@ -106,13 +106,9 @@ module _ (t : TypeId) (n : ℕ) (x : Elements) (m : Measure) where
           spread-no next m (omega (arith, h, times x.largest next.largest m.size (omega arith))) ∙
           sym (ap (λ o. for_some o (repeated n)) (spread-no x m h))
 
--- a measure within the limit, of addresses that are multiples of something
-abbrev pub Within : Measure → Type 0
-Within m = (m.size ≤ largest_size) × (1 ≤ m.align)
-
-pub spread-within : (x : Elements) (m : Measure) → x.count ≤ x.largest → 1 ≤ m.align → IfSome (spread x m) Within
-spread-within x m c align = step (nat_le (bounded_product x.largest m.size) largest_size) refl
+pub spread-within : (x : Elements) (m : Measure) → x.count ≤ x.largest → Within m → IfSome (spread x m) Within
+spread-within x m c within = step (nat_le (bounded_product x.largest m.size) largest_size) refl
   where
     step : (b : Bool) → nat_le (bounded_product x.largest m.size) largest_size ≡ b → IfSome (if b then Some (record m { size = bounded_product x.count m.size }) else None) Within
-    step true e = (omega (arith, leb-true (bounded_product x.largest m.size) largest_size e, times x.count x.largest m.size c), align)
+    step true e = (omega (arith, leb-true (bounded_product x.largest m.size) largest_size e, times x.count x.largest m.size c), within.1, within.2)
     step false e = tt

@@ -18,7 +18,7 @@ use Rattle.terra_types.proofs.Held.{is_struct, counted, held-push}
 use Rattle.terra_types.proofs.Inserting.{map-push}
 use Rattle.terra_types.proofs.Pushing.{Comes}
 
-structs_in-cons : (form : TypeForm) (types : List TypeForm) → structs_in (form ∷ types) ≡ counted (is_struct form) (structs_in types)
+pub structs_in-cons : (form : TypeForm) (types : List TypeForm) → structs_in (form ∷ types) ≡ counted (is_struct form) (structs_in types)
 structs_in-cons (forms.Integer i) types = refl
 structs_in-cons forms.Bool types = refl
 structs_in-cons forms.Unit types = refl
@@ -36,7 +36,7 @@ structs_in-most [] = omega arith
 structs_in-most (f ∷ types) =
     omega (arith, structs_in-cons f types, counted-most (is_struct f) (structs_in types), structs_in-most types)
 
-counted-grows : (b : Bool) (m n : ℕ) → m < n → counted b m < counted b n
+pub counted-grows : (b : Bool) (m n : ℕ) → m < n → counted b m < counted b n
 counted-grows true m n h = omega (arith, h)
 counted-grows false m n h = h
 

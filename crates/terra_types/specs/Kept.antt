@@ -1,6 +1,7 @@
 -- The table of types: a view of the code, which private contracts cite.
-use Rattle.std.specs.Prelude.{◌≡◌, ℕ, ◌+◌, ◌≤◌, List, [], ◌∷◌, ◌++◌, map, take, position, slice_get, Option, Some, None}
+use Rattle.std.specs.Prelude.{◌≡◌, ℕ, ◌+◌, List, [], ◌∷◌, ◌++◌, map, take, position, slice_get, Option, Some, None}
 use Rattle.std.specs.Option.{option_map}
+use Rattle.indexmap.specs.Layout.{set_value_at}
 use Rattle.tl_base.specs.declared.place.Place.{Place}
 use Rattle.tl_base.specs.declared.ids.TypeId.{TypeId}
 use Rattle.terra_types.specs.declared.elements.Elements.{Elements}
@@ -12,9 +13,9 @@ use Rattle.terra_types.specs.declared.types.TypeForm.{TypeForm}
 use Rattle.terra_types.specs.declared.types.TypeForm.TheVariants as forms
 use Rattle.terra_types.specs.declared.measure.Measure.{Measure}
 use Rattle.terra_types.specs.Elements.{elements_of, spread}
-use Rattle.terra_types.specs.Making.{is_same, structs_in}
+use Rattle.terra_types.specs.Making.{is_same, structs_in, with_layout}
 use Rattle.terra_types.specs.Opening.{NamesBelow}
-use Rattle.terra_types.specs.Sizes.{largest_size, for_some, measured}
+use Rattle.terra_types.specs.Sizes.{Within, settled, for_some, measured}
 
 abbrev pub forms_in : List (TypeKey × Kept) → List TypeForm
 forms_in entries = map (λ e. e.1.form) entries
@@ -88,13 +89,22 @@ by_elements entries kept (Some x) = for_some (for_some (kept_at entries x.of) ow
 abbrev pub kept_measure : List (TypeKey × Kept) → TypeId → Option Measure
 kept_measure entries t = for_some (kept_at entries t) (λ kept. by_elements entries kept kept.elements)
 
+-- ---- what is there after a struct gets its layout
+
+abbrev pub laid_in : Option (TypeKey × Kept) → List (TypeKey × Kept) → TypeId → Layout → List (TypeKey × Kept)
+laid_in None entries t layout = entries
+laid_in (Some e) entries t layout = set_value_at entries t.0 (record e.1 { form = with_layout e.1.form layout })
+
+abbrev pub with_laid : List (TypeKey × Kept) → TypeId → Layout → List (TypeKey × Kept)
+with_laid entries t layout = laid_in (slice_get entries t.0) entries t layout
+
 -- ---- what the table keeps: as `AreTypes`, but for the types that are there from the begin
 
 pub record AreLawful (types : List TypeForm) : Type 0 where
   pub alone : (i j : ℕ) (t : TypeForm) → slice_get types i ≡ Some t → slice_get types j ≡ Some t → i ≡ j
   pub before : (i : ℕ) (t : TypeForm) → slice_get types i ≡ Some t → NamesBelow i t
   pub numbered : (i number : ℕ) (place : Place) (layout : Option Layout) → slice_get types i ≡ Some (forms.Struct number place layout) → number ≡ structs_in (take i types) + 1
-  pub limited : (i number : ℕ) (place : Place) (layout : Layout) → slice_get types i ≡ Some (forms.Struct number place (Some layout)) → (layout.size ≤ largest_size) × (1 ≤ layout.align)
+  pub limited : (i number : ℕ) (place : Place) (layout : Layout) → slice_get types i ≡ Some (forms.Struct number place (Some layout)) → Within (settled layout)
 
 pub record AreKept (entries : List (TypeKey × Kept)) : Type 0 where
   pub fitting : AllFit entries

@@ -16,16 +16,16 @@ abbrev pub rounded : (n align : ℕ) → ℕ
 rounded n align = (n + (align - 1)) / align * align
 
 -- a layout in progress: what the entries so far take
-abbrev begun : Layout
+abbrev pub begun : Layout
 begun = record { size = 0; align = 1; entries = [] }
 
-abbrev with_entry : Layout → Entry → Measure → Layout
+abbrev pub with_entry : Layout → Entry → Measure → Layout
 with_entry l e m =
     let offset = rounded l.size m.align in
     record { size = offset + m.size; align = max l.align m.align; entries = l.entries ++ record { field = e.field; offset = offset; of = e.of } ∷ [] }
 
 -- the entries one after the other; none where the layout of one of them isn't settled
-abbrev placed : List TypeForm → Layout → List Entry → Option Layout
+abbrev pub placed : List TypeForm → Layout → List Entry → Option Layout
 placed types l [] = Some l
 placed types l (e ∷ es) = for_some (measure_of types e.of) (λ m. placed types (with_entry l e m) es)
 
@@ -36,7 +36,7 @@ is_function_form _ = false
 abbrev pub is_function : List TypeForm → TypeId → Bool
 is_function types t = is_function_form (unwrap_or (slice_get types t.0) forms.Unit)
 
-abbrev is_named : TextId → List Entry → Bool
+abbrev pub is_named : TextId → List Entry → Bool
 is_named field [] = false
 is_named field (e ∷ es) = nat_eq field.0 e.field.0 || is_named field es
 
@@ -45,7 +45,7 @@ abbrev pub may_stand : List TypeForm → List Entry → Bool
 may_stand types [] = true
 may_stand types (e ∷ es) = not (is_named e.field es) && (not (is_function types e.of) && may_stand types es)
 
-abbrev rounded_up : Layout → Option Layout
+abbrev pub rounded_up : Layout → Option Layout
 rounded_up l =
     let size = rounded l.size l.align in
     if nat_le size largest_size then Some (record l { size = size }) else None

@@ -11,4 +11,5 @@ pub mod Grown
 pub mod Elements
 pub mod Spots
 pub mod Kept
+pub mod Laying
 pub mod Holding

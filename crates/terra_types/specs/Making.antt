@@ -67,7 +67,7 @@ with_struct types place = types ++ new_struct_form types place ∷ []
 
 -- ---- layouts are settled once
 
-abbrev awaits_layout : TypeForm → Bool
+abbrev pub awaits_layout : TypeForm → Bool
 awaits_layout (forms.Struct number place None) = true
 awaits_layout _ = false
 
@@ -75,7 +75,7 @@ awaits_layout _ = false
 abbrev pub is_unsettled : List TypeForm → TypeId → Bool
 is_unsettled types t = awaits_layout (unwrap_or (slice_get types t.0) forms.Unit)
 
-abbrev with_layout : TypeForm → Layout → TypeForm
+abbrev pub with_layout : TypeForm → Layout → TypeForm
 with_layout (forms.Struct number place before) layout = forms.Struct number place (Some layout)
 with_layout form layout = form
 

@@ -6,7 +6,7 @@ use Rattle.terra_types.specs.declared.types.Integer.TheVariants.{Int8, Int16, In
 use Rattle.terra_types.specs.declared.types.TypeForm.{TypeForm}
 use Rattle.terra_types.specs.declared.types.TypeForm.TheVariants as forms
 use Rattle.terra_types.specs.declared.layout.Layout.{Layout}
-use Rattle.terra_types.specs.Sizes.{largest_size}
+use Rattle.terra_types.specs.Sizes.{Within, settled}
 use Rattle.terra_types.specs.Making.{structs_in}
 
 -- integers, the smallest first and those with a sign before those without; bool; unit; and a pointer to int8, the type of texts
@@ -50,4 +50,4 @@ pub record AreTypes (types : List TypeForm) : Type 0 where
   pub alone : (i j : ℕ) (t : TypeForm) → slice_get types i ≡ Some t → slice_get types j ≡ Some t → i ≡ j
   pub before : (i : ℕ) (t : TypeForm) → slice_get types i ≡ Some t → NamesBelow i t
   pub numbered : (i number : ℕ) (place : Place) (layout : Option Layout) → slice_get types i ≡ Some (forms.Struct number place layout) → number ≡ structs_in (take i types) + 1
-  pub limited : (i number : ℕ) (place : Place) (layout : Layout) → slice_get types i ≡ Some (forms.Struct number place (Some layout)) → (layout.size ≤ largest_size) × (1 ≤ layout.align)
+  pub limited : (i number : ℕ) (place : Place) (layout : Layout) → slice_get types i ≡ Some (forms.Struct number place (Some layout)) → Within (settled layout)

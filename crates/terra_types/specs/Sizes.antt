@@ -1,5 +1,5 @@
 -- How many bytes a type has, and what its addresses are multiples of.
-use Rattle.std.specs.Prelude.{ℕ, ◌*◌, Bool, true, false, nat_le, if◌then◌else◌, List, [], Option, Some, None, slice_get}
+use Rattle.std.specs.Prelude.{ℕ, ◌≤◌, ◌*◌, Bool, true, false, nat_le, if◌then◌else◌, List, [], Option, Some, None, slice_get}
 use Rattle.tl_base.specs.declared.ids.TypeId.{TypeId}
 use Rattle.terra_types.specs.declared.layout.Layout.{Layout}
 use Rattle.terra_types.specs.declared.measure.Measure.{Measure}
@@ -32,6 +32,10 @@ bytes_of Uint8 = 1
 bytes_of Uint16 = 2
 bytes_of Uint32 = 4
 bytes_of Uint64 = 8
+
+-- a measure within the limit, and of an alignment that there is
+abbrev pub Within : Measure → Type 0
+Within m = (m.size ≤ largest_size) × (1 ≤ m.align) × (m.align ≤ 8)
 
 -- one within the limit
 abbrev pub limited : Measure → Option Measure

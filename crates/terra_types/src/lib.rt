@@ -7,6 +7,7 @@
 
 pub mod elements;
 pub mod key;
+pub mod laying;
 pub mod layout;
 pub mod measure;
 pub mod measuring;

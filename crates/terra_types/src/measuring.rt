@@ -1,9 +1,9 @@
 // How a type's size and alignment are read.
 
-ghost use Rattle.std.specs.Prelude.{◌≡◌, ◌≤◌, [], IfSome};
+ghost use Rattle.std.specs.Prelude.{◌≡◌, [], IfSome};
 ghost use Rattle.terra_types.specs.Elements.{spread};
 ghost use Rattle.terra_types.specs.Kept.{AreKept, forms_in, kept_measure};
-ghost use Rattle.terra_types.specs.Sizes.{largest_size, measured, measure_of};
+ghost use Rattle.terra_types.specs.Sizes.{Within, measured, measure_of};
 
 use crate::elements::Elements;
 use crate::measure::{LARGEST_SIZE, Measure};
@@ -15,7 +15,7 @@ use tl_base::TypeId;
 pub(crate) fn measure_in(table: &Table, t: TypeId) -> Option<Measure>
     requires { AreKept table.now.entries }
     ensures value { result ≡ measure_of (forms_in table.now.entries) t }
-    ensures within { IfSome result (λ m. (m.size ≤ largest_size) × (1 ≤ m.align)) }
+    ensures within { IfSome result Within }
 {
     measure_kept(table, t)
 }

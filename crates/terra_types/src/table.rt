@@ -2,12 +2,13 @@
 
 ghost use Rattle.std.specs.Prelude.{◌≡◌, ◌+◌, ◌≤◌, length, IfOk, OnOk, OnErr};
 ghost use Rattle.std.specs.Option.{option_copied};
-ghost use Rattle.terra_types.specs.Kept.{Fits, AllFit, forms_in, elements_at, kept_at, plain, with_kept};
+ghost use Rattle.terra_types.specs.Kept.{Fits, AllFit, forms_in, elements_at, kept_at, plain, with_kept, with_laid};
 ghost use Rattle.terra_types.specs.Holding.{opening_entries};
 ghost use Rattle.terra_types.specs.Making.{id_of};
 
 use crate::elements::Elements;
 use crate::key::TypeKey;
+use crate::layout::Layout;
 use crate::types::{Integer, TypeForm};
 use indexmap::IndexMap;
 use std::alloc::Global;
@@ -115,4 +116,20 @@ pub(crate) fn next_number(table: &Table, structs: u64) -> u64
 {
     let _count = table.len();
     structs + 1
+}
+
+/// Gives a struct its layout. Another type stays as it is.
+pub(crate) fn put_layout(table: &mut Table, t: TypeId, layout: Layout)
+    ensures { table.new.entries ≡ with_laid table.old.entries t layout }
+{
+    match table.get_index_mut(t.0 as usize) {
+        Some(kept) => {
+            if let TypeForm::Struct(number, place, _) = &kept.form {
+                let number = *number;
+                let place = *place;
+                kept.form = TypeForm::Struct(number, place, Some(layout));
+            }
+        }
+        None => {}
+    }
 }

@@ -1,18 +1,21 @@
 // The types by their ids.
 
-ghost use Rattle.std.specs.Prelude.{◌≡◌, ◌<◌, ℕ, length, slice_get, Some, IfOk, OnOk, OnErr};
+ghost use Rattle.std.specs.Prelude.{◌≡◌, ◌<◌, ℕ, length, slice_get, Some, IsTrue, IfOk, OnOk, OnErr};
 ghost use Rattle.tl_base.specs.declared.ids.TypeId.{TypeId};
 ghost use Rattle.std.specs.Option.{option_copied};
-ghost use Rattle.terra_types.specs.Layouts.{entries_in, entry_named, offset_of};
+ghost use Rattle.terra_types.specs.Layouts.{entries_in, entry_named, layout_of, offset_of};
 ghost use Rattle.terra_types.specs.Sizes.{for_some, size_of, align_of};
-ghost use Rattle.terra_types.specs.Making.{id_of, with_form, with_struct};
+ghost use Rattle.terra_types.specs.Making.{id_of, is_unsettled, settled_answer, with_form, with_settled, with_struct};
 ghost use Rattle.terra_types.specs.Opening.{AreTypes, opening_types};
 
 use crate::elements::nested_elements;
 use crate::key::TypeKey;
-use crate::layout::Layout;
+use crate::laying::lay_out;
+use crate::layout::{Entry, Layout, Settled};
 use crate::measuring::measure_in;
-use crate::table::{Kept, Table, elements_of_type, intern, kept_of, next_number, opening_table};
+use crate::table::{
+    Kept, Table, elements_of_type, intern, kept_of, next_number, opening_table, put_layout,
+};
 use std::alloc::Global;
 use std::marker::Model;
 use tl_base::{NoMemory, Place, TextId, TypeId};
@@ -227,6 +230,24 @@ impl Types {
         let id = intern(&mut self.table, TypeKey::Struct(number), kept)?;
         self.structs = number;
         Ok(id)
+    }
+
+    /// Settles the layout of a struct that has none yet, by its entries in order. It is `Bad`, and nothing is changed, where a
+    /// field is named twice, where an entry is of a function type or of one without a size, or where the struct would pass the
+    /// limit.
+    pub fn settle(&mut self, t: TypeId, entries: Vec<Entry>) -> Result<Settled, NoMemory>
+        requires { IsTrue (is_unsettled self.old t) }
+        ensures answer { IfOk result (λ settled. settled ≡ settled_answer (layout_of self.old entries.items)) }
+        ensures ok { OnOk result (self.new ≡ with_settled self.old t (layout_of self.old entries.items)) }
+        ensures err { OnErr result (self.new ≡ self.old) }
+    {
+        match lay_out(self.alloc, &self.table, &entries)? {
+            Some(layout) => {
+                put_layout(&mut self.table, t, layout);
+                Ok(Settled::Done)
+            }
+            None => Ok(Settled::Bad),
+        }
     }
 
     /// How many bytes a type has. `None` where its layout isn't settled, where it would pass the limit, or where there is no such

@@ -1,7 +1,7 @@
 -- What is kept gives the measure of each type.
 use Rattle.std.proofs.Common.{IfSome, sym, ◌∙◌, subst}
+use Rattle.terra_types.specs.Sizes.{Within}
 use Rattle.terra_types.proofs.Measures.{measure-kept, kept-within}
-use Rattle.terra_types.proofs.Spreading.{Within}
 use Rattle.terra_types.proofs.measuring.measure_in.Goals as goal
 
 pub returns-clause-value : goal.returns-clause-value
