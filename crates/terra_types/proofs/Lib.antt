@@ -9,5 +9,6 @@ pub mod Spreading
 pub mod Measures
 pub mod Walking
 pub mod Settling
+pub mod Staying
 pub mod SpotLemmas
 pub mod Examples

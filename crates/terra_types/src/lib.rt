@@ -7,6 +7,7 @@
 
 pub mod elements;
 pub mod key;
+pub mod laws;
 pub mod laying;
 pub mod layout;
 pub mod measure;
@@ -14,6 +15,7 @@ pub mod measuring;
 pub mod table;
 pub mod types;
 
+pub use laws::what_is_there_stays;
 pub use layout::{Entry, Laid, LaidList, Layout, Settled};
 pub use measure::{LARGEST_SIZE, Measure};
 pub use types::{Integer, TypeForm, TypeList, Types};

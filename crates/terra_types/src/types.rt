@@ -5,7 +5,7 @@ ghost use Rattle.tl_base.specs.declared.ids.TypeId.{TypeId};
 ghost use Rattle.std.specs.Option.{option_copied};
 ghost use Rattle.terra_types.specs.Layouts.{entries_in, entry_named, layout_of, offset_of};
 ghost use Rattle.terra_types.specs.Sizes.{for_some, size_of, align_of};
-ghost use Rattle.terra_types.specs.Making.{id_of, is_unsettled, settled_answer, with_form, with_settled, with_struct};
+ghost use Rattle.terra_types.specs.Making.{awaits_layout, id_of, is_unsettled, settled_answer, with_form, with_settled, with_struct};
 ghost use Rattle.terra_types.specs.Opening.{AreTypes, opening_types};
 
 use crate::elements::nested_elements;
@@ -232,6 +232,16 @@ impl Types {
         Ok(id)
     }
 
+    /// Whether a type is a struct whose layout isn't settled.
+    pub fn is_unsettled(&self, t: TypeId) -> bool
+        ensures { result ≡ is_unsettled self.now t }
+    {
+        match kept_of(&self.table, t) {
+            Some(kept) => awaits_layout(&kept.form),
+            None => false,
+        }
+    }
+
     /// Settles the layout of a struct that has none yet, by its entries in order. It is `Bad`, and nothing is changed, where a
     /// field is named twice, where an entry is of a function type or of one without a size, or where the struct would pass the
     /// limit.
@@ -279,6 +289,16 @@ impl Types {
             Some(kept) => offset_in(&kept.form, field),
             None => None,
         }
+    }
+}
+
+/// Whether a form is that of a struct whose layout isn't settled.
+fn awaits_layout(form: &TypeForm) -> bool
+    ensures { result ≡ awaits_layout form.now }
+{
+    match form {
+        TypeForm::Struct(_, _, layout) => layout.is_none(),
+        _ => false,
     }
 }
 
