@@ -10,7 +10,8 @@ use tl_base::Layer;
 /// A stage: layers whose every question names a layer of the same stage, whose end is the answer.
 ///
 /// `Staged` is one enum of all its layers, whose worlds, questions, answers and ends are those of the stage. A further layer adds
-/// an arm to it, and to `start`.
+/// an arm to it, and to `start`. Where an answer takes more than an end, as a look at the world or a write, a small layer of its own
+/// stands between the two that ask and answer.
 pub trait Stages {
     /// What the layers read and change beside the budget.
     type World;
