@@ -1,17 +1,34 @@
-pub mod Parsing
-pub mod Using
-pub mod Looking
-pub mod Taking
-pub mod Expressions
-pub mod Statements
-pub mod Going
-pub mod Joining
-pub mod TerraExpressions
-pub mod TerraCode
-pub mod Entries
-pub mod TerraGoing
-pub mod TerraStatements
-pub mod TerraDefinitions
-pub mod TerraLines
-pub mod Paths
+-- The promise of `parse`, over reading of texts in tl_tree. A reader can stop here.
 pub mod Whole
+-- Views of the code, which private contracts cite. What reading each name of the grammar gives, from left to right: Lua expressions.
+pub mod Expressions
+-- Lua statements and functions.
+pub mod Statements
+-- Lists of names, and paths.
+pub mod Paths
+-- Entries of structs.
+pub mod Entries
+-- Terra code in Lua expressions.
+pub mod TerraCode
+-- Lua statements that define Terra functions and types.
+pub mod TerraDefinitions
+-- Terra expressions.
+pub mod TerraExpressions
+-- Terra statements, functions and quotes.
+pub mod TerraStatements
+-- Uses of single tokens.
+pub mod Using
+-- What the parser has before it, and what its functions took.
+pub mod Parsing
+-- One token ahead.
+pub mod Looking
+-- A token is taken where the limits allow its use.
+pub mod Taking
+-- What loops have read so far.
+pub mod Going
+-- The same in Terra code.
+pub mod TerraGoing
+-- The same in blocks of Terra code.
+pub mod TerraLines
+-- An operator with its operands.
+pub mod Joining

@@ -1,19 +1,38 @@
-pub mod Symbols
-pub mod Numbers
-pub mod Tokens
-pub mod Tree
-pub mod Item
-pub mod Nodes
-pub mod Counting
-pub mod Grammar
-pub mod Refusing
-pub mod Forms
-pub mod LuaExpressions
-pub mod LuaStatements
-pub mod TerraExpressions
-pub mod TerraStatements
-pub mod Syntax
-pub mod Laws
+-- The promise: which text has which tree, which is refused where and why, and that each has one of the two. A reader can stop here.
 pub mod Texts
-pub mod Arena
+-- The language of whole texts, and what is proved of it.
+pub mod Laws
+-- The table of refusals, over any language.
+pub mod Refusing
+-- The grammar, by its names: Lua expressions.
+pub mod LuaExpressions
+-- Lua statements and functions.
+pub mod LuaStatements
+-- Terra expressions.
+pub mod TerraExpressions
+-- Terra statements, functions and quotes.
+pub mod TerraStatements
+-- The grammar of each part that is read one level deeper, and of a whole text.
+pub mod Syntax
+-- What the definitions of the grammar are made of.
+pub mod Forms
+-- Grammars as data, and their two meanings: what they read, and what reading them gives.
+pub mod Grammar
+-- Trees, and the parts of a text that are one level of nesting each.
+pub mod Tree
+-- What may stand where in a tree.
 pub mod Kinds
+-- Which nodes of a tree count.
+pub mod Counting
+-- The tokens of a text as the grammar sees them.
+pub mod Tokens
+-- The symbols of tokens.
+pub mod Symbols
+-- What numerals stand for.
+pub mod Numbers
+-- How the code keeps a tree: its nodes in order.
+pub mod Nodes
+-- What a node holds.
+pub mod Item
+-- What a tree of the code holds.
+pub mod Arena
