@@ -104,7 +104,7 @@ fn is_other(shape: Shape) -> bool
 }
 
 impl<'a> Parser<'a> {
-    /// A name.
+    /// Name
     #[tactic(auto, using(crate::proofs::Failing::fails_bind, crate::proofs::Failing::fails_after), unfolding(crate::specs::Expressions::name_at))]
     pub(crate) fn name(&mut self) -> Result<NodeId, SyntaxError>
         requires { Ready self.old }
@@ -115,7 +115,7 @@ impl<'a> Parser<'a> {
         self.push(Node::Name(token.place, token.offset, token.text))
     }
 
-    /// A number.
+    /// Numeral, of Lua code
     #[tactic(auto, using(crate::proofs::Failing::fails_bind, crate::proofs::Failing::fails_after), unfolding(crate::specs::Expressions::number_tree_at))]
     pub(crate) fn number(&mut self) -> Result<NodeId, SyntaxError>
         requires { Ready self.old }
@@ -126,7 +126,7 @@ impl<'a> Parser<'a> {
         self.push(Node::Numeral(token.place, token.text))
     }
 
-    /// A text.
+    /// Text
     #[tactic(auto, using(crate::proofs::Failing::fails_bind, crate::proofs::Failing::fails_after), unfolding(crate::specs::Expressions::literal_at))]
     pub(crate) fn literal(&mut self) -> Result<NodeId, SyntaxError>
         requires { Ready self.old }
@@ -137,7 +137,7 @@ impl<'a> Parser<'a> {
         self.push(Node::Literal(token.place, token.text))
     }
 
-    /// The constant `nil`.
+    /// "nil"
     #[tactic(auto, using(crate::proofs::Failing::fails_bind, crate::proofs::Failing::fails_after), unfolding(crate::specs::Expressions::constant_at))]
     fn nil(&mut self) -> Result<NodeId, SyntaxError>
         requires { Ready self.old }
@@ -148,7 +148,7 @@ impl<'a> Parser<'a> {
         self.push(Node::Expression(token.place, Expression::Nil))
     }
 
-    /// The constant `false`.
+    /// "false"
     #[tactic(auto, using(crate::proofs::Failing::fails_bind, crate::proofs::Failing::fails_after), unfolding(crate::specs::Expressions::constant_at))]
     fn no(&mut self) -> Result<NodeId, SyntaxError>
         requires { Ready self.old }
@@ -159,7 +159,7 @@ impl<'a> Parser<'a> {
         self.push(Node::Expression(token.place, Expression::False))
     }
 
-    /// The constant `true`.
+    /// "true"
     #[tactic(auto, using(crate::proofs::Failing::fails_bind, crate::proofs::Failing::fails_after), unfolding(crate::specs::Expressions::constant_at))]
     fn yes(&mut self) -> Result<NodeId, SyntaxError>
         requires { Ready self.old }
@@ -170,7 +170,7 @@ impl<'a> Parser<'a> {
         self.push(Node::Expression(token.place, Expression::True))
     }
 
-    /// The constant `...`.
+    /// "..."
     #[tactic(auto, using(crate::proofs::Failing::fails_bind, crate::proofs::Failing::fails_after), unfolding(crate::specs::Expressions::constant_at))]
     fn varargs(&mut self) -> Result<NodeId, SyntaxError>
         requires { Ready self.old }
@@ -181,7 +181,7 @@ impl<'a> Parser<'a> {
         self.push(Node::Expression(token.place, Expression::Varargs))
     }
 
-    /// An expression.
+    /// exp
     #[cycle(parser)]
     #[tactic(auto, using(crate::proofs::Failing::fails_bind, crate::proofs::Failing::fails_after, crate::proofs::Parts::expression_part, crate::proofs::Failing::fails_same))]
     pub(crate) fn expression(&mut self, mode: Mode, levels: u32) -> Result<NodeId, SyntaxError>
@@ -193,7 +193,7 @@ impl<'a> Parser<'a> {
         Ok(a.node)
     }
 
-    /// The operand of a prefix operator, or the right operand of `^`.
+    /// exp = .. operator exp: the operand of a prefix operator, and the right operand of "^"
     #[cycle(parser)]
     #[tactic(auto, using(crate::proofs::Failing::fails_bind, crate::proofs::Failing::fails_after, crate::proofs::Parts::operand_part, crate::proofs::Failing::fails_same))]
     fn operand(&mut self, mode: Mode, levels: u32) -> Result<NodeId, SyntaxError>
@@ -205,7 +205,7 @@ impl<'a> Parser<'a> {
         Ok(a.node)
     }
 
-    /// The right operand of `..`.
+    /// exp = exp ".." exp: its right operand
     #[cycle(parser)]
     #[tactic(auto, using(crate::proofs::Failing::fails_bind, crate::proofs::Failing::fails_after, crate::proofs::Parts::concatenation_part, crate::proofs::Failing::fails_same))]
     fn concatenated(&mut self, mode: Mode, levels: u32) -> Result<NodeId, SyntaxError>
@@ -217,7 +217,7 @@ impl<'a> Parser<'a> {
         Ok(a.node)
     }
 
-    /// The arguments of a call, up to a `)`.
+    /// [exps], up to a ")"
     #[cycle(parser)]
     #[tactic(auto, using(crate::proofs::Failing::fails_bind, crate::proofs::Failing::fails_after, crate::proofs::Parts::arguments_part, crate::proofs::Failing::fails_same), unfolding(crate::specs::Expressions::arguments_at))]
     fn arguments(&mut self, mode: Mode, levels: u32) -> Result<NodeList, SyntaxError>
@@ -231,7 +231,7 @@ impl<'a> Parser<'a> {
         self.expressions(mode, levels)
     }
 
-    /// A `,` and an expression.
+    /// "," exp
     #[cycle(parser)]
     #[tactic(auto, using(crate::proofs::Failing::fails_bind, crate::proofs::Failing::fails_after), unfolding(crate::specs::Expressions::next_expression_at))]
     fn next_expression(&mut self, mode: Mode, levels: u32) -> Result<NodeId, SyntaxError>
@@ -243,7 +243,7 @@ impl<'a> Parser<'a> {
         self.expression(mode, levels)
     }
 
-    /// Expressions with `,` between them.
+    /// exps = exp {"," exp}
     #[cycle(parser)]
     #[tactic(auto, using(crate::proofs::Failing::fails_bind, crate::proofs::Failing::fails_after, crate::proofs::Failing::fails_from, crate::proofs::Turns::expressions_go, crate::proofs::Turns::expressions_end, crate::proofs::Turns::expression_shorter), unfolding(crate::specs::Expressions::expressions_at))]
     pub(crate) fn expressions(&mut self, mode: Mode, levels: u32) -> Result<NodeList, SyntaxError>
@@ -261,7 +261,7 @@ impl<'a> Parser<'a> {
         Ok(list)
     }
 
-    /// An expression in brackets.
+    /// "(" exp ")"
     #[cycle(parser)]
     #[tactic(auto, using(crate::proofs::Failing::fails_bind, crate::proofs::Failing::fails_after), unfolding(crate::specs::Expressions::paren_at))]
     fn paren(&mut self, mode: Mode, levels: u32) -> Result<Operand, SyntaxError>
@@ -280,7 +280,7 @@ impl<'a> Parser<'a> {
         })
     }
 
-    /// What a prefix expression begins with.
+    /// Name | "(" exp ")"
     #[cycle(parser)]
     #[tactic(auto, using(crate::proofs::Failing::fails_bind, crate::proofs::Failing::fails_after), unfolding(crate::specs::Expressions::base_at))]
     pub(crate) fn base(&mut self, mode: Mode, levels: u32) -> Result<Operand, SyntaxError>
@@ -299,7 +299,7 @@ impl<'a> Parser<'a> {
         })
     }
 
-    /// A call.
+    /// args = "(" [exps] ")"
     #[cycle(parser)]
     #[tactic(auto, using(crate::proofs::Failing::fails_bind, crate::proofs::Failing::fails_after, crate::proofs::Taking::less), unfolding(crate::specs::Expressions::call_suffix_at))]
     fn call_suffix(&mut self, mode: Mode, levels: u32, a: Operand) -> Result<Operand, SyntaxError>
@@ -321,7 +321,7 @@ impl<'a> Parser<'a> {
         })
     }
 
-    /// An index.
+    /// "[" exp "]"
     #[cycle(parser)]
     #[tactic(auto, using(crate::proofs::Failing::fails_bind, crate::proofs::Failing::fails_after, crate::proofs::Taking::less), unfolding(crate::specs::Expressions::index_suffix_at))]
     fn index_suffix(&mut self, mode: Mode, levels: u32, a: Operand) -> Result<Operand, SyntaxError>
@@ -340,7 +340,7 @@ impl<'a> Parser<'a> {
         })
     }
 
-    /// A selection.
+    /// "." Name
     #[tactic(auto, using(crate::proofs::Failing::fails_bind, crate::proofs::Failing::fails_after, crate::proofs::Taking::less), unfolding(crate::specs::Expressions::select_suffix_at))]
     fn select_suffix(&mut self, a: Operand) -> Result<Operand, SyntaxError>
         requires { Ready self.old }
@@ -360,7 +360,7 @@ impl<'a> Parser<'a> {
         })
     }
 
-    /// A call of a method.
+    /// ":" Name args
     #[cycle(parser)]
     #[tactic(auto, using(crate::proofs::Failing::fails_bind, crate::proofs::Failing::fails_after, crate::proofs::Taking::less), unfolding(crate::specs::Expressions::method_suffix_at))]
     fn method_suffix(&mut self, mode: Mode, levels: u32, a: Operand) -> Result<Operand, SyntaxError>
@@ -382,7 +382,7 @@ impl<'a> Parser<'a> {
         })
     }
 
-    /// A call with a table alone.
+    /// args = table
     #[cycle(parser)]
     #[tactic(auto, using(crate::proofs::Failing::fails_bind, crate::proofs::Failing::fails_after, crate::proofs::Taking::less), unfolding(crate::specs::Expressions::table_suffix_at))]
     fn table_suffix(&mut self, mode: Mode, levels: u32, a: Operand) -> Result<Operand, SyntaxError>
@@ -406,7 +406,7 @@ impl<'a> Parser<'a> {
         })
     }
 
-    /// A call with a text alone.
+    /// args = Text
     #[tactic(auto, using(crate::proofs::Failing::fails_bind, crate::proofs::Failing::fails_after, crate::proofs::Taking::less), unfolding(crate::specs::Expressions::literal_suffix_at))]
     fn literal_suffix(&mut self, a: Operand) -> Result<Operand, SyntaxError>
         requires { Ready self.old }
@@ -427,7 +427,7 @@ impl<'a> Parser<'a> {
         })
     }
 
-    /// The arguments behind a method's name.
+    /// args = "(" [exps] ")" | table | Text
     #[cycle(parser)]
     #[tactic(auto, using(crate::proofs::Failing::fails_bind, crate::proofs::Failing::fails_after), unfolding(crate::specs::Expressions::method_arguments_at))]
     fn method_arguments(&mut self, mode: Mode, levels: u32) -> Result<NodeList, SyntaxError>
@@ -453,7 +453,7 @@ impl<'a> Parser<'a> {
         self.one_node(text)
     }
 
-    /// What follows a prefix expression and belongs to it.
+    /// args | "[" exp "]" | "." Name | ":" Name args
     #[cycle(parser)]
     #[tactic(auto, using(crate::proofs::Failing::fails_bind, crate::proofs::Failing::fails_after), unfolding(crate::specs::Expressions::suffix_at))]
     pub(crate) fn suffix(
@@ -484,7 +484,7 @@ impl<'a> Parser<'a> {
         self.literal_suffix(a)
     }
 
-    /// A prefix expression. Where it is to be `bare`, brackets alone are none.
+    /// prefix = var | call | "(" exp ")"; where it is to be `bare`, brackets alone are none
     #[cycle(parser)]
     #[tactic(auto, using(crate::proofs::Failing::fails_bind, crate::proofs::Failing::fails_after, crate::proofs::Failing::fails_from, crate::proofs::Failing::fails_unexpected, crate::proofs::Turns::suffixes_go, crate::proofs::Turns::suffixes_end, crate::proofs::Turns::suffix_shorter), unfolding(crate::specs::Expressions::applied_at))]
     pub(crate) fn applied(
@@ -507,7 +507,7 @@ impl<'a> Parser<'a> {
         Ok(a)
     }
 
-    /// A prefix expression as an operand.
+    /// prefix, as an operand
     #[cycle(parser)]
     #[tactic(auto, using(crate::proofs::Failing::fails_bind, crate::proofs::Failing::fails_after), unfolding(crate::specs::Expressions::prefixed_at))]
     fn prefixed(&mut self, mode: Mode, levels: u32, left: u32) -> Result<Operand, SyntaxError>
@@ -523,7 +523,7 @@ impl<'a> Parser<'a> {
         })
     }
 
-    /// A function.
+    /// "function" body
     #[cycle(parser)]
     #[tactic(auto, using(crate::proofs::Failing::fails_bind, crate::proofs::Failing::fails_after), unfolding(crate::specs::Expressions::function_at))]
     fn function(&mut self, levels: u32) -> Result<NodeId, SyntaxError>
@@ -537,7 +537,7 @@ impl<'a> Parser<'a> {
         self.push(Node::Expression(token.place, Expression::Function(body)))
     }
 
-    /// An operand that is no prefix expression.
+    /// "nil" | "false" | "true" | Numeral | Text | "..." | "function" body | table | Terra code
     #[cycle(parser)]
     #[tactic(auto, using(crate::proofs::Failing::fails_bind, crate::proofs::Failing::fails_after), unfolding(crate::specs::Expressions::simple_at))]
     fn simple(&mut self, mode: Mode, levels: u32) -> Result<NodeId, SyntaxError>
@@ -572,7 +572,7 @@ impl<'a> Parser<'a> {
         self.table(mode, levels)
     }
 
-    /// An operand without operators.
+    /// exp, without operators
     #[cycle(parser)]
     #[tactic(auto, using(crate::proofs::Failing::fails_bind, crate::proofs::Failing::fails_after), unfolding(crate::specs::Expressions::primary_at))]
     fn primary(&mut self, mode: Mode, levels: u32, left: u32) -> Result<Operand, SyntaxError>
@@ -591,7 +591,7 @@ impl<'a> Parser<'a> {
         self.prefixed(mode, levels, left)
     }
 
-    /// A base and its exponent.
+    /// exp "^" exp
     #[cycle(parser)]
     #[tactic(auto, using(crate::proofs::Failing::fails_bind, crate::proofs::Failing::fails_after, crate::proofs::Taking::less), unfolding(crate::specs::Expressions::power_at, crate::specs::Expressions::right_at))]
     fn power(&mut self, mode: Mode, levels: u32, left: u32) -> Result<Operand, SyntaxError>
@@ -608,7 +608,7 @@ impl<'a> Parser<'a> {
         Ok(a)
     }
 
-    /// An operand with its prefix operators.
+    /// operator exp
     #[cycle(parser)]
     #[tactic(auto, using(crate::proofs::Failing::fails_bind, crate::proofs::Failing::fails_after), unfolding(crate::specs::Expressions::unary_at))]
     fn unary(&mut self, mode: Mode, levels: u32, left: u32) -> Result<Operand, SyntaxError>
@@ -632,7 +632,7 @@ impl<'a> Parser<'a> {
         self.power(mode, levels, left)
     }
 
-    /// The operand of a precedence.
+    /// the operand of a precedence
     #[cycle(parser)]
     #[tactic(auto, using(crate::proofs::Failing::fails_bind, crate::proofs::Failing::fails_after, crate::proofs::Parts::inner_product, crate::proofs::Parts::inner_sum, crate::proofs::Parts::inner_comparison, crate::proofs::Parts::inner_conjunction, crate::proofs::Parts::inner_disjunction, crate::proofs::Failing::fails_same))]
     fn inner(
@@ -655,7 +655,7 @@ impl<'a> Parser<'a> {
         }
     }
 
-    /// An operator of a precedence and its right operand.
+    /// operator exp, of a precedence
     #[cycle(parser)]
     #[tactic(auto, using(crate::proofs::Failing::fails_bind, crate::proofs::Failing::fails_after, crate::proofs::Taking::less), unfolding(crate::specs::Expressions::one_more_at))]
     fn one_more(
@@ -674,7 +674,7 @@ impl<'a> Parser<'a> {
         Ok((token, operand))
     }
 
-    /// Operands with the operators of a precedence between them.
+    /// exp {operator exp}, of a precedence
     #[cycle(parser)]
     #[tactic(auto, using(crate::proofs::Failing::fails_bind, crate::proofs::Failing::fails_after, crate::proofs::Failing::fails_from, crate::proofs::Turns::operations_go, crate::proofs::Turns::operations_end, crate::proofs::Turns::operation_shorter), unfolding(crate::specs::Expressions::binary_at))]
     fn binary(
@@ -697,7 +697,7 @@ impl<'a> Parser<'a> {
         Ok(a)
     }
 
-    /// Operands with `..` between them.
+    /// exp {".." exp}
     #[cycle(parser)]
     #[tactic(auto, using(crate::proofs::Failing::fails_bind, crate::proofs::Failing::fails_after, crate::proofs::Taking::less), unfolding(crate::specs::Expressions::concatenation_at, crate::specs::Expressions::right_at))]
     fn concatenation(&mut self, mode: Mode, levels: u32, left: u32) -> Result<Operand, SyntaxError>
@@ -714,7 +714,7 @@ impl<'a> Parser<'a> {
         Ok(a)
     }
 
-    /// An expression, with what it is.
+    /// exp {"->" exp}, with what it is
     #[cycle(parser)]
     #[tactic(auto, using(crate::proofs::Failing::fails_bind, crate::proofs::Failing::fails_after, crate::proofs::Taking::less), unfolding(crate::specs::Expressions::chained_at, crate::specs::Expressions::right_at))]
     pub(crate) fn chained(&mut self, mode: Mode, levels: u32) -> Result<Operand, SyntaxError>

@@ -102,7 +102,7 @@ fn fresh(variadic: bool) -> Context
 }
 
 impl<'a> Parser<'a> {
-    /// A `,` and a name.
+    /// "," Name
     #[tactic(auto, using(crate::proofs::Failing::fails_bind, crate::proofs::Failing::fails_after), unfolding(crate::specs::Paths::next_name_at))]
     fn next_name(&mut self) -> Result<NodeId, SyntaxError>
         requires { Ready self.old }
@@ -113,7 +113,7 @@ impl<'a> Parser<'a> {
         self.name()
     }
 
-    /// Names with `,` between them.
+    /// names = Name {"," Name}
     #[tactic(auto, using(crate::proofs::Failing::fails_bind, crate::proofs::Failing::fails_after, crate::proofs::Failing::fails_from, crate::proofs::StatementTurns::names_go, crate::proofs::StatementTurns::names_end, crate::proofs::StatementTurns::name_shorter), unfolding(crate::specs::Paths::names_at))]
     fn names(&mut self, levels: u32) -> Result<NodeList, SyntaxError>
         requires { Ready self.old }
@@ -130,7 +130,7 @@ impl<'a> Parser<'a> {
         Ok(list)
     }
 
-    /// A sign and a name behind it, with the place of the sign.
+    /// "." Name, or ":" Name, with the place of the sign
     #[tactic(auto, using(crate::proofs::Failing::fails_bind, crate::proofs::Failing::fails_after), unfolding(crate::specs::Paths::behind_sign_at))]
     pub(crate) fn behind_sign(&mut self, symbol: Symbol) -> Result<NodeId, SyntaxError>
         requires first { is_bad symbol ≡ false }
@@ -143,7 +143,7 @@ impl<'a> Parser<'a> {
         self.push(Node::Name(token.place, name.offset, name.text))
     }
 
-    /// The method's name of a path, if it has one.
+    /// [":" Name]
     #[tactic(auto, using(crate::proofs::Failing::fails_bind, crate::proofs::Failing::fails_after), unfolding(crate::specs::Paths::path_method_at))]
     fn path_method(&mut self) -> Result<Option<NodeId>, SyntaxError>
         requires { Ready self.old }
@@ -157,7 +157,7 @@ impl<'a> Parser<'a> {
         Ok(None)
     }
 
-    /// A path of names.
+    /// path = Name {"." Name} [":" Name]
     #[tactic(auto, using(crate::proofs::Failing::fails_bind, crate::proofs::Failing::fails_after, crate::proofs::Failing::fails_from, crate::proofs::StatementTurns::path_goes, crate::proofs::StatementTurns::path_ends, crate::proofs::StatementTurns::path_shorter), unfolding(crate::specs::Paths::path_at))]
     pub(crate) fn path(&mut self, levels: u32) -> Result<NodeId, SyntaxError>
         requires { Ready self.old }
@@ -175,7 +175,7 @@ impl<'a> Parser<'a> {
         self.push(Node::Piece(Piece::Path(list, method)))
     }
 
-    /// A target of an assignment.
+    /// var = Name | prefix "[" exp "]" | prefix "." Name
     #[cycle(parser)]
     #[tactic(auto, using(crate::proofs::Failing::fails_bind, crate::proofs::Failing::fails_after, crate::proofs::Failing::fails_from, crate::proofs::Failing::fails_unexpected, crate::proofs::StatementTurns::settles_on, crate::proofs::StatementTurns::settles, crate::proofs::StatementTurns::unsettled), unfolding(crate::specs::Statements::variable_at))]
     fn variable(&mut self, mode: Mode, levels: u32) -> Result<NodeId, SyntaxError>
@@ -193,7 +193,7 @@ impl<'a> Parser<'a> {
         Ok(a.node)
     }
 
-    /// A `,` and a target.
+    /// "," var
     #[cycle(parser)]
     #[tactic(auto, using(crate::proofs::Failing::fails_bind, crate::proofs::Failing::fails_after), unfolding(crate::specs::Statements::next_target_at))]
     fn next_target(&mut self, mode: Mode, levels: u32) -> Result<NodeId, SyntaxError>
@@ -205,7 +205,7 @@ impl<'a> Parser<'a> {
         self.variable(mode, levels)
     }
 
-    /// A `=` and values.
+    /// "=" exps
     #[cycle(parser)]
     #[tactic(auto, using(crate::proofs::Failing::fails_bind, crate::proofs::Failing::fails_after), unfolding(crate::specs::Statements::values_at))]
     fn values(&mut self, mode: Mode, levels: u32) -> Result<NodeList, SyntaxError>
@@ -217,7 +217,7 @@ impl<'a> Parser<'a> {
         self.expressions(mode, levels)
     }
 
-    /// A call, or targets and their values.
+    /// stat = var {"," var} "=" exps | call
     #[cycle(parser)]
     #[tactic(auto, using(crate::proofs::Failing::fails_bind, crate::proofs::Failing::fails_after, crate::proofs::Failing::fails_from, crate::proofs::StatementTurns::targets_go, crate::proofs::StatementTurns::targets_end, crate::proofs::StatementTurns::target_shorter), unfolding(crate::specs::Statements::call_or_assignment_at))]
     fn call_or_assignment(&mut self, mode: Mode, levels: u32) -> Result<NodeId, SyntaxError>
@@ -241,7 +241,7 @@ impl<'a> Parser<'a> {
         self.push(Node::Statement(place, Statement::Assign(targets, values)))
     }
 
-    /// A block as a statement.
+    /// stat = "do" block "end"
     #[cycle(parser)]
     #[tactic(auto, using(crate::proofs::Failing::fails_bind, crate::proofs::Failing::fails_after), unfolding(crate::specs::Statements::do_at))]
     fn do_statement(&mut self, context: Context, levels: u32) -> Result<NodeId, SyntaxError>
@@ -255,7 +255,7 @@ impl<'a> Parser<'a> {
         self.push(Node::Statement(token.place, Statement::Do(block)))
     }
 
-    /// The block of a loop.
+    /// "do" block "end", of a loop
     #[cycle(parser)]
     #[tactic(auto, using(crate::proofs::Failing::fails_bind, crate::proofs::Failing::fails_after), unfolding(crate::specs::Statements::loop_at))]
     fn loop_block(&mut self, context: Context, levels: u32) -> Result<NodeId, SyntaxError>
@@ -269,7 +269,7 @@ impl<'a> Parser<'a> {
         Ok(block)
     }
 
-    /// A `while` loop.
+    /// stat = "while" exp "do" block "end"
     #[cycle(parser)]
     #[tactic(auto, using(crate::proofs::Failing::fails_bind, crate::proofs::Failing::fails_after), unfolding(crate::specs::Statements::while_at))]
     fn while_statement(&mut self, context: Context, levels: u32) -> Result<NodeId, SyntaxError>
@@ -283,7 +283,7 @@ impl<'a> Parser<'a> {
         self.push(Node::Statement(token.place, Statement::While(condition, block)))
     }
 
-    /// A `repeat` loop.
+    /// stat = "repeat" block "until" exp
     #[cycle(parser)]
     #[tactic(auto, using(crate::proofs::Failing::fails_bind, crate::proofs::Failing::fails_after), unfolding(crate::specs::Statements::repeat_at))]
     fn repeat_statement(&mut self, context: Context, levels: u32) -> Result<NodeId, SyntaxError>
@@ -298,7 +298,7 @@ impl<'a> Parser<'a> {
         self.push(Node::Statement(token.place, Statement::Repeat(block, condition)))
     }
 
-    /// A condition and its block.
+    /// exp "then" block
     #[cycle(parser)]
     #[tactic(auto, using(crate::proofs::Failing::fails_bind, crate::proofs::Failing::fails_after), unfolding(crate::specs::Statements::arm_at))]
     fn arm(&mut self, context: Context, levels: u32) -> Result<NodeId, SyntaxError>
@@ -312,7 +312,7 @@ impl<'a> Parser<'a> {
         self.push(Node::Piece(Piece::Arm(condition, block)))
     }
 
-    /// An `elseif` with its condition and block.
+    /// "elseif" exp "then" block
     #[cycle(parser)]
     #[tactic(auto, using(crate::proofs::Failing::fails_bind, crate::proofs::Failing::fails_after), unfolding(crate::specs::Statements::next_arm_at))]
     fn next_arm(&mut self, context: Context, levels: u32) -> Result<NodeId, SyntaxError>
@@ -324,7 +324,7 @@ impl<'a> Parser<'a> {
         self.arm(context, levels)
     }
 
-    /// The conditions of an `if` and their blocks.
+    /// exp "then" block {"elseif" exp "then" block}
     #[cycle(parser)]
     #[tactic(auto, using(crate::proofs::Failing::fails_bind, crate::proofs::Failing::fails_after, crate::proofs::Failing::fails_from, crate::proofs::StatementTurns::arms_go, crate::proofs::StatementTurns::arms_end, crate::proofs::StatementTurns::arm_shorter), unfolding(crate::specs::Statements::arms_at))]
     fn arms(&mut self, context: Context, levels: u32) -> Result<NodeList, SyntaxError>
@@ -342,7 +342,7 @@ impl<'a> Parser<'a> {
         Ok(list)
     }
 
-    /// The block behind `else`, if there is one.
+    /// ["else" block]
     #[cycle(parser)]
     #[tactic(auto, using(crate::proofs::Failing::fails_bind, crate::proofs::Failing::fails_after), unfolding(crate::specs::Statements::otherwise_at))]
     fn otherwise(&mut self, context: Context, levels: u32) -> Result<Option<NodeId>, SyntaxError>
@@ -358,7 +358,7 @@ impl<'a> Parser<'a> {
         Ok(None)
     }
 
-    /// An `if`.
+    /// stat = "if" exp "then" block {"elseif" exp "then" block} ["else" block] "end"
     #[cycle(parser)]
     #[tactic(auto, using(crate::proofs::Failing::fails_bind, crate::proofs::Failing::fails_after), unfolding(crate::specs::Statements::if_at))]
     fn if_statement(&mut self, context: Context, levels: u32) -> Result<NodeId, SyntaxError>
@@ -373,7 +373,7 @@ impl<'a> Parser<'a> {
         self.push(Node::Statement(token.place, Statement::If(arms, otherwise)))
     }
 
-    /// The step of a numeric `for`, if it has one.
+    /// ["," exp]
     #[cycle(parser)]
     #[tactic(auto, using(crate::proofs::Failing::fails_bind, crate::proofs::Failing::fails_after), unfolding(crate::specs::Statements::step_at))]
     fn step(&mut self, mode: Mode, levels: u32) -> Result<Option<NodeId>, SyntaxError>
@@ -389,7 +389,7 @@ impl<'a> Parser<'a> {
         Ok(None)
     }
 
-    /// What a numeric `for` has behind its name.
+    /// "=" exp "," exp ["," exp] "do" block "end", behind "for" Name
     #[cycle(parser)]
     #[tactic(auto, using(crate::proofs::Failing::fails_bind, crate::proofs::Failing::fails_after), unfolding(crate::specs::Statements::numeric_at))]
     fn numeric(&mut self, context: Context, levels: u32) -> Result<Numeric, SyntaxError>
@@ -411,7 +411,7 @@ impl<'a> Parser<'a> {
         })
     }
 
-    /// What a generic `for` has behind its names.
+    /// "in" exps "do" block "end", behind "for" names
     #[cycle(parser)]
     #[tactic(auto, using(crate::proofs::Failing::fails_bind, crate::proofs::Failing::fails_after), unfolding(crate::specs::Statements::generic_at))]
     fn generic(&mut self, context: Context, levels: u32) -> Result<(NodeList, NodeId), SyntaxError>
@@ -425,7 +425,7 @@ impl<'a> Parser<'a> {
         Ok((values, block))
     }
 
-    /// A `for` loop.
+    /// stat = "for" Name "=" .. | "for" names "in" ..
     #[cycle(parser)]
     #[tactic(auto, using(crate::proofs::Failing::fails_bind, crate::proofs::Failing::fails_after, crate::proofs::Failing::fails_from, crate::proofs::StatementTurns::names_go, crate::proofs::StatementTurns::names_end, crate::proofs::StatementTurns::name_shorter), unfolding(crate::specs::Statements::for_at))]
     fn for_statement(&mut self, context: Context, levels: u32) -> Result<NodeId, SyntaxError>
@@ -452,7 +452,7 @@ impl<'a> Parser<'a> {
         self.push(Node::Statement(token.place, Statement::GenericFor(names, values, block)))
     }
 
-    /// The definition of a function under a path.
+    /// stat = "function" path body
     #[cycle(parser)]
     #[tactic(auto, using(crate::proofs::Failing::fails_bind, crate::proofs::Failing::fails_after), unfolding(crate::specs::Statements::function_statement_at))]
     fn function_statement(&mut self, levels: u32) -> Result<NodeId, SyntaxError>
@@ -467,7 +467,7 @@ impl<'a> Parser<'a> {
         self.push(Node::Statement(token.place, Statement::Function(path, body)))
     }
 
-    /// The definition of a local function, behind `local`.
+    /// stat = "local" "function" Name body, behind "local"
     #[cycle(parser)]
     #[tactic(auto, using(crate::proofs::Failing::fails_bind, crate::proofs::Failing::fails_after), unfolding(crate::specs::Statements::local_function_at))]
     fn local_function(&mut self, levels: u32, place: Place) -> Result<NodeId, SyntaxError>
@@ -482,7 +482,7 @@ impl<'a> Parser<'a> {
         self.push(Node::Statement(place, Statement::LocalFunction(name, body)))
     }
 
-    /// The values of local variables, if they have any.
+    /// ["=" exps]
     #[cycle(parser)]
     #[tactic(auto, using(crate::proofs::Failing::fails_bind, crate::proofs::Failing::fails_after), unfolding(crate::specs::Statements::initial_values_at))]
     fn initial_values(&mut self, mode: Mode, levels: u32) -> Result<NodeList, SyntaxError>
@@ -496,7 +496,7 @@ impl<'a> Parser<'a> {
         Ok(self.no_nodes())
     }
 
-    /// Names of local variables and their values, behind `local`.
+    /// stat = "local" names ["=" exps], behind "local"
     #[cycle(parser)]
     #[tactic(auto, using(crate::proofs::Failing::fails_bind, crate::proofs::Failing::fails_after), unfolding(crate::specs::Statements::local_names_at))]
     fn local_names(&mut self, mode: Mode, levels: u32, place: Place) -> Result<NodeId, SyntaxError>
@@ -509,7 +509,7 @@ impl<'a> Parser<'a> {
         self.push(Node::Statement(place, Statement::Local(names, values)))
     }
 
-    /// A local declaration.
+    /// stat = "local" ("function" .. | "terra" .. | "struct" .. | names ..)
     #[cycle(parser)]
     #[tactic(auto, using(crate::proofs::Failing::fails_bind, crate::proofs::Failing::fails_after), unfolding(crate::specs::Statements::local_at))]
     fn local_statement(&mut self, context: Context, levels: u32) -> Result<NodeId, SyntaxError>
@@ -527,7 +527,7 @@ impl<'a> Parser<'a> {
         self.local_names(context.mode, levels, token.place)
     }
 
-    /// The values of a `return`.
+    /// [exps], behind "return"
     #[cycle(parser)]
     #[tactic(auto, using(crate::proofs::Failing::fails_bind, crate::proofs::Failing::fails_after), unfolding(crate::specs::Statements::returned_values_at))]
     fn returned_values(&mut self, mode: Mode, levels: u32) -> Result<NodeList, SyntaxError>
@@ -541,7 +541,7 @@ impl<'a> Parser<'a> {
         Ok(self.no_nodes())
     }
 
-    /// A `return`.
+    /// "return" [exps]
     #[cycle(parser)]
     #[tactic(auto, using(crate::proofs::Failing::fails_bind, crate::proofs::Failing::fails_after), unfolding(crate::specs::Statements::return_at))]
     fn return_statement(&mut self, mode: Mode, levels: u32) -> Result<NodeId, SyntaxError>
@@ -554,7 +554,7 @@ impl<'a> Parser<'a> {
         self.push(Node::Statement(token.place, Statement::Return(values)))
     }
 
-    /// A `break`.
+    /// "break"
     #[tactic(auto, using(crate::proofs::Failing::fails_bind, crate::proofs::Failing::fails_after), unfolding(crate::specs::Statements::break_at))]
     fn break_statement(&mut self) -> Result<NodeId, SyntaxError>
         requires { Ready self.old }
@@ -565,7 +565,7 @@ impl<'a> Parser<'a> {
         self.push(Node::Statement(token.place, Statement::Break))
     }
 
-    /// An `emit`.
+    /// stat = "emit" exp
     #[cycle(parser)]
     #[tactic(auto, using(crate::proofs::Failing::fails_bind, crate::proofs::Failing::fails_after), unfolding(crate::specs::Statements::emit_at))]
     fn emit_statement(&mut self, mode: Mode, levels: u32) -> Result<NodeId, SyntaxError>
@@ -578,7 +578,7 @@ impl<'a> Parser<'a> {
         self.push(Node::Statement(token.place, Statement::Emit(value)))
     }
 
-    /// A statement.
+    /// stat, "return" [exps] or "break"
     #[cycle(parser)]
     #[tactic(auto, using(crate::proofs::Failing::fails_bind, crate::proofs::Failing::fails_after), unfolding(crate::specs::Statements::statement_at))]
     fn statement(&mut self, context: Context, levels: u32) -> Result<NodeId, SyntaxError>
@@ -626,7 +626,7 @@ impl<'a> Parser<'a> {
         self.call_or_assignment(context.mode, levels)
     }
 
-    /// A statement and the `;` behind it, and whether it ends its block.
+    /// stat [";"], and whether it ends its block
     #[cycle(parser)]
     #[tactic(auto, using(crate::proofs::Failing::fails_bind, crate::proofs::Failing::fails_after), unfolding(crate::specs::Statements::next_statement_at))]
     fn next_statement(
@@ -648,7 +648,7 @@ impl<'a> Parser<'a> {
         Ok((node, ends))
     }
 
-    /// The statements of a block.
+    /// block = { stat [";"] } [ ("return" [exps] | "break") [";"] ]
     #[cycle(parser)]
     #[tactic(auto, using(crate::proofs::Failing::fails_bind, crate::proofs::Failing::fails_after, crate::proofs::Taking::next_of, crate::proofs::StatementTurns::block_part, crate::proofs::StatementTurns::block_goes, crate::proofs::StatementTurns::block_ends, crate::proofs::StatementTurns::statement_shorter, crate::proofs::Failing::fails_same, crate::proofs::Failing::fails_from), unfolding(crate::specs::Statements::block_at))]
     pub(crate) fn block(&mut self, context: Context, levels: u32) -> Result<NodeId, SyntaxError>
@@ -666,7 +666,7 @@ impl<'a> Parser<'a> {
         self.push(Node::Piece(Piece::Block(list)))
     }
 
-    /// A parameter of a function, or `...`.
+    /// Name | "..."
     #[tactic(auto, using(crate::proofs::Failing::fails_bind, crate::proofs::Failing::fails_after), unfolding(crate::specs::Statements::parameter_at))]
     fn parameter(&mut self) -> Result<Option<NodeId>, SyntaxError>
         requires { Ready self.old }
@@ -681,7 +681,7 @@ impl<'a> Parser<'a> {
         Ok(Some(name))
     }
 
-    /// A `,` and a parameter.
+    /// "," (Name | "...")
     #[tactic(auto, using(crate::proofs::Failing::fails_bind, crate::proofs::Failing::fails_after), unfolding(crate::specs::Statements::next_parameter_at))]
     fn next_parameter(&mut self) -> Result<Option<NodeId>, SyntaxError>
         requires { Ready self.old }
@@ -692,7 +692,7 @@ impl<'a> Parser<'a> {
         self.parameter()
     }
 
-    /// The parameters of a function, up to a `)`, and whether `...` is one more.
+    /// [names ["," "..."] | "..."], up to a ")"
     #[tactic(auto, using(crate::proofs::Failing::fails_bind, crate::proofs::Failing::fails_after, crate::proofs::Failing::fails_from, crate::proofs::StatementTurns::parameters_go, crate::proofs::StatementTurns::parameters_end, crate::proofs::StatementTurns::parameters_stop, crate::proofs::StatementTurns::parameter_shorter), unfolding(crate::specs::Statements::parameters_at))]
     fn parameters(&mut self, levels: u32) -> Result<(NodeList, bool), SyntaxError>
         requires { Ready self.old }
@@ -725,7 +725,7 @@ impl<'a> Parser<'a> {
         Ok((list, variadic))
     }
 
-    /// The parameters of a function, its block and its `end`.
+    /// body = "(" [names ["," "..."] | "..."] ")" block "end", behind its "("
     #[cycle(parser)]
     #[tactic(auto, using(crate::proofs::Failing::fails_bind, crate::proofs::Failing::fails_after, crate::proofs::StatementTurns::body_part, crate::proofs::Failing::fails_same), unfolding(crate::specs::Statements::body_at))]
     pub(crate) fn function_body(&mut self, levels: u32) -> Result<NodeId, SyntaxError>

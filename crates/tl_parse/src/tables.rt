@@ -14,7 +14,7 @@ use tl_tree::{Expression, Mode, Node, NodeList, Piece, Symbol};
 static SEPARATOR: [Symbol; 2] = [Symbol::Comma, Symbol::Semicolon];
 
 impl<'a> Parser<'a> {
-    /// A table.
+    /// table = "{" [field {("," | ";") field} ["," | ";"]] "}"
     #[cycle(parser)]
     #[tactic(auto, using(crate::proofs::Failing::fails_bind, crate::proofs::Failing::fails_after), unfolding(crate::specs::Expressions::table_at))]
     pub(crate) fn table(&mut self, mode: Mode, levels: u32) -> Result<NodeId, SyntaxError>
@@ -28,7 +28,7 @@ impl<'a> Parser<'a> {
         self.push(Node::Expression(token.place, Expression::Table(fields)))
     }
 
-    /// A field with a key in brackets.
+    /// "[" exp "]" "=" exp
     #[cycle(parser)]
     #[tactic(auto, using(crate::proofs::Failing::fails_bind, crate::proofs::Failing::fails_after), unfolding(crate::specs::Expressions::keyed_field_at))]
     fn keyed_field(&mut self, mode: Mode, levels: u32) -> Result<NodeId, SyntaxError>
@@ -44,7 +44,7 @@ impl<'a> Parser<'a> {
         self.push(Node::Piece(Piece::KeyedField(key, value)))
     }
 
-    /// A field of a table.
+    /// field = "[" exp "]" "=" exp | Name "=" exp | exp
     #[cycle(parser)]
     #[tactic(auto, using(crate::proofs::Failing::fails_bind, crate::proofs::Failing::fails_after), unfolding(crate::specs::Expressions::field_at, crate::specs::Expressions::field_behind_at))]
     fn field(&mut self, mode: Mode, levels: u32) -> Result<NodeId, SyntaxError>
@@ -66,7 +66,7 @@ impl<'a> Parser<'a> {
         Ok(e.node)
     }
 
-    /// A separator, and a field if one follows.
+    /// ("," | ";") [field]
     #[cycle(parser)]
     #[tactic(auto, using(crate::proofs::Failing::fails_bind, crate::proofs::Failing::fails_after), unfolding(crate::specs::Expressions::next_field_at))]
     fn next_field(&mut self, mode: Mode, levels: u32) -> Result<Option<NodeId>, SyntaxError>
@@ -82,7 +82,7 @@ impl<'a> Parser<'a> {
         Ok(Some(field))
     }
 
-    /// The fields of a table, up to a `}`.
+    /// [field {("," | ";") field} ["," | ";"]], up to a "}"
     #[cycle(parser)]
     #[tactic(auto, using(crate::proofs::Failing::fails_bind, crate::proofs::Failing::fails_after, crate::proofs::Parts::fields_part, crate::proofs::Failing::fails_same, crate::proofs::Failing::fails_from, crate::proofs::Turns::fields_go, crate::proofs::Turns::fields_end, crate::proofs::Turns::field_shorter), unfolding(crate::specs::Expressions::fields_at))]
     pub(crate) fn fields(&mut self, mode: Mode, levels: u32) -> Result<NodeList, SyntaxError>

@@ -15,7 +15,7 @@ use tl_tree::{Expression, Mode, Node, NodeList, Piece, Symbol};
 static SEPARATOR: [Symbol; 2] = [Symbol::Comma, Symbol::Semicolon];
 
 impl<'a> Parser<'a> {
-    /// A Terra function.
+    /// exp = "terra" tbody
     #[cycle(parser)]
     #[tactic(auto, using(crate::proofs::Failing::fails_bind, crate::proofs::Failing::fails_after), unfolding(crate::specs::TerraCode::terra_function_at))]
     fn terra_function(&mut self, levels: u32) -> Result<NodeId, SyntaxError>
@@ -29,7 +29,7 @@ impl<'a> Parser<'a> {
         self.push(Node::Expression(token.place, Expression::Terra(body)))
     }
 
-    /// The entries of a struct, in their brackets.
+    /// sbody = "{" {Name ":" exp ["," | ";"]} "}"
     #[cycle(parser)]
     #[tactic(auto, using(crate::proofs::Failing::fails_bind, crate::proofs::Failing::fails_after), unfolding(crate::specs::TerraCode::struct_body_at))]
     pub(crate) fn struct_body(&mut self, mode: Mode, levels: u32) -> Result<NodeList, SyntaxError>
@@ -43,7 +43,7 @@ impl<'a> Parser<'a> {
         Ok(entries)
     }
 
-    /// A struct.
+    /// exp = "struct" sbody
     #[cycle(parser)]
     #[tactic(auto, using(crate::proofs::Failing::fails_bind, crate::proofs::Failing::fails_after), unfolding(crate::specs::TerraCode::struct_at))]
     fn struct_type(&mut self, mode: Mode, levels: u32) -> Result<NodeId, SyntaxError>
@@ -56,7 +56,7 @@ impl<'a> Parser<'a> {
         self.push(Node::Expression(token.place, Expression::Struct(entries)))
     }
 
-    /// A quote of statements.
+    /// exp = "quote" tblock ["in" texp] "end"
     #[cycle(parser)]
     #[tactic(auto, using(crate::proofs::Failing::fails_bind, crate::proofs::Failing::fails_after), unfolding(crate::specs::TerraCode::quote_at))]
     fn quote(&mut self, levels: u32) -> Result<NodeId, SyntaxError>
@@ -70,7 +70,7 @@ impl<'a> Parser<'a> {
         self.push(Node::Expression(token.place, Expression::Quote(code)))
     }
 
-    /// A quote of an expression.
+    /// exp = "`" texp
     #[cycle(parser)]
     #[tactic(auto, using(crate::proofs::Failing::fails_bind, crate::proofs::Failing::fails_after), unfolding(crate::specs::TerraCode::backtick_at))]
     fn backtick(&mut self, levels: u32) -> Result<NodeId, SyntaxError>
@@ -83,7 +83,7 @@ impl<'a> Parser<'a> {
         self.push(Node::Expression(token.place, Expression::Backtick(code)))
     }
 
-    /// Terra code in Lua code.
+    /// "terra" tbody | "struct" sbody | "quote" .. "end" | "`" texp
     #[cycle(parser)]
     #[tactic(auto, using(crate::proofs::Failing::fails_bind, crate::proofs::Failing::fails_after), unfolding(crate::specs::TerraCode::terra_code_at))]
     pub(crate) fn terra_code(&mut self, mode: Mode, levels: u32) -> Result<NodeId, SyntaxError>
@@ -103,7 +103,7 @@ impl<'a> Parser<'a> {
         self.backtick(levels)
     }
 
-    /// A separator, if one follows.
+    /// ["," | ";"]
     #[tactic(auto, using(crate::proofs::Failing::fails_bind, crate::proofs::Failing::fails_after), unfolding(crate::specs::Entries::separator_at))]
     fn separator(&mut self) -> Result<(), SyntaxError>
         requires { Ready self.old }
@@ -116,7 +116,7 @@ impl<'a> Parser<'a> {
         Ok(())
     }
 
-    /// An entry of a struct.
+    /// Name ":" exp ["," | ";"]
     #[cycle(parser)]
     #[tactic(auto, using(crate::proofs::Failing::fails_bind, crate::proofs::Failing::fails_after), unfolding(crate::specs::Entries::entry_at))]
     fn entry(&mut self, mode: Mode, levels: u32) -> Result<NodeId, SyntaxError>
@@ -131,7 +131,7 @@ impl<'a> Parser<'a> {
         self.push(Node::Piece(Piece::Entry(name, value)))
     }
 
-    /// The entries of a struct, up to a `}`.
+    /// {Name ":" exp ["," | ";"]}, up to a "}"
     #[cycle(parser)]
     #[tactic(auto, using(crate::proofs::Failing::fails_bind, crate::proofs::Failing::fails_after, crate::proofs::TerraParts::entries_part, crate::proofs::Failing::fails_same, crate::proofs::Failing::fails_from, crate::proofs::TerraTurns::entries_go, crate::proofs::TerraTurns::entries_end, crate::proofs::TerraTurns::entry_shorter))]
     fn entries(&mut self, mode: Mode, levels: u32) -> Result<NodeList, SyntaxError>

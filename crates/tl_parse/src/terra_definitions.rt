@@ -9,7 +9,7 @@ use tl_base::{NodeId, Place};
 use tl_tree::{Mode, Node, Piece, Statement, Symbol};
 
 impl<'a> Parser<'a> {
-    /// The path of a struct: names with `.` between them.
+    /// Name {"." Name}
     #[tactic(auto, using(crate::proofs::Failing::fails_bind, crate::proofs::Failing::fails_after, crate::proofs::Failing::fails_from, crate::proofs::StatementTurns::path_goes, crate::proofs::StatementTurns::path_ends, crate::proofs::StatementTurns::path_shorter), unfolding(crate::specs::TerraDefinitions::struct_path_at))]
     fn struct_path(&mut self, levels: u32) -> Result<NodeId, SyntaxError>
         requires { Ready self.old }
@@ -26,7 +26,7 @@ impl<'a> Parser<'a> {
         self.push(Node::Piece(Piece::Path(names, None)))
     }
 
-    /// A statement that defines or declares a Terra function.
+    /// stat = "terra" path (tbody | "::" exp)
     #[cycle(parser)]
     #[tactic(auto, using(crate::proofs::Failing::fails_bind, crate::proofs::Failing::fails_after), unfolding(crate::specs::TerraDefinitions::define_terra_at))]
     pub(crate) fn define_terra(&mut self, mode: Mode, levels: u32) -> Result<NodeId, SyntaxError>
@@ -46,7 +46,7 @@ impl<'a> Parser<'a> {
         self.push(Node::Statement(token.place, Statement::Terra(path, body)))
     }
 
-    /// The same of a local variable, behind `local` at this place.
+    /// stat = "local" "terra" Name (tbody | "::" exp), behind "local" at this place
     #[cycle(parser)]
     #[tactic(auto, using(crate::proofs::Failing::fails_bind, crate::proofs::Failing::fails_after), unfolding(crate::specs::TerraDefinitions::local_terra_function_at))]
     fn local_terra_function(
@@ -74,7 +74,7 @@ impl<'a> Parser<'a> {
         self.push(Node::Statement(place, Statement::LocalTerra(token.place, name, body)))
     }
 
-    /// A struct that is a local variable, behind `local` at this place.
+    /// stat = "local" "struct" Name sbody, behind "local" at this place
     #[cycle(parser)]
     #[tactic(auto, using(crate::proofs::Failing::fails_bind, crate::proofs::Failing::fails_after), unfolding(crate::specs::TerraDefinitions::local_struct_at))]
     fn local_struct(&mut self, mode: Mode, place: Place, levels: u32) -> Result<NodeId, SyntaxError>
@@ -88,7 +88,7 @@ impl<'a> Parser<'a> {
         self.push(Node::Statement(place, Statement::LocalStruct(token.place, name, entries)))
     }
 
-    /// A Terra function or a struct that is a local variable, behind `local` at this place.
+    /// "terra" .. | "struct" .., behind "local" at this place
     #[cycle(parser)]
     #[tactic(auto, using(crate::proofs::Failing::fails_bind, crate::proofs::Failing::fails_after), unfolding(crate::specs::TerraDefinitions::local_terra_at))]
     pub(crate) fn local_terra(
@@ -107,7 +107,7 @@ impl<'a> Parser<'a> {
         self.local_terra_function(mode, place, levels)
     }
 
-    /// A statement that defines a struct.
+    /// stat = "struct" Name {"." Name} sbody
     #[cycle(parser)]
     #[tactic(auto, using(crate::proofs::Failing::fails_bind, crate::proofs::Failing::fails_after), unfolding(crate::specs::TerraDefinitions::define_struct_at))]
     pub(crate) fn define_struct(&mut self, mode: Mode, levels: u32) -> Result<NodeId, SyntaxError>

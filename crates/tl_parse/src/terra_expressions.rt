@@ -91,7 +91,7 @@ fn terra_symbols_of(precedence: TerraPrecedence) -> &'static [Symbol]
 }
 
 impl<'a> Parser<'a> {
-    /// A number.
+    /// Numeral, of Terra code
     #[tactic(auto, using(crate::proofs::Failing::fails_bind, crate::proofs::Failing::fails_after), unfolding(crate::specs::TerraExpressions::terra_number_tree_at))]
     fn terra_number(&mut self) -> Result<NodeId, SyntaxError>
         requires { Ready self.old }
@@ -102,7 +102,7 @@ impl<'a> Parser<'a> {
         self.push(Node::Numeral(token.place, token.text))
     }
 
-    /// The constant `nil`.
+    /// "nil"
     #[tactic(auto, using(crate::proofs::Failing::fails_bind, crate::proofs::Failing::fails_after), unfolding(crate::specs::TerraExpressions::terra_constant_at))]
     fn terra_nil(&mut self) -> Result<NodeId, SyntaxError>
         requires { Ready self.old }
@@ -113,7 +113,7 @@ impl<'a> Parser<'a> {
         self.push(Node::TerraExpression(token.place, TerraExpression::Nil))
     }
 
-    /// The constant `false`.
+    /// "false"
     #[tactic(auto, using(crate::proofs::Failing::fails_bind, crate::proofs::Failing::fails_after), unfolding(crate::specs::TerraExpressions::terra_constant_at))]
     fn terra_no(&mut self) -> Result<NodeId, SyntaxError>
         requires { Ready self.old }
@@ -124,7 +124,7 @@ impl<'a> Parser<'a> {
         self.push(Node::TerraExpression(token.place, TerraExpression::False))
     }
 
-    /// The constant `true`.
+    /// "true"
     #[tactic(auto, using(crate::proofs::Failing::fails_bind, crate::proofs::Failing::fails_after), unfolding(crate::specs::TerraExpressions::terra_constant_at))]
     fn terra_yes(&mut self) -> Result<NodeId, SyntaxError>
         requires { Ready self.old }
@@ -135,7 +135,7 @@ impl<'a> Parser<'a> {
         self.push(Node::TerraExpression(token.place, TerraExpression::True))
     }
 
-    /// An operand that is no prefix expression.
+    /// "nil" | "false" | "true" | Numeral | Text
     #[tactic(auto, using(crate::proofs::Failing::fails_bind, crate::proofs::Failing::fails_after), unfolding(crate::specs::TerraExpressions::terra_simple_at))]
     fn terra_simple(&mut self) -> Result<NodeId, SyntaxError>
         requires { Ready self.old }
@@ -179,7 +179,7 @@ impl<'a> Parser<'a> {
         })
     }
 
-    /// Lua code in brackets, where an expression stands and where a name does.
+    /// "[" exp "]", where an expression stands and where a name does
     #[cycle(parser)]
     #[tactic(auto, using(crate::proofs::Failing::fails_bind, crate::proofs::Failing::fails_after), unfolding(crate::specs::TerraExpressions::escape_at))]
     pub(crate) fn escape(&mut self, levels: u32) -> Result<NodeId, SyntaxError>
@@ -193,7 +193,7 @@ impl<'a> Parser<'a> {
         self.push(Node::TerraExpression(token.place, TerraExpression::Escape(code)))
     }
 
-    /// A name, or Lua code that gives one.
+    /// tname = Name | "[" exp "]"
     #[cycle(parser)]
     #[tactic(auto, using(crate::proofs::Failing::fails_bind, crate::proofs::Failing::fails_after), unfolding(crate::specs::TerraExpressions::terra_name_at))]
     pub(crate) fn terra_name(&mut self, levels: u32) -> Result<NodeId, SyntaxError>
@@ -207,7 +207,7 @@ impl<'a> Parser<'a> {
         self.name()
     }
 
-    /// An expression in brackets.
+    /// "(" texp ")"
     #[cycle(parser)]
     #[tactic(auto, using(crate::proofs::Failing::fails_bind, crate::proofs::Failing::fails_after), unfolding(crate::specs::TerraExpressions::terra_paren_at))]
     fn terra_paren(&mut self, levels: u32) -> Result<Operand, SyntaxError>
@@ -229,7 +229,7 @@ impl<'a> Parser<'a> {
         })
     }
 
-    /// What a prefix expression begins with.
+    /// Name | "[" exp "]" | "(" texp ")"
     #[cycle(parser)]
     #[tactic(auto, using(crate::proofs::Failing::fails_bind, crate::proofs::Failing::fails_after), unfolding(crate::specs::TerraExpressions::terra_base_at))]
     fn terra_base(&mut self, levels: u32) -> Result<Operand, SyntaxError>
@@ -256,7 +256,7 @@ impl<'a> Parser<'a> {
         })
     }
 
-    /// A call.
+    /// "(" [texps] ")"
     #[cycle(parser)]
     #[tactic(auto, using(crate::proofs::Failing::fails_bind, crate::proofs::Failing::fails_after, crate::proofs::Taking::less), unfolding(crate::specs::TerraExpressions::terra_call_suffix_at))]
     fn terra_call_suffix(&mut self, levels: u32, a: Operand) -> Result<Operand, SyntaxError>
@@ -278,7 +278,7 @@ impl<'a> Parser<'a> {
         })
     }
 
-    /// An index.
+    /// "[" texp "]"
     #[cycle(parser)]
     #[tactic(auto, using(crate::proofs::Failing::fails_bind, crate::proofs::Failing::fails_after, crate::proofs::Taking::less), unfolding(crate::specs::TerraExpressions::terra_index_suffix_at))]
     fn terra_index_suffix(&mut self, levels: u32, a: Operand) -> Result<Operand, SyntaxError>
@@ -300,7 +300,7 @@ impl<'a> Parser<'a> {
         })
     }
 
-    /// A selection.
+    /// "." tname
     #[cycle(parser)]
     #[tactic(auto, using(crate::proofs::Failing::fails_bind, crate::proofs::Failing::fails_after, crate::proofs::Taking::less), unfolding(crate::specs::TerraExpressions::terra_select_suffix_at))]
     fn terra_select_suffix(&mut self, levels: u32, a: Operand) -> Result<Operand, SyntaxError>
@@ -321,7 +321,7 @@ impl<'a> Parser<'a> {
         })
     }
 
-    /// A call of a method.
+    /// ":" tname "(" [texps] ")"
     #[cycle(parser)]
     #[tactic(auto, using(crate::proofs::Failing::fails_bind, crate::proofs::Failing::fails_after, crate::proofs::Taking::less), unfolding(crate::specs::TerraExpressions::terra_method_suffix_at))]
     fn terra_method_suffix(&mut self, levels: u32, a: Operand) -> Result<Operand, SyntaxError>
@@ -345,7 +345,7 @@ impl<'a> Parser<'a> {
         })
     }
 
-    /// A constructor.
+    /// "{" [init {("," | ";") init} ["," | ";"]] "}"
     #[cycle(parser)]
     #[tactic(auto, using(crate::proofs::Failing::fails_bind, crate::proofs::Failing::fails_after, crate::proofs::Taking::less), unfolding(crate::specs::TerraExpressions::construct_suffix_at))]
     fn construct_suffix(&mut self, levels: u32, a: Operand) -> Result<Operand, SyntaxError>
@@ -367,7 +367,7 @@ impl<'a> Parser<'a> {
         })
     }
 
-    /// What follows a prefix expression and belongs to it.
+    /// "(" [texps] ")" | "[" texp "]" | "." tname | ":" tname "(" [texps] ")" | "{" .. "}"
     #[cycle(parser)]
     #[tactic(auto, using(crate::proofs::Failing::fails_bind, crate::proofs::Failing::fails_after), unfolding(crate::specs::TerraExpressions::terra_suffix_at))]
     fn terra_suffix(&mut self, levels: u32, a: Operand) -> Result<Operand, SyntaxError>
@@ -390,7 +390,7 @@ impl<'a> Parser<'a> {
         self.construct_suffix(levels, a)
     }
 
-    /// A prefix expression: a name, Lua code or an expression in brackets, with its suffixes.
+    /// tsuf
     #[cycle(parser)]
     #[tactic(auto, using(crate::proofs::Failing::fails_bind, crate::proofs::Failing::fails_after, crate::proofs::Failing::fails_from, crate::proofs::TerraTurns::terra_suffixes_go, crate::proofs::TerraTurns::terra_suffixes_end, crate::proofs::TerraTurns::terra_suffix_shorter), unfolding(crate::specs::TerraExpressions::terra_applied_at))]
     pub(crate) fn terra_applied(&mut self, levels: u32) -> Result<Operand, SyntaxError>
@@ -405,7 +405,7 @@ impl<'a> Parser<'a> {
         Ok(a)
     }
 
-    /// An operand without operators.
+    /// texp, without operators
     #[cycle(parser)]
     #[tactic(auto, using(crate::proofs::Failing::fails_bind, crate::proofs::Failing::fails_after), unfolding(crate::specs::TerraExpressions::terra_primary_at))]
     fn terra_primary(&mut self, levels: u32, left: u32) -> Result<Operand, SyntaxError>
@@ -429,7 +429,7 @@ impl<'a> Parser<'a> {
         })
     }
 
-    /// A prefix operator with its operand.
+    /// operator texp
     #[cycle(parser)]
     #[tactic(auto, using(crate::proofs::Failing::fails_bind, crate::proofs::Failing::fails_after), unfolding(crate::specs::TerraExpressions::terra_prefixed_at))]
     fn terra_prefixed(&mut self, levels: u32, left: u32) -> Result<Operand, SyntaxError>
@@ -450,7 +450,7 @@ impl<'a> Parser<'a> {
         })
     }
 
-    /// The right operand of `^`.
+    /// texp "^" texp: its right operand
     #[cycle(parser)]
     #[tactic(auto, using(crate::proofs::Failing::fails_bind, crate::proofs::Failing::fails_after), unfolding(crate::specs::TerraExpressions::terra_exponent_at))]
     fn terra_exponent(&mut self, levels: u32, left: u32) -> Result<Operand, SyntaxError>
@@ -464,7 +464,7 @@ impl<'a> Parser<'a> {
         self.terra_primary(levels, left)
     }
 
-    /// An operand with its prefix operators.
+    /// operator texp | texp "^" texp
     #[cycle(parser)]
     #[tactic(auto, using(crate::proofs::Failing::fails_bind, crate::proofs::Failing::fails_after), unfolding(crate::specs::TerraExpressions::terra_unary_at))]
     fn terra_unary(&mut self, levels: u32, left: u32) -> Result<Operand, SyntaxError>
@@ -478,7 +478,7 @@ impl<'a> Parser<'a> {
         self.terra_binary(TerraPrecedence::Power, levels, left)
     }
 
-    /// The right operand of a precedence.
+    /// the right operand of a precedence
     #[cycle(parser)]
     #[tactic(auto, using(crate::proofs::Failing::fails_bind, crate::proofs::Failing::fails_after, crate::proofs::TerraParts::inner_power, crate::proofs::TerraParts::inner_product, crate::proofs::TerraParts::inner_sum, crate::proofs::TerraParts::inner_shift, crate::proofs::TerraParts::inner_comparison, crate::proofs::TerraParts::inner_conjunction, crate::proofs::TerraParts::inner_disjunction, crate::proofs::Failing::fails_same))]
     fn terra_inner(
@@ -510,7 +510,7 @@ impl<'a> Parser<'a> {
         }
     }
 
-    /// The first operand of a precedence.
+    /// the first operand of a precedence
     #[cycle(parser)]
     #[tactic(auto, using(crate::proofs::Failing::fails_bind, crate::proofs::Failing::fails_after, crate::proofs::TerraParts::first_others, crate::proofs::Failing::fails_same), unfolding(crate::specs::TerraExpressions::terra_first_at))]
     fn terra_first(
@@ -529,7 +529,7 @@ impl<'a> Parser<'a> {
         }
     }
 
-    /// An operator of a precedence and its right operand.
+    /// operator texp, of a precedence
     #[cycle(parser)]
     #[tactic(auto, using(crate::proofs::Failing::fails_bind, crate::proofs::Failing::fails_after, crate::proofs::Taking::less), unfolding(crate::specs::TerraExpressions::terra_one_more_at))]
     fn terra_one_more(
@@ -547,7 +547,7 @@ impl<'a> Parser<'a> {
         Ok((token, operand))
     }
 
-    /// Operands with the operators of a precedence between them.
+    /// texp {operator texp}, of a precedence
     #[cycle(parser)]
     #[tactic(auto, using(crate::proofs::Failing::fails_bind, crate::proofs::Failing::fails_after, crate::proofs::Failing::fails_from, crate::proofs::TerraTurns::terra_operations_go, crate::proofs::TerraTurns::terra_operations_end, crate::proofs::TerraTurns::terra_operation_shorter), unfolding(crate::specs::TerraExpressions::terra_binary_at))]
     fn terra_binary(
@@ -569,7 +569,7 @@ impl<'a> Parser<'a> {
         Ok(a)
     }
 
-    /// The operand of a prefix operator.
+    /// the operand of a prefix operator
     #[cycle(parser)]
     #[tactic(auto, using(crate::proofs::Failing::fails_bind, crate::proofs::Failing::fails_after, crate::proofs::TerraParts::terra_operand_part, crate::proofs::Failing::fails_same))]
     fn terra_operand(&mut self, levels: u32) -> Result<NodeId, SyntaxError>
@@ -581,7 +581,7 @@ impl<'a> Parser<'a> {
         Ok(a.node)
     }
 
-    /// An expression.
+    /// texp
     #[cycle(parser)]
     #[tactic(auto, using(crate::proofs::Failing::fails_bind, crate::proofs::Failing::fails_after, crate::proofs::TerraParts::terra_expression_part, crate::proofs::Failing::fails_same))]
     pub(crate) fn terra_expression(&mut self, levels: u32) -> Result<NodeId, SyntaxError>
@@ -593,7 +593,7 @@ impl<'a> Parser<'a> {
         Ok(a.node)
     }
 
-    /// A `,` and an expression.
+    /// "," texp
     #[cycle(parser)]
     #[tactic(auto, using(crate::proofs::Failing::fails_bind, crate::proofs::Failing::fails_after), unfolding(crate::specs::TerraExpressions::next_terra_expression_at))]
     pub(crate) fn next_terra_expression(&mut self, levels: u32) -> Result<NodeId, SyntaxError>
@@ -605,7 +605,7 @@ impl<'a> Parser<'a> {
         self.terra_expression(levels)
     }
 
-    /// Expressions with `,` between them.
+    /// texps = texp {"," texp}
     #[cycle(parser)]
     #[tactic(auto, using(crate::proofs::Failing::fails_bind, crate::proofs::Failing::fails_after, crate::proofs::Failing::fails_from, crate::proofs::TerraTurns::terra_expressions_go, crate::proofs::TerraTurns::terra_expressions_end, crate::proofs::TerraTurns::terra_expression_shorter), unfolding(crate::specs::TerraExpressions::terra_expressions_at))]
     pub(crate) fn terra_expressions(&mut self, levels: u32) -> Result<NodeList, SyntaxError>
@@ -623,7 +623,7 @@ impl<'a> Parser<'a> {
         Ok(list)
     }
 
-    /// The arguments of a call, up to a `)`.
+    /// [texps], up to a ")"
     #[cycle(parser)]
     #[tactic(auto, using(crate::proofs::Failing::fails_bind, crate::proofs::Failing::fails_after, crate::proofs::TerraParts::terra_arguments_part, crate::proofs::Failing::fails_same), unfolding(crate::specs::TerraExpressions::terra_arguments_at))]
     fn terra_arguments(&mut self, levels: u32) -> Result<NodeList, SyntaxError>
@@ -637,7 +637,7 @@ impl<'a> Parser<'a> {
         self.terra_expressions(levels)
     }
 
-    /// A name, `=` and its value.
+    /// init = Name "=" texp
     #[cycle(parser)]
     #[tactic(auto, using(crate::proofs::Failing::fails_bind, crate::proofs::Failing::fails_after), unfolding(crate::specs::TerraExpressions::named_initialiser_at))]
     fn named_initialiser(&mut self, levels: u32) -> Result<NodeId, SyntaxError>
@@ -651,7 +651,7 @@ impl<'a> Parser<'a> {
         self.push(Node::Piece(Piece::NamedField(name, value)))
     }
 
-    /// An initialiser, where all are named or none is.
+    /// init, where all are named or none is
     #[cycle(parser)]
     #[tactic(auto, using(crate::proofs::Failing::fails_bind, crate::proofs::Failing::fails_after), unfolding(crate::specs::TerraExpressions::initialiser_at))]
     fn initialiser(&mut self, named: bool, levels: u32) -> Result<NodeId, SyntaxError>
@@ -665,7 +665,7 @@ impl<'a> Parser<'a> {
         self.terra_expression(levels)
     }
 
-    /// The first initialiser, and whether it is named.
+    /// init, the first one, and whether it is named
     #[cycle(parser)]
     #[tactic(auto, using(crate::proofs::Failing::fails_bind, crate::proofs::Failing::fails_after), unfolding(crate::specs::TerraExpressions::first_initialiser_at, crate::specs::TerraExpressions::initialiser_behind_at))]
     fn first_initialiser(&mut self, levels: u32) -> Result<(NodeId, bool), SyntaxError>
@@ -685,7 +685,7 @@ impl<'a> Parser<'a> {
         Ok((e.node, false))
     }
 
-    /// A separator, and an initialiser if one follows.
+    /// ("," | ";") [init]
     #[cycle(parser)]
     #[tactic(auto, using(crate::proofs::Failing::fails_bind, crate::proofs::Failing::fails_after), unfolding(crate::specs::TerraExpressions::next_initialiser_at))]
     fn next_initialiser(&mut self, named: bool, levels: u32) -> Result<Option<NodeId>, SyntaxError>
@@ -701,7 +701,7 @@ impl<'a> Parser<'a> {
         Ok(Some(initialiser))
     }
 
-    /// The initialisers of a constructor, up to a `}`.
+    /// [init {("," | ";") init} ["," | ";"]], up to a "}"
     #[cycle(parser)]
     #[tactic(auto, using(crate::proofs::Failing::fails_bind, crate::proofs::Failing::fails_after, crate::proofs::TerraParts::initialisers_part, crate::proofs::Failing::fails_same, crate::proofs::Failing::fails_from, crate::proofs::TerraTurns::initialisers_go, crate::proofs::TerraTurns::initialisers_end, crate::proofs::TerraTurns::initialiser_shorter), unfolding(crate::specs::TerraExpressions::initialisers_at))]
     fn initialisers(&mut self, levels: u32) -> Result<NodeList, SyntaxError>

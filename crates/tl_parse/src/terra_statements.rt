@@ -71,7 +71,7 @@ fn is_escape(shape: Shape) -> bool
 }
 
 impl<'a> Parser<'a> {
-    /// A type behind a `:`, if there is one.
+    /// [":" exp]
     #[cycle(parser)]
     #[tactic(auto, using(crate::proofs::Failing::fails_bind, crate::proofs::Failing::fails_after), unfolding(crate::specs::TerraStatements::written_type_at))]
     fn written_type(&mut self, levels: u32) -> Result<Option<NodeId>, SyntaxError>
@@ -87,7 +87,7 @@ impl<'a> Parser<'a> {
         Ok(None)
     }
 
-    /// The block of a loop, from `do` to `end`.
+    /// "do" tblock "end"
     #[cycle(parser)]
     #[tactic(auto, using(crate::proofs::Failing::fails_bind, crate::proofs::Failing::fails_after), unfolding(crate::specs::TerraStatements::terra_loop_at))]
     fn terra_loop(&mut self, levels: u32) -> Result<NodeId, SyntaxError>
@@ -101,7 +101,7 @@ impl<'a> Parser<'a> {
         Ok(block)
     }
 
-    /// A condition, `then` and a block.
+    /// texp "then" tblock
     #[cycle(parser)]
     #[tactic(auto, using(crate::proofs::Failing::fails_bind, crate::proofs::Failing::fails_after), unfolding(crate::specs::TerraStatements::terra_arm_at))]
     fn terra_arm(&mut self, levels: u32) -> Result<NodeId, SyntaxError>
@@ -115,7 +115,7 @@ impl<'a> Parser<'a> {
         self.push(Node::Piece(Piece::Arm(condition, block)))
     }
 
-    /// `elseif` and an arm.
+    /// "elseif" texp "then" tblock
     #[cycle(parser)]
     #[tactic(auto, using(crate::proofs::Failing::fails_bind, crate::proofs::Failing::fails_after), unfolding(crate::specs::TerraStatements::next_terra_arm_at))]
     fn next_terra_arm(&mut self, levels: u32) -> Result<NodeId, SyntaxError>
@@ -127,7 +127,7 @@ impl<'a> Parser<'a> {
         self.terra_arm(levels)
     }
 
-    /// The arms of an `if`, with `elseif` between them.
+    /// texp "then" tblock {"elseif" texp "then" tblock}
     #[cycle(parser)]
     #[tactic(auto, using(crate::proofs::Failing::fails_bind, crate::proofs::Failing::fails_after, crate::proofs::Failing::fails_from, crate::proofs::TerraStatementTurns::terra_arms_go, crate::proofs::TerraStatementTurns::terra_arms_end, crate::proofs::TerraStatementTurns::terra_arm_shorter), unfolding(crate::specs::TerraStatements::terra_arms_at))]
     fn terra_arms(&mut self, levels: u32) -> Result<NodeList, SyntaxError>
@@ -145,7 +145,7 @@ impl<'a> Parser<'a> {
         Ok(arms)
     }
 
-    /// `else` and a block, if there is one.
+    /// ["else" tblock]
     #[cycle(parser)]
     #[tactic(auto, using(crate::proofs::Failing::fails_bind, crate::proofs::Failing::fails_after), unfolding(crate::specs::TerraStatements::terra_otherwise_at))]
     fn terra_otherwise(&mut self, levels: u32) -> Result<Option<NodeId>, SyntaxError>
@@ -161,7 +161,7 @@ impl<'a> Parser<'a> {
         Ok(None)
     }
 
-    /// The step of a loop behind a `,`, if there is one.
+    /// ["," texp]
     #[cycle(parser)]
     #[tactic(auto, using(crate::proofs::Failing::fails_bind, crate::proofs::Failing::fails_after), unfolding(crate::specs::TerraStatements::terra_step_at))]
     fn terra_step(&mut self, levels: u32) -> Result<Option<NodeId>, SyntaxError>
@@ -177,7 +177,7 @@ impl<'a> Parser<'a> {
         Ok(None)
     }
 
-    /// A name that `var` declares, with its type.
+    /// tvar = tname [":" exp]
     #[cycle(parser)]
     #[tactic(auto, using(crate::proofs::Failing::fails_bind, crate::proofs::Failing::fails_after), unfolding(crate::specs::TerraStatements::terra_variable_at))]
     fn terra_variable(&mut self, levels: u32) -> Result<NodeId, SyntaxError>
@@ -200,7 +200,7 @@ impl<'a> Parser<'a> {
         self.push(Node::Piece(Piece::Variable(token.place, name, written)))
     }
 
-    /// A `,` and a name that `var` declares.
+    /// "," tvar
     #[cycle(parser)]
     #[tactic(auto, using(crate::proofs::Failing::fails_bind, crate::proofs::Failing::fails_after), unfolding(crate::specs::TerraStatements::next_terra_variable_at))]
     fn next_terra_variable(&mut self, levels: u32) -> Result<NodeId, SyntaxError>
@@ -212,7 +212,7 @@ impl<'a> Parser<'a> {
         self.terra_variable(levels)
     }
 
-    /// The names that `var` declares, with `,` between them.
+    /// tvar {"," tvar}
     #[cycle(parser)]
     #[tactic(auto, using(crate::proofs::Failing::fails_bind, crate::proofs::Failing::fails_after, crate::proofs::Failing::fails_from, crate::proofs::TerraStatementTurns::terra_variables_go, crate::proofs::TerraStatementTurns::terra_variables_end, crate::proofs::TerraStatementTurns::terra_variable_shorter), unfolding(crate::specs::TerraStatements::terra_variables_at))]
     fn terra_variables(&mut self, levels: u32) -> Result<NodeList, SyntaxError>
@@ -230,7 +230,7 @@ impl<'a> Parser<'a> {
         Ok(list)
     }
 
-    /// The values behind a `=`, if there are any.
+    /// ["=" texps]
     #[cycle(parser)]
     #[tactic(auto, using(crate::proofs::Failing::fails_bind, crate::proofs::Failing::fails_after), unfolding(crate::specs::TerraStatements::terra_initial_values_at))]
     fn terra_initial_values(&mut self, levels: u32) -> Result<NodeList, SyntaxError>
@@ -245,7 +245,7 @@ impl<'a> Parser<'a> {
         Ok(self.no_nodes())
     }
 
-    /// The values behind `return`, if there are any.
+    /// [texps], behind "return"
     #[cycle(parser)]
     #[tactic(auto, using(crate::proofs::Failing::fails_bind, crate::proofs::Failing::fails_after), unfolding(crate::specs::TerraStatements::terra_returned_values_at))]
     fn terra_returned_values(&mut self, levels: u32) -> Result<NodeList, SyntaxError>
@@ -259,7 +259,7 @@ impl<'a> Parser<'a> {
         Ok(self.no_nodes())
     }
 
-    /// The first expression of a statement that no word begins.
+    /// the first texp of a statement that no word begins
     #[cycle(parser)]
     #[tactic(auto, using(crate::proofs::Failing::fails_bind, crate::proofs::Failing::fails_after), unfolding(crate::specs::TerraStatements::terra_target_at))]
     fn terra_target(&mut self, levels: u32) -> Result<Operand, SyntaxError>
@@ -278,7 +278,7 @@ impl<'a> Parser<'a> {
         self.terra_applied(levels)
     }
 
-    /// A call, Lua code in brackets or an assignment.
+    /// tstat = texp {"," texp} "=" texps | tcall | "[" exp "]"
     #[cycle(parser)]
     #[tactic(auto, using(crate::proofs::Failing::fails_bind, crate::proofs::Failing::fails_after, crate::proofs::Failing::fails_from, crate::proofs::TerraStatementTurns::terra_targets_go, crate::proofs::TerraStatementTurns::terra_targets_end, crate::proofs::TerraStatementTurns::terra_target_shorter), unfolding(crate::specs::TerraStatements::terra_simple_statement_at, crate::specs::TerraStatements::terra_statement_behind_at, crate::specs::TerraStatements::terra_assignment_at))]
     fn terra_simple_statement(&mut self, levels: u32) -> Result<NodeId, SyntaxError>
@@ -306,7 +306,7 @@ impl<'a> Parser<'a> {
         self.push(Node::TerraStatement(place, TerraStatement::Assign(targets, values)))
     }
 
-    /// A block alone.
+    /// tstat = "do" tblock "end"
     #[cycle(parser)]
     #[tactic(auto, using(crate::proofs::Failing::fails_bind, crate::proofs::Failing::fails_after), unfolding(crate::specs::TerraStatements::terra_do_at))]
     fn terra_do(&mut self, levels: u32) -> Result<NodeId, SyntaxError>
@@ -320,7 +320,7 @@ impl<'a> Parser<'a> {
         self.push(Node::TerraStatement(token.place, TerraStatement::Do(block)))
     }
 
-    /// A `while` loop.
+    /// tstat = "while" texp "do" tblock "end"
     #[cycle(parser)]
     #[tactic(auto, using(crate::proofs::Failing::fails_bind, crate::proofs::Failing::fails_after), unfolding(crate::specs::TerraStatements::terra_while_at))]
     fn terra_while(&mut self, levels: u32) -> Result<NodeId, SyntaxError>
@@ -334,7 +334,7 @@ impl<'a> Parser<'a> {
         self.push(Node::TerraStatement(token.place, TerraStatement::While(condition, block)))
     }
 
-    /// A `repeat` loop. Its condition is read at the level of the statement.
+    /// tstat = "repeat" tblock "until" texp; the condition is read at the level of the statement
     #[cycle(parser)]
     #[tactic(auto, using(crate::proofs::Failing::fails_bind, crate::proofs::Failing::fails_after), unfolding(crate::specs::TerraStatements::terra_repeat_at))]
     fn terra_repeat(&mut self, levels: u32) -> Result<NodeId, SyntaxError>
@@ -349,7 +349,7 @@ impl<'a> Parser<'a> {
         self.push(Node::TerraStatement(token.place, TerraStatement::Repeat(block, condition)))
     }
 
-    /// An `if` with its arms.
+    /// tstat = "if" texp "then" tblock {"elseif" texp "then" tblock} ["else" tblock] "end"
     #[cycle(parser)]
     #[tactic(auto, using(crate::proofs::Failing::fails_bind, crate::proofs::Failing::fails_after), unfolding(crate::specs::TerraStatements::terra_if_at))]
     fn terra_if(&mut self, levels: u32) -> Result<NodeId, SyntaxError>
@@ -364,7 +364,7 @@ impl<'a> Parser<'a> {
         self.push(Node::TerraStatement(token.place, TerraStatement::If(arms, otherwise)))
     }
 
-    /// A `for` loop.
+    /// tstat = "for" tname "=" texp "," texp ["," texp] "do" tblock "end"
     #[cycle(parser)]
     #[tactic(auto, using(crate::proofs::Failing::fails_bind, crate::proofs::Failing::fails_after), unfolding(crate::specs::TerraStatements::terra_for_at))]
     fn terra_for(&mut self, levels: u32) -> Result<NodeId, SyntaxError>
@@ -386,7 +386,7 @@ impl<'a> Parser<'a> {
         ))
     }
 
-    /// A declaration of variables.
+    /// tstat = "var" tvar {"," tvar} ["=" texps]
     #[cycle(parser)]
     #[tactic(auto, using(crate::proofs::Failing::fails_bind, crate::proofs::Failing::fails_after), unfolding(crate::specs::TerraStatements::terra_var_at))]
     fn terra_var(&mut self, levels: u32) -> Result<NodeId, SyntaxError>
@@ -400,7 +400,7 @@ impl<'a> Parser<'a> {
         self.push(Node::TerraStatement(token.place, TerraStatement::Var(variables, values)))
     }
 
-    /// An `escape` with its Lua code.
+    /// tstat = "escape" block "end"
     #[cycle(parser)]
     #[tactic(auto, using(crate::proofs::Failing::fails_bind, crate::proofs::Failing::fails_after), unfolding(crate::specs::TerraStatements::escape_block_at))]
     fn escape_block(&mut self, levels: u32) -> Result<NodeId, SyntaxError>
@@ -414,7 +414,7 @@ impl<'a> Parser<'a> {
         self.push(Node::TerraStatement(token.place, TerraStatement::Escape(block)))
     }
 
-    /// A `return` with its values.
+    /// "return" [texps]
     #[cycle(parser)]
     #[tactic(auto, using(crate::proofs::Failing::fails_bind, crate::proofs::Failing::fails_after), unfolding(crate::specs::TerraStatements::terra_return_at))]
     fn terra_return(&mut self, levels: u32) -> Result<NodeId, SyntaxError>
@@ -427,7 +427,7 @@ impl<'a> Parser<'a> {
         self.push(Node::TerraStatement(token.place, TerraStatement::Return(values)))
     }
 
-    /// A `break`.
+    /// "break"
     #[tactic(auto, using(crate::proofs::Failing::fails_bind, crate::proofs::Failing::fails_after), unfolding(crate::specs::TerraStatements::terra_break_at))]
     fn terra_break(&mut self) -> Result<NodeId, SyntaxError>
         requires { Ready self.old }
@@ -438,7 +438,7 @@ impl<'a> Parser<'a> {
         self.push(Node::TerraStatement(token.place, TerraStatement::Break))
     }
 
-    /// A statement.
+    /// tstat, "return" [texps] or "break"
     #[cycle(parser)]
     #[tactic(auto, using(crate::proofs::Failing::fails_bind, crate::proofs::Failing::fails_after), unfolding(crate::specs::TerraStatements::terra_statement_at))]
     fn terra_statement(&mut self, levels: u32) -> Result<NodeId, SyntaxError>
@@ -477,7 +477,7 @@ impl<'a> Parser<'a> {
         self.terra_simple_statement(levels)
     }
 
-    /// A statement and the `;` behind it, and whether it ends its block.
+    /// tstat [";"], and whether it ends its block
     #[cycle(parser)]
     #[tactic(auto, using(crate::proofs::Failing::fails_bind, crate::proofs::Failing::fails_after), unfolding(crate::specs::TerraStatements::next_terra_statement_at))]
     fn next_terra_statement(&mut self, levels: u32) -> Result<(NodeId, bool), SyntaxError>
@@ -506,7 +506,7 @@ impl<'a> Parser<'a> {
         self.next_is_among(&STATEMENT)
     }
 
-    /// The statements of a block.
+    /// tblock = { tstat [";"] } [ ("return" [texps] | "break") [";"] ]
     #[cycle(parser)]
     #[tactic(auto, using(crate::proofs::Failing::fails_bind, crate::proofs::Failing::fails_after, crate::proofs::Taking::next_of, crate::proofs::TerraStatementParts::terra_block_part, crate::proofs::TerraStatementTurns::terra_block_goes, crate::proofs::TerraStatementTurns::terra_block_ends, crate::proofs::TerraStatementTurns::terra_statement_shorter, crate::proofs::Failing::fails_same, crate::proofs::Failing::fails_from), unfolding(crate::specs::TerraStatements::terra_block_at))]
     pub(crate) fn terra_block(&mut self, levels: u32) -> Result<NodeId, SyntaxError>
@@ -524,7 +524,7 @@ impl<'a> Parser<'a> {
         self.push(Node::Piece(Piece::Block(list)))
     }
 
-    /// A parameter of a Terra function.
+    /// param = Name ":" exp | "[" exp "]"
     #[cycle(parser)]
     #[tactic(auto, using(crate::proofs::Failing::fails_bind, crate::proofs::Failing::fails_after), unfolding(crate::specs::TerraStatements::terra_parameter_at))]
     fn terra_parameter(&mut self, levels: u32) -> Result<NodeId, SyntaxError>
@@ -547,7 +547,7 @@ impl<'a> Parser<'a> {
         self.push(Node::Piece(Piece::Parameter(token.place, name, written)))
     }
 
-    /// A `,` and a parameter.
+    /// "," param
     #[cycle(parser)]
     #[tactic(auto, using(crate::proofs::Failing::fails_bind, crate::proofs::Failing::fails_after), unfolding(crate::specs::TerraStatements::next_terra_parameter_at))]
     fn next_terra_parameter(&mut self, levels: u32) -> Result<NodeId, SyntaxError>
@@ -559,7 +559,7 @@ impl<'a> Parser<'a> {
         self.terra_parameter(levels)
     }
 
-    /// The parameters of a Terra function, up to a `)`.
+    /// [param {"," param}], up to a ")"
     #[cycle(parser)]
     #[tactic(auto, using(crate::proofs::Failing::fails_bind, crate::proofs::Failing::fails_after, crate::proofs::Failing::fails_from, crate::proofs::TerraStatementTurns::terra_parameters_go, crate::proofs::TerraStatementTurns::terra_parameters_end, crate::proofs::TerraStatementTurns::terra_parameter_shorter), unfolding(crate::specs::TerraStatements::terra_parameters_at))]
     fn terra_parameters(&mut self, levels: u32) -> Result<NodeList, SyntaxError>
@@ -580,7 +580,7 @@ impl<'a> Parser<'a> {
         Ok(list)
     }
 
-    /// The parameters, the result type and the block of a Terra function, up to its `end`.
+    /// tbody = "(" [param {"," param}] ")" [":" exp] tblock "end", behind its "(" at this place
     #[cycle(parser)]
     #[tactic(auto, using(crate::proofs::Failing::fails_bind, crate::proofs::Failing::fails_after), unfolding(crate::specs::TerraStatements::terra_function_body_at))]
     fn terra_body(&mut self, place: Place, levels: u32) -> Result<NodeId, SyntaxError>
@@ -596,7 +596,7 @@ impl<'a> Parser<'a> {
         self.push(Node::Piece(Piece::TerraBody(place, parameters, written, block)))
     }
 
-    /// What the `(` of a Terra function's parameters, at this place, opens.
+    /// what the "(" of a tbody, at this place, opens
     #[cycle(parser)]
     #[tactic(auto, using(crate::proofs::TerraStatementParts::terra_function_body_part, crate::proofs::Failing::fails_same))]
     pub(crate) fn terra_function_body(
@@ -611,7 +611,7 @@ impl<'a> Parser<'a> {
         self.terra_body(place, levels)
     }
 
-    /// The expression of a quote behind `in`, if there is one.
+    /// ["in" texp]
     #[cycle(parser)]
     #[tactic(auto, using(crate::proofs::Failing::fails_bind, crate::proofs::Failing::fails_after), unfolding(crate::specs::TerraStatements::quoted_expression_at))]
     fn quoted_expression(&mut self, levels: u32) -> Result<Option<NodeId>, SyntaxError>
@@ -627,7 +627,7 @@ impl<'a> Parser<'a> {
         Ok(None)
     }
 
-    /// The block of a quote and its expression.
+    /// tblock ["in" texp], behind "quote"
     #[cycle(parser)]
     #[tactic(auto, using(crate::proofs::Failing::fails_bind, crate::proofs::Failing::fails_after, crate::proofs::TerraStatementParts::quoted_code_part, crate::proofs::Failing::fails_same), unfolding(crate::specs::TerraStatements::quoted_code_at))]
     pub(crate) fn quoted_code(&mut self, levels: u32) -> Result<NodeId, SyntaxError>
