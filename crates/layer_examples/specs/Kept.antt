@@ -12,4 +12,8 @@ pub keeps_world_self : (w : World) → KeepsWorld w w
 keeps_world_self w = record { numbers = refl; totals = omega arith; given = omega arith }
 
 pub keeps_world_on : (u v w : World) → KeepsWorld u v → KeepsWorld v w → KeepsWorld u w
-keeps_world_on u v w a b = record { numbers = b.numbers ∙ a.numbers; totals = omega (arith, a.totals, b.totals); given = omega (arith, a.given, b.given) }
+keeps_world_on u v w a b = record {
+  numbers = b.numbers ∙ a.numbers;
+  totals = omega (arith, a.totals, b.totals);
+  given = omega (arith, a.given, b.given);
+}

@@ -16,7 +16,8 @@ use Rattle.layer_examples.specs.Nest.{nest_rules}
 use Rattle.layer_examples.specs.Sums.{SumGiven, sum_rules, is_go as is_sum_go}
 
 abbrev pub total_rest : Total → Meaning World ℕ Answer End
-total_rest total = rest_of (total_rules total.machine.machine.table.now) total.machine.frames.items total.machine.waiting
+total_rest total =
+    rest_of (total_rules total.machine.machine.table.now) total.machine.frames.items total.machine.waiting
 
 abbrev pub TotalFits : Total → WorldGiven → Type 0
 TotalFits total next = fits_waiting is_go total.machine.waiting next.answer ≡ true

@@ -50,7 +50,13 @@ nest_fitting = record { part = λ w. w; with_part = λ w p. p; question = Descen
 
 -- a sum has the count of given numbers, and the rest of the world stays
 abbrev pub sum_fitting : Fitting World ℕ ℕ Task SumAnswer Answer SumEnd End
-sum_fitting = record { part = λ w. w.given; with_part = λ w n. record w { given = n }; question = sum_question; answer = sum_answer; end = sum_end }
+sum_fitting = record {
+  part = λ w. w.given;
+  with_part = λ w n. record w { given = n };
+  question = sum_question;
+  answer = sum_answer;
+  end = sum_end;
+}
 
 -- it ends at once
 abbrev pub failing : ℕ → Meaning World Task Answer End

@@ -1,4 +1,5 @@
--- The meaning of a total, over a table: a list is read from the world, and one question is asked for each of its numbers.
+-- The meaning of a total, over a table: a list is read from the world, and one question is asked for each of its
+-- numbers.
 use Rattle.std.specs.Prelude.{ℕ, List, [], ◌∷◌, drop, min}
 use Rattle.tl_base.specs.Layer.{Meaning}
 use Rattle.tl_base.specs.Plan.{Plan, Give, AskFor, Read, Write}
@@ -29,7 +30,8 @@ counted w = record w { totals = added w.totals 1 }
 -- asks for each number, or for the table's largest in place of a larger one, adds the answers, and counts the total
 abbrev pub total_of : Table → List ℕ → ℕ → TotalPlan
 total_of table [] sum = Read (λ w. Write (counted w) (Give (Value sum)))
-total_of table (x ∷ xs) sum = AskFor (min x table.largest) (λ a. on_value (reply_of a) (λ y. total_of table xs (added sum y)))
+total_of table (x ∷ xs) sum =
+    AskFor (min x table.largest) (λ a. on_value (reply_of a) (λ y. total_of table xs (added sum y)))
 
 -- a task is the number from which it counts
 abbrev pub first_plan : Table → ℕ → TotalPlan
@@ -44,7 +46,8 @@ abbrev pub after : Table → TotalFrame → Flow → TotalPlan
 after table f r = on_value r (λ y. total_of table (drop f.at f.numbers.items) (added f.sum y))
 
 abbrev pub total_rules : Table → Rules ℕ NoJob World ℕ Answer Flow End TotalFrame
-total_rules table = record { first = first_plan table; plan = no_plan; after = after table; reply = reply_of; close = end_of }
+total_rules table =
+    record { first = first_plan table; plan = no_plan; after = after table; reply = reply_of; close = end_of }
 
 abbrev pub total : Table → ℕ → Meaning World ℕ Answer End
 total table = meaning_of (total_rules table)

@@ -40,8 +40,8 @@ pub enum SumEnd {
     Full,
 }
 
-/// The steps of sums. A task is how many numbers are to be added. The world is the count of numbers that were given; a question is
-/// that count.
+/// The steps of sums. A task is how many numbers are to be added. The world is the count of numbers that were given; a
+/// question is that count.
 #[derive(Drop)]
 struct Sums;
 

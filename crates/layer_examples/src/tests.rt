@@ -1,4 +1,5 @@
-// The layers in their stage, by rows that were counted by hand; and that memory is found where there is plenty, which no clause says.
+// The layers in their stage, by rows that were counted by hand; and that memory is found where there is plenty, which
+// no clause says.
 
 use crate::end::End;
 use crate::staged::{Examples, Task};
@@ -8,9 +9,9 @@ use stage_form::{Outcome, run};
 use std::test::Fail;
 use tl_base::{Budget, MemSink, Sink, Text, Text2};
 
-// Each number but zero is nested so deep, and comes to itself. To begin a total, to ask, and to nest are free: only the loop of the
-// innermost task and its one turn pay, two units for each number. A number above 250 is asked for as 250. A zero is raised, and ends
-// the total.
+// Each number but zero is nested so deep, and comes to itself. To begin a total, to ask, and to nest are free: only the
+// loop of the innermost task and its one turn pay, two units for each number. A number above 250 is asked for as 250. A
+// zero is raised, and ends the total.
 #[test]
 fn questions_are_free(rt: HostRuntime) -> Result<(), Fail> {
     let rows = [
@@ -47,8 +48,8 @@ fn questions_are_free(rt: HostRuntime) -> Result<(), Fail> {
     Ok(())
 }
 
-// The sum of two numbers is 1 and 2. It takes one unit for each of five jobs, two for each question, and two for each number's nest,
-// 13 in all. With fewer it stops before the first payment that isn't covered, and what is left stays.
+// The sum of two numbers is 1 and 2. It takes one unit for each of five jobs, two for each question, and two for each
+// number's nest, 13 in all. With fewer it stops before the first payment that isn't covered, and what is left stays.
 #[test]
 fn sums_pay_and_ask(rt: HostRuntime) -> Result<(), Fail> {
     let rows = [

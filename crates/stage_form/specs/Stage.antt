@@ -1,12 +1,12 @@
--- The staging recursion: the layer that a question names is fed with answers until it ends, and each answer is what the layer's
--- own question comes to.
+-- The staging recursion: the layer that a question names is fed with answers until it ends, and each answer is what the
+-- layer's own question comes to.
 use Rattle.std.specs.Prelude.{ℕ, zero, suc, [], ◌∷◌, Option, Some, None}
 use Rattle.tl_base.specs.Layer.{State, Given, Seen, Ended, SpentAt, Asks, Meaning, at}
 use Rattle.stage_form.specs.declared.staging.Outcome.{Outcome}
 use Rattle.stage_form.specs.declared.staging.Outcome.TheVariants.{Ends, Spent}
 
--- a stage: the meaning of the layer that each question names, the answer with which each layer begins, and the answer that each
--- end is
+-- a stage: the meaning of the layer that each question names, the answer with which each layer begins, and the answer
+-- that each end is
 pub record Stage (W Q A E : Type 0) : Type 0 where
   pub meaning : Q → Meaning W Q A E
   pub go : A
@@ -33,8 +33,8 @@ on_end None go = None
 on_end (Some (Finished e s)) go = go e s
 on_end (Some (Exhausted s)) go = Some (Exhausted s)
 
--- feeds a layer with an answer, and then with what its questions come to, until it ends. There is no value where that goes
--- deeper than n
+-- feeds a layer with an answer, and then with what its questions come to, until it ends. There is no value where that
+-- goes deeper than n
 unfoldable pub fed : {W Q A E : Type 0} → Stage W Q A E → ℕ → Meaning W Q A E → Given W A → Option (Final W E)
 fed stage zero meaning answer = None
 fed stage (suc n) meaning answer =

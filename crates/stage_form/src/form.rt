@@ -9,9 +9,9 @@ use tl_base::Layer;
 
 /// A stage: layers whose every question names a layer of the same stage, whose end is the answer.
 ///
-/// `Staged` is one enum of all its layers, whose worlds, questions, answers and ends are those of the stage. A further layer adds
-/// an arm to it, and to `start`. Where an answer takes more than an end, as a look at the world or a write, a small layer of its own
-/// stands between the two that ask and answer.
+/// `Staged` is one enum of all its layers, whose worlds, questions, answers and ends are those of the stage. A further
+/// layer adds an arm to it, and to `start`. Where an answer takes more than an end, as a look at the world or a write,
+/// a small layer of its own stands between the two that ask and answer.
 pub trait Stages {
     /// What the layers read and change beside the budget.
     type World;
@@ -51,7 +51,8 @@ pub trait Stages {
     fn answer(&self, end: Self::End) -> Self::Answer
         ensures { result ≡ (stage self.now).answer_of end };
 
-    /// Each end may follow each question, in a world that kept what the turns since keep, with a budget that hasn't risen.
+    /// Each end may follow each question, in a world that kept what the turns since keep, with a budget that hasn't
+    /// risen.
     ghost ends_follow: { (stages : Self) (question : Self.Question) (asked now : State Self.World) (end : Self.End) →
         Self.Staged.keeps asked.world now.world → now.left ≤ asked.left →
         Self.Staged.follows question asked (at ((stage stages).answer_of end) now) };

@@ -22,8 +22,8 @@ pub fn larger_changes_nothing<W, Q, A, E>()
         staged stage n question s ≡ Some out → n ≤ m → staged stage m question s ≡ Some out }
 {}
 
-/// A layer that stands in a stage reads no answer past its end, or behind a payment above what was left: with any others behind
-/// them it ends alike, and so does the world outside its part.
+/// A layer that stands in a stage reads no answer past its end, or behind a payment above what was left: with any
+/// others behind them it ends alike, and so does the world outside its part.
 pub fn nothing_is_read_past_the_end<W, P, Q, R, A, B, E, F>()
     ensures { (fitting : Fitting W P Q R A B E F) (meaning : Meaning P Q A E) (first : Given W B)
         (answers more : List (Given W B)) →
@@ -32,8 +32,8 @@ pub fn nothing_is_read_past_the_end<W, P, Q, R, A, B, E, F>()
 
 /// Runs the layer that a question names, and each layer that is asked for on the way, to what the question comes to.
 ///
-/// Layers may ask one another without end and without a payment, so no measure in units falls. The turns are counted, and behind
-/// the last of them, to which no run comes, stands the one answer that is free.
+/// Layers may ask one another without end and without a payment, so no measure in units falls. The turns are counted,
+/// and behind the last of them, to which no run comes, stands the one answer that is free.
 pub fn run<S: Stages>(
     alloc: Global,
     stages: &S,
