@@ -7,8 +7,8 @@ use Rattle.tl_base.specs.declared.machine.Waiting.TheVariants.{Begin, Asked}
 use Rattle.tl_base.specs.Layer.{State, Given, Meaning, state}
 use Rattle.tl_base.specs.Plan.{Plan, Give, AskFor, Run, Gives, Stops, Lacks, Course, then_do, run, run_job, shown}
 
--- a language: the plan with which each task begins, the plan of each job, how each frame goes on with the end of what is above
--- it, the end that the answer to a question gives, and the end of the task that an end inside is
+-- a language: the plan with which each task begins, the plan of each job, how each frame goes on with the end of what
+-- is above it, the end that the answer to a question gives, and the end of the task that an end inside is
 pub record Rules (T J W Q A R E F : Type 0) : Type 0 where
   pub first : T → Plan J W Q A R
   pub plan : J → Plan J W Q A R
@@ -24,8 +24,8 @@ ask rules q = AskFor q (λ a. Give (rules.reply a))
 abbrev pub plan_run : {T J W Q A R E F : Type 0} → Rules T J W Q A R E F → Plan J W Q A R → Course W Q A R
 plan_run rules = run (run_job rules.plan)
 
--- what a task means, given the answer that begins it, and the answers after that: what shows of the run of its first plan. To
--- begin it costs nothing
+-- what a task means, given the answer that begins it, and the answers after that: what shows of the run of its first
+-- plan. To begin it costs nothing
 abbrev pub meaning_of : {T J W Q A R E F : Type 0} → Rules T J W Q A R E F → T → Meaning W Q A E
 meaning_of rules task first later = shown rules.close (plan_run rules (rules.first task) first.state later)
 
@@ -42,12 +42,14 @@ meant rules (Stop q) = plan_run rules (ask rules q)
 meant rules Spent = λ s l. Stops (Lacks s)
 
 -- frames and a plan do what other frames and a step do, with all answers
-abbrev pub GoesOn : {T J W Q A R E F : Type 0} → Rules T J W Q A R E F → List F → Plan J W Q A R → State W → List F → Step J R Q → State W → Type 0
+abbrev pub GoesOn : {T J W Q A R E F : Type 0} → Rules T J W Q A R E F →
+    List F → Plan J W Q A R → State W → List F → Step J R Q → State W → Type 0
 GoesOn {T} {J} {W} {Q} {A} {R} {E} {F} rules fs plan s fs' step s' =
     (later : List (Given W A)) → plug rules fs (plan_run rules plan s later) ≡ plug rules fs' (meant rules step s' later)
 
 -- the same for a step that pays nothing, with all units
-abbrev pub GoesOnFree : {T J W Q A R E F : Type 0} → Rules T J W Q A R E F → List F → Plan J W Q A R → W → List F → Step J R Q → W → Type 0
+abbrev pub GoesOnFree : {T J W Q A R E F : Type 0} → Rules T J W Q A R E F →
+    List F → Plan J W Q A R → W → List F → Step J R Q → W → Type 0
 GoesOnFree rules fs plan w fs' step w' =
     (left : ℕ) → GoesOn rules fs plan (state w left) fs' step (state w' left)
 
@@ -67,6 +69,7 @@ fits_waiting is_go (Begin task) a = is_go a
 fits_waiting is_go Asked a = not (is_go a)
 
 -- frames and a step do what other frames and a step do
-abbrev pub RunsAs : {T J W Q A R E F : Type 0} → Rules T J W Q A R E F → List F → Step J R Q → State W → List F → Step J R Q → State W → Type 0
+abbrev pub RunsAs : {T J W Q A R E F : Type 0} → Rules T J W Q A R E F →
+    List F → Step J R Q → State W → List F → Step J R Q → State W → Type 0
 RunsAs {T} {J} {W} {Q} {A} {R} {E} {F} rules fs step s fs' step' s' =
     (later : List (Given W A)) → plug rules fs (meant rules step s later) ≡ plug rules fs' (meant rules step' s' later)

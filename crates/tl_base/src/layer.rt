@@ -9,8 +9,8 @@ use crate::turn::Turn;
 
 /// A machine that suspends itself.
 ///
-/// It begins with the answer that begins (`Go`), and stops at its end, at a question, or before a payment above what is left. At a
-/// question it waits for one answer, and goes on with it. Its laws are the clauses of [`Layer::resume`].
+/// It begins with the answer that begins (`Go`), and stops at its end, at a question, or before a payment above what is
+/// left. At a question it waits for one answer, and goes on with it. Its laws are the clauses of [`Layer::resume`].
 pub trait Layer {
     /// What a turn reads and changes beside the budget.
     type World;
@@ -24,8 +24,8 @@ pub trait Layer {
     /// How it ends.
     type End;
 
-    /// What remains to be done: what shows outside, given the next answer and the answers after it, each with the state in which
-    /// it is given.
+    /// What remains to be done: what shows outside, given the next answer and the answers after it, each with the state
+    /// in which it is given.
     ghost rest: { Self → Meaning Self.World Self.Question Self.Answer Self.End };
 
     /// Holds of the answers with which it can go on.
@@ -39,13 +39,14 @@ pub trait Layer {
 
     /// Goes on with an answer, to where it stops next.
     ///
-    /// The answer fits: the first one begins, and each later one follows the question that was asked last. No clause says that an
-    /// answer fits after an end, `Spent` or `NoMemory`: the layer is of no more use then.
+    /// The answer fits: the first one begins, and each later one follows the question that was asked last. No clause
+    /// says that an answer fits after an end, `Spent` or `NoMemory`: the layer is of no more use then.
     ///
     /// - `turn`: where it stops, with the state there, is what remained, given this answer alone.
-    /// - `reads_no_more`: an end, or a payment above what is left, is what remained, given this answer and any others behind it: no
-    ///   one reads those.
-    /// - `goes_on`: at a question, what remained, given this answer and any others behind it, is what remains, given the others.
+    /// - `reads_no_more`: an end, or a payment above what is left, is what remained, given this answer and any others
+    ///   behind it: no one reads those.
+    /// - `goes_on`: at a question, what remained, given this answer and any others behind it, is what remains, given
+    ///   the others.
     /// - `fits_next`: an answer that follows the question fits.
     /// - `kept`, `paid`: the world keeps what each turn keeps, and the budget doesn't rise.
     fn resume(

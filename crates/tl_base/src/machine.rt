@@ -1,9 +1,10 @@
 // The machine that each layer is: frames over the rules of a language.
 //
-// A layer writes its meaning as a table of plans, one for each kind of job, without frames (`specs/Plan.antt`). Its machine has a
-// frame for each place at which a plan waits, and says how each frame goes on (`specs/Machine.antt`). `open`, `begin` and `go_on`
-// are its steps; what is proved of them is that each does what the plan says. The loop, the payment before each job, questions and
-// answers are here, once for all layers. The crate `layer_examples` has small ones.
+// A layer writes its meaning as a table of plans, one for each kind of job, without frames (`specs/Plan.antt`). Its
+// machine has a frame for each place at which a plan waits, and says how each frame goes on (`specs/Machine.antt`).
+// `open`, `begin` and `go_on` are its steps; what is proved of them is that each does what the plan says. The loop, the
+// payment before each job, questions and answers are here, once for all layers. The crate `layer_examples` has small
+// ones.
 
 ghost use Rattle.std.specs.Prelude.{List, [], ◌∷◌, Bool, true, false, ◌≡◌, IfOk, OnOk};
 ghost use Rattle.tl_base.specs.Layer.{State, state, Given, seen, OnAsk, UnlessAsk};
@@ -39,9 +40,9 @@ pub enum Waiting<T> {
 
 /// The steps of a language: how its tasks and its jobs begin, and how its frames go on.
 ///
-/// A task is what the layer as a whole does, and beginning it costs nothing; a job is done inside, and its unit is paid for it. A
-/// step pays what its plan pays by [`Budget::pay`], and answers [`Step::Spent`] where that is false. It may push any number of
-/// frames.
+/// A task is what the layer as a whole does, and beginning it costs nothing; a job is done inside, and its unit is paid
+/// for it. A step pays what its plan pays by [`Budget::pay`], and answers [`Step::Spent`] where that is false. It may
+/// push any number of frames.
 pub trait Machine {
     /// What a step reads and changes beside the budget.
     type World;
@@ -67,7 +68,8 @@ pub trait Machine {
     /// How a task ends.
     type End;
 
-    /// The language: the plan of each task and of each job, how each frame goes on, and the ends that an answer and a task have.
+    /// The language: the plan of each task and of each job, how each frame goes on, and the ends that an answer and a
+    /// task have.
     ghost rules: { Self → Rules Self.Task Self.Job Self.World Self.Question Self.Answer Self.Return Self.End Self.Frame };
 
     /// What each step keeps of the world.
@@ -78,8 +80,8 @@ pub trait Machine {
 
     /// Begins a task, for which nothing is paid.
     ///
-    /// `means`: with every list of answers to come, the frames and the task's first plan before the step do what the frames and the
-    /// step do after it.
+    /// `means`: with every list of answers to come, the frames and the task's first plan before the step do what the
+    /// frames and the step do after it.
     fn open(
         &self,
         frames: &mut Vec<Self::Frame>,
@@ -105,8 +107,8 @@ pub trait Machine {
             frames.new.items step (state world.new budget.new)) }
         ensures kept { OnOk result (keeps world.old world.new) };
 
-    /// Goes on with a frame, which is off the others, given the end that it waited for. Its clauses are those of `open`, with the
-    /// plan with which the frame goes on.
+    /// Goes on with a frame, which is off the others, given the end that it waited for. Its clauses are those of
+    /// `open`, with the plan with which the frame goes on.
     fn go_on(
         &self,
         frames: &mut Vec<Self::Frame>,
@@ -135,8 +137,9 @@ pub trait Machine {
     ghost keeps_on: { (u v w : Self.World) → keeps u v → keeps v w → keeps u w };
 }
 
-// Goes on to where the machine stops next. A step may push any number of frames without paying, so no measure in units falls at each
-// turn. The turns are counted, and behind the last of them, to which no machine comes, stands the one answer that is free.
+// Goes on to where the machine stops next. A step may push any number of frames without paying, so no measure in units
+// falls at each turn. The turns are counted, and behind the last of them, to which no machine comes, stands the one
+// answer that is free.
 fn drive<M: Machine>(
     machine: &M,
     frames: &mut Vec<M::Frame>,
@@ -194,8 +197,8 @@ pub struct Suspended<M: Machine> {
 impl<M: Machine> Suspended<M> {
     ghost use Rattle.tl_base.specs.Machine.{meaning_of};
 
-    /// A machine that is to begin a task, with the answer that begins. What remains to be done is then the task's meaning, for that
-    /// answer and every list of answers behind it.
+    /// A machine that is to begin a task, with the answer that begins. What remains to be done is then the task's
+    /// meaning, for that answer and every list of answers behind it.
     pub fn start(alloc: Global, machine: M, task: M::Task) -> Suspended<M>
         ensures means { (first : Given M.World M.Answer) (later : List (Given M.World M.Answer)) →
             ⟦<Suspended<M> as Layer>⟧.rest result first later ≡ meaning_of (M.rules machine) task first later }
