@@ -6,3 +6,4 @@ pub mod Loads
 pub mod Lawful
 pub mod Written
 pub mod Answers
+pub mod Calls

@@ -2,6 +2,7 @@
 
 ghost use Rattle.std.specs.Prelude.{◌≡◌, [], ◌∷◌, ◌++◌, OnOk, OnErr};
 
+use crate::calls::find_symbol;
 use std::alloc::Global;
 use std::marker::Model;
 use tl_base::NoMemory;
@@ -183,4 +184,16 @@ pub struct Image {
     pub private: u64,
     /// The functions that can be called, each with a name of its own.
     pub exports: Symbols,
+}
+
+impl Image {
+    ghost use Rattle.std.specs.Prelude.{option_map};
+    ghost use Rattle.elf_image.specs.Calls.{symbol_named};
+
+    /// The function of this name, if there is one.
+    pub fn find(&self, name: &[u8]) -> Option<&Symbol>
+        ensures { option_map (λ s. s.now) result ≡ symbol_named name.now self.now.exports }
+    {
+        find_symbol(self.exports.as_slice(), name)
+    }
 }

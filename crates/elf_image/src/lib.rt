@@ -14,6 +14,7 @@
 //! - `specs/Loads.antt`: `Loads` and `BadBytes`, which image a file is and why it is none
 //! - `specs/Written.antt`: `bytes_of`, the file of an image
 //! - `specs/Lawful.antt`: `IsLawful`, which images have a file
+//! - `specs/Calls.antt`: which function a name is, and the type codes: the ranges of arguments, their words, the texts of results
 //!
 //! ```rust
 //! let bytes = write(alloc, &image)?;
@@ -21,6 +22,7 @@
 //! ```
 #![tactic(auto)]
 
+mod calls;
 mod error;
 mod exports;
 mod fields;
@@ -37,11 +39,13 @@ mod rule;
 mod tables;
 mod writing;
 
+pub use calls::{result_text, word_above, word_below};
 pub use error::ImageError;
 pub use image::{Bytes, Image, Symbol, Symbols, Words};
 pub use lawful::is_lawful;
 pub use laws::{
-    apart_shares_no_byte, memory_is_no_fault, one_answer, written_is_tight, written_loads,
+    a_name_is_one_symbols, apart_shares_no_byte, memory_is_no_fault, one_answer, written_is_tight,
+    written_loads,
 };
 pub use reading::read;
 pub use writing::write;
