@@ -1,13 +1,14 @@
 -- The runs of images, by those of their programs.
-use Rattle.std.proofs.Common.{◌≡◌, ℕ, ◌+◌, List, Option, sym, ap, ◌∙◌, subst}
+use Rattle.std.proofs.Common.{◌≡◌, ℕ, ◌-◌, List, [], ◌++◌, take, drop, Option, refl, sym, ap, ◌∙◌, subst}
 use Rattle.elf_image.specs.declared.image.Image.{Image}
 use Rattle.rv_isa.specs.declared.instr.Instr.{Instr}
-use Rattle.rv_machine.specs.Machine.{State, Ran, start_state, loaded_state, run_of}
+use Rattle.rv_machine.specs.Machine.{State, start_state, loaded_state, run_of}
 use Rattle.rv_machine.specs.Program.{IsProgram}
 use Rattle.rv_machine.specs.Runs.{Agrees, IsBeforeWrite}
 use Rattle.rv_machine.specs.declared.stops.Stop.{Stop}
-use Rattle.rv_machine.specs.ImageRun.{region_bytes, private_bytes, image_start, RvRun, OneRun, ImageRunsGoOn, ImageRunsStayOver, MachinesRunImages, RanImage, RanImageToWrite}
+use Rattle.rv_machine.specs.ImageRun.{region_bytes, private_bytes, image_start, OneRun, ImageRunsGoOn, ImageRunsStayOver, MachinesRunImages, RanImage, RanImageToWrite, WritesAreFronts}
 use Rattle.rv_machine.proofs.Runs.{run_of-add, run_of-over}
+use Rattle.rv_machine.proofs.Reaches.{writes_front, writes_more}
 use Rattle.rv_machine.proofs.Programs.{one_program}
 
 -- the start of a machine that was loaded is that of its image
@@ -55,8 +56,8 @@ module _ (image : Image) (address : ℕ) (arguments : List ℕ) (steps heap : �
   still = subst (IsProgram image.text) (sym same_program) decoded
 
   -- a machine that ran as its definition says, ran the image
-  pub ran_image : (stop : Stop) → Agrees (run_of after_start started steps) stop stopped before after → RanImage image address arguments steps stop before after
-  ran_image stop agrees =
+  pub ran_image : (stop : Stop) → Agrees (run_of after_start started steps) stop stopped before after → (Same : Type 0) → ((run_of after_start started steps).output ≡ [] → Same) → RanImage image address arguments steps stop before after Same
+  ran_image stop agrees Same quiet =
       record {
         ran = run_of after_start started steps;
         runs =
@@ -67,6 +68,7 @@ module _ (image : Image) (address : ℕ) (arguments : List ℕ) (steps heap : �
             };
         stops = agrees.stops;
         took = agrees.took;
+        quiet = quiet;
       }
 
   -- and one that came before a write, came there in the image
@@ -78,3 +80,15 @@ module _ (image : Image) (address : ℕ) (arguments : List ℕ) (steps heap : �
         stands = stopped;
         writes = subst (λ s. IsBeforeWrite after_start s steps stopped before after) starts h;
       }
+
+pub writes_are_fronts : WritesAreFronts
+writes_are_fronts image address arguments steps before after h =
+    record {
+      ran = run_of h.program (image_start image address arguments) steps;
+      runs = record { program = h.program; decoded = h.decoded; runs = refl };
+      part = h.writes.output ++ take h.writes.front h.writes.bytes;
+      rest = drop h.writes.front h.writes.bytes ++ (run_of h.program h.writes.next (steps - h.writes.done - 1)).output;
+      front = writes_front h.program (image_start image address arguments) steps h.stands before after h.writes;
+      more = writes_more h.program (image_start image address arguments) steps h.stands before after h.writes;
+      took = h.writes.took;
+    }

@@ -1,5 +1,6 @@
 -- Where a run stands after some turns of its loop, and what it then comes to.
-use Rattle.std.proofs.Common.{◌≡◌, ◌≢◌, ℕ, suc, ◌+◌, ◌-◌, ◌<◌, List, [], ◌∷◌, ◌++◌, ◌⊎◌, inl, inr, length, take, Option, refl, sym, ap, ◌∙◌, append-nil, arith}
+use Rattle.std.proofs.Common.{◌≡◌, ◌≢◌, ℕ, suc, ◌+◌, ◌-◌, ◌<◌, List, [], ◌∷◌, ◌++◌, ◌⊎◌, inl, inr, length, take, drop, Option, refl, sym, ap, ◌∙◌, append-nil, append_assoc, arith, length-drop}
+use Rattle.std.proofs.lemmas.List.{take-append-drop}
 use Rattle.rv_isa.specs.declared.instr.Instr.{Instr}
 use Rattle.rv_machine.specs.declared.stops.Stop.{Stop}
 use Rattle.rv_machine.specs.declared.stops.Stop.TheVariants.{Returned, TerraFault, MachineFault, Unfinished, WriteFault}
@@ -123,9 +124,9 @@ module _ (program : List (Option Instr)) (start now : State) (count : ℕ) (outp
   went_on next after (Faults kind) same same_before same_after quiet join on by h = absurd h
   went_on next after (Throws kind place) same same_before same_after quiet join on by h = absurd h
 
--- a run that comes before a write writes something
-pub writes_some : (program : List (Option Instr)) (start : State) (steps : ℕ) (s : State) (before after : Option (List ℕ)) → IsBeforeWrite program start steps s before after → (run_of program start steps).output ≡ [] → ⊥
-writes_some program start steps s before after h none =
+-- the output of a run that comes before a write: what was written before, the bytes of that write, and more
+pub writes_output : (program : List (Option Instr)) (start : State) (steps : ℕ) (s : State) (before after : Option (List ℕ)) → (h : IsBeforeWrite program start steps s before after) → (run_of program start steps).output ≡ h.output ++ (h.bytes ++ (run_of program h.next (steps - h.done - 1)).output)
+writes_output program start steps s before after h =
     let left = steps - h.done - 1 in
     let sum : h.done + suc left ≡ steps = omega (arith, h.fewer) in
     let on : s.pc ≡ 0 → ⊥ = λ at. not_paused s s h.output h.output (sym (ap (after_output h.output) (run_of-at_zero program s 0 at)) ∙ sym (run_of-add program start s h.output h.done 0 h.comes) ∙ (let same : h.done + 0 ≡ h.done = omega arith in ap (run_of program start) same) ∙ h.comes) in
@@ -133,9 +134,31 @@ writes_some program start steps s before after h none =
     ap (run_of program start) (sym sum)
     ∙ run_of-add program start s h.output h.done (suc left) h.comes
     ∙ ap (after_output h.output) (run_of-moved program s left (Writes h.next h.bytes) on h.writes) in
-    let nothing : h.output ++ (h.bytes ++ (run_of program h.next left).output) ≡ [] = sym (ap (λ (r : Ran). r.output) wrote) ∙ none in
-    let no_bytes : h.bytes ≡ [] = front_none h.bytes (run_of program h.next left).output (back_none h.output (h.bytes ++ (run_of program h.next left).output) nothing) in
-    omega (arith, ap length no_bytes, h.part)
+    ap (λ (r : Ran). r.output) wrote
   where
     not_paused : (r a : State) (output more : List ℕ) → ◌≡◌ {A = Ran} (after_output output (stands (Returned (r.registers 10)) r)) (record { stop = Unfinished; state = a; output = more }) → ⊥
     not_paused r a output more e = let k = ap (λ (r : Ran). r.stop) e in cc
+
+-- a run that comes before a write writes something
+pub writes_some : (program : List (Option Instr)) (start : State) (steps : ℕ) (s : State) (before after : Option (List ℕ)) → IsBeforeWrite program start steps s before after → (run_of program start steps).output ≡ [] → ⊥
+writes_some program start steps s before after h none =
+    let more = (run_of program h.next (steps - h.done - 1)).output in
+    let nothing : h.output ++ (h.bytes ++ more) ≡ [] = sym (writes_output program start steps s before after h) ∙ none in
+    let no_bytes : h.bytes ≡ [] = front_none h.bytes more (back_none h.output (h.bytes ++ more) nothing) in
+    omega (arith, ap length no_bytes, h.part)
+
+-- what a sink took of a run that it stopped, with what comes behind it
+pub writes_front : (program : List (Option Instr)) (start : State) (steps : ℕ) (s : State) (before after : Option (List ℕ)) → (h : IsBeforeWrite program start steps s before after) → (run_of program start steps).output ≡ (h.output ++ take h.front h.bytes) ++ (drop h.front h.bytes ++ (run_of program h.next (steps - h.done - 1)).output)
+writes_front program start steps s before after h =
+    let more = (run_of program h.next (steps - h.done - 1)).output in
+    let cut : h.bytes ≡ take h.front h.bytes ++ drop h.front h.bytes = sym (take-append-drop h.front h.bytes) in
+    writes_output program start steps s before after h
+    ∙ ap (λ (b : List ℕ). h.output ++ (b ++ more)) cut
+    ∙ ap (λ (b : List ℕ). h.output ++ b) (append_assoc (take h.front h.bytes) (drop h.front h.bytes) more)
+    ∙ sym (append_assoc h.output (take h.front h.bytes) (drop h.front h.bytes ++ more))
+
+-- and something comes behind it
+pub writes_more : (program : List (Option Instr)) (start : State) (steps : ℕ) (s : State) (before after : Option (List ℕ)) → (h : IsBeforeWrite program start steps s before after) → drop h.front h.bytes ++ (run_of program h.next (steps - h.done - 1)).output ≡ [] → ⊥
+writes_more program start steps s before after h none =
+    let no_bytes : drop h.front h.bytes ≡ [] = front_none (drop h.front h.bytes) (run_of program h.next (steps - h.done - 1)).output none in
+    omega (arith, ap length no_bytes, length-drop h.front h.bytes, h.part)

@@ -1,5 +1,5 @@
 -- The run of an image, its laws, and what a call that runs an image does.
-use Rattle.std.specs.Prelude.{◌≡◌, ◌≢◌, ℕ, ◌+◌, ◌-◌, List, ◌++◌, length, replicate, Option}
+use Rattle.std.specs.Prelude.{◌≡◌, ◌≢◌, ℕ, ◌+◌, ◌-◌, List, [], ◌++◌, length, replicate, Option}
 use Rattle.elf_image.specs.declared.image.Image.{Image}
 use Rattle.rv_isa.specs.declared.instr.Instr.{Instr}
 use Rattle.rv_machine.specs.declared.stops.Stop.{Stop}
@@ -60,12 +60,13 @@ ImageRunsStayOver =
     RvRun image address arguments first ran → ran.stop ≢ Unfinished →
     RvRun image address arguments (first + more) ran
 
--- The call stopped where the run of the image does, and the sink took the run's output.
-pub record RanImage (image : Image) (address : ℕ) (arguments : List ℕ) (steps : ℕ) (stop : Stop) (before after : Option (List ℕ)) : Type 0 where
+-- The call stopped where the run of the image does, and the sink took the run's output: where that has no byte, it stays the same.
+pub record RanImage (image : Image) (address : ℕ) (arguments : List ℕ) (steps : ℕ) (stop : Stop) (before after : Option (List ℕ)) (Same : Type 0) : Type 0 where
   pub ran : Ran
   pub runs : RvRun image address arguments steps ran
   pub stops : ran.stop ≡ stop
   pub took : after ≡ with_back before ran.output
+  pub quiet : ran.output ≡ [] → Same
 
 -- The call came, in fewer than its steps, to an instruction of the image that writes. The sink took the output up to there and a
 -- front of that instruction's bytes, and not all of them.
@@ -74,3 +75,20 @@ pub record RanImageToWrite (image : Image) (address : ℕ) (arguments : List ℕ
   pub decoded : IsProgram image.text program
   pub stands : State
   pub writes : IsBeforeWrite program (image_start image address arguments) steps stands before after
+
+-- What a sink took of a run that it stopped at a write: a front of the output that the run has, which writes something.
+pub record TookFrontOfRun (image : Image) (address : ℕ) (arguments : List ℕ) (steps : ℕ) (before after : Option (List ℕ)) : Type 0 where
+  pub ran : Ran
+  pub runs : RvRun image address arguments steps ran
+  pub part : List ℕ
+  pub rest : List ℕ
+  pub front : ran.output ≡ part ++ rest
+  pub more : rest ≢ []
+  pub took : after ≡ with_back before part
+
+-- so a sink that stops a run took a front of what the whole run writes
+abbrev pub WritesAreFronts : Type 0
+WritesAreFronts =
+    (image : Image) (address : ℕ) (arguments : List ℕ) (steps : ℕ) (before after : Option (List ℕ)) →
+    RanImageToWrite image address arguments steps before after →
+    TookFrontOfRun image address arguments steps before after

@@ -3,7 +3,7 @@
 ghost use Rattle.std.specs.Prelude.{◌≡◌, ◌≢◌, ◌≤◌, length, IfOk, OnErr};
 ghost use Rattle.elf_image.specs.Lawful.{IsLawful};
 ghost use Rattle.rv_machine.specs.declared.stops.Stop.TheVariants.{WriteFault};
-ghost use Rattle.rv_machine.specs.ImageRun.{MachinesRunImages, OneRun, ImageRunsGoOn, ImageRunsStayOver, RanImage, RanImageToWrite};
+ghost use Rattle.rv_machine.specs.ImageRun.{MachinesRunImages, OneRun, ImageRunsGoOn, ImageRunsStayOver, RanImage, RanImageToWrite, WritesAreFronts};
 ghost use Rattle.rv_machine.specs.Steps.{Counted};
 
 use crate::machine::Machine;
@@ -13,7 +13,8 @@ use std::alloc::Global;
 use tl_base::{NoMemory, Sink};
 
 /// Runs an image: at most `steps` instructions from its start at `address` with at most eight arguments. It takes all the memory of
-/// the run first, and then answers as [`Machine::run`] does. Where there is not so much memory, the sink stays as it was.
+/// the run first, and then answers as [`Machine::run`] does. Where there is not so much memory, and where the run writes nothing, the
+/// sink stays as it was.
 pub fn run_image<K: Sink>(
     alloc: Global,
     image: &Image,
@@ -24,7 +25,7 @@ pub fn run_image<K: Sink>(
 ) -> Result<Stop, NoMemory>
     requires lawful { IsLawful image.now }
     requires arguments { length arguments.now ≤ 8 }
-    ensures run { IfOk result (λ stop. stop ≢ WriteFault → RanImage image.now address arguments.now steps stop (K.taken out.old) (K.taken out.new)) }
+    ensures run { IfOk result (λ stop. stop ≢ WriteFault → RanImage image.now address arguments.now steps stop (K.taken out.old) (K.taken out.new) (out.new ≡ out.old)) }
     ensures fault { IfOk result (λ stop. stop ≡ WriteFault → RanImageToWrite image.now address arguments.now steps (K.taken out.old) (K.taken out.new)) }
     ensures counted { IfOk result (λ stop. Counted stop (K.faults out.old) (K.faults out.new)) }
     ensures err { OnErr result (out.new ≡ out.old) }
@@ -35,10 +36,12 @@ pub fn run_image<K: Sink>(
 }
 
 /// The laws of the runs of images. A machine that an image was loaded into, and that was then started and run, runs as the image
-/// does; an image has one run of so many steps; a run may be made in parts; and one that is over stays over.
+/// does; an image has one run of so many steps; a run may be made in parts; one that is over stays over; and a sink that stops a run
+/// took a front of what the whole run writes.
 pub fn images_have_runs()
     ensures machines { MachinesRunImages }
     ensures one { OneRun }
     ensures parts { ImageRunsGoOn }
     ensures over { ImageRunsStayOver }
+    ensures fronts { WritesAreFronts }
 {}
