@@ -70,11 +70,16 @@ fn check_bytes(
     let bytes = bytes.to_vec(alloc)?;
     let mut source = MemSource::new(bytes, faults.step.max(1), faults.reads.to_vec(alloc)?);
     let mut out = MemSink::new(alloc, faults.room, faults.outs.to_vec(alloc)?)?;
-    let mut notes = MemSink::new(alloc, 100, faults.notes.to_vec(alloc)?)?;
+    let mut notes = MemSink::new(alloc, 4_096, faults.notes.to_vec(alloc)?)?;
     let status = terrac(alloc, &words, &mut source, &mut out, &mut notes);
     let source = row.source;
     assert!(rt; out.bytes() == row.out.as_bytes(), "out of {source}");
-    assert!(rt; notes.bytes() == row.notes.as_bytes(), "notes of {source}");
+    if row.code == 2 {
+        // Behind the line comes the text of `clap`.
+        assert!(rt; notes.bytes().starts_with(row.notes.as_bytes()), "notes of {source}");
+    } else {
+        assert!(rt; notes.bytes() == row.notes.as_bytes(), "notes of {source}");
+    }
     assert_eq!(rt; status.code(), row.code, "{source}");
     Ok(())
 }
