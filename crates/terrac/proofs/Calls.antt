@@ -14,7 +14,7 @@ use Rattle.terrac.specs.Arguments.{Arguments, arguments_of}
 use Rattle.terrac.specs.Exec.{IsCallDue, IsRunDue}
 
 pub not_fault : (status other : Status) → status ≡ other → other ≢ statuses.WriteFault → status ≢ statuses.WriteFault
-not_fault status other same no = λ is. no (sym same ∙ is)
+not_fault status other same differs = λ is. differs (sym same ∙ is)
 
 pub call_none : (image : Image) (call : Call) (steps : ℕ) (due : Due) → None ≡ symbol_named call.entry image.exports → due ≡ due_of_no_entry call.entry →
     IsCallDue image call steps (symbol_named call.entry image.exports) due

@@ -29,12 +29,12 @@ pub data IsDueOrCut (Is : Due → Type 0) (due : Due) : Type 0 where
   IsWhole : Is due → IsDueOrCut Is due
   IsCut : (whole : Due) → Is whole → IsFront due.out whole.out → due.status ≡ statuses.NoMemory → due.notes ≡ line (codes "no memory") → IsDueOrCut Is due
 
--- What is owed: what is due for the words on the bytes that the source has left; the line of a read that failed, where the words
--- name a job and the source's count of faults rose; or that of want of memory, which is free.
-pub data Owed (words : List (List ℕ)) (left : Option (List ℕ)) (Rose : Type 0) (due : Due) : Type 0 where
-  Answered : (bytes : List ℕ) → IsToldAs left bytes → IsDueOrCut (IsDue (job_of words) bytes) due → Owed words left Rose due
-  Unread : IsSome (job_of words) → Rose → due ≡ refused statuses.ReadFault (codes "read fault") → Owed words left Rose due
-  OutOfMemory : due ≡ refused statuses.NoMemory (codes "no memory") → Owed words left Rose due
+-- What is owed for a job: what is due on the bytes that the source has left; the line of a read that failed, where there is a job
+-- and the source's count of faults rose; or that of want of memory, which is free.
+pub data Owed (job : Option Job) (left : Option (List ℕ)) (Rose : Type 0) (due : Due) : Type 0 where
+  Answered : (bytes : List ℕ) → IsToldAs left bytes → IsDueOrCut (IsDue job bytes) due → Owed job left Rose due
+  Unread : IsSome job → Rose → due ≡ refused statuses.ReadFault (codes "read fault") → Owed job left Rose due
+  OutOfMemory : due ≡ refused statuses.NoMemory (codes "no memory") → Owed job left Rose due
 
 -- how many bytes are read of a source at most: one more than it may have, which tells that it has too many
 abbrev pub most_read : Option Job → ℕ
@@ -77,7 +77,7 @@ pub record Delivers (due : Due) (status : Status) (out_old out_new notes_old not
 -- What a call answers: something was owed, and that was delivered. A sink that nothing is due to stays the same.
 pub record Answers (words : List (List ℕ)) (left : Option (List ℕ)) (Rose : Type 0) (status : Status) (out_old out_new notes_old notes_new : Option (List ℕ)) (SameOut : Type 0) : Type 0 where
   pub due : Due
-  pub owed : Owed words left Rose due
+  pub owed : Owed (job_of words) left Rose due
   pub delivered : Delivers due status out_old out_new notes_old notes_new
   pub quiet_out : due.out ≡ [] → SameOut
 

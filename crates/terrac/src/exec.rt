@@ -7,7 +7,9 @@ ghost use Rattle.rv_machine.specs.declared.stops.Stop.TheVariants as stops;
 ghost use Rattle.terrac.specs.Answer.{IsDueOrCut};
 ghost use Rattle.terrac.specs.Arguments.{Good};
 ghost use Rattle.terrac.specs.Due.{refused};
-ghost use Rattle.terrac.specs.Exec.{fault_kind, place_of, due_of_stop, IsRunDue, IsCallDue, IsExecDue};
+ghost use Rattle.elf_image.specs.declared.error.ImageError.TheVariants as errors;
+ghost use Rattle.terrac.specs.declared.status.ImageFault.TheVariants.{Refused};
+ghost use Rattle.terrac.specs.Exec.{fault_kind, place_of, due_of_bad_image, due_of_stop, IsRunDue, IsCallDue, IsExecDue};
 ghost use Rattle.terrac.specs.Ending.{Ends};
 ghost use Rattle.terrac.specs.DueView.{shown_due};
 ghost use Rattle.terrac.specs.JobView.{shown_call};
@@ -45,8 +47,19 @@ pub(crate) fn exec<K: Sink>(
     }
     match read(alloc, bytes) {
         Ok(image) => exec_image(alloc, call, steps, &image, out),
-        Err(ImageError::NoMemory) => Err(NoMemory),
-        Err(error) => Ok(Ended::Due(bad_image_due(alloc, ImageFault::Refused(error))?)),
+        Err(error) => Ok(Ended::Due(refused_due(alloc, error)?)),
+    }
+}
+
+/// What is due for bytes that are no image, where it isn't want of memory that says so.
+fn refused_due(alloc: Global, error: ImageError) -> Result<Due, NoMemory>
+    ensures other { IfOk result (λ due. error ≢ errors.NoMemory) }
+    ensures due { IfOk result (λ due. shown_due due ≡ due_of_bad_image (Refused error)) }
+    ensures status { IfOk result (λ due. due.status ≡ statuses.BadImage (Refused error)) }
+{
+    match error {
+        ImageError::NoMemory => Err(NoMemory),
+        _ => bad_image_due(alloc, ImageFault::Refused(error)),
     }
 }
 

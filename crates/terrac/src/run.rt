@@ -1,10 +1,9 @@
 // From the words and the source to what is due.
 
-ghost use Rattle.std.specs.Prelude.{◌≡◌, ◌≢◌, ◌<◌, ◌≤◌, ◌^◌, Some, None, Err, true, IfOk, OnErr, IsSome, length, map, string_bytes};
+ghost use Rattle.std.specs.Prelude.{◌≡◌, ◌≢◌, ◌⊎◌, ◌<◌, Some, None, Err, IfOk, OnErr, IsSome, length, map, string_bytes};
 ghost use Rattle.tl_base.specs.Outside.{IsRisen};
-ghost use Rattle.clap.specs.Words.{takes};
 ghost use Rattle.first_form.specs.Formula.{shown, IsWithin};
-ghost use Rattle.terrac.specs.Words.{command_line, job_of};
+ghost use Rattle.terrac.specs.Words.{Run, Exec, job_of, AreTaken};
 ghost use Rattle.terrac.specs.Due.{due_of_call, IsFunction, IsSourceDue};
 ghost use Rattle.terrac.specs.JobView.{shown_call};
 ghost use Rattle.terrac.specs.DueView.{shown_due};
@@ -75,32 +74,63 @@ fn run_source<K: Sink>(
     }
 }
 
-/// How the work ends, with the read and the want of memory that may cut it off.
+/// How `run` ends, with the read and the want of memory that may cut it off.
+fn run_call<S: Source, K: Sink>(
+    alloc: Global,
+    call: &Call<'_>,
+    source: &mut S,
+    out: &mut K,
+) -> Result<Ended, ReadError>
+    ensures owed { IfOk result (λ ended. Ends (Owed (Some (Run (shown_call call.now))) (S.left source.old) (IsRisen (S.faults source.old) (S.faults source.new))) ended (K.taken out.old) (K.taken out.new) (K.faults out.old) (K.faults out.new) (out.new ≡ out.old)) }
+    ensures bound { TookAtMost 1048577 (S.left source.old) (S.left source.new) }
+    ensures unread { result ≡ Err errors.Unread → IsRisen (S.faults source.old) (S.faults source.new) }
+    ensures quiet { result ≢ Err errors.Unread → S.faults source.new ≡ S.faults source.old }
+    ensures unwritten { out.new ≡ out.old }
+{
+    let bytes = read_source(alloc, source, LONGEST_TEXT + 1)?;
+    let due = run_source(alloc, call, &bytes, out)?;
+    Ok(Ended::Due(due))
+}
+
+/// How `exec` ends, likewise.
+fn exec_call<S: Source, K: Sink>(
+    alloc: Global,
+    call: &Call<'_>,
+    steps: u64,
+    source: &mut S,
+    out: &mut K,
+) -> Result<Ended, ReadError>
+    ensures owed { IfOk result (λ ended. Ends (Owed (Some (Exec (shown_call call.now) steps)) (S.left source.old) (IsRisen (S.faults source.old) (S.faults source.new))) ended (K.taken out.old) (K.taken out.new) (K.faults out.old) (K.faults out.new) (out.new ≡ out.old)) }
+    ensures bound { TookAtMost 268435457 (S.left source.old) (S.left source.new) }
+    ensures unread { result ≡ Err errors.Unread → IsRisen (S.faults source.old) (S.faults source.new) }
+    ensures quiet { result ≢ Err errors.Unread → S.faults source.new ≡ S.faults source.old }
+    ensures err { OnErr result (out.new ≡ out.old) }
+{
+    let bytes = read_source(alloc, source, LONGEST_IMAGE + 1)?;
+    let ended = exec(alloc, call, steps, &bytes, out)?;
+    Ok(ended)
+}
+
+/// How the work for the words ends, with what may cut it off.
 fn try_run<S: Source, K: Sink>(
     alloc: Global,
     words: &[String],
     source: &mut S,
     out: &mut K,
 ) -> Result<Ended, ReadError>
-    ensures owed { IfOk result (λ ended. Ends (Owed (map string_bytes words.now) (S.left source.old) (IsRisen (S.faults source.old) (S.faults source.new))) ended (K.taken out.old) (K.taken out.new) (K.faults out.old) (K.faults out.new) (out.new ≡ out.old)) }
+    ensures owed { IfOk result (λ ended. Ends (Owed (job_of (map string_bytes words.now)) (S.left source.old) (IsRisen (S.faults source.old) (S.faults source.new))) ended (K.taken out.old) (K.taken out.new) (K.faults out.old) (K.faults out.new) (out.new ≡ out.old)) }
     ensures bound { TookAtMost (most_read (job_of (map string_bytes words.now))) (S.left source.old) (S.left source.new) }
     ensures unread { result ≡ Err errors.Unread → IsRisen (S.faults source.old) (S.faults source.new) }
     ensures named { result ≡ Err errors.Unread → IsSome (job_of (map string_bytes words.now)) }
     ensures untouched { job_of (map string_bytes words.now) ≡ None → source.new ≡ source.old }
     ensures quiet { result ≢ Err errors.Unread → S.faults source.new ≡ S.faults source.old }
-    ensures taken { takes command_line (map string_bytes words.now) ≡ true → IfOk result (λ ended. IsStatus ended (λ status. status ≢ statuses.Usage)) }
+    ensures taken { AreTaken (map string_bytes words.now) → IfOk result (λ ended. IsSome (job_of (map string_bytes words.now))) }
     ensures err { OnErr result (out.new ≡ out.old) }
 {
     match job_of(alloc, words)? {
         Asked::Refused(text) => Ok(Ended::Due(usage_due(text))),
-        Asked::Job(Job::Run(call)) => {
-            let bytes = read_source(alloc, source, LONGEST_TEXT + 1)?;
-            Ok(Ended::Due(run_source(alloc, &call, &bytes, out)?))
-        }
-        Asked::Job(Job::Exec(call, steps)) => {
-            let bytes = read_source(alloc, source, LONGEST_IMAGE + 1)?;
-            Ok(exec(alloc, &call, steps, &bytes, out)?)
-        }
+        Asked::Job(Job::Run(call)) => run_call(alloc, &call, source, out),
+        Asked::Job(Job::Exec(call, steps)) => exec_call(alloc, &call, steps, source, out),
     }
 }
 
@@ -111,11 +141,11 @@ pub(crate) fn run<S: Source, K: Sink>(
     source: &mut S,
     out: &mut K,
 ) -> Ended
-    ensures owed { Ends (Owed (map string_bytes words.now) (S.left source.old) (IsRisen (S.faults source.old) (S.faults source.new))) result (K.taken out.old) (K.taken out.new) (K.faults out.old) (K.faults out.new) (out.new ≡ out.old) }
+    ensures owed { Ends (Owed (job_of (map string_bytes words.now)) (S.left source.old) (IsRisen (S.faults source.old) (S.faults source.new))) result (K.taken out.old) (K.taken out.new) (K.faults out.old) (K.faults out.new) (out.new ≡ out.old) }
     ensures bound { TookAtMost (most_read (job_of (map string_bytes words.now))) (S.left source.old) (S.left source.new) }
     ensures rose { S.faults source.old < S.faults source.new → IsStatus result (λ status. status ≡ statuses.ReadFault) }
     ensures untouched { job_of (map string_bytes words.now) ≡ None → source.new ≡ source.old }
-    ensures taken { takes command_line (map string_bytes words.now) ≡ true → IsStatus result (λ status. status ≢ statuses.Usage) }
+    ensures taken { AreTaken (map string_bytes words.now) → IsSome (job_of (map string_bytes words.now)) ⊎ IsStatus result (λ status. status ≡ statuses.NoMemory) }
 {
     match try_run(alloc, words, source, out) {
         Ok(ended) => ended,

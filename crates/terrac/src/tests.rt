@@ -2,6 +2,7 @@
 
 use crate::status::Status;
 use crate::terrac::terrac;
+use elf_image::{Bytes, Image, Symbol, Symbols, Words, is_lawful, write};
 use std::alloc::Global;
 use std::process::Abort;
 use std::test::Fail;
@@ -556,4 +557,85 @@ fn limits(rt: HostRuntime) -> Result<(), Fail> {
         check(&rt, rt.alloc(), &row, &NO_FAULTS)?;
     }
     Ok(())
+}
+
+// The file of an image with this text, and one export without parameters at its begin.
+fn image_file(
+    rt: &impl Abort,
+    alloc: Global,
+    text: &[u32],
+    name: &str,
+    code: u8,
+) -> Result<Vec<u8>, Fail> {
+    let mut exports = Symbols::new(alloc);
+    exports.push(Symbol {
+        name: Bytes::from(name.as_bytes().to_vec(alloc)?),
+        address: 0x1_0000,
+        params: Bytes::new(alloc),
+        result: code,
+    })?;
+    let image = Image {
+        text: Words::from(text.to_vec(alloc)?),
+        statics: Bytes::new(alloc),
+        memory: 1_048_576,
+        heap: 0x4000_0000,
+        private: 8_192,
+        exports,
+    };
+    assert!(rt; is_lawful(&image), "a lawful image");
+    Ok(write(alloc, &image)?)
+}
+
+fn row<'a>(words: &'a [&'a str], out: &'a str, notes: &'a str, code: u8) -> Row<'a> {
+    Row {
+        source: "an image",
+        words,
+        out,
+        notes,
+        code,
+    }
+}
+
+// Images that return, that have too few steps, that are none, and that do what the machine refuses.
+#[test]
+fn images(rt: HostRuntime) -> Result<(), Fail> {
+    let alloc = rt.alloc();
+    let five = image_file(&rt, alloc, &[0x0050_0513, 0x0000_8067], "five", 3)?;
+    assert_eq!(rt; five.len(), 769);
+    let rows = [
+        row(&["exec", "five"], "result 5\n", "", 0),
+        row(&["exec", "five", "--steps", "1"], "", "unfinished\n", 9),
+        row(&["exec", "five", "--steps", "2"], "result 5\n", "", 0),
+        row(&["exec", "five", "--steps", "0"], "", "usage\n", 2),
+        row(&["exec", "five", "--steps", "1", "--steps", "1"], "", "usage\n", 2),
+        row(&["exec", "five", "1"], "", "bad argument 1\n", 7),
+        row(&["exec", "six"], "", "no entry six\n", 6),
+        row(&["exec"], "", "usage\n", 2),
+        row(&["exec", "--help"], "", "usage\n", 2),
+    ];
+    for row in &rows {
+        check_bytes(&rt, alloc, &five, row, &NO_FAULTS)?;
+    }
+    let front = row(&["exec", "five"], "", "bad image Short\n", 10);
+    check_bytes(&rt, alloc, &five[..63], &front, &NO_FAULTS)?;
+    let hostile: [(&[u32], &str, u8); 7] = [
+        (&[0x0000_006f], "unfinished\n", 9),
+        (&[0x0010_0073], "machine fault Break at 65536\n", 14),
+        (&[0x0000_0073], "machine fault BadCall at 65536\n", 14),
+        (&[0x0000_3283], "machine fault BadAccess at 65536\n", 14),
+        (&[0x0020_0067], "machine fault BadFetch at 2\n", 14),
+        (&[0x0050_0513], "machine fault BadFetch at 65540\n", 14),
+        (
+            &[0x4000_0893, 0x0090_0513, 0x0000_0073],
+            "machine fault BadCall at 65544\n",
+            14,
+        ),
+    ];
+    for (text, notes, code) in &hostile {
+        let file = image_file(&rt, alloc, text, "f", 0)?;
+        let row = row(&["exec", "f", "--steps", "10"], "", notes, *code);
+        check_bytes(&rt, alloc, &file, &row, &NO_FAULTS)?;
+    }
+    let unit = image_file(&rt, alloc, &[0x0000_8067], "f", 0)?;
+    check_bytes(&rt, alloc, &unit, &row(&["exec", "f"], "result none\n", "", 0), &NO_FAULTS)
 }
