@@ -107,7 +107,7 @@ is_stored ps border key value b = record {
   free = λ other. value_elsewhere ps key value (Number (pos (border + 1))) other ∙ b.free;
 }
 
-key_at : (key : Value) (m : ℕ) → index_in key ≡ suc m → key ≡ Number (pos (suc m))
+pub key_at : (key : Value) (m : ℕ) → index_in key ≡ suc m → key ≡ Number (pos (suc m))
 key_at (Number (pos n)) m e = ap (λ k. Number (pos k)) e
 key_at _ m e = absurd (cc e)
 
