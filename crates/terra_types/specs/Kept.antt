@@ -1,0 +1,71 @@
+-- The table of types: a view of the code, which private contracts cite.
+use Rattle.std.specs.Prelude.{◌≡◌, ℕ, ◌+◌, ◌<◌, ◌≤◌, List, [], ◌∷◌, ◌++◌, map, take, position, slice_get, Option, Some, None}
+use Rattle.tl_base.specs.declared.place.Place.{Place}
+use Rattle.tl_base.specs.declared.ids.TypeId.{TypeId}
+use Rattle.terra_types.specs.declared.elements.Elements.{Elements}
+use Rattle.terra_types.specs.declared.key.TypeKey.{TypeKey}
+use Rattle.terra_types.specs.declared.key.TypeKey.TheVariants as keys
+use Rattle.terra_types.specs.declared.layout.Layout.{Layout}
+use Rattle.terra_types.specs.declared.table.Kept.{Kept}
+use Rattle.terra_types.specs.declared.types.TypeForm.{TypeForm}
+use Rattle.terra_types.specs.declared.types.TypeForm.TheVariants as forms
+use Rattle.terra_types.specs.Elements.{elements_of}
+use Rattle.terra_types.specs.Making.{is_same, structs_in}
+use Rattle.terra_types.specs.Opening.{NamesBelow}
+use Rattle.terra_types.specs.Sizes.{largest_size, for_some}
+
+abbrev pub forms_in : List (TypeKey × Kept) → List TypeForm
+forms_in entries = map (λ e. e.1.form) entries
+
+-- ---- keys
+
+abbrev origin : Place
+origin = record { line = 1; word = 1 }
+
+-- a form of a key; of a struct only its number counts
+abbrev pub form_of_key : TypeKey → TypeForm
+form_of_key (keys.Integer i) = forms.Integer i
+form_of_key keys.Bool = forms.Bool
+form_of_key keys.Unit = forms.Unit
+form_of_key (keys.Pointer t) = forms.Pointer t
+form_of_key (keys.Array t n) = forms.Array t n
+form_of_key (keys.Function params result) = forms.Function params.items result
+form_of_key (keys.Struct number) = forms.Struct number origin None
+
+abbrev pub bare : TypeForm → TypeForm
+bare (forms.Struct number place layout) = forms.Struct number origin None
+bare form = form
+
+abbrev pub Fits : TypeKey → TypeForm → Type 0
+Fits key form = form_of_key key ≡ bare form
+
+abbrev pub AllFit : List (TypeKey × Kept) → Type 0
+AllFit [] = Unit {0}
+AllFit (e ∷ es) = Fits e.0 e.1.form × AllFit es
+
+-- ---- elements
+
+abbrev elements_in : Option (TypeKey × Kept) → Option Elements
+elements_in None = None
+elements_in (Some e) = e.1.elements
+
+-- what is kept of the elements of a type
+abbrev pub elements_at : List (TypeKey × Kept) → TypeId → Option Elements
+elements_at entries t = elements_in (slice_get entries t.0)
+
+abbrev pub elements_for : List (TypeKey × Kept) → TypeForm → Option Elements
+elements_for entries (forms.Array t n) = Some (elements_of t n (elements_at entries t))
+elements_for entries form = None
+
+-- ---- what the table keeps: as `AreTypes`, but for the types that are there from the begin
+
+pub record AreLawful (types : List TypeForm) : Type 0 where
+  pub alone : (i j : ℕ) (t : TypeForm) → slice_get types i ≡ Some t → slice_get types j ≡ Some t → i ≡ j
+  pub before : (i : ℕ) (t : TypeForm) → slice_get types i ≡ Some t → NamesBelow i t
+  pub numbered : (i number : ℕ) (place : Place) (layout : Option Layout) → slice_get types i ≡ Some (forms.Struct number place layout) → number ≡ structs_in (take i types) + 1
+  pub limited : (i number : ℕ) (place : Place) (layout : Layout) → slice_get types i ≡ Some (forms.Struct number place (Some layout)) → (layout.size ≤ largest_size) × (1 ≤ layout.align)
+
+pub record AreKept (entries : List (TypeKey × Kept)) : Type 0 where
+  pub fitting : AllFit entries
+  pub elements : (i : ℕ) (e : TypeKey × Kept) → slice_get entries i ≡ Some e → e.1.elements ≡ elements_for entries e.1.form
+  pub lawful : AreLawful (forms_in entries)

@@ -1,0 +1,14 @@
+-- The types: which id a type has, what every list of types keeps, and what stays.
+pub mod Making
+pub mod Opening
+pub mod Keeping
+-- How many bytes a type has, and where the entries of a struct lie.
+pub mod Sizes
+pub mod Layouts
+-- Lists that grow, by which sizes are found.
+pub mod Grown
+-- Views of the code, which private contracts cite.
+pub mod Elements
+pub mod Spots
+pub mod Kept
+pub mod Holding

@@ -1,0 +1,17 @@
+//! The types of Terra, their sizes and the layouts of structs.
+//!
+//! `types` has the types by their ids, `layout` what a struct's layout is, and `laying` how a layout is found. `key` has what
+//! tells types apart, and `elements` what is kept of nested arrays. `specs/Sizes.antt` says how many bytes a type has and where
+//! they are aligned, `specs/Layouts.antt` where the entries of a struct lie, and `specs/Making.antt` which id a type has.
+#![tactic(auto)]
+
+pub mod elements;
+pub mod key;
+pub mod layout;
+pub mod measure;
+pub mod table;
+pub mod types;
+
+pub use layout::{Entry, Laid, LaidList, Layout, Settled};
+pub use measure::{LARGEST_SIZE, Measure};
+pub use types::{Integer, TypeForm, TypeList, Types};
