@@ -1,0 +1,26 @@
+//! Terra's terms, and the store that keeps them.
+//!
+//! A specialised term is what a definition keeps of a function (`term`), and a typed term what typing makes of it (`typed`). Both
+//! are nodes that name their parts by number, and a part has a smaller number than what it is a part of. The contracts see trees
+//! (`specs/Terms.antt`, `specs/TypedTerms.antt`). `store` has the functions, symbols, quotes, globals, constants and statics.
+#![tactic(auto)]
+
+pub mod lists;
+pub mod operators;
+pub mod refusal;
+pub mod store;
+pub mod term;
+pub mod typed;
+
+pub use lists::{
+    FieldList, OffsetList, Parameter, ParameterList, TermList, TypedName, TypedNameList, VarName,
+    VarNameList,
+};
+pub use operators::{Constant, Operation, Primitive, UnaryOperator};
+pub use refusal::{Refusal, RefusalKind, Standing};
+pub use store::{
+    Export, Function, FunctionState, Quote, Static, Store, Symbol, TerraConstant, TerraGlobal,
+    TextBytes,
+};
+pub use term::{Expression, Initialiser, Statement, Term};
+pub use typed::{Typed, TypedExpression, TypedStatement};

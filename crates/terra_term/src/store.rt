@@ -1,0 +1,533 @@
+// The store of a staging.
+
+ghost use Rattle.std.specs.Prelude.{◌≡◌, ◌≤◌, ◌++◌, ◌∷◌, [], ◌+◌, length, slice_get, IfOk, IfSome, IsOk, OnOk, OnErr};
+ghost use Rattle.std.specs.Option.{option_copied};
+ghost use Rattle.terra_term.specs.Held.{empty, next_symbol, with_symbol, next_function, with_function, state_of, standing_in, standing_of, with_defined, with_state, begun, finished, refused, next_quote, with_quote, next_constant, with_constant, next_term, with_term, next_typed, with_typed, ended, text_address, room_for, placed_text, with_text, placed_global, with_global, name_of, name_place, with_name};
+
+use crate::lists::TermList;
+use crate::refusal::{Refusal, RefusalKind, Standing};
+use crate::term::Term;
+use crate::typed::Typed;
+use std::alloc::Global;
+use std::marker::Model;
+use terra_types::Types;
+use tl_base::{
+    ConstantId, FnId, GlobalId, NoMemory, Place, QuoteId, SymId, TermId, Text, Text2, TextId,
+    TypeId,
+};
+
+/// The address of the first static.
+const FIRST_STATIC: u64 = 0x4000_0000;
+
+/// A symbol, with its type if it has one.
+#[derive(Clone, Copy, Debug, PartialEq, Eq)]
+pub struct Symbol {
+    pub of: Option<TypeId>,
+}
+
+/// How far a function has come, with its term once it is defined, and its typed term once it is typed.
+#[derive(Clone, Copy, Debug, PartialEq, Eq)]
+pub enum FunctionState {
+    Undefined,
+    Defined(TermId),
+    Typing(TermId),
+    Typed(TermId, TermId),
+    Refused(TermId, Refusal),
+}
+
+/// A function: its place, its type where it was declared, and how far it has come.
+#[derive(Clone, Copy, Debug, PartialEq, Eq)]
+pub struct Function {
+    pub place: Place,
+    pub declared: Option<TypeId>,
+    pub state: FunctionState,
+}
+
+/// A quote.
+#[derive(Debug, Drop)]
+pub enum Quote {
+    Expression(TermId),
+    Statements(TermList),
+    /// The term from which it was typed, and its typed term.
+    Typed(TermId, TermId),
+}
+
+/// A global variable: its type and address.
+#[derive(Clone, Copy, Debug, PartialEq, Eq)]
+pub struct TerraGlobal {
+    pub of: TypeId,
+    pub address: u64,
+}
+
+/// A constant that Lua made: its type, and its value's 64 bits.
+#[derive(Clone, Copy, Debug, PartialEq, Eq)]
+pub struct TerraConstant {
+    pub of: TypeId,
+    pub value: u64,
+}
+
+/// Bytes that are there from the begin: a text with a zero byte, which all equal texts share, or a global.
+#[derive(Debug, Drop)]
+pub struct Static {
+    pub address: u64,
+    pub is_text: bool,
+    pub bytes: Text2,
+}
+
+/// The bytes of a name.
+#[derive(Debug, Drop)]
+pub struct TextBytes {
+    pub text: TextId,
+    pub bytes: Text,
+}
+
+/// An exported function.
+#[derive(Debug, Drop)]
+pub struct Export {
+    pub name: Text,
+    pub function: FnId,
+}
+
+/// What a staging has made of Terra: types, symbols, functions, quotes, globals, constants, statics, the names of fields and
+/// methods, and all terms. Ids are places in these lists, and an id past the end names nothing.
+///
+/// Nothing is taken away, and what is there stays as it is, but for the states of functions. After `NoMemory` the store is as it
+/// was.
+#[derive(Drop)]
+pub struct Store {
+    alloc: Global,
+    types: Types,
+    symbols: Vec<Symbol>,
+    functions: Vec<Function>,
+    quotes: Vec<Quote>,
+    globals: Vec<TerraGlobal>,
+    constants: Vec<TerraConstant>,
+    statics: Vec<Static>,
+    names: Vec<TextBytes>,
+    terms: Vec<Term>,
+    typed: Vec<Typed>,
+    /// The first address behind all statics.
+    statics_end: u64,
+}
+
+impl Model for Store {
+    ghost use Rattle.terra_term.specs.Held.{Held};
+
+    ghost Value = { Held };
+
+    ghost view = { λ s. record {
+      types = s.types;
+      symbols = s.symbols.items;
+      functions = s.functions.items;
+      quotes = s.quotes.items;
+      globals = s.globals.items;
+      constants = s.constants.items;
+      statics = s.statics.items;
+      names = s.names.items;
+      terms = s.terms.items;
+      typed = s.typed.items;
+    } };
+
+    ghost use Rattle.terra_term.specs.Statics.{EndsAt};
+
+    ghost invariant = { λ s. EndsAt s.statics.items s.statics_end };
+}
+
+impl Store {
+    /// A store with nothing in it but these types.
+    pub fn new(alloc: Global, types: Types) -> Store
+        ensures { result ≡ empty types }
+    {
+        Store {
+            alloc,
+            types,
+            symbols: Vec::new(alloc),
+            functions: Vec::new(alloc),
+            quotes: Vec::new(alloc),
+            globals: Vec::new(alloc),
+            constants: Vec::new(alloc),
+            statics: Vec::new(alloc),
+            names: Vec::new(alloc),
+            terms: Vec::new(alloc),
+            typed: Vec::new(alloc),
+            statics_end: FIRST_STATIC,
+        }
+    }
+
+    /// The allocator from which the store takes memory.
+    pub fn allocator(&self) -> Global {
+        self.alloc
+    }
+
+    /// The types.
+    pub fn types(&self) -> &Types
+        ensures { result.now ≡ self.now.types }
+    {
+        &self.types
+    }
+
+    /// Makes a symbol, with a type or without.
+    pub fn new_symbol(&mut self, of: Option<TypeId>) -> Result<SymId, NoMemory>
+        ensures id { IfOk result (λ id. id ≡ next_symbol self.old) }
+        ensures ok { OnOk result (self.new ≡ with_symbol self.old of) }
+        ensures err { OnErr result (self.new ≡ self.old) }
+    {
+        let id = SymId(self.symbols.len() as u64);
+        self.symbols.push(Symbol { of })?;
+        Ok(id)
+    }
+
+    /// A symbol; `None` exactly where there is none of that id.
+    pub fn symbol(&self, symbol: SymId) -> Option<Symbol>
+        ensures { result ≡ slice_get self.now.symbols symbol.0 }
+    {
+        self.symbols.get(symbol.0 as usize).copied()
+    }
+
+    /// Makes a function, which is not defined yet. `of` is `None` where its type isn't known yet.
+    pub fn declare(&mut self, of: Option<TypeId>, place: Place) -> Result<FnId, NoMemory>
+        ensures id { IfOk result (λ id. id ≡ next_function self.old) }
+        ensures ok { OnOk result (self.new ≡ with_function self.old of place) }
+        ensures err { OnErr result (self.new ≡ self.old) }
+    {
+        let id = FnId(self.functions.len() as u64);
+        self.functions.push(Function {
+            place,
+            declared: of,
+            state: FunctionState::Undefined,
+        })?;
+        Ok(id)
+    }
+
+    /// A function; `None` exactly where there is none of that id.
+    pub fn function(&self, f: FnId) -> Option<Function>
+        ensures { result ≡ slice_get self.now.functions f.0 }
+    {
+        self.functions.get(f.0 as usize).copied()
+    }
+
+    /// How many functions there are.
+    pub fn function_count(&self) -> u64
+        ensures { result ≡ length self.now.functions }
+    {
+        self.functions.len() as u64
+    }
+
+    /// Where a function stands. One that isn't there is undefined.
+    pub fn standing(&self, f: FnId) -> Standing
+        ensures { result ≡ standing_of self.now f }
+    {
+        match self.functions.get(f.0 as usize) {
+            Some(function) => function.state.standing(),
+            None => Standing::Undefined,
+        }
+    }
+
+    /// How far a function has come. One that isn't there is undefined.
+    fn state(&self, f: FnId) -> FunctionState
+        ensures { result ≡ state_of self.now f }
+    {
+        match self.functions.get(f.0 as usize) {
+            Some(function) => function.state,
+            None => FunctionState::Undefined,
+        }
+    }
+
+    /// Gives a function the state. One that isn't there stays so.
+    fn set_state(&mut self, f: FnId, state: FunctionState)
+        ensures { self.new ≡ with_state self.old f state }
+    {
+        if let Some(function) = self.functions.get_mut(f.0 as usize) {
+            function.state = state;
+        }
+    }
+
+    /// Defines a function that is undefined: it gets its term and the place of its definition. This takes no memory.
+    pub fn define(&mut self, f: FnId, term: TermId, place: Place) -> Result<(), NoMemory>
+        requires { state_of self.old f ≡ FunctionState.Undefined }
+        ensures ok { IsOk result }
+        ensures defined { self.new ≡ with_defined self.old f term place }
+    {
+        if let Some(function) = self.functions.get_mut(f.0 as usize) {
+            function.place = place;
+            function.state = FunctionState::Defined(term);
+        }
+        Ok(())
+    }
+
+    /// The body of a function that is defined is being typed from now on.
+    pub fn begin_typing(&mut self, f: FnId)
+        requires { standing_of self.old f ≡ Standing.Defined }
+        ensures { self.new ≡ with_state self.old f (begun (state_of self.old f)) }
+    {
+        let state = self.state(f).begun();
+        self.set_state(f, state);
+    }
+
+    /// The body of a function that was being typed has this typed term.
+    pub fn finish_typing(&mut self, f: FnId, typed: TermId)
+        requires { standing_of self.old f ≡ Standing.Typing }
+        ensures { self.new ≡ with_state self.old f (finished (state_of self.old f) typed) }
+    {
+        let state = self.state(f).finished(typed);
+        self.set_state(f, state);
+    }
+
+    /// The body of a function that was being typed is refused. The refusal is kept, but for `Undefined`: a function that is so
+    /// refused is only defined again.
+    pub fn refuse(&mut self, f: FnId, refusal: Refusal)
+        requires { standing_of self.old f ≡ Standing.Typing }
+        ensures { self.new ≡ with_state self.old f (refused (state_of self.old f) refusal) }
+    {
+        let state = self.state(f).refused(refusal);
+        self.set_state(f, state);
+    }
+
+    /// Makes a quote.
+    pub fn new_quote(&mut self, quote: Quote) -> Result<QuoteId, NoMemory>
+        ensures id { IfOk result (λ id. id ≡ next_quote self.old) }
+        ensures ok { OnOk result (self.new ≡ with_quote self.old quote) }
+        ensures err { OnErr result (self.new ≡ self.old) }
+    {
+        let id = QuoteId(self.quotes.len() as u64);
+        self.quotes.push(quote)?;
+        Ok(id)
+    }
+
+    /// A quote; `None` exactly where there is none of that id.
+    pub fn quote(&self, quote: QuoteId) -> Option<&Quote>
+        ensures { option_copied result ≡ slice_get self.now.quotes quote.0 }
+    {
+        self.quotes.get(quote.0 as usize)
+    }
+
+    /// Makes a constant.
+    pub fn new_constant(&mut self, constant: TerraConstant) -> Result<ConstantId, NoMemory>
+        ensures id { IfOk result (λ id. id ≡ next_constant self.old) }
+        ensures ok { OnOk result (self.new ≡ with_constant self.old constant) }
+        ensures err { OnErr result (self.new ≡ self.old) }
+    {
+        let id = ConstantId(self.constants.len() as u64);
+        self.constants.push(constant)?;
+        Ok(id)
+    }
+
+    /// A constant; `None` exactly where there is none of that id.
+    pub fn constant(&self, constant: ConstantId) -> Option<TerraConstant>
+        ensures { result ≡ slice_get self.now.constants constant.0 }
+    {
+        self.constants.get(constant.0 as usize).copied()
+    }
+
+    /// Adds a node of specialised code.
+    pub fn new_term(&mut self, term: Term) -> Result<TermId, NoMemory>
+        ensures id { IfOk result (λ id. id ≡ next_term self.old) }
+        ensures ok { OnOk result (self.new ≡ with_term self.old term) }
+        ensures err { OnErr result (self.new ≡ self.old) }
+    {
+        let id = TermId(self.terms.len() as u64);
+        self.terms.push(term)?;
+        Ok(id)
+    }
+
+    /// A node of specialised code; `None` exactly where there is none of that id.
+    pub fn term(&self, term: TermId) -> Option<&Term>
+        ensures { option_copied result ≡ slice_get self.now.terms term.0 }
+    {
+        self.terms.get(term.0 as usize)
+    }
+
+    /// Adds a node of typed code.
+    pub fn new_typed(&mut self, typed: Typed) -> Result<TermId, NoMemory>
+        ensures id { IfOk result (λ id. id ≡ next_typed self.old) }
+        ensures ok { OnOk result (self.new ≡ with_typed self.old typed) }
+        ensures err { OnErr result (self.new ≡ self.old) }
+    {
+        let id = TermId(self.typed.len() as u64);
+        self.typed.push(typed)?;
+        Ok(id)
+    }
+
+    /// A node of typed code; `None` exactly where there is none of that id.
+    pub fn typed(&self, typed: TermId) -> Option<&Typed>
+        ensures { option_copied result ≡ slice_get self.now.typed typed.0 }
+    {
+        self.typed.get(typed.0 as usize)
+    }
+
+    /// Where a static of so many bytes comes to lie; `None` exactly where it would pass half of the memory, which is in bytes.
+    fn room(&self, memory: u64, size: usize) -> Option<u64>
+        requires { memory ≤ 67108864 }
+        ensures next { result ≡ room_for memory self.now.statics size }
+        ensures within { IfSome result (λ address. address + size ≤ 0x4000_0000 + 33554432) }
+    {
+        let next = (self.statics_end + 15) / 16 * 16;
+        let limit = FIRST_STATIC + memory / 2;
+        if next <= limit && size as u64 <= limit - next {
+            Some(next)
+        } else {
+            None
+        }
+    }
+
+    /// The address of a text as a static, with a zero byte behind it. Equal texts share one; a distinct one gets the next
+    /// address that is a multiple of 16. `None` exactly where it would pass half of the memory (in bytes, at most 64 MiB).
+    pub fn text_static(&mut self, text: &[u8], memory: u64) -> Result<Option<u64>, NoMemory>
+        requires { memory ≤ 67108864 }
+        ensures address { IfOk result (λ a. a ≡ placed_text memory self.old.statics (ended text.now)) }
+        ensures ok { OnOk result (self.new ≡ with_text self.old memory (ended text.now)) }
+        ensures err { OnErr result (self.new ≡ self.old) }
+    {
+        let mut bytes = text.to_vec(self.alloc)?;
+        bytes.push(0)?;
+        if let Some(address) = address_of_text(&self.statics, &bytes) {
+            return Ok(Some(address));
+        }
+        let Some(address) = self.room(memory, bytes.len()) else {
+            return Ok(None);
+        };
+        let end = address + bytes.len() as u64;
+        self.statics.push(Static {
+            address,
+            is_text: true,
+            bytes: Text2::from_vec(bytes),
+        })?;
+        self.statics_end = end;
+        Ok(Some(address))
+    }
+
+    /// Makes a global of a type, which begins with these bytes and gets the next address that is a multiple of 16. `None` exactly
+    /// where it would pass half of the memory (in bytes, at most 64 MiB).
+    pub fn new_global(
+        &mut self,
+        of: TypeId,
+        bytes: Text2,
+        memory: u64,
+    ) -> Result<Option<GlobalId>, NoMemory>
+        requires { memory ≤ 67108864 }
+        ensures id { IfOk result (λ id. id ≡ placed_global self.old memory bytes) }
+        ensures ok { OnOk result (self.new ≡ with_global self.old memory of bytes) }
+        ensures err { OnErr result (self.new ≡ self.old) }
+    {
+        let size = bytes.bytes().len();
+        let Some(address) = self.room(memory, size) else {
+            return Ok(None);
+        };
+        let id = GlobalId(self.globals.len() as u64);
+        self.globals.reserve(1)?;
+        self.statics.push(Static {
+            address,
+            is_text: false,
+            bytes,
+        })?;
+        self.globals.push(TerraGlobal { of, address })?;
+        self.statics_end = address + size as u64;
+        Ok(Some(id))
+    }
+
+    /// A global; `None` exactly where there is none of that id.
+    pub fn global(&self, global: GlobalId) -> Option<TerraGlobal>
+        ensures { result ≡ slice_get self.now.globals global.0 }
+    {
+        self.globals.get(global.0 as usize).copied()
+    }
+
+    /// The statics, in order of their addresses.
+    pub fn statics(&self) -> &[Static]
+        ensures { result.now ≡ self.now.statics }
+    {
+        &self.statics
+    }
+
+    /// Keeps the bytes of a name, unless they are kept already.
+    pub fn keep_name(&mut self, text: TextId, bytes: Text) -> Result<(), NoMemory>
+        ensures ok { OnOk result (self.new ≡ with_name self.old text bytes) }
+        ensures err { OnErr result (self.new ≡ self.old) }
+    {
+        match place_of_name(&self.names, text) {
+            Some(_) => Ok(()),
+            None => {
+                self.names.push(TextBytes { text, bytes })?;
+                Ok(())
+            }
+        }
+    }
+
+    /// The bytes of a name; none where they aren't kept.
+    pub fn name(&self, text: TextId) -> &[u8]
+        ensures { result.now ≡ name_of self.now.names text }
+    {
+        match place_of_name(&self.names, text) {
+            Some(place) => match self.names.get(place) {
+                Some(name) => name.bytes.bytes(),
+                None => &[],
+            },
+            None => &[],
+        }
+    }
+}
+
+impl FunctionState {
+    /// Where a function stands that has come so far.
+    pub fn standing(&self) -> Standing
+        ensures { result ≡ standing_in self.now }
+    {
+        match *self {
+            FunctionState::Undefined => Standing::Undefined,
+            FunctionState::Defined(_) => Standing::Defined,
+            FunctionState::Typing(_) => Standing::Typing,
+            FunctionState::Typed(_, _) => Standing::Typed,
+            FunctionState::Refused(_, refusal) => Standing::Refused(refusal),
+        }
+    }
+
+    /// The state once the body is being typed.
+    fn begun(self) -> FunctionState
+        ensures { result ≡ begun self }
+    {
+        match self {
+            FunctionState::Defined(term) => FunctionState::Typing(term),
+            state => state,
+        }
+    }
+
+    /// The state once the body is typed.
+    fn finished(self, typed: TermId) -> FunctionState
+        ensures { result ≡ finished self typed }
+    {
+        match self {
+            FunctionState::Typing(term) => FunctionState::Typed(term, typed),
+            state => state,
+        }
+    }
+
+    /// The state once the body is refused.
+    fn refused(self, refusal: Refusal) -> FunctionState
+        ensures { result ≡ refused self refusal }
+    {
+        match self {
+            FunctionState::Typing(term) => match refusal.kind {
+                RefusalKind::Undefined => FunctionState::Defined(term),
+                _ => FunctionState::Refused(term, refusal),
+            },
+            state => state,
+        }
+    }
+}
+
+/// The address of the text with these bytes, its zero byte included.
+fn address_of_text(statics: &[Static], bytes: &[u8]) -> Option<u64>
+    ensures { result ≡ text_address statics.now bytes.now }
+{
+    statics
+        .iter()
+        .find(|s| s.is_text && s.bytes.bytes() == bytes)
+        .map(|s| s.address)
+}
+
+/// Where the bytes of a name stand.
+fn place_of_name(names: &[TextBytes], text: TextId) -> Option<usize>
+    ensures { result ≡ name_place names.now text }
+{
+    names.iter().position(|name| name.text.0 == text.0)
+}
