@@ -1,1 +1,4 @@
 pub mod Statics
+pub mod Steps
+pub mod Texts
+pub mod Trees

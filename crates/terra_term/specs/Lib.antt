@@ -1,2 +1,11 @@
+-- What a store holds, and what each call makes of it. A reader can stop behind the first two.
 pub mod Held
+-- The text of a function's term, by recursion on its tree.
+pub mod TermText
+-- The trees of both kinds of terms, and how numbered nodes make them.
+pub mod Terms
+pub mod TypedTerms
+pub mod Planted
+-- Views of the code, which private contracts cite.
 pub mod Statics
+pub mod Pieces

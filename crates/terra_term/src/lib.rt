@@ -7,6 +7,8 @@
 
 pub mod lists;
 pub mod operators;
+mod piece;
+mod pieces;
 pub mod refusal;
 pub mod store;
 pub mod term;

@@ -1,0 +1,45 @@
+-- A node's tree is made of those of the nodes before it.
+use Rattle.std.proofs.Common.{◌≡◌, refl, ℕ, zero, suc, ◌+◌, ◌<◌, ◌≤◌, List, [], ◌∷◌, ◌++◌, ◌∙◌, ap, sym, arith, take, drop, length, append_assoc, append-nil, length-append, Option, Some, None, slice_get}
+use Rattle.std.specs.Prelude.{option_map}
+use Rattle.std.proofs.lemmas.List.{take-append-drop}
+use Rattle.tl_base.specs.declared.ids.TermId.{TermId}
+use Rattle.terra_term.specs.declared.term.Term as nodes
+use Rattle.terra_types.specs.Grown.{grown}
+use Rattle.terra_term.specs.Terms as terms
+use Rattle.terra_term.specs.Planted.{planted, trees, term_at, term_in, statement_at, doing_in}
+
+-- what a list that grows gets behind what was there
+later : {A B : Type 0} → (List A → B → A) → List A → List B → List A
+later make before [] = []
+later make before (x ∷ xs) = make before x ∷ later make (before ++ make before x ∷ []) xs
+
+grown-later : {A B : Type 0} (make : List A → B → A) (before : List A) (xs : List B) → grown make before xs ≡ before ++ later make before xs
+unfolding later
+grown-later make before [] = sym (append-nil before)
+grown-later make before (x ∷ xs) = grown-later make (before ++ make before x ∷ []) xs ∙ append_assoc before (make before x ∷ []) (later make (before ++ make before x ∷ []) xs)
+
+-- the element at a place is made of those before it
+get-later : {A B : Type 0} (make : List A → B → A) (before : List A) (xs : List B) (i : ℕ) → slice_get (later make before xs) i ≡ option_map (make (before ++ take i (later make before xs))) (slice_get xs i)
+unfolding later
+get-later make before [] i = refl
+get-later make before (x ∷ xs) zero = ap (λ (l : List _). Some (make l x)) (sym (append-nil before))
+get-later make before (x ∷ xs) (suc i) =
+    get-later make (before ++ make before x ∷ []) xs i ∙
+    ap (λ (l : List _). option_map (make l) (slice_get xs i)) (append_assoc before (make before x ∷ []) (take i (later make (before ++ make before x ∷ []) xs)))
+
+pub tree-at : (ns : List nodes.Term) (i : ℕ) → slice_get (trees ns) i ≡ option_map (planted (take i (trees ns))) (slice_get ns i)
+tree-at ns i =
+    let same : trees ns ≡ later planted [] ns = grown-later planted [] ns in
+    rw same (get-later planted [] ns i)
+
+get-take : {A : Type 0} (xs : List A) (n i : ℕ) → i < n → slice_get (take n xs) i ≡ slice_get xs i
+get-take xs zero i h = absurd (omega (arith, h))
+get-take [] (suc n) i h = refl
+get-take (x ∷ xs) (suc n) zero h = refl
+get-take (x ∷ xs) (suc n) (suc i) h = get-take xs n i (omega (arith, h))
+
+get-past : {A : Type 0} (xs : List A) (n i : ℕ) → n ≤ i → slice_get (take n xs) i ≡ None
+get-past xs zero i h = refl
+get-past [] (suc n) i h = refl
+get-past (x ∷ xs) (suc n) zero h = absurd (omega (arith, h))
+get-past (x ∷ xs) (suc n) (suc i) h = get-past xs n i (omega (arith, h))
