@@ -1,5 +1,5 @@
 -- The table of types: a view of the code, which private contracts cite.
-use Rattle.std.specs.Prelude.{◌≡◌, ℕ, ◌+◌, ◌<◌, ◌≤◌, List, [], ◌∷◌, ◌++◌, map, take, position, slice_get, Option, Some, None}
+use Rattle.std.specs.Prelude.{◌≡◌, ℕ, ◌+◌, ◌≤◌, List, [], ◌∷◌, ◌++◌, map, take, position, slice_get, Option, Some, None}
 use Rattle.tl_base.specs.declared.place.Place.{Place}
 use Rattle.tl_base.specs.declared.ids.TypeId.{TypeId}
 use Rattle.terra_types.specs.declared.elements.Elements.{Elements}
@@ -12,7 +12,7 @@ use Rattle.terra_types.specs.declared.types.TypeForm.TheVariants as forms
 use Rattle.terra_types.specs.Elements.{elements_of}
 use Rattle.terra_types.specs.Making.{is_same, structs_in}
 use Rattle.terra_types.specs.Opening.{NamesBelow}
-use Rattle.terra_types.specs.Sizes.{largest_size, for_some}
+use Rattle.terra_types.specs.Sizes.{largest_size}
 
 abbrev pub forms_in : List (TypeKey × Kept) → List TypeForm
 forms_in entries = map (λ e. e.1.form) entries
@@ -43,9 +43,22 @@ abbrev pub AllFit : List (TypeKey × Kept) → Type 0
 AllFit [] = Unit {0}
 AllFit (e ∷ es) = Fits e.0 e.1.form × AllFit es
 
+-- ---- what is there after a type is asked for
+
+abbrev pub kept_in : Option ℕ → List (TypeKey × Kept) → TypeKey → Kept → List (TypeKey × Kept)
+kept_in (Some place) entries key kept = entries
+kept_in None entries key kept = entries ++ (key, kept) ∷ []
+
+abbrev pub with_kept : List (TypeKey × Kept) → TypeKey → Kept → List (TypeKey × Kept)
+with_kept entries key kept = kept_in (position (is_same kept.form) (forms_in entries)) entries key kept
+
+-- what is kept of a type that is no array
+abbrev pub plain : TypeForm → Kept
+plain form = record { form = form; elements = None }
+
 -- ---- elements
 
-abbrev elements_in : Option (TypeKey × Kept) → Option Elements
+abbrev pub elements_in : Option (TypeKey × Kept) → Option Elements
 elements_in None = None
 elements_in (Some e) = e.1.elements
 
