@@ -5,5 +5,7 @@ pub mod Pushing
 pub mod Held
 pub mod Structs
 pub mod Begun
+pub mod Spreading
+pub mod Measures
 pub mod SpotLemmas
 pub mod Examples

@@ -146,7 +146,7 @@ elements-push es e n (forms.Pointer t) h below = refl
 elements-push es e n (forms.Function ps r) h below = refl
 elements-push es e n (forms.Struct m p l) h below = refl
 
-form-at : (es : List (TypeKey × Kept)) (i : ℕ) (e : TypeKey × Kept) → slice_get es i ≡ Some e → slice_get (forms_in es) i ≡ Some e.1.form
+pub form-at : (es : List (TypeKey × Kept)) (i : ℕ) (e : TypeKey × Kept) → slice_get es i ≡ Some e → slice_get (forms_in es) i ≡ Some e.1.form
 form-at es i e at = slice_get-map (λ e. e.1.form) es i ∙ ap (option_map (λ e. e.1.form)) at
 
 elements-at-push : (es : List (TypeKey × Kept)) (e : TypeKey × Kept) → AreKept es → NamesBelow (length es) e.1.form → e.1.elements ≡ elements_for es e.1.form → (i : ℕ) (x : TypeKey × Kept) → Where es e i x → x.1.elements ≡ elements_for (es ++ e ∷ []) x.1.form

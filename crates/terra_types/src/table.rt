@@ -1,8 +1,8 @@
 // The table of types.
 
-ghost use Rattle.std.specs.Prelude.{◌≡◌, ◌+◌, ◌≤◌, length, slice_get, IfOk, OnOk, OnErr};
-ghost use Rattle.std.specs.Option.{option_copied, option_map};
-ghost use Rattle.terra_types.specs.Kept.{Fits, AllFit, forms_in, elements_at, plain, with_kept};
+ghost use Rattle.std.specs.Prelude.{◌≡◌, ◌+◌, ◌≤◌, length, IfOk, OnOk, OnErr};
+ghost use Rattle.std.specs.Option.{option_copied};
+ghost use Rattle.terra_types.specs.Kept.{Fits, AllFit, forms_in, elements_at, kept_at, plain, with_kept};
 ghost use Rattle.terra_types.specs.Holding.{opening_entries};
 ghost use Rattle.terra_types.specs.Making.{id_of};
 
@@ -25,7 +25,7 @@ pub type Table = IndexMap<TypeKey, Kept>;
 
 /// What is kept of a type.
 pub(crate) fn kept_of(table: &Table, t: TypeId) -> Option<&Kept>
-    ensures { option_copied result ≡ option_map (λ e. e.1) (slice_get table.now.entries t.0) }
+    ensures { option_copied result ≡ kept_at table.now.entries t }
 {
     match table.get_index(t.0 as usize) {
         Some((_, kept)) => Some(kept),

@@ -1,18 +1,21 @@
 // The types by their ids.
 
-ghost use Rattle.std.specs.Prelude.{◌≡◌, ◌<◌, ℕ, length, slice_get, IfOk, OnOk, OnErr};
+ghost use Rattle.std.specs.Prelude.{◌≡◌, ◌<◌, ℕ, length, slice_get, Some, IfOk, OnOk, OnErr};
 ghost use Rattle.tl_base.specs.declared.ids.TypeId.{TypeId};
 ghost use Rattle.std.specs.Option.{option_copied};
+ghost use Rattle.terra_types.specs.Layouts.{entries_in, entry_named, offset_of};
+ghost use Rattle.terra_types.specs.Sizes.{for_some, size_of, align_of};
 ghost use Rattle.terra_types.specs.Making.{id_of, with_form, with_struct};
 ghost use Rattle.terra_types.specs.Opening.{AreTypes, opening_types};
 
 use crate::elements::nested_elements;
 use crate::key::TypeKey;
 use crate::layout::Layout;
+use crate::measuring::measure_in;
 use crate::table::{Kept, Table, elements_of_type, intern, kept_of, next_number, opening_table};
 use std::alloc::Global;
 use std::marker::Model;
-use tl_base::{NoMemory, Place, TypeId};
+use tl_base::{NoMemory, Place, TextId, TypeId};
 
 /// The integer types.
 #[derive(Clone, Copy, Debug, PartialEq, Eq, Hash)]
@@ -25,6 +28,32 @@ pub enum Integer {
     Uint16,
     Uint32,
     Uint64,
+}
+
+impl Integer {
+    ghost use Rattle.terra_types.specs.Sizes.{bytes_of, is_signed};
+
+    /// How many bytes a number of the type has.
+    pub fn bytes(self) -> u64
+        ensures { result ≡ bytes_of self }
+    {
+        match self {
+            Integer::Int8 | Integer::Uint8 => 1,
+            Integer::Int16 | Integer::Uint16 => 2,
+            Integer::Int32 | Integer::Uint32 => 4,
+            Integer::Int64 | Integer::Uint64 => 8,
+        }
+    }
+
+    /// Whether numbers of the type have a sign.
+    pub fn is_signed(self) -> bool
+        ensures { result ≡ is_signed self }
+    {
+        match self {
+            Integer::Int8 | Integer::Int16 | Integer::Int32 | Integer::Int64 => true,
+            Integer::Uint8 | Integer::Uint16 | Integer::Uint32 | Integer::Uint64 => false,
+        }
+    }
 }
 
 /// Ids of types in order. Contracts see the list.
@@ -198,5 +227,52 @@ impl Types {
         let id = intern(&mut self.table, TypeKey::Struct(number), kept)?;
         self.structs = number;
         Ok(id)
+    }
+
+    /// How many bytes a type has. `None` where its layout isn't settled, where it would pass the limit, or where there is no such
+    /// type.
+    pub fn size_of(&self, t: TypeId) -> Option<u64>
+        ensures { result ≡ size_of self.now t }
+    {
+        match measure_in(&self.table, t) {
+            Some(measure) => Some(measure.size),
+            None => None,
+        }
+    }
+
+    /// What the addresses of a type are multiples of, where the type has a size.
+    pub fn align_of(&self, t: TypeId) -> Option<u64>
+        ensures { result ≡ align_of self.now t }
+    {
+        match measure_in(&self.table, t) {
+            Some(measure) => Some(measure.align),
+            None => None,
+        }
+    }
+
+    /// The offset in bytes of a struct's field. `None` where the struct's layout isn't settled, or it has no such field.
+    pub fn offset_of(&self, t: TypeId, field: TextId) -> Option<u64>
+        ensures { result ≡ offset_of self.now t field }
+    {
+        match kept_of(&self.table, t) {
+            Some(kept) => offset_in(&kept.form, field),
+            None => None,
+        }
+    }
+}
+
+/// The offset of a field in a form.
+fn offset_in(form: &TypeForm, field: TextId) -> Option<u64>
+    ensures { result ≡ for_some (entry_named field (entries_in form.now)) (λ laid. Some laid.offset) }
+{
+    match form {
+        TypeForm::Struct(_, _, layout) => match layout {
+            Some(layout) => match layout.entries.find(field) {
+                Some(laid) => Some(laid.offset),
+                None => None,
+            },
+            None => None,
+        },
+        _ => None,
     }
 }
