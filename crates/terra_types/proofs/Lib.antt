@@ -1,5 +1,11 @@
 pub mod Inserting
 pub mod Growing
 pub mod Keys
+pub mod Pushing
+pub mod Held
+pub mod Structs
+pub mod Begun
+pub mod Spreading
+pub mod Measures
 pub mod SpotLemmas
 pub mod Examples

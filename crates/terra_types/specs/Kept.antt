@@ -1,5 +1,6 @@
 -- The table of types: a view of the code, which private contracts cite.
-use Rattle.std.specs.Prelude.{◌≡◌, ℕ, ◌+◌, ◌<◌, ◌≤◌, List, [], ◌∷◌, ◌++◌, map, take, position, slice_get, Option, Some, None}
+use Rattle.std.specs.Prelude.{◌≡◌, ℕ, ◌+◌, ◌≤◌, List, [], ◌∷◌, ◌++◌, map, take, position, slice_get, Option, Some, None}
+use Rattle.std.specs.Option.{option_map}
 use Rattle.tl_base.specs.declared.place.Place.{Place}
 use Rattle.tl_base.specs.declared.ids.TypeId.{TypeId}
 use Rattle.terra_types.specs.declared.elements.Elements.{Elements}
@@ -9,10 +10,11 @@ use Rattle.terra_types.specs.declared.layout.Layout.{Layout}
 use Rattle.terra_types.specs.declared.table.Kept.{Kept}
 use Rattle.terra_types.specs.declared.types.TypeForm.{TypeForm}
 use Rattle.terra_types.specs.declared.types.TypeForm.TheVariants as forms
-use Rattle.terra_types.specs.Elements.{elements_of}
+use Rattle.terra_types.specs.declared.measure.Measure.{Measure}
+use Rattle.terra_types.specs.Elements.{elements_of, spread}
 use Rattle.terra_types.specs.Making.{is_same, structs_in}
 use Rattle.terra_types.specs.Opening.{NamesBelow}
-use Rattle.terra_types.specs.Sizes.{largest_size, for_some}
+use Rattle.terra_types.specs.Sizes.{largest_size, for_some, measured}
 
 abbrev pub forms_in : List (TypeKey × Kept) → List TypeForm
 forms_in entries = map (λ e. e.1.form) entries
@@ -43,9 +45,22 @@ abbrev pub AllFit : List (TypeKey × Kept) → Type 0
 AllFit [] = Unit {0}
 AllFit (e ∷ es) = Fits e.0 e.1.form × AllFit es
 
+-- ---- what is there after a type is asked for
+
+abbrev pub kept_in : Option ℕ → List (TypeKey × Kept) → TypeKey → Kept → List (TypeKey × Kept)
+kept_in (Some place) entries key kept = entries
+kept_in None entries key kept = entries ++ (key, kept) ∷ []
+
+abbrev pub with_kept : List (TypeKey × Kept) → TypeKey → Kept → List (TypeKey × Kept)
+with_kept entries key kept = kept_in (position (is_same kept.form) (forms_in entries)) entries key kept
+
+-- what is kept of a type that is no array
+abbrev pub plain : TypeForm → Kept
+plain form = record { form = form; elements = None }
+
 -- ---- elements
 
-abbrev elements_in : Option (TypeKey × Kept) → Option Elements
+abbrev pub elements_in : Option (TypeKey × Kept) → Option Elements
 elements_in None = None
 elements_in (Some e) = e.1.elements
 
@@ -56,6 +71,22 @@ elements_at entries t = elements_in (slice_get entries t.0)
 abbrev pub elements_for : List (TypeKey × Kept) → TypeForm → Option Elements
 elements_for entries (forms.Array t n) = Some (elements_of t n (elements_at entries t))
 elements_for entries form = None
+
+-- ---- measures, as they are read
+
+-- what is kept of a type
+abbrev pub kept_at : List (TypeKey × Kept) → TypeId → Option Kept
+kept_at entries t = option_map (λ e. e.1) (slice_get entries t.0)
+
+abbrev pub own_measure : Kept → Option Measure
+own_measure kept = measured [] kept.form
+
+abbrev pub by_elements : List (TypeKey × Kept) → Kept → Option Elements → Option Measure
+by_elements entries kept None = own_measure kept
+by_elements entries kept (Some x) = for_some (for_some (kept_at entries x.of) own_measure) (spread x)
+
+abbrev pub kept_measure : List (TypeKey × Kept) → TypeId → Option Measure
+kept_measure entries t = for_some (kept_at entries t) (λ kept. by_elements entries kept kept.elements)
 
 -- ---- what the table keeps: as `AreTypes`, but for the types that are there from the begin
 

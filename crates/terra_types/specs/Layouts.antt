@@ -65,7 +65,7 @@ entry_named field [] = None
 entry_named field (l ∷ ls) = if nat_eq field.0 l.field.0 then Some l else entry_named field ls
 
 -- the entries of a type: those of a struct whose layout is settled
-abbrev entries_in : TypeForm → List Laid
+abbrev pub entries_in : TypeForm → List Laid
 entries_in (forms.Struct number place (Some l)) = l.entries
 entries_in _ = []
 

@@ -37,11 +37,11 @@ is_same (forms.Struct n p l) (forms.Struct m q k) = n == m
 is_same _ _ = false
 
 -- the id of a type: its place in the list where it stands there, and else the place behind the others
-abbrev id_in : Option ℕ → List TypeForm → TypeId
+abbrev pub id_in : Option ℕ → List TypeForm → TypeId
 id_in (Some place) types = record { 0 = place }
 id_in None types = record { 0 = length types }
 
-abbrev types_in : Option ℕ → List TypeForm → TypeForm → List TypeForm
+abbrev pub types_in : Option ℕ → List TypeForm → TypeForm → List TypeForm
 types_in (Some place) types form = types
 types_in None types form = types ++ form ∷ []
 

@@ -1,5 +1,4 @@
 -- The entries of a layout as the code keeps them: a view of the code, which private contracts cite.
-use Rattle.std.specs.Prelude.{ℕ}
 use Rattle.tl_base.specs.declared.ids.TextId.{TextId}
 use Rattle.terra_types.specs.declared.layout.Laid.{Laid}
 use Rattle.terra_types.specs.declared.layout.Spot.{Spot}

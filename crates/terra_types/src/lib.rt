@@ -9,6 +9,7 @@ pub mod elements;
 pub mod key;
 pub mod layout;
 pub mod measure;
+pub mod measuring;
 pub mod table;
 pub mod types;
 
