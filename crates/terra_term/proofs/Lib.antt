@@ -2,3 +2,4 @@ pub mod Statics
 pub mod Steps
 pub mod Texts
 pub mod Trees
+pub mod Parts

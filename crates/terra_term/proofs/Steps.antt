@@ -1,5 +1,7 @@
 -- Steps of the loops that write lists of pieces.
 use Rattle.std.proofs.Common.{◌≤◌, arith, ◌≡◌, refl, ℕ, ◌+◌, ◌<◌, List, [], ◌∷◌, ◌++◌, ◌∙◌, ap, sym, drop, length, get_or, append_assoc, add-one, drop-cons}
+use Rattle.std.proofs.Common.{Result, Ok, Err}
+use Rattle.std.specs.Prelude.{IfOk, OnOk}
 use Rattle.std.proofs.lemmas.List.{drop_all}
 use Rattle.tl_base.specs.declared.ids.TermId.{TermId}
 use Rattle.terra_term.specs.declared.piece.Piece.{Piece}
@@ -7,7 +9,10 @@ use Rattle.terra_term.specs.declared.piece.PartKind.{PartKind}
 use Rattle.tl_base.specs.declared.ids.TextId.{TextId}
 use Rattle.terra_term.specs.declared.lists.VarName.{VarName}
 use Rattle.terra_term.specs.declared.lists.Parameter.{Parameter}
-use Rattle.terra_term.specs.Pieces.{space, part_of, spaced_parts, spaced_terms, name_pieces, spaced_names, parameter_pieces, spaced_parameters, named_value, named_values}
+use Rattle.terra_term.specs.Pieces.{space, part_of, spaced_parts, spaced_terms, name_pieces, spaced_names, parameter_pieces, spaced_parameters, named_value, named_values, comma_types}
+use Rattle.tl_base.specs.declared.ids.TypeId.{TypeId}
+use Rattle.terra_term.specs.declared.piece.Word.TheVariants as words
+use Rattle.terra_term.specs.declared.piece.Piece.TheVariants as pieces
 
 pub parts-step : (kind : PartKind) (below : ℕ) (front : List Piece) (ids : List TermId) (i : ℕ) (d : TermId) → i < length ids → ((front ++ space ∷ []) ++ part_of kind below (get_or ids i d) ∷ []) ++ spaced_parts kind below (drop (i + 1) ids) ≡ front ++ spaced_parts kind below (drop i ids)
 parts-step kind below front ids i d h = rw (add-one, drop-cons ids i d) (simp append_assoc)
@@ -26,3 +31,15 @@ named-stop below fields values i d h k = rw (drop-cons fields i d, drop_all i va
 
 pub named-end : (below : ℕ) (fields : List TextId) (values : List TermId) → named_values below (drop (length fields) fields) (drop (length fields) values) ≡ spaced_terms below (drop (length fields) values)
 named-end below fields values = rw (drop_all (length fields) fields (omega arith)) refl
+
+pub types-step : (below : ℕ) (front : List Piece) (ts : List TypeId) (i : ℕ) (d : TypeId) → i < length ts → ((front ++ pieces.Word words.Comma ∷ []) ++ pieces.TypeBefore (get_or ts i d) below ∷ []) ++ comma_types below (drop (i + 1) ts) ≡ front ++ comma_types below (drop i ts)
+types-step below front ts i d h = rw (add-one, drop-cons ts i d) (simp append_assoc)
+
+-- what follows from what an answer has
+pub if-ok : {T E : Type 0} {P Q : T → Type 0} (r : Result T E) → IfOk r P → ((v : T) → P v → Q v) → IfOk r Q
+if-ok (Ok v) h go = go v h
+if-ok (Err e) h go = h
+
+pub on-ok : {T E : Type 0} {P Q : Type 0} (r : Result T E) → OnOk r P → (P → Q) → OnOk r Q
+on-ok (Ok v) h go = go h
+on-ok (Err e) h go = h

@@ -6,6 +6,8 @@ use Rattle.tl_base.specs.declared.ids.FnId.{FnId}
 use Rattle.tl_base.specs.declared.ids.TermId.{TermId}
 use Rattle.tl_base.specs.declared.ids.TextId.{TextId}
 use Rattle.tl_base.specs.declared.ids.TypeId.{TypeId}
+use Rattle.terra_types.specs.declared.types.TypeForm.{TypeForm}
+use Rattle.terra_types.specs.declared.types.TypeForm.TheVariants as forms
 use Rattle.terra_term.specs.declared.lists.Parameter.{Parameter}
 use Rattle.terra_term.specs.declared.lists.VarName.{VarName}
 use Rattle.terra_term.specs.declared.piece.Word.TheVariants as words
@@ -21,8 +23,8 @@ use Rattle.terra_term.specs.declared.term.Initialiser.TheVariants.{Positional, N
 use Rattle.terra_term.specs.Terms as terms
 use Rattle.terra_term.specs.Planted.{trees, term_at, statement_at, list_at, block_at, form_of, doing_of}
 use Rattle.terra_term.specs.Held.{Held, name_of}
-use Rattle.terra_term.specs.TermText.{symbol_text, function_name, number_text, primitive_text, type_text, global_address, typed_name_text, Bytes, spaced, between_spaces, bracketed, in_do, in_brackets, bounds_text, initialisers, name_text, names_text, parameters_text, result_text, text_of, texts_of, statement_text, block_texts, definition_text}
-use Rattle.terra_term.specs.Pieces.{piece_text, text_in, opening, closing, space, part, part_of, spaced_parts, spaced_terms, spaced_statements, listed_terms, form, word_form, in_brackets_pieces, do_pieces, new_pieces, assignment_pieces, for_pieces, typed_name_pieces, name_pieces, spaced_names, listed_names, parameter_pieces, spaced_parameters, listed_parameters, named_value, named_values, bounds_pieces, expression_pieces, var_pieces, choice_pieces, statement_pieces, result_pieces, definition_pieces}
+use Rattle.terra_term.specs.TermText.{symbol_text, function_name, number_digits, made, all_made, type_made, type_texts, behind_commas, between_commas, primitive_text, type_text, integer_text, global_address, typed_name_text, Bytes, spaced, between_spaces, bracketed, in_do, in_brackets, bounds_text, initialisers, name_text, names_text, parameters_text, result_text, text_of, texts_of, statement_text, block_texts, definition_text}
+use Rattle.terra_term.specs.Pieces.{piece_text, text_in, opening, closing, space, part, part_of, spaced_parts, spaced_terms, spaced_statements, listed_terms, form, word_form, in_brackets_pieces, do_pieces, new_pieces, assignment_pieces, for_pieces, typed_name_pieces, name_pieces, spaced_names, listed_names, parameter_pieces, spaced_parameters, listed_parameters, named_value, named_values, bounds_pieces, expression_pieces, var_pieces, choice_pieces, statement_pieces, result_pieces, definition_pieces, comma_types, listed_types, function_type_pieces, type_pieces}
 
 pub text-append : (h : Held) (ps qs : List Piece) → text_in h (ps ++ qs) ≡ text_in h ps ++ text_in h qs
 text-append h [] qs = refl
@@ -112,7 +114,9 @@ new-text h below at of (Named fields values) =
     form-text h (pieces.Word words.New) (space ∷ pieces.Type of ∷ named_values below fields values) (type_text h.types of ∷ initialisers h.names fields (text_parts h below values)) (rw (named-texts h below fields values) refl)
 
 pub expression-text : (h : Held) (below : ℕ) (at : Place) (x : expressions.Expression) → text_in h (expression_pieces h below x) ≡ text_of h (terms.term at (form_of (before h below) x))
-expression-text h below at (e.Number bits of) = append-nil (number_text h.types bits of)
+expression-text h below at (e.Number bits of) =
+    ap (λ (bs : Bytes). number_digits h.types bits of ++ (codes ":" ++ bs)) (append-nil (type_text h.types of)) ∙
+    sym (append_assoc (number_digits h.types bits of) (codes ":") (type_text h.types of))
 expression-text h below at (e.Truth true) = refl
 expression-text h below at (e.Truth false) = refl
 expression-text h below at e.Nil = refl
@@ -212,3 +216,27 @@ definition-text h f below ps of body =
     (text-append h (in_brackets_pieces (listed_parameters ps)) (space ∷ result_pieces of ∷ spaced_statements below body) ∙
     both (brackets-text h (listed_parameters ps) (parameters_text h.types ps) (listed-parameters-text h ps))
     (ap (λ (bs : Bytes). codes " " ++ bs) (both (result-text h of) (statements-text h below body)))))
+
+commas-text : (h : Held) (below : ℕ) (ts : List TypeId) → text_in h (comma_types below ts) ≡ behind_commas (all_made (take below (type_texts h.types)) ts)
+commas-text h below [] = refl
+commas-text h below (t ∷ ts) = rw (commas-text h below ts) refl
+
+listed-types-text : (h : Held) (below : ℕ) (ts : List TypeId) → text_in h (listed_types below ts) ≡ between_commas (all_made (take below (type_texts h.types)) ts)
+listed-types-text h below [] = refl
+listed-types-text h below (t ∷ ts) = rw (commas-text h below ts) refl
+
+-- a type's pieces are its text
+pub type-pieces-text : (h : Held) (below : ℕ) (form' : TypeForm) → text_in h (type_pieces below form') ≡ type_made (take below (type_texts h.types)) form'
+type-pieces-text h below (forms.Integer i) = append-nil (integer_text i)
+type-pieces-text h below forms.Bool = refl
+type-pieces-text h below forms.Unit = refl
+type-pieces-text h below (forms.Pointer t) = ap (λ (bs : Bytes). codes "&" ++ bs) (append-nil (made (take below (type_texts h.types)) t))
+type-pieces-text h below (forms.Array t n) = simp (append_assoc, append-nil)
+type-pieces-text h below (forms.Function parameters of) =
+    rw (text-append h (listed_types below parameters) (pieces.Word words.Arrow ∷ pieces.TypeBefore of below ∷ []), listed-types-text h below parameters) (simp (append_assoc, append-nil))
+type-pieces-text h below (forms.Struct number place layout) = ap (λ (bs : Bytes). codes "struct " ++ bs) (append-nil (decimal number))
+
+-- a part's own pieces in its place
+pub part-step : (h : Held) (out : List ℕ) (ps work new : List Piece) (text : List ℕ) → new ≡ ps ++ work → text_in h ps ≡ text → out ++ text_in h new ≡ (out ++ text) ++ text_in h work
+part-step h out ps work new text moved same =
+    rw (moved, text-append h ps work, same) (sym (append_assoc out text (text_in h work)))

@@ -5,6 +5,8 @@ use Rattle.std.proofs.lemmas.List.{take-append-drop}
 use Rattle.tl_base.specs.declared.ids.TermId.{TermId}
 use Rattle.terra_term.specs.declared.term.Term as nodes
 use Rattle.terra_types.specs.Grown.{grown}
+use Rattle.terra_types.specs.declared.types.TypeForm.{TypeForm}
+use Rattle.terra_term.specs.TermText.{type_texts, type_made}
 use Rattle.terra_term.specs.Terms as terms
 use Rattle.terra_term.specs.Planted.{planted, trees, term_at, term_in, statement_at, doing_in}
 
@@ -27,18 +29,24 @@ get-later make before (x ∷ xs) (suc i) =
     get-later make (before ++ make before x ∷ []) xs i ∙
     ap (λ (l : List _). option_map (make l) (slice_get xs i)) (append_assoc before (make before x ∷ []) (take i (later make (before ++ make before x ∷ []) xs)))
 
-pub tree-at : (ns : List nodes.Term) (i : ℕ) → slice_get (trees ns) i ≡ option_map (planted (take i (trees ns))) (slice_get ns i)
-tree-at ns i =
-    let same : trees ns ≡ later planted [] ns = grown-later planted [] ns in
-    rw same (get-later planted [] ns i)
+grown-get : {A B : Type 0} (make : List A → B → A) (xs : List B) (i : ℕ) → slice_get (grown make [] xs) i ≡ option_map (make (take i (grown make [] xs))) (slice_get xs i)
+grown-get make xs i =
+    let same : grown make [] xs ≡ later make [] xs = grown-later make [] xs in
+    rw same (get-later make [] xs i)
 
-get-take : {A : Type 0} (xs : List A) (n i : ℕ) → i < n → slice_get (take n xs) i ≡ slice_get xs i
+pub tree-at : (ns : List nodes.Term) (i : ℕ) → slice_get (trees ns) i ≡ option_map (planted (take i (trees ns))) (slice_get ns i)
+tree-at ns i = grown-get planted ns i
+
+pub type-text-at : (types : List TypeForm) (i : ℕ) → slice_get (type_texts types) i ≡ option_map (type_made (take i (type_texts types))) (slice_get types i)
+type-text-at types i = grown-get type_made types i
+
+pub get-take : {A : Type 0} (xs : List A) (n i : ℕ) → i < n → slice_get (take n xs) i ≡ slice_get xs i
 get-take xs zero i h = absurd (omega (arith, h))
 get-take [] (suc n) i h = refl
 get-take (x ∷ xs) (suc n) zero h = refl
 get-take (x ∷ xs) (suc n) (suc i) h = get-take xs n i (omega (arith, h))
 
-get-past : {A : Type 0} (xs : List A) (n i : ℕ) → n ≤ i → slice_get (take n xs) i ≡ None
+pub get-past : {A : Type 0} (xs : List A) (n i : ℕ) → n ≤ i → slice_get (take n xs) i ≡ None
 get-past xs zero i h = refl
 get-past [] (suc n) i h = refl
 get-past (x ∷ xs) (suc n) zero h = absurd (omega (arith, h))

@@ -6,6 +6,8 @@ use Rattle.tl_base.specs.declared.ids.FnId.{FnId}
 use Rattle.tl_base.specs.declared.ids.TermId.{TermId}
 use Rattle.tl_base.specs.declared.ids.TextId.{TextId}
 use Rattle.tl_base.specs.declared.ids.TypeId.{TypeId}
+use Rattle.terra_types.specs.declared.types.TypeForm.{TypeForm}
+use Rattle.terra_types.specs.declared.types.TypeForm.TheVariants as forms
 use Rattle.terra_term.specs.declared.lists.Parameter.{Parameter}
 use Rattle.terra_term.specs.declared.lists.VarName.{VarName}
 use Rattle.terra_term.specs.declared.piece.Word.{Word}
@@ -25,7 +27,7 @@ use Rattle.terra_term.specs.declared.term.Initialiser.TheVariants.{Positional, N
 use Rattle.terra_term.specs.declared.store.TerraGlobal.{TerraGlobal}
 use Rattle.terra_term.specs.Planted.{trees, term_at, statement_at}
 use Rattle.terra_term.specs.Held.{Held, name_of}
-use Rattle.terra_term.specs.TermText.{text_of, statement_text, symbol_text, function_name, number_text, type_text, unary_text, binary_text, primitive_text, global_address}
+use Rattle.terra_term.specs.TermText.{text_of, statement_text, symbol_text, function_name, number_digits, made, type_texts, type_text, integer_text, unary_text, binary_text, primitive_text, global_address}
 
 abbrev pub word_text : Word → List ℕ
 word_text words.Open = codes "("
@@ -59,6 +61,15 @@ word_text words.Break = codes "break"
 word_text words.Return = codes "return"
 word_text words.Perform = codes "expr"
 word_text words.Fn = codes "fn"
+word_text words.Bool = codes "bool"
+word_text words.Unit = codes "{}"
+word_text words.Pointer = codes "&"
+word_text words.OpenIndex = codes "["
+word_text words.CloseIndex = codes "]"
+word_text words.OpenBrace = codes "{"
+word_text words.Comma = codes ", "
+word_text words.Arrow = codes "} -> "
+word_text words.Struct = codes "struct "
 
 -- the text of a piece; parts are among the nodes before a number
 abbrev pub piece_text : Held → Piece → List ℕ
@@ -68,10 +79,12 @@ piece_text store (pieces.Binary op) = binary_text op
 piece_text store (pieces.Primitive p) = primitive_text p
 piece_text store (pieces.Symbol x) = symbol_text x
 piece_text store (pieces.Function f) = function_name f
-piece_text store (pieces.Number bits of) = number_text store.types bits of
+piece_text store (pieces.Integer i) = integer_text i
+piece_text store (pieces.Number bits of) = number_digits store.types bits of
 piece_text store (pieces.Decimal n) = decimal n
 piece_text store (pieces.Macro m) = decimal (suc m.0)
 piece_text store (pieces.Type t) = type_text store.types t
+piece_text store (pieces.TypeBefore t below) = made (take below (type_texts store.types)) t
 piece_text store (pieces.Name name) = name_of store.names name
 piece_text store (pieces.Expression t below) = text_of store (term_at (take below (trees store.terms)) t)
 piece_text store (pieces.Statement t below) = statement_text store (statement_at (take below (trees store.terms)) t)
@@ -173,7 +186,7 @@ new_pieces below of (Named fields values) = word_form words.New (space ∷ piece
 
 -- the pieces of an expression whose parts are before a number
 abbrev pub expression_pieces : Held → ℕ → expressions.Expression → List Piece
-expression_pieces store below (e.Number bits of) = pieces.Number bits of ∷ []
+expression_pieces store below (e.Number bits of) = pieces.Number bits of ∷ pieces.Word words.Colon ∷ pieces.Type of ∷ []
 expression_pieces store below (e.Truth true) = pieces.Word words.True ∷ []
 expression_pieces store below (e.Truth false) = pieces.Word words.False ∷ []
 expression_pieces store below e.Nil = pieces.Word words.Nil ∷ []
@@ -234,3 +247,27 @@ result_pieces (Some t) = pieces.Type t
 abbrev pub definition_pieces : FnId → ℕ → List Parameter → Option TypeId → List TermId → List Piece
 definition_pieces f below parameters result body =
     word_form words.Fn (space ∷ pieces.Function f ∷ space ∷ in_brackets_pieces (listed_parameters parameters) ++ space ∷ result_pieces result ∷ spaced_statements below body)
+
+-- types
+
+abbrev pub comma_types : ℕ → List TypeId → List Piece
+comma_types below [] = []
+comma_types below (t ∷ ts) = pieces.Word words.Comma ∷ pieces.TypeBefore t below ∷ comma_types below ts
+
+abbrev pub listed_types : ℕ → List TypeId → List Piece
+listed_types below [] = []
+listed_types below (t ∷ ts) = pieces.TypeBefore t below ∷ comma_types below ts
+
+abbrev pub function_type_pieces : ℕ → List TypeId → TypeId → List Piece
+function_type_pieces below parameters of =
+    pieces.Word words.OpenBrace ∷ listed_types below parameters ++ pieces.Word words.Arrow ∷ pieces.TypeBefore of below ∷ []
+
+-- the pieces of a type that is made of types before a number
+abbrev pub type_pieces : ℕ → TypeForm → List Piece
+type_pieces below (forms.Integer i) = pieces.Integer i ∷ []
+type_pieces below forms.Bool = pieces.Word words.Bool ∷ []
+type_pieces below forms.Unit = pieces.Word words.Unit ∷ []
+type_pieces below (forms.Pointer t) = pieces.Word words.Pointer ∷ pieces.TypeBefore t below ∷ []
+type_pieces below (forms.Array t n) = pieces.TypeBefore t below ∷ pieces.Word words.OpenIndex ∷ pieces.Decimal n ∷ pieces.Word words.CloseIndex ∷ []
+type_pieces below (forms.Function parameters of) = function_type_pieces below parameters of
+type_pieces below (forms.Struct number place layout) = pieces.Word words.Struct ∷ pieces.Decimal number ∷ []

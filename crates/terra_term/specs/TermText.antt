@@ -40,12 +40,13 @@ abbrev pub between_spaces : List Bytes → Bytes
 between_spaces [] = []
 between_spaces (b ∷ bs) = b ++ spaced bs
 
-abbrev behind_commas : List Bytes → Bytes
+abbrev pub behind_commas : List Bytes → Bytes
 behind_commas [] = []
 behind_commas (b ∷ bs) = codes ", " ++ b ++ behind_commas bs
 
-abbrev between_commas : List Bytes → Bytes
-between_commas bs = drop 2 (behind_commas bs)
+abbrev pub between_commas : List Bytes → Bytes
+between_commas [] = []
+between_commas (b ∷ bs) = b ++ behind_commas bs
 
 -- a form: its word and its parts in brackets
 abbrev pub bracketed : Bytes → List Bytes → Bytes
@@ -53,7 +54,7 @@ bracketed head parts = codes "(" ++ head ++ spaced parts ++ codes ")"
 
 -- types
 
-abbrev integer_text : Integer → Bytes
+abbrev pub integer_text : Integer → Bytes
 integer_text Int8 = codes "int8"
 integer_text Int16 = codes "int16"
 integer_text Int32 = codes "int32"
@@ -63,15 +64,15 @@ integer_text Uint16 = codes "uint16"
 integer_text Uint32 = codes "uint32"
 integer_text Uint64 = codes "uint64"
 
-abbrev made : List Bytes → TypeId → Bytes
+abbrev pub made : List Bytes → TypeId → Bytes
 made before t = unwrap_or (slice_get before t.0) []
 
-abbrev all_made : List Bytes → List TypeId → List Bytes
+abbrev pub all_made : List Bytes → List TypeId → List Bytes
 all_made before [] = []
 all_made before (t ∷ ts) = made before t ∷ all_made before ts
 
 -- the text of a type, where those of the types before it are known
-abbrev type_made : List Bytes → TypeForm → Bytes
+abbrev pub type_made : List Bytes → TypeForm → Bytes
 type_made before (forms.Integer i) = integer_text i
 type_made before forms.Bool = codes "bool"
 type_made before forms.Unit = codes "{}"
@@ -81,8 +82,12 @@ type_made before (forms.Function params result) =
     codes "{" ++ between_commas (all_made before params) ++ codes "} -> " ++ made before result
 type_made before (forms.Struct number place layout) = codes "struct " ++ decimal number
 
+-- the texts of all types, in order
+abbrev pub type_texts : List TypeForm → List Bytes
+type_texts types = grown type_made [] types
+
 abbrev pub type_text : List TypeForm → TypeId → Bytes
-type_text types t = made (grown type_made [] types) t
+type_text types t = made (type_texts types) t
 
 -- leaves
 
@@ -96,10 +101,15 @@ abbrev pub signed_form : TypeForm → Bool
 signed_form (forms.Integer i) = is_signed i
 signed_form _ = false
 
+abbrev pub has_sign : List TypeForm → TypeId → Bool
+has_sign types of = signed_form (unwrap_or (slice_get types of.0) forms.Unit)
+
 -- a word as the number of its type
+abbrev pub number_digits : List TypeForm → ℕ → TypeId → Bytes
+number_digits types bits of = if has_sign types of && is_negative bits then codes "-" ++ decimal (2 ^ 64 - bits) else decimal bits
+
 abbrev pub number_text : List TypeForm → ℕ → TypeId → Bytes
-number_text types bits of =
-    (if signed_form (unwrap_or (slice_get types of.0) forms.Unit) && is_negative bits then codes "-" ++ decimal (2 ^ 64 - bits) else decimal bits) ++ codes ":" ++ type_text types of
+number_text types bits of = number_digits types bits of ++ codes ":" ++ type_text types of
 
 abbrev pub primitive_text : Primitive → Bytes
 primitive_text PutByte = codes "putbyte"
@@ -232,11 +242,11 @@ abbrev pub definition_text : Held → FnId → Definition → Bytes
 definition_text store f d =
     bracketed (codes "fn") (function_name f ∷ in_brackets (parameters_text store.types d.parameters) ∷ result_text store.types d.result ∷ block_texts store d.body)
 
-abbrev item_text : Held → FnId → Option trees_of_terms.Item → Bytes
+abbrev pub item_text : Held → FnId → Option trees_of_terms.Item → Bytes
 item_text store f (Some (trees_of_terms.definition d)) = definition_text store f d
 item_text store f _ = []
 
-abbrev text_at : Held → FnId → Option TermId → Bytes
+abbrev pub text_at : Held → FnId → Option TermId → Bytes
 text_at store f None = []
 text_at store f (Some t) = item_text store f (slice_get (trees store.terms) t.0)
 

@@ -12,6 +12,7 @@ mod pieces;
 pub mod refusal;
 pub mod store;
 pub mod term;
+pub mod text;
 pub mod typed;
 
 pub use lists::{
@@ -25,4 +26,5 @@ pub use store::{
     TextBytes,
 };
 pub use term::{Expression, Initialiser, Statement, Term};
+pub use text::term_text;
 pub use typed::{Typed, TypedExpression, TypedStatement};

@@ -2,9 +2,10 @@
 
 ghost use Rattle.std.specs.Prelude.{◌≡◌};
 ghost use Rattle.terra_term.specs.Pieces.{word_text, part_of};
-ghost use Rattle.terra_term.specs.TermText.{unary_text, binary_text, primitive_text};
+ghost use Rattle.terra_term.specs.TermText.{unary_text, binary_text, primitive_text, integer_text};
 
 use crate::operators::{Primitive, UnaryOperator};
+use terra_types::Integer;
 use terra_words::BinaryOperator;
 use tl_base::{FnId, MacroId, SymId, TermId, TextId, TypeId};
 
@@ -42,6 +43,15 @@ pub enum Word {
     Return,
     Perform,
     Fn,
+    Bool,
+    Unit,
+    Pointer,
+    OpenIndex,
+    CloseIndex,
+    OpenBrace,
+    Comma,
+    Arrow,
+    Struct,
 }
 
 /// A piece of a text: one that is written at once, or the text of a node.
@@ -53,12 +63,15 @@ pub enum Piece {
     Primitive(Primitive),
     Symbol(SymId),
     Function(FnId),
-    /// A number's 64 bits, and its type.
+    Integer(Integer),
+    /// A word of 64 bits as a number of a type.
     Number(u64, TypeId),
     /// A number in decimal.
     Decimal(u64),
     Macro(MacroId),
     Type(TypeId),
+    /// A type among those before a number.
+    TypeBefore(TypeId, u64),
     Name(TextId),
     /// An expression among the nodes before a number.
     Expression(TermId, u64),
@@ -122,6 +135,15 @@ impl Word {
             Word::Return => b"return",
             Word::Perform => b"expr",
             Word::Fn => b"fn",
+            Word::Bool => b"bool",
+            Word::Unit => b"{}",
+            Word::Pointer => b"&",
+            Word::OpenIndex => b"[",
+            Word::CloseIndex => b"]",
+            Word::OpenBrace => b"{",
+            Word::Comma => b", ",
+            Word::Arrow => b"} -> ",
+            Word::Struct => b"struct ",
         }
     }
 }
@@ -170,5 +192,21 @@ pub fn text_of_primitive(primitive: Primitive) -> &'static [u8]
         Primitive::PutByte => b"putbyte",
         Primitive::Write => b"write",
         Primitive::Alloc => b"alloc",
+    }
+}
+
+/// The text of an integer type.
+pub fn text_of_integer(integer: Integer) -> &'static [u8]
+    ensures { result.now ≡ integer_text integer }
+{
+    match integer {
+        Integer::Int8 => b"int8",
+        Integer::Int16 => b"int16",
+        Integer::Int32 => b"int32",
+        Integer::Int64 => b"int64",
+        Integer::Uint8 => b"uint8",
+        Integer::Uint16 => b"uint16",
+        Integer::Uint32 => b"uint32",
+        Integer::Uint64 => b"uint64",
     }
 }

@@ -2,7 +2,7 @@
 
 ghost use Rattle.std.specs.Prelude.{◌≡◌, ◌++◌, ◌∷◌, [], IfOk, OnOk};
 ghost use Rattle.terra_term.specs.declared.piece.PartKind.TheVariants as kinds;
-ghost use Rattle.terra_term.specs.Pieces.{spaced_parts, spaced_terms, spaced_statements, listed_terms, listed_names, spaced_names, name_pieces, listed_parameters, spaced_parameters, parameter_pieces, named_value, named_values, bounds_pieces, word_form, part, new_pieces, assignment_pieces, for_pieces, expression_pieces, statement_pieces, definition_pieces, var_pieces, choice_pieces, space};
+ghost use Rattle.terra_term.specs.Pieces.{spaced_parts, spaced_terms, spaced_statements, listed_terms, listed_names, spaced_names, name_pieces, listed_parameters, spaced_parameters, parameter_pieces, named_value, named_values, bounds_pieces, word_form, part, new_pieces, assignment_pieces, for_pieces, expression_pieces, statement_pieces, definition_pieces, var_pieces, choice_pieces, comma_types, listed_types, function_type_pieces, type_pieces, space};
 ghost use Rattle.terra_term.specs.TermText.{global_address};
 
 use crate::lists::{Parameter, TermList, VarName};
@@ -10,10 +10,13 @@ use crate::piece::{PartKind, Piece, Word};
 use crate::store::Store;
 use crate::term::{Expression, Initialiser, Statement};
 use std::alloc::Global;
+use terra_types::TypeForm;
 use tl_base::{FnId, GlobalId, NoMemory, TermId, TextId, TypeId};
 
 const OPEN: Piece = Piece::Word(Word::Open);
+
 const CLOSE: Piece = Piece::Word(Word::Close);
+
 const SPACE: Piece = Piece::Word(Word::Space);
 
 /// These pieces.
@@ -24,7 +27,12 @@ fn list(alloc: Global, items: &[Piece]) -> Result<Vec<Piece>, NoMemory>
 }
 
 /// Puts parts behind pieces, each behind a space.
-fn push_parts(pieces: &mut Vec<Piece>, kind: PartKind, below: u64, ids: &[TermId]) -> Result<(), NoMemory>
+fn push_parts(
+    pieces: &mut Vec<Piece>,
+    kind: PartKind,
+    below: u64,
+    ids: &[TermId],
+) -> Result<(), NoMemory>
     ensures { OnOk result (pieces.new.items ≡ pieces.old.items ++ spaced_parts kind below ids.now) }
 {
     for id in ids {
@@ -133,7 +141,12 @@ fn push_parameters(pieces: &mut Vec<Piece>, parameters: &[Parameter]) -> Result<
 }
 
 /// Puts a value with its name behind pieces.
-fn push_named_value(pieces: &mut Vec<Piece>, below: u64, field: TextId, value: TermId) -> Result<(), NoMemory>
+fn push_named_value(
+    pieces: &mut Vec<Piece>,
+    below: u64,
+    field: TextId,
+    value: TermId,
+) -> Result<(), NoMemory>
     ensures { OnOk result (pieces.new.items ≡ pieces.old.items ++ named_value below field value) }
 {
     pieces.extend_from_slice(&[
@@ -217,12 +230,23 @@ fn part(term: TermId, below: u64) -> Piece
 }
 
 /// The pieces of an expression whose parts are among the nodes before a number.
-pub fn pieces_of_expression(store: &Store, below: u64, expression: &Expression) -> Result<Vec<Piece>, NoMemory>
+pub fn pieces_of_expression(
+    store: &Store,
+    below: u64,
+    expression: &Expression,
+) -> Result<Vec<Piece>, NoMemory>
     ensures { IfOk result (λ v. v.items ≡ expression_pieces store.now below expression.now) }
 {
     let alloc = store.allocator();
     match expression {
-        Expression::Number(bits, of) => list(alloc, &[Piece::Number(*bits, *of)]),
+        Expression::Number(bits, of) => list(
+            alloc,
+            &[
+                Piece::Number(*bits, *of),
+                Piece::Word(Word::Colon),
+                Piece::Type(*of),
+            ],
+        ),
         Expression::Truth(true) => list(alloc, &[Piece::Word(Word::True)]),
         Expression::Truth(false) => list(alloc, &[Piece::Word(Word::False)]),
         Expression::Nil => list(alloc, &[Piece::Word(Word::Nil)]),
@@ -322,7 +346,10 @@ fn pieces_of_new(
 ) -> Result<Vec<Piece>, NoMemory>
     ensures { IfOk result (λ v. v.items ≡ new_pieces below of initialiser.now) }
 {
-    let mut pieces = list(alloc, &[OPEN, Piece::Word(Word::New), SPACE, Piece::Type(of)])?;
+    let mut pieces = list(
+        alloc,
+        &[OPEN, Piece::Word(Word::New), SPACE, Piece::Type(of)],
+    )?;
     match initialiser {
         Initialiser::Positional(values) => {
             push_parts(&mut pieces, PartKind::Expression, below, values.as_slice())?;
@@ -399,7 +426,12 @@ fn pieces_of_choice(
     )?;
     if let Some(else_block) = else_block {
         pieces.extend_from_slice(&[SPACE, OPEN, Piece::Word(Word::Do)])?;
-        push_parts(&mut pieces, PartKind::Statement, below, else_block.as_slice())?;
+        push_parts(
+            &mut pieces,
+            PartKind::Statement,
+            below,
+            else_block.as_slice(),
+        )?;
         pieces.push(CLOSE)?;
     }
     pieces.push(CLOSE)?;
@@ -432,7 +464,11 @@ fn pieces_of_for(
 }
 
 /// The pieces of a statement whose parts are among the nodes before a number.
-pub fn pieces_of_statement(alloc: Global, below: u64, statement: &Statement) -> Result<Vec<Piece>, NoMemory>
+pub fn pieces_of_statement(
+    alloc: Global,
+    below: u64,
+    statement: &Statement,
+) -> Result<Vec<Piece>, NoMemory>
     ensures { IfOk result (λ v. v.items ≡ statement_pieces below statement.now) }
 {
     match statement {
@@ -520,4 +556,72 @@ pub fn pieces_of_definition(
     push_parts(&mut pieces, PartKind::Statement, below, body)?;
     pieces.push(CLOSE)?;
     Ok(pieces)
+}
+
+/// Puts types behind pieces, each behind a comma.
+fn push_comma_types(pieces: &mut Vec<Piece>, below: u64, types: &[TypeId]) -> Result<(), NoMemory>
+    ensures { OnOk result (pieces.new.items ≡ pieces.old.items ++ comma_types below types.now) }
+{
+    for of in types {
+        pieces.push(Piece::Word(Word::Comma))?;
+        pieces.push(Piece::TypeBefore(*of, below))?;
+    }
+    Ok(())
+}
+
+/// Puts types behind pieces, with a comma between.
+fn push_types(pieces: &mut Vec<Piece>, below: u64, types: &[TypeId]) -> Result<(), NoMemory>
+    ensures { OnOk result (pieces.new.items ≡ pieces.old.items ++ listed_types below types.now) }
+{
+    if let [first, rest @ ..] = types {
+        pieces.push(Piece::TypeBefore(*first, below))?;
+        push_comma_types(pieces, below, rest)?;
+    }
+    Ok(())
+}
+
+/// The pieces of a function type.
+fn pieces_of_function_type(
+    alloc: Global,
+    below: u64,
+    parameters: &[TypeId],
+    of: TypeId,
+) -> Result<Vec<Piece>, NoMemory>
+    ensures { IfOk result (λ v. v.items ≡ function_type_pieces below parameters.now of) }
+{
+    let mut pieces = list(alloc, &[Piece::Word(Word::OpenBrace)])?;
+    push_types(&mut pieces, below, parameters)?;
+    pieces.extend_from_slice(&[Piece::Word(Word::Arrow), Piece::TypeBefore(of, below)])?;
+    Ok(pieces)
+}
+
+/// The pieces of a type that is made of types before a number.
+pub fn pieces_of_type(alloc: Global, below: u64, form: &TypeForm) -> Result<Vec<Piece>, NoMemory>
+    ensures { IfOk result (λ v. v.items ≡ type_pieces below form.now) }
+{
+    match form {
+        TypeForm::Integer(integer) => list(alloc, &[Piece::Integer(*integer)]),
+        TypeForm::Bool => list(alloc, &[Piece::Word(Word::Bool)]),
+        TypeForm::Unit => list(alloc, &[Piece::Word(Word::Unit)]),
+        TypeForm::Pointer(of) => list(
+            alloc,
+            &[Piece::Word(Word::Pointer), Piece::TypeBefore(*of, below)],
+        ),
+        TypeForm::Array(of, count) => list(
+            alloc,
+            &[
+                Piece::TypeBefore(*of, below),
+                Piece::Word(Word::OpenIndex),
+                Piece::Decimal(*count),
+                Piece::Word(Word::CloseIndex),
+            ],
+        ),
+        TypeForm::Function(parameters, of) => {
+            pieces_of_function_type(alloc, below, parameters.as_slice(), *of)
+        }
+        TypeForm::Struct(number, _, _) => list(
+            alloc,
+            &[Piece::Word(Word::Struct), Piece::Decimal(*number)],
+        ),
+    }
 }

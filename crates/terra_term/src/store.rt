@@ -2,7 +2,7 @@
 
 ghost use Rattle.std.specs.Prelude.{◌≡◌, ◌≤◌, ◌++◌, ◌∷◌, [], ◌+◌, length, slice_get, IfOk, IfSome, IsOk, OnOk, OnErr};
 ghost use Rattle.std.specs.Option.{option_copied};
-ghost use Rattle.terra_term.specs.Held.{empty, next_symbol, with_symbol, next_function, with_function, state_of, standing_in, standing_of, with_defined, with_state, begun, finished, refused, next_quote, with_quote, next_constant, with_constant, next_term, with_term, next_typed, with_typed, ended, text_address, room_for, placed_text, with_text, placed_global, with_global, name_of, name_place, with_name};
+ghost use Rattle.terra_term.specs.Held.{empty, next_symbol, with_symbol, next_function, with_function, state_of, term_in, standing_in, standing_of, with_defined, with_state, begun, finished, refused, next_quote, with_quote, next_constant, with_constant, next_term, with_term, next_typed, with_typed, ended, text_address, room_for, placed_text, with_text, placed_global, with_global, name_of, name_place, with_name};
 
 use crate::lists::TermList;
 use crate::refusal::{Refusal, RefusalKind, Standing};
@@ -224,7 +224,7 @@ impl Store {
     }
 
     /// How far a function has come. One that isn't there is undefined.
-    fn state(&self, f: FnId) -> FunctionState
+    pub fn state(&self, f: FnId) -> FunctionState
         ensures { result ≡ state_of self.now f }
     {
         match self.functions.get(f.0 as usize) {
@@ -478,6 +478,19 @@ impl FunctionState {
             FunctionState::Typing(_) => Standing::Typing,
             FunctionState::Typed(_, _) => Standing::Typed,
             FunctionState::Refused(_, refusal) => Standing::Refused(refusal),
+        }
+    }
+
+    /// The function's term, once it is defined.
+    pub fn term(&self) -> Option<TermId>
+        ensures { result ≡ term_in self.now }
+    {
+        match *self {
+            FunctionState::Undefined => None,
+            FunctionState::Defined(term) => Some(term),
+            FunctionState::Typing(term) => Some(term),
+            FunctionState::Typed(term, _) => Some(term),
+            FunctionState::Refused(term, _) => Some(term),
         }
     }
 

@@ -1,5 +1,3 @@
-use Rattle.terra_term.proofs.Trees.{tree-at}
-use Rattle.terra_term.proofs.Texts.{expression-text}
 use Rattle.std.proofs.Common.{◌≡◌, ◌<◌, ◌∙◌, length, arith}
 use Rattle.terra_term.proofs.pieces.push_parts.Goals as goal
 use Rattle.terra_term.proofs.Steps.{parts-step}

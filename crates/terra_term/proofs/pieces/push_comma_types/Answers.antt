@@ -1,0 +1,11 @@
+use Rattle.terra_term.proofs.Parts.{function-found}
+use Rattle.std.proofs.Common.{◌≡◌, ◌<◌, ◌∙◌, length, arith}
+use Rattle.terra_term.proofs.pieces.push_comma_types.Goals as goal
+use Rattle.terra_term.proofs.Steps.{types-step}
+use Rattle.terra_term.proofs.Texts.{type-pieces-text}
+
+pub loop-of-preserved : goal.loop-of-preserved
+loop-of-preserved c =
+    let within : c.loop-of.of-index < length c.args.types.now = omega arith in
+    rw (c.in_ok-push-2.ensures.items, c.in_ok-push.ensures.items)
+    (types-step c.args.below c.loop-of.pieces.items c.args.types.now c.loop-of.of-index _ within ∙ c.loop-of.invariant)
