@@ -1,5 +1,5 @@
 -- What is written for a part is the text of its tree.
-use Rattle.std.proofs.Common.{◌≡◌, refl, ℕ, ◌<◌, ◌≤◌, List, [], ◌∷◌, ◌∙◌, ap, sym, take, append-nil, Option, Some, None, slice_get, inl, inr}
+use Rattle.std.proofs.Common.{◌≡◌, ℕ, ◌<◌, ◌≤◌, List, [], ◌∙◌, ap, sym, take, Option, Some, None, slice_get, inl, inr}
 use Rattle.std.specs.Prelude.{option_map, unwrap_or}
 use Rattle.std.proofs.lemmas.Bool.{cases_lt}
 use Rattle.tl_base.specs.declared.place.Place.{Place}
@@ -8,7 +8,6 @@ use Rattle.tl_base.specs.declared.ids.TermId.{TermId}
 use Rattle.tl_base.specs.declared.ids.TypeId.{TypeId}
 use Rattle.terra_types.specs.declared.types.TypeForm.{TypeForm}
 use Rattle.terra_term.specs.declared.lists.Parameter.{Parameter}
-use Rattle.terra_term.specs.declared.piece.Piece.{Piece}
 use Rattle.terra_term.specs.declared.term.Term as nodes
 use Rattle.terra_term.specs.declared.term.Term.TheVariants as kinds
 use Rattle.terra_term.specs.declared.term.Expression as expressions

@@ -1,5 +1,5 @@
 -- Steps of the loops that write lists of pieces.
-use Rattle.std.proofs.Common.{◌≤◌, arith, ◌≡◌, refl, ℕ, ◌+◌, ◌<◌, List, [], ◌∷◌, ◌++◌, ◌∙◌, ap, sym, drop, length, get_or, append_assoc, add-one, drop-cons}
+use Rattle.std.proofs.Common.{◌≤◌, arith, ◌≡◌, refl, ℕ, ◌+◌, ◌<◌, List, [], ◌∷◌, ◌++◌, drop, length, get_or, append_assoc, add-one, drop-cons}
 use Rattle.std.proofs.Common.{Result, Ok, Err}
 use Rattle.std.specs.Prelude.{IfOk, OnOk}
 use Rattle.std.proofs.lemmas.List.{drop_all}

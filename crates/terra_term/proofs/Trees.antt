@@ -1,14 +1,11 @@
 -- A node's tree is made of those of the nodes before it.
-use Rattle.std.proofs.Common.{◌≡◌, refl, ℕ, zero, suc, ◌+◌, ◌<◌, ◌≤◌, List, [], ◌∷◌, ◌++◌, ◌∙◌, ap, sym, arith, take, drop, length, append_assoc, append-nil, length-append, Option, Some, None, slice_get}
+use Rattle.std.proofs.Common.{◌≡◌, refl, ℕ, zero, suc, ◌<◌, ◌≤◌, List, [], ◌∷◌, ◌++◌, ◌∙◌, ap, sym, arith, take, append_assoc, append-nil, Some, None, slice_get}
 use Rattle.std.specs.Prelude.{option_map}
-use Rattle.std.proofs.lemmas.List.{take-append-drop}
-use Rattle.tl_base.specs.declared.ids.TermId.{TermId}
 use Rattle.terra_term.specs.declared.term.Term as nodes
 use Rattle.terra_types.specs.Grown.{grown}
 use Rattle.terra_types.specs.declared.types.TypeForm.{TypeForm}
 use Rattle.terra_term.specs.TermText.{type_texts, type_made}
-use Rattle.terra_term.specs.Terms as terms
-use Rattle.terra_term.specs.Planted.{planted, trees, term_at, term_in, statement_at, doing_in}
+use Rattle.terra_term.specs.Planted.{planted, trees}
 
 -- what a list that grows gets behind what was there
 later : {A B : Type 0} → (List A → B → A) → List A → List B → List A

@@ -1,7 +1,6 @@
 -- The pieces of the text of each node, in order: what is written at once, and the parts whose texts follow. `proofs/Pieces.antt`
 -- shows that together they are the text of the node's tree.
-use Rattle.std.specs.Prelude.{ℕ, suc, true, false, List, [], ◌∷◌, ◌++◌, take, Option, Some, None, slice_get, codes, decimal}
-use Rattle.tl_base.specs.declared.ids.GlobalId.{GlobalId}
+use Rattle.std.specs.Prelude.{ℕ, suc, true, false, List, [], ◌∷◌, ◌++◌, take, Option, Some, None, codes, decimal}
 use Rattle.tl_base.specs.declared.ids.FnId.{FnId}
 use Rattle.tl_base.specs.declared.ids.TermId.{TermId}
 use Rattle.tl_base.specs.declared.ids.TextId.{TextId}
@@ -16,15 +15,12 @@ use Rattle.terra_term.specs.declared.piece.PartKind.{PartKind}
 use Rattle.terra_term.specs.declared.piece.PartKind.TheVariants as part_kinds
 use Rattle.terra_term.specs.declared.piece.Piece.{Piece}
 use Rattle.terra_term.specs.declared.piece.Piece.TheVariants as pieces
-use Rattle.terra_term.specs.declared.term.Term as nodes
-use Rattle.terra_term.specs.declared.term.Term.TheVariants as kinds
 use Rattle.terra_term.specs.declared.term.Expression as expressions
 use Rattle.terra_term.specs.declared.term.Expression.TheVariants as e
 use Rattle.terra_term.specs.declared.term.Statement as statements
 use Rattle.terra_term.specs.declared.term.Statement.TheVariants as s
 use Rattle.terra_term.specs.declared.term.Initialiser as initialisers
 use Rattle.terra_term.specs.declared.term.Initialiser.TheVariants.{Positional, Named}
-use Rattle.terra_term.specs.declared.store.TerraGlobal.{TerraGlobal}
 use Rattle.terra_term.specs.Planted.{trees, term_at, statement_at}
 use Rattle.terra_term.specs.Held.{Held, name_of}
 use Rattle.terra_term.specs.TermText.{text_of, statement_text, symbol_text, function_name, number_digits, made, type_texts, type_text, integer_text, unary_text, binary_text, primitive_text, global_address}

@@ -1,8 +1,6 @@
-use Rattle.terra_term.proofs.Parts.{function-found}
-use Rattle.std.proofs.Common.{◌≡◌, ◌<◌, ◌∙◌, length, arith}
+use Rattle.std.proofs.Common.{◌<◌, ◌∙◌, length, arith}
 use Rattle.terra_term.proofs.pieces.push_comma_types.Goals as goal
 use Rattle.terra_term.proofs.Steps.{types-step}
-use Rattle.terra_term.proofs.Texts.{type-pieces-text}
 
 pub loop-of-preserved : goal.loop-of-preserved
 loop-of-preserved c =

@@ -1,7 +1,7 @@
-use Rattle.std.proofs.Common.{◌≡◌, ◌<◌, ◌≤◌, ◌∙◌, ◌++◌, List, length, arith, ap, sym, append-nil}
+use Rattle.std.proofs.Common.{◌<◌, ◌≤◌, ◌∙◌, ◌++◌, List, length, arith, ap, sym, append-nil}
 use Rattle.terra_term.specs.declared.piece.Piece.{Piece}
 use Rattle.terra_term.proofs.pieces.push_named_values.Goals as goal
-use Rattle.terra_term.proofs.Steps.{named-step, named-stop, named-end}
+use Rattle.terra_term.proofs.Steps.{named-step, named-stop}
 
 pub loop-place-preserved : goal.loop-place-preserved
 loop-place-preserved c =

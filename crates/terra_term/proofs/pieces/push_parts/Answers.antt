@@ -1,4 +1,4 @@
-use Rattle.std.proofs.Common.{◌≡◌, ◌<◌, ◌∙◌, length, arith}
+use Rattle.std.proofs.Common.{◌<◌, ◌∙◌, length, arith}
 use Rattle.terra_term.proofs.pieces.push_parts.Goals as goal
 use Rattle.terra_term.proofs.Steps.{parts-step}
 

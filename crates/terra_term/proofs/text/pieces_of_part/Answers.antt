@@ -1,4 +1,4 @@
-use Rattle.std.proofs.Common.{◌≡◌, ◌∙◌, ap, Some, List}
+use Rattle.std.proofs.Common.{◌∙◌, ap, List}
 use Rattle.terra_term.specs.declared.piece.Piece.{Piece}
 use Rattle.terra_term.specs.Pieces.{text_in}
 use Rattle.terra_term.proofs.Steps.{if-ok}

@@ -1,6 +1,4 @@
-use Rattle.std.proofs.Common.{◌≡◌, ◌∙◌, ◌++◌, ◌<◌, ◌≤◌, [], List, ℕ, ap, sym, append-nil, take}
-use Rattle.terra_term.specs.declared.piece.Piece.{Piece}
-use Rattle.terra_term.specs.TermText.{made, type_texts}
+use Rattle.std.proofs.Common.{◌≡◌, ◌∙◌, ◌++◌, [], List, ℕ, ap, sym, append-nil}
 use Rattle.terra_term.specs.Pieces.{text_in, piece_text}
 use Rattle.terra_term.proofs.Steps.{on-ok}
 use Rattle.terra_term.proofs.Texts.{part-step}
