@@ -3,3 +3,4 @@ pub mod Steps
 pub mod Texts
 pub mod Trees
 pub mod Parts
+pub mod Staying

@@ -130,14 +130,14 @@ refusal_in (states.Refused t why) = Some why
 refusal_in _ = None
 
 -- a function with another state, and with another place too
-abbrev state_changed : Option Function → FunctionState → List Function → ℕ → List Function
+abbrev pub state_changed : Option Function → FunctionState → List Function → ℕ → List Function
 state_changed None state fs i = fs
 state_changed (Some f) state fs i = slice_set fs i (record f { state = state })
 
 abbrev pub with_state : Held → FnId → FunctionState → Held
 with_state s f state = record s { functions = state_changed (slice_get s.functions f.0) state s.functions f.0 }
 
-abbrev defined : Option Function → TermId → Place → List Function → ℕ → List Function
+abbrev pub defined : Option Function → TermId → Place → List Function → ℕ → List Function
 defined None term place fs i = fs
 defined (Some f) term place fs i = slice_set fs i (record f { place = place; state = states.Defined term })
 
@@ -155,7 +155,7 @@ abbrev pub finished : FunctionState → TermId → FunctionState
 finished (states.Typing t) made = states.Typed t made
 finished state made = state
 
-abbrev kept_refusal : RefusalKind → TermId → Refusal → FunctionState
+abbrev pub kept_refusal : RefusalKind → TermId → Refusal → FunctionState
 kept_refusal kinds.Undefined t why = states.Defined t
 kept_refusal _ t why = states.Refused t why
 

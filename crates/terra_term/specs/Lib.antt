@@ -1,5 +1,7 @@
 -- What a store holds, and what each call makes of it. A reader can stop behind the first two.
 pub mod Held
+-- What stays in a store, whatever is called.
+pub mod Keeping
 -- The text of a function's term, by recursion on its tree.
 pub mod TermText
 -- The trees of both kinds of terms, and how numbered nodes make them.

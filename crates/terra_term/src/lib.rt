@@ -5,6 +5,7 @@
 //! (`specs/Terms.antt`, `specs/TypedTerms.antt`). `store` has the functions, symbols, quotes, globals, constants and statics.
 #![tactic(auto)]
 
+mod laws;
 pub mod lists;
 pub mod operators;
 mod piece;
