@@ -1,5 +1,5 @@
 -- Each call keeps what a function has, and a new node changes no tree.
-use Rattle.std.proofs.Common.{◌≡◌, refl, ℕ, zero, suc, ◌<◌, List, [], ◌∷◌, ◌++◌, ◌∙◌, ap, sym, subst, arith, length, Option, Some, None, slice_get, inl, inr}
+use Rattle.std.proofs.Common.{◌≡◌, refl, ℕ, zero, suc, List, [], ◌∷◌, ◌++◌, ap, sym, subst, Option, Some, None, slice_get, inl, inr}
 use Rattle.std.specs.Prelude.{slice_set}
 use Rattle.std.specs.Option.{option_map_or}
 use Rattle.std.proofs.lemmas.Bool.{cases_eq}
@@ -7,8 +7,7 @@ use Rattle.tl_base.specs.declared.place.Place.{Place}
 use Rattle.tl_base.specs.declared.ids.FnId.{FnId}
 use Rattle.tl_base.specs.declared.ids.TermId.{TermId}
 use Rattle.tl_base.specs.declared.ids.TypeId.{TypeId}
-use Rattle.terra_types.specs.Grown.{grown}
-use Rattle.terra_types.proofs.Growing.{grown-more, get-left}
+use Rattle.terra_types.proofs.Growing.{grown-more}
 use Rattle.terra_term.specs.declared.refusal.Refusal.{Refusal}
 use Rattle.terra_term.specs.declared.refusal.RefusalKind.{RefusalKind}
 use Rattle.terra_term.specs.declared.refusal.RefusalKind.TheVariants as kinds
@@ -18,7 +17,7 @@ use Rattle.terra_term.specs.declared.store.FunctionState.TheVariants as states
 use Rattle.terra_term.specs.declared.term.Term as nodes
 use Rattle.terra_term.specs.declared.typed.Typed as typed_nodes
 use Rattle.terra_term.specs.Planted.{planted, trees, typed_planted, typed_trees}
-use Rattle.terra_term.specs.Held.{Held, state_of, begun, finished, refused, kept_refusal, with_state, state_changed, with_defined, defined, with_function, with_term, with_typed}
+use Rattle.terra_term.specs.Held.{Held, state_of, begun, finished, refused, kept_refusal, with_state, state_changed, with_defined, defined, with_function}
 use Rattle.terra_term.specs.Keeping.{Stays, AllStay, AreKept}
 
 pub stays-same : (s : FunctionState) → Stays s s
@@ -73,11 +72,11 @@ set-stays : (fs : List Function) (i j : ℕ) (f g : Function) → slice_get fs i
 unfolding state_at
 set-stays fs i j f g there stays =
     elim (cases_eq i j) [
-      inl same ↦
-        let old : slice_get fs j ≡ Some f = subst (λ (k : ℕ). slice_get fs k ≡ Some f) same there in
-        let new : slice_get (slice_set fs i g) j ≡ Some g = subst (λ (k : ℕ). slice_get (slice_set fs i g) k ≡ Some g) same (get-set-same fs i f g there) in
-        rw (old, new) stays
-    | inr other ↦ rw (get-set-other fs i j g other) (stays-same (state_at fs j))
+      | inl same ↦
+          let old : slice_get fs j ≡ Some f = subst (λ (k : ℕ). slice_get fs k ≡ Some f) same there in
+          let new : slice_get (slice_set fs i g) j ≡ Some g = subst (λ (k : ℕ). slice_get (slice_set fs i g) k ≡ Some g) same (get-set-same fs i f g there) in
+          rw (old, new) stays
+      | inr other ↦ rw (get-set-other fs i j g other) (stays-same (state_at fs j))
     ]
 
 changed-stays : (fs : List Function) (i j : ℕ) (x : Option Function) (state : FunctionState) → slice_get fs i ≡ x → Stays (option_map_or (λ (g : Function). g.state) x states.Undefined) state → Stays (state_at fs j) (state_at (state_changed x state fs i) j)

@@ -56,6 +56,9 @@ empty types = record {
   typed = [];
 }
 
+abbrev pub with_types : Held → List TypeForm → Held
+with_types s types = record s { types = types }
+
 -- symbols, quotes, constants and nodes: a new one stands behind the others
 
 abbrev pub next_symbol : Held → SymId

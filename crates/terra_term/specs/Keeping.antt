@@ -1,6 +1,6 @@
 -- What stays in a store, whatever is called: a function's term once it is defined, its typed term once it is typed, its refusal,
 -- and the trees of nodes.
-use Rattle.std.specs.Prelude.{◌≡◌, ℕ, List, Option, Some, slice_get}
+use Rattle.std.specs.Prelude.{◌≡◌, ℕ, List, Some, slice_get}
 use Rattle.tl_base.specs.declared.ids.FnId.{FnId}
 use Rattle.tl_base.specs.declared.ids.TermId.{TermId}
 use Rattle.terra_term.specs.declared.refusal.Refusal.{Refusal}

@@ -11,3 +11,4 @@ pub mod Planted
 -- Views of the code, which private contracts cite.
 pub mod Statics
 pub mod Pieces
+pub mod Lending

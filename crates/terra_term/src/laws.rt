@@ -27,13 +27,11 @@ impl Store {
         ensures begin_typing { AllStay self.now (with_state self.now f (begun (state_of self.now f))) }
         ensures finish_typing { AllStay self.now (with_state self.now f (finished (state_of self.now f) term)) }
         ensures refuse { AllStay self.now (with_state self.now f (refused (state_of self.now f) refusal)) }
-    {
-    }
+    {}
 
     /// A new node changes the tree of no other. This is a law, and does nothing.
     pub fn trees_stay(&self, term: &Term, typed: &Typed)
         ensures specialised { AreKept (trees self.now.terms) (trees (with_term self.now term.now).terms) }
         ensures typed { AreKept (typed_trees self.now.typed) (typed_trees (with_typed self.now typed.now).typed) }
-    {
-    }
+    {}
 }

@@ -134,6 +134,9 @@ impl Model for Store {
 }
 
 impl Store {
+    ghost use Rattle.std.specs.Borrow.{sem};
+    ghost use Rattle.terra_term.specs.Lending.{LendsTypes};
+
     /// A store with nothing in it but these types.
     pub fn new(alloc: Global, types: Types) -> Store
         ensures { result ≡ empty types }
@@ -164,6 +167,14 @@ impl Store {
         ensures { result.now ≡ self.now.types }
     {
         &self.types
+    }
+
+    /// The types, to make and settle some. The store ends with the types that are left.
+    pub fn types_mut(&mut self) -> &mut Types
+        ensures* lent { sem 𝓛 (LendsTypes self.entry result) }
+        ensures value { result.now ≡ self.old.types }
+    {
+        &mut self.types
     }
 
     /// Makes a symbol, with a type or without.
