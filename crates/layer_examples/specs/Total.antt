@@ -37,7 +37,7 @@ total_of table (x ∷ xs) sum =
 abbrev pub first_plan : Table → ℕ → TotalPlan
 first_plan table from = Read (λ w. total_of table w.numbers.items from)
 
--- there are no jobs
+-- no plan does a job; one would leave at once
 abbrev pub no_plan : NoJob → TotalPlan
 no_plan job = Give Left
 
