@@ -4,7 +4,7 @@ use Rattle.std.specs.Prelude.{nat_eq, nat_lt, if◌then◌else◌, slice_index}
 use Rattle.std.proofs.lemmas.Bool.{ne_eqb, le-ltb}
 use Rattle.std.proofs.lemmas.List.{length-append, length-replicate}
 use Rattle.first_form.specs.Formula.{Formula, Parameter, Literal, Binary, HasParametersBelow, HasLiteralsUpTo, operators}
-use Rattle.terra_meaning.specs.Meaning.{meaning}
+use Rattle.first_meaning.specs.Meaning.{meaning}
 use Rattle.rv_isa.specs.declared.instr.Instr.{Instr}
 use Rattle.rv_isa.specs.declared.instr.Instr.TheVariants.{Jalr, RegisterImmediate}
 use Rattle.rv_isa.specs.declared.operation.ImmediateOp.TheVariants.{Addi}

@@ -7,7 +7,7 @@ use Rattle.std.proofs.lemmas.List.{length-append, length-drop, length-take-le, d
 use Rattle.first_form.specs.declared.function.Operator.{Operator}
 use Rattle.first_form.specs.declared.function.Operator.TheVariants as operator
 use Rattle.first_form.specs.Formula.{Formula, Parameter, Literal, Binary, HasParametersBelow, HasLiteralsUpTo}
-use Rattle.terra_meaning.specs.Meaning.{applied, meaning}
+use Rattle.first_meaning.specs.Meaning.{applied, meaning}
 use Rattle.rv_isa.specs.Table.{word_of}
 use Rattle.rv_isa.specs.declared.instr.Instr.{Instr}
 use Rattle.rv_isa.specs.declared.instr.Instr.TheVariants.{Load, Store, RegisterImmediate, RegisterRegister}

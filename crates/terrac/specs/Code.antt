@@ -3,7 +3,7 @@ use Rattle.std.specs.Prelude.{◌≡◌, ℕ, ◌+◌, ◌*◌, ◌^◌, ◌<◌
 use Rattle.first_form.specs.declared.function.Operator.{Operator}
 use Rattle.first_form.specs.declared.function.Operator.TheVariants.{Add, Subtract, Multiply}
 use Rattle.first_form.specs.Formula.{Formula, Parameter, Literal, Binary, HasParametersBelow}
-use Rattle.terra_meaning.specs.Meaning.{meaning}
+use Rattle.first_meaning.specs.Meaning.{meaning}
 use Rattle.rv_machine.specs.declared.stops.Stop.TheVariants.{Returned}
 use Rattle.rv_isa.specs.declared.instr.Instr.{Instr}
 use Rattle.rv_machine.specs.Program.{IsProgram}

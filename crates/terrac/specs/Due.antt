@@ -12,7 +12,7 @@ use Rattle.tl_tree.specs.Tree.{Tree}
 use Rattle.tl_tree.specs.Texts.{Reads, Refuses}
 use Rattle.first_form.specs.Formula.{SourceFunction}
 use Rattle.first_form.specs.Form.{function_of}
-use Rattle.terra_meaning.specs.Meaning.{meaning}
+use Rattle.first_meaning.specs.Meaning.{meaning}
 use Rattle.terrac.specs.declared.status.Status.{Status}
 use Rattle.terrac.specs.declared.status.Status.TheVariants as statuses
 use Rattle.terrac.specs.Words.{Job}

@@ -2,7 +2,7 @@
 
 ghost use Rattle.std.specs.Prelude.{◌≡◌, ℕ, ◌+◌, ◌*◌, ◌≤◌, [], ◌∷◌, ◌++◌, length, IfOk, OnOk};
 ghost use Rattle.first_form.specs.Formula.{formula_of, operators, HasParametersBelow, HasLiteralsUpTo};
-ghost use Rattle.terra_meaning.specs.Meaning.{meaning};
+ghost use Rattle.first_meaning.specs.Meaning.{meaning};
 ghost use Rattle.terrac.specs.Code.{Computes, expression_words, operator_word, depth_of};
 
 use first_form::{Expression, Operator};

@@ -1,6 +1,6 @@
 use Rattle.std.proofs.Common.{◌≡◌, ℕ, List, length, subst, arith}
 use Rattle.first_form.specs.Formula.{formula_of}
-use Rattle.terra_meaning.specs.Meaning.{meaning}
+use Rattle.first_meaning.specs.Meaning.{meaning}
 use Rattle.rv_machine.specs.Machine.{run_of}
 use Rattle.rv_machine.specs.Program.{IsProgram}
 use Rattle.rv_machine.specs.Shown.{program_of, heap_of, state_of}

@@ -1,6 +1,6 @@
 ghost use Rattle.std.specs.Prelude.{◌≡◌, length};
 ghost use Rattle.first_form.specs.Formula.{formula_of, HasParametersBelow};
-ghost use Rattle.terra_meaning.specs.Meaning.{applied, meaning, IsAlwaysWord};
+ghost use Rattle.first_meaning.specs.Meaning.{applied, meaning, IsAlwaysWord};
 
 use first_form::{Expression, Operator};
 

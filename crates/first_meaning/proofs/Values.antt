@@ -4,7 +4,7 @@ use Rattle.std.specs.Prelude.{slice_index}
 use Rattle.first_form.specs.Formula.{Formula, Parameter, Literal, Binary, HasLiteralsUpTo}
 use Rattle.first_form.specs.declared.function.Operator.{Operator}
 use Rattle.first_form.specs.declared.function.Operator.TheVariants.{Add, Subtract, Multiply}
-use Rattle.terra_meaning.specs.Meaning.{applied, meaning}
+use Rattle.first_meaning.specs.Meaning.{applied, meaning}
 
 applied_word : (operator : Operator) (x y : ℕ) → applied operator x y < 2 ^ 64
 applied_word Add x y = omega arith
