@@ -26,3 +26,6 @@ pub mod LuaGives
 pub mod TerraGives
 pub mod WellFormedTrees
 pub mod OwnNumbers
+pub mod TreeAt
+pub mod Fitting
+pub mod Laying

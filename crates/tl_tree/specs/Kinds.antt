@@ -291,6 +291,10 @@ WellFormed (t.SpliceParameter place escape) = child is_escape escape (WellFormed
 WellFormed (t.Variable place name type) = child is_terra_name name (WellFormed name) × child (is_if_any is_expression) type (WellFormed type)
 WellFormed _ = Unit {0}
 
--- The tree of a text is a block of Lua code, in which each child is of the kind that its parent wants.
+-- a block of Lua code, in which each child is of the kind that its parent wants
+abbrev pub IsWellFormedBlock : Tree → Type 0
+IsWellFormedBlock tree = (is_block tree ≡ true) × WellFormed tree
+
+-- The tree of a text is one.
 abbrev pub HasWellFormedTrees : List ℕ → Type 0
-HasWellFormedTrees text = (tree : Tree) → Reads text tree → (is_block tree ≡ true) × WellFormed tree
+HasWellFormedTrees text = (tree : Tree) → Reads text tree → IsWellFormedBlock tree

@@ -32,6 +32,8 @@ pub mod Symbols
 pub mod Numbers
 -- How the code keeps a tree: its nodes in order.
 pub mod Nodes
+-- The children of a node, and that a tree and its nodes determine each other.
+pub mod Children
 -- What a node holds.
 pub mod Item
 -- What a tree of the code holds.

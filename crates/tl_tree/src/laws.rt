@@ -2,6 +2,7 @@
 
 ghost use Rattle.tl_tree.specs.Laws.{HasOneAnswer, HasOneTree, HasOwnNumbers, IsChunk};
 ghost use Rattle.tl_tree.specs.Kinds.{HasWellFormedTrees};
+ghost use Rattle.tl_tree.specs.Children.{LaysChildrenFirst, IsLaidOutApart};
 ghost use Rattle.tl_tree.specs.Texts.{HasOneTextAnswer, GoesOnUnrefused, GoesOnAsText};
 
 /// A text has exactly one tree, or is refused at exactly one place for exactly one reason.
@@ -32,6 +33,16 @@ pub fn goes_on_as_text()
 /// name where one is declared, as a target of an assignment no call, and so on. A list stands only where one is wanted.
 pub fn well_formed_trees(text: &str)
     ensures { HasWellFormedTrees text.now }
+{}
+
+/// In the nodes that a well-formed block lays out, each child has a smaller number than its parent.
+pub fn children_first()
+    ensures { LaysChildrenFirst }
+{}
+
+/// Two well-formed blocks that lay out the same nodes are one: the nodes of a text's tree, as the code keeps them, have no other tree.
+pub fn laid_out_apart()
+    ensures { IsLaidOutApart }
 {}
 
 /// Each symbol has a number of its own, but for those that break a rule of tokens. So a class of tokens, which goes by these numbers,
