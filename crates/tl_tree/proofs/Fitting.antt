@@ -2,8 +2,8 @@
 use Rattle.std.proofs.Common.{◌≡◌, Bool, true, false, refl}
 use Rattle.std.specs.Prelude.{◌&&◌, not}
 use Rattle.std.proofs.lemmas.Bool.{false≢true, and_from, and_parts}
-use Rattle.tl_tree.specs.Tree.{Tree, Nothing, More, Just, Block, Arm, Body, Path, NamedField, KeyedField, Entry}
-use Rattle.tl_tree.specs.Kinds.{are, is_if_any, is_name, is_target, is_call, is_expression, is_field, is_entry, is_path, is_statement, is_block, is_arm, is_body, is_escape, is_terra_name, is_terra_call, is_terra_expression, is_initialiser, is_terra_statement, is_terra_block, is_terra_arm, is_parameter, is_variable, is_terra_body, is_quoted}
+use Rattle.tl_tree.specs.Tree.{Tree, Nothing, More, Just, Name, Block, Arm, Body, Path, NamedField, KeyedField, Entry, Escape, TerraUnary, TerraBinary, TerraParen, TerraIndex, TerraSelect, Construct}
+use Rattle.tl_tree.specs.Kinds.{are, is_if_any, is_name, is_target, is_call, is_expression, is_field, is_entry, is_path, is_statement, is_block, is_arm, is_body, is_escape, begins_with_at, is_first_target, are_terra_targets, is_terra_name, is_terra_call, is_terra_expression, is_initialiser, is_terra_statement, is_terra_block, is_terra_arm, is_parameter, is_variable, is_terra_body, is_quoted}
 
 -- what stands somewhere
 pub data Slot : Type 0 where
@@ -188,6 +188,24 @@ if_any kind p (Just a) h = p a h
 if_any kind p _ h = absurd (false≢true h)
 
 -- ---- kinds that look at what a node holds
+
+first_target : (a : Tree) → is_first_target a ≡ true → is_terra_expression a ≡ true
+first_target (TerraUnary place op a) h = refl
+first_target (TerraBinary place op a b) h = refl
+first_target (Name place offset text) h = refl
+first_target (Escape place e) h = refl
+first_target (TerraParen place a) h = refl
+first_target (TerraIndex place a key) h = refl
+first_target (TerraSelect place a name') h = refl
+first_target (Construct place a initialisers) h = refl
+first_target _ h = absurd (false≢true h)
+
+pub terra_targets : (a : Tree) → are_terra_targets a ≡ true → Fits Many a
+terra_targets (More Nothing first) h = terra_expression first (first_target first h)
+terra_targets (More before next) h =
+    let parts = and_parts (are_terra_targets before) (is_terra_expression next) h in
+    and_from (fits before Many) (fits next One) (terra_targets before parts.0) (terra_expression next parts.1)
+terra_targets _ h = absurd (false≢true h)
 
 both : (k l : Tree → Bool) → Single k → Single l → (a b : Tree) → (k a && l b) ≡ true → (fits a One && fits b One) ≡ true
 both k l p q a b h = let parts = and_parts (k a) (l b) h in and_from (fits a One) (fits b One) (p a parts.0) (q b parts.1)

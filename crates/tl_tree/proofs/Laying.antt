@@ -377,7 +377,7 @@ lies (t.Construct place a b) One f w front =
     (lies a One (kind.terra_expression a w.0.0) w.0.1 front) (lies b Many (kind.all kinds.is_initialiser kind.initialiser b w.1.0) w.1.1 (lay a front))
 lies (t.TerraAssign place a b) One f w front =
     two Many Many (t.TerraAssign place) (λ p q. kept.TerraStatement place (terra_statements.Assign p q)) (λ p q. refl) (λ at p q. refl)
-    (lies a Many (kind.all kinds.is_terra_expression kind.terra_expression a w.0.0) w.0.1 front) (lies b Many (kind.all kinds.is_terra_expression kind.terra_expression b w.1.0) w.1.1 (lay a front))
+    (lies a Many (kind.terra_targets a w.0.0) w.0.1 front) (lies b Many (kind.all kinds.is_terra_expression kind.terra_expression b w.1.0) w.1.1 (lay a front))
 lies (t.TerraPerform place a) One f w front =
     one One (t.TerraPerform place) (λ p. kept.TerraStatement place (terra_statements.Call p)) (λ p. refl) (λ at p. refl)
     (lies a One (kind.terra_call a w.0) w.1 front)

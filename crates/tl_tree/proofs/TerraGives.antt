@@ -9,14 +9,14 @@ use Rattle.tl_tree.specs.declared.mode.Shape.{Shape}
 use Rattle.tl_tree.specs.declared.mode.Shape.TheVariants as shapes
 use Rattle.tl_tree.specs.declared.node.UnaryOperator.TheVariants as unaries
 use Rattle.tl_tree.specs.Tokens.{Token}
-use Rattle.tl_tree.specs.Tree.{Tree, Nothing, Name, Escape, Arm, NamedField, SpliceParameter, TerraUnary, TerraParen, Expression, TerraExpression, TerraOperand, TerraArguments, TerraStatements}
+use Rattle.tl_tree.specs.Tree.{Tree, Nothing, More, Name, Escape, Arm, NamedField, SpliceParameter, TerraUnary, TerraBinary, TerraParen, Expression, TerraExpression, TerraOperand, TerraArguments, TerraStatements}
 use Rattle.tl_tree.specs.Grammar.{Grammar, give, bind, Rule, Parts, down}
-use Rattle.tl_tree.specs.Forms.{name, chain, Chained, chained, operand, operators, multiplicative, additive, comparisons}
+use Rattle.tl_tree.specs.Forms.{listed_behind, name, chain, Chained, chained, operand, operators, multiplicative, additive, comparisons}
 use Rattle.tl_tree.specs.LuaExpressions as lua
 use Rattle.tl_tree.specs.LuaStatements as statements
 use Rattle.tl_tree.specs.TerraExpressions as terra
 use Rattle.tl_tree.specs.TerraStatements as terra_statements
-use Rattle.tl_tree.specs.Kinds.{are, is_if_any, is_name, is_expression, is_escape, is_terra_name, is_terra_call, is_terra_expression, is_initialiser, is_terra_statement, is_terra_block, is_terra_arm, is_parameter, is_variable, is_terra_body, is_quoted, WellFormed}
+use Rattle.tl_tree.specs.Kinds.{are, is_if_any, is_name, is_expression, is_escape, begins_with_at, is_first_target, are_terra_targets, is_terra_name, is_terra_call, is_terra_expression, is_initialiser, is_terra_statement, is_terra_block, is_terra_arm, is_parameter, is_variable, is_terra_body, is_quoted, WellFormed}
 use Rattle.tl_tree.proofs.Giving.{Has, OpenedHas, Kept, Gives, gives_value, gives_bind, gives_then, gives_when, gives_token, gives_opening, gives_many, one_more, one_alone, gives_behind, gives_listed, gives_separated}
 use Rattle.tl_tree.proofs.LuaGives as of_lua
 
@@ -41,6 +41,37 @@ terra_fits _ a = true
 abbrev pub Terra : Chained → Type 0
 Terra a = (is_terra_expression a.tree ≡ true) × (terra_fits a.shape a.tree ≡ true) × WellFormed a.tree
 
+-- a chain of suffixes that is no call can be assigned to
+abbrev may_assign : Shape → Tree → Bool
+may_assign shapes.Call a = true
+may_assign _ a = is_first_target a
+
+abbrev Suffixed : Chained → Type 0
+Suffixed a = Terra a × (may_assign a.shape a.tree ≡ true)
+
+-- a name can be assigned to
+name_first : (a : Tree) → is_name a ≡ true → is_first_target a ≡ true
+name_first (Name place offset text) h = refl
+name_first _ h = absurd (false≢true h)
+
+escape_first : (a : Tree) → is_escape a ≡ true → is_first_target a ≡ true
+escape_first (Escape place e) h = refl
+escape_first _ h = absurd (false≢true h)
+
+-- an operand that begins with `@`
+abbrev BeginsWithAt : Chained → Type 0
+BeginsWithAt a = Terra a × (begins_with_at a.tree ≡ true)
+
+at_first : (a : Tree) → begins_with_at a ≡ true → is_first_target a ≡ true
+at_first (TerraUnary place op a) h = h
+at_first (TerraBinary place op a b) h = h
+at_first _ h = absurd (false≢true h)
+
+-- one more target behind the first
+one_target : (before e : Tree) → Has are_terra_targets before → Has is_terra_expression e → Has are_terra_targets (More before e)
+one_target (More x y) e p q = (and_from (are_terra_targets (More x y)) (is_terra_expression e) p.0 q.0, (p.1, q.1))
+one_target _ e p q = absurd (false≢true p.0)
+
 module _ (rule : Rule) (levels : ℕ) (parts : Parts) (kept : Kept parts) where
   abbrev Of : {A : Type 0} → (A → Type 0) → Grammar A → Type 0
   Of P g = Gives rule levels parts P g
@@ -62,30 +93,30 @@ module _ (rule : Rule) (levels : ℕ) (parts : Parts) (kept : Kept parts) where
 
   -- ---- what may follow them
 
-  terra_paren : Of Terra terra.terra_paren
-  terra_paren = gives_bind (λ (x : Token × Tree). Has is_terra_expression x.1) (gives_opening kept symbols.OpenParen TerraExpression) (λ x p. gives_then (λ y. gives_value (refl, refl, p)))
+  terra_paren : Of Suffixed terra.terra_paren
+  terra_paren = gives_bind (λ (x : Token × Tree). Has is_terra_expression x.1) (gives_opening kept symbols.OpenParen TerraExpression) (λ x p. gives_then (λ y. gives_value ((refl, refl, p), refl)))
 
-  escape_base : Of Terra (bind terra.escape λ e. give (chained e chain shapes.Escape))
+  escape_base : Of Suffixed (bind terra.escape λ e. give (chained e chain shapes.Escape))
   escape_base =
-      gives_bind (λ (e : Tree). (is_terra_expression e ≡ true) × (is_escape e ≡ true) × WellFormed e) (escaped (λ place e. give e) (λ place e p. gives_value (refl, refl, p))) (λ e p. gives_value p)
+      gives_bind (λ (e : Tree). (is_terra_expression e ≡ true) × (is_escape e ≡ true) × WellFormed e) (escaped (λ place e. give e) (λ place e p. gives_value (refl, refl, p))) (λ e p. gives_value (p, escape_first e p.1))
 
-  terra_base : Of Terra terra.terra_base
-  terra_base = gives_when terra_paren (gives_when escape_base (gives_bind (Has is_name) name_is (λ n p. gives_value (name_expression n p.0, p.0, p.1))))
+  terra_base : Of Suffixed terra.terra_base
+  terra_base = gives_when terra_paren (gives_when escape_base (gives_bind (Has is_name) name_is (λ n p. gives_value ((name_expression n p.0, p.0, p.1), name_first n p.0))))
 
-  terra_suffix : (k : terra.TerraSuffix) (t : Token) (x : Tree) (a : Chained) → OpenedHas (terra.terra_suffix_opens k) x → Terra a → Of Terra (terra.terra_suffix k t x a)
-  terra_suffix terra.InParens t x a o p = gives_then (λ y. gives_value (refl, refl, ((p.0, p.2), o)))
-  terra_suffix terra.InBrackets t x a o p = gives_then (λ y. gives_value (refl, refl, ((p.0, p.2), o)))
-  terra_suffix terra.Selects t x a o p = gives_bind (Has is_terra_name) terra_name (λ n q. gives_value (refl, refl, ((p.0, p.2), q)))
+  terra_suffix : (k : terra.TerraSuffix) (t : Token) (x : Tree) (a : Chained) → OpenedHas (terra.terra_suffix_opens k) x → Terra a → Of Suffixed (terra.terra_suffix k t x a)
+  terra_suffix terra.InParens t x a o p = gives_then (λ y. gives_value ((refl, refl, ((p.0, p.2), o)), refl))
+  terra_suffix terra.InBrackets t x a o p = gives_then (λ y. gives_value ((refl, refl, ((p.0, p.2), o)), refl))
+  terra_suffix terra.Selects t x a o p = gives_bind (Has is_terra_name) terra_name (λ n q. gives_value ((refl, refl, ((p.0, p.2), q)), refl))
   terra_suffix terra.CallsMethod t x a o p =
       gives_bind (Has is_terra_name) terra_name (λ n q. gives_bind (λ (x : Token × Tree). Has (are is_terra_expression) x.1) (gives_opening kept symbols.OpenParen TerraArguments) (λ es r.
-      gives_then (λ y. gives_value (refl, refl, ((p.0, p.2), q, r)))))
-  terra_suffix terra.Constructs t x a o p = gives_then (λ y. gives_value (refl, refl, ((p.0, p.2), o)))
+      gives_then (λ y. gives_value ((refl, refl, ((p.0, p.2), q, r)), refl))))
+  terra_suffix terra.Constructs t x a o p = gives_then (λ y. gives_value ((refl, refl, ((p.0, p.2), o)), refl))
 
-  terra_suffixes : (a : Chained) → Terra a → Of Terra (terra.terra_suffixes a)
-  terra_suffixes a p = gives_many kept p (λ t x b q is o. terra_suffix (terra.terra_suffix_of t.symbol) t x b o q)
+  terra_suffixes : (a : Chained) → Suffixed a → Of Suffixed (terra.terra_suffixes a)
+  terra_suffixes a p = gives_many kept p (λ t x b q is o. terra_suffix (terra.terra_suffix_of t.symbol) t x b o q.0)
 
   terra_prefix : (n : ℕ) → Of Terra (terra.terra_prefix n)
-  terra_prefix n = gives_bind Terra terra_base (λ b p. gives_bind Terra (terra_suffixes b p) (λ a q. gives_value q))
+  terra_prefix n = gives_bind Suffixed terra_base (λ b p. gives_bind Suffixed (terra_suffixes b p) (λ a q. gives_value q.0))
 
   terra_primary : (n : ℕ) → Of Terra (terra.terra_primary n)
   terra_primary n =
@@ -130,12 +161,18 @@ module _ (rule : Rule) (levels : ℕ) (parts : Parts) (kept : Kept parts) where
   terra_disjunction : (n : ℕ) → Of Terra (terra.terra_disjunction n)
   terra_disjunction n = gives_bind Terra (terra_conjunction n) (λ a p. binary (symbols.Or ∷ []) terra.terra_conjunction a terra_conjunction p)
 
-  -- behind an operator and its operand
-  terra_expression_behind : (a : Chained) → Terra a → Of Terra (terra.terra_expression_behind a)
+  -- behind an operand that begins with `@`
+  binary_at : (ss : List Symbol) (x : ℕ → Grammar Chained) (a : Chained) → ((n : ℕ) → Of Terra (x n)) → BeginsWithAt a → Of BeginsWithAt (operators ss x terra.terra_operation a)
+  binary_at ss x a p q = gives_many kept q (λ t y b r is o. gives_bind Terra (p (down b.left)) (λ d s. gives_value ((refl, refl, ((r.0.0, r.0.2), (s.0, s.2))), r.1)))
+
+  terra_expression_behind : (a : Chained) → BeginsWithAt a → Of BeginsWithAt (terra.terra_expression_behind a)
   terra_expression_behind a p =
-      gives_bind Terra (binary multiplicative terra.terra_unary a terra_unary p) (λ b q. gives_bind Terra (binary additive terra.terra_product b terra_product q) (λ d r.
-      gives_bind Terra (binary terra.shifts terra.terra_sum d terra_sum r) (λ e s. gives_bind Terra (binary comparisons terra.terra_shift e terra_shift s) (λ f u.
-      gives_bind Terra (binary (symbols.And ∷ []) terra.terra_comparison f terra_comparison u) (λ g v. binary (symbols.Or ∷ []) terra.terra_conjunction g terra_conjunction v)))))
+      gives_bind BeginsWithAt (binary_at multiplicative terra.terra_unary a terra_unary p) (λ b q.
+      gives_bind BeginsWithAt (binary_at additive terra.terra_product b terra_product q) (λ d r.
+      gives_bind BeginsWithAt (binary_at terra.shifts terra.terra_sum d terra_sum r) (λ e s.
+      gives_bind BeginsWithAt (binary_at comparisons terra.terra_shift e terra_shift s) (λ f u.
+      gives_bind BeginsWithAt (binary_at (symbols.And ∷ []) terra.terra_comparison f terra_comparison u) (λ g v.
+      binary_at (symbols.Or ∷ []) terra.terra_conjunction g terra_conjunction v)))))
 
   pub terra_expression : Of (Has is_terra_expression) terra.terra_expression
   terra_expression = gives_bind Terra (terra_disjunction chain) (λ a p. gives_value (p.0, p.2))
@@ -181,20 +218,24 @@ module _ (rule : Rule) (levels : ℕ) (parts : Parts) (kept : Kept parts) where
 
   -- ---- assignments, calls and splices
 
-  terra_assignment : (t : Token) (e : Tree) → Has is_terra_expression e → Of (Has is_terra_statement) (terra_statements.terra_assignment t e)
+  targets_behind : (e : Tree) → Has is_first_target e → Of (Has are_terra_targets) (listed_behind terra.terra_expression (More Nothing e))
+  targets_behind e p =
+      gives_many kept (p.0, (tt, p.1)) (λ t y a q is o. gives_bind (Has is_terra_expression) terra_expression (λ d r. gives_value (one_target a d q r)))
+
+  terra_assignment : (t : Token) (e : Tree) → Has is_first_target e → Of (Has is_terra_statement) (terra_statements.terra_assignment t e)
   terra_assignment t e p =
-      gives_bind (Has (are is_terra_expression)) (gives_behind kept is_terra_expression terra_expression (one_alone is_terra_expression e p)) (λ targets q. gives_then (λ y.
+      gives_bind (Has are_terra_targets) (targets_behind e p) (λ targets q. gives_then (λ y.
       gives_bind (Has (are is_terra_expression)) terra_expressions (λ es r. gives_value (refl, (q, r)))))
 
-  terra_simple_statement : (t : Token) (shape : Shape) (e : Tree) → is_terra_expression e ≡ true → terra_fits shape e ≡ true → WellFormed e → Of (Has is_terra_statement) (terra_statements.terra_simple_statement t shape e)
-  terra_simple_statement t shapes.Call e p q w = gives_value (refl, (q, w))
-  terra_simple_statement t shapes.Escape e p q w = gives_when (terra_assignment t e (p, w)) (gives_value (refl, (q, w)))
-  terra_simple_statement t shapes.Name e p q w = terra_assignment t e (p, w)
-  terra_simple_statement t shapes.Variable e p q w = terra_assignment t e (p, w)
-  terra_simple_statement t shapes.Other e p q w = terra_assignment t e (p, w)
+  terra_simple_statement : (t : Token) (shape : Shape) (e : Tree) → terra_fits shape e ≡ true → may_assign shape e ≡ true → WellFormed e → Of (Has is_terra_statement) (terra_statements.terra_simple_statement t shape e)
+  terra_simple_statement t shapes.Call e q r w = gives_value (refl, (q, w))
+  terra_simple_statement t shapes.Escape e q r w = gives_when (terra_assignment t e (r, w)) (gives_value (refl, (q, w)))
+  terra_simple_statement t shapes.Name e q r w = terra_assignment t e (r, w)
+  terra_simple_statement t shapes.Variable e q r w = terra_assignment t e (r, w)
+  terra_simple_statement t shapes.Other e q r w = terra_assignment t e (r, w)
 
-  terra_simple_behind : (t : Token) (b : Chained) → Terra b → Of (Has is_terra_statement) (terra_statements.terra_simple_behind t b)
-  terra_simple_behind t b p = gives_bind Terra (terra_suffixes b p) (λ a q. terra_simple_statement t a.shape a.tree q.0 q.1 q.2)
+  terra_simple_behind : (t : Token) (b : Chained) → Suffixed b → Of (Has is_terra_statement) (terra_statements.terra_simple_behind t b)
+  terra_simple_behind t b p = gives_bind Suffixed (terra_suffixes b p) (λ a q. terra_simple_statement t a.shape a.tree q.0.1 q.1 q.0.2)
 
   -- ---- parts of statements
 
@@ -227,11 +268,12 @@ module _ (rule : Rule) (levels : ℕ) (parts : Parts) (kept : Kept parts) where
   -- ---- statements
 
   terra_statement : (k : terra_statements.TerraStatement) (t : Token) (x : Tree) → OpenedHas (terra_statements.terra_statement_opens k) x → Of (Has is_terra_statement) (terra_statements.terra_statement k t x)
-  terra_statement terra_statements.FromName t x o = terra_simple_behind t (chained (Name t.place t.offset t.text) chain shapes.Name) (refl, refl, tt)
-  terra_statement terra_statements.FromParen t x o = gives_then (λ y. terra_simple_behind t (chained (TerraParen t.place x) chain shapes.Other) (refl, refl, o))
-  terra_statement terra_statements.FromBracket t x o = gives_then (λ y. terra_simple_behind t (chained (Escape t.place x) chain shapes.Escape) (refl, refl, o))
+  terra_statement terra_statements.FromName t x o = terra_simple_behind t (chained (Name t.place t.offset t.text) chain shapes.Name) ((refl, refl, tt), refl)
+  terra_statement terra_statements.FromParen t x o = gives_then (λ y. terra_simple_behind t (chained (TerraParen t.place x) chain shapes.Other) ((refl, refl, o), refl))
+  terra_statement terra_statements.FromBracket t x o = gives_then (λ y. terra_simple_behind t (chained (Escape t.place x) chain shapes.Escape) ((refl, refl, o), refl))
   terra_statement terra_statements.FromAt t x o =
-      gives_bind Terra (terra_expression_behind (operand chain (TerraUnary t.place unaries.Dereference x)) (refl, refl, o)) (λ a p. terra_assignment t a.tree (p.0, p.2))
+      gives_bind BeginsWithAt (terra_expression_behind (operand chain (TerraUnary t.place unaries.Dereference x)) ((refl, refl, o), refl)) (λ a p.
+      terra_assignment t a.tree (at_first a.tree p.1, p.0.2))
   terra_statement terra_statements.FromDo t x o = gives_then (λ y. gives_value (refl, o))
   terra_statement terra_statements.FromWhile t x o =
       gives_bind (Has is_terra_expression) terra_expression (λ e p. gives_bind (Has is_terra_block) terra_loop (λ b q. gives_value (refl, (p, q))))

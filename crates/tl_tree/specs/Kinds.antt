@@ -1,5 +1,7 @@
 -- What may stand where in a tree: each child is of the kind that its parent wants. The trees of texts are so (`laws::well_formed_trees`).
 use Rattle.std.specs.Prelude.{◌≡◌, ℕ, Bool, true, false, List, ◌&&◌}
+use Rattle.tl_tree.specs.declared.node.UnaryOperator.{UnaryOperator}
+use Rattle.tl_tree.specs.declared.node.UnaryOperator.TheVariants as operators
 use Rattle.tl_tree.specs.Tree as t
 use Rattle.tl_tree.specs.Tree.{Tree}
 use Rattle.tl_tree.specs.Texts.{Reads}
@@ -118,6 +120,10 @@ abbrev pub is_escape : Tree → Bool
 is_escape (t.Escape place e) = true
 is_escape _ = false
 
+abbrev pub is_dereference : UnaryOperator → Bool
+is_dereference operators.Dereference = true
+is_dereference _ = false
+
 -- a name, or Lua code in brackets in its place
 abbrev pub is_terra_name : Tree → Bool
 is_terra_name (t.Name place offset text) = true
@@ -146,6 +152,29 @@ is_terra_expression (t.TerraCall place a arguments) = true
 is_terra_expression (t.TerraMethod place a name arguments) = true
 is_terra_expression (t.Construct place a initialisers) = true
 is_terra_expression _ = false
+
+-- an expression whose first token is `@`
+abbrev pub begins_with_at : Tree → Bool
+begins_with_at (t.TerraUnary place op a) = is_dereference op
+begins_with_at (t.TerraBinary place op a b) = begins_with_at a
+begins_with_at _ = false
+
+-- the first target of an assignment: a name with suffixes, Lua code or an expression in brackets with suffixes, and no call; or an expression
+-- that begins with `@`
+abbrev pub is_first_target : Tree → Bool
+is_first_target (t.Name place offset text) = true
+is_first_target (t.Escape place e) = true
+is_first_target (t.TerraParen place a) = true
+is_first_target (t.TerraIndex place a key) = true
+is_first_target (t.TerraSelect place a name) = true
+is_first_target (t.Construct place a initialisers) = true
+is_first_target a = begins_with_at a
+
+-- the targets of an assignment
+abbrev pub are_terra_targets : Tree → Bool
+are_terra_targets (t.More t.Nothing first) = is_first_target first
+are_terra_targets (t.More before next) = are_terra_targets before && is_terra_expression next
+are_terra_targets _ = false
 
 -- an initialiser of a constructor
 abbrev pub is_initialiser : Tree → Bool
@@ -259,7 +288,7 @@ WellFormed (t.Construct place a initialisers) =
     child is_terra_expression a (WellFormed a) × child (are is_initialiser) initialisers (WellFormed initialisers)
 -- statements of Terra code
 WellFormed (t.TerraAssign place targets es) =
-    child (are is_terra_expression) targets (WellFormed targets) × child (are is_terra_expression) es (WellFormed es)
+    child are_terra_targets targets (WellFormed targets) × child (are is_terra_expression) es (WellFormed es)
 WellFormed (t.TerraPerform place call) = child is_terra_call call (WellFormed call)
 WellFormed (t.Splice place escape) = child is_escape escape (WellFormed escape)
 WellFormed (t.TerraDo place block) = child is_terra_block block (WellFormed block)
