@@ -1,14 +1,13 @@
 -- What the functions find in the nodes of a tree is what the form has of the tree.
-use Rattle.std.proofs.Common.{◌≡◌, ℕ, Bool, true, false, List, [], ◌∷◌, ◌++◌, Option, Some, None, refl, sym, ap, subst, ◌∙◌}
+use Rattle.std.proofs.Common.{◌≡◌, ℕ, Bool, true, false, List, [], ◌∷◌, ◌++◌, Option, Some, None, refl, ap, ◌∙◌}
 use Rattle.std.specs.Prelude.{is_none, not}
 use Rattle.tl_base.specs.declared.ids.NodeId.{NodeId}
 use Rattle.tl_tree.specs.Item.{Item}
 use Rattle.tl_tree.specs.Tree.{Tree}
 use Rattle.tl_tree.specs.Nodes.{item_at}
 use Rattle.first_form.specs.Form.{◌>>=◌, where_true, trees_of, first, only, statements_of, definition_of, path_of, body_of, parameter_of, returned_of, is_number_type, free_name_of, plain_name_of, parameter_name_of, may_follow, names_behind, value_of, typed_body_of, defined_of, is_int64}
-use Rattle.first_form.specs.Layout.{AreSingle}
 use Rattle.first_form.specs.Reading.{statements_in, definition_in, path_in, body_in, parameter_in, returned_in, is_number_type_in, free_name_at, plain_name_at, parameter_name_at, names_behind_at, value_at, typed_body_at, definition_at}
-use Rattle.first_form.proofs.Seen.{Rel, There, Lists, Any, Each, Two, Names, Bodies, at_statements, at_definition, at_path, at_body, at_parameter, at_returned, at_name, at_type, each, none_there}
+use Rattle.first_form.proofs.Seen.{Rel, There, Lists, Each, Two, Names, Bodies, at_statements, at_definition, at_path, at_body, at_parameter, at_returned, at_name, at_type, each, any_first, none_any}
 
 -- ---- relations
 
@@ -48,18 +47,9 @@ rel_only items (t ∷ u ∷ ts) (n ∷ []) h = absurd h.1
 rel_only items [] (n ∷ ns) h = absurd h
 rel_only items (t ∷ ts) [] h = absurd h
 
-rel_first : (items : List Item) (ts : List Tree) (ns : List NodeId) → Each items ts ns → Rel (There items) (first ts) (first ns)
-rel_first items [] [] h = tt
-rel_first items (t ∷ ts) (n ∷ ns) h = h.0
-rel_first items [] (n ∷ ns) h = absurd h
-rel_first items (t ∷ ts) [] h = absurd h
-
 module _ (items : List Item) where
   lists_only : (t : Tree) (ids : List NodeId) → Lists items t ids → Rel (There items) (only (trees_of t)) (only ids)
   lists_only t ids h = rel_only items (trees_of t) ids (each items t ids h)
-
-  any_first : (t : Tree) (o : Option NodeId) → Any items t o → AreSingle t → Rel (There items) (first (trees_of t)) o
-  any_first t o h s = subst (λ (p : Option NodeId). Rel (There items) (first (trees_of t)) p) (sym h.2) (rel_first items (trees_of t) h.0 (each items t h.0 (h.1, s)))
 
   free_name : (t : Tree) (id : NodeId) → There items t id → free_name_of t ≡ free_name_at items id
   free_name t id h = ap (λ (o : Option (List ℕ)). o >>= λ name. where_true (not (is_int64 name)) (Some name)) (at_name items t id h)
@@ -69,7 +59,7 @@ module _ (items : List Item) where
       same_then (Names items) (path_of t) (path_in (item_at items id)) _ _ (at_path items t id h) (λ a b r.
       same_then (There items) (where_true (is_none (first (trees_of a.1))) (only (trees_of a.0))) (where_true (is_none b.1) (only b.0)) _ _
       (rel_where (There items) (is_none (first (trees_of a.1))) (is_none b.1) (only (trees_of a.0)) (only b.0)
-      (none_there items a.1 r.1.0 r.1.1 ∙ ap (λ (o : Option NodeId). is_none o) (sym r.1.2)) (lists_only a.0 b.0 r.0))
+      (none_any items a.1 b.1 r.1) (lists_only a.0 b.0 r.0))
       (λ t n q. free_name t n q))
 
   parameter_name : (t : Tree) (id : NodeId) → There items t id → parameter_name_of t ≡ parameter_name_at items id
@@ -99,7 +89,7 @@ module _ (items : List Item) where
   pub typed_body : (t : Tree) (id : NodeId) → There items t id → Rel Typed (typed_body_of t) (typed_body_at items id)
   typed_body t id h =
       rel_then (Bodies items) Typed (body_of t) (body_in (item_at items id)) _ _ (at_body items t id h) (λ a b r.
-      rel_then (There items) Typed (first (trees_of a.1)) b.1 _ _ (any_first a.1 b.1 r.1.0 r.1.1) (λ k n q.
+      rel_then (There items) Typed (first (trees_of a.1)) b.1 _ _ (any_first items a.1 b.1 r.1) (λ k n q.
       rel_then (There items) Typed (where_true (is_number_type k) (value_of a.2)) (where_true (is_number_type_in (item_at items n)) (value_at items b.2)) _ _
       (rel_where (There items) (is_number_type k) (is_number_type_in (item_at items n)) (value_of a.2) (value_at items b.2) (at_type items k n q) (value a.2 b.2 r.2))
       (λ v m p. (r.0, p))))

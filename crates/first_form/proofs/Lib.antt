@@ -1,7 +1,4 @@
-pub mod Extending
 pub mod Seen
-pub mod Giving
-pub mod Singles
 pub mod Literals
 pub mod Within
 pub mod Agreeing

@@ -1,16 +1,18 @@
 -- From what is found in the nodes of a tree to the function that the tree is.
-use Rattle.std.proofs.Common.{◌≡◌, ℕ, suc, Bool, true, false, List, [], ◌∷◌, length, Option, Some, None, ◌-◌, refl, sym, ap, subst, ◌∙◌}
+use Rattle.std.proofs.Common.{arith, pred, ◌≡◌, ℕ, suc, Bool, true, false, List, [], ◌∷◌, length, Option, Some, None, ◌-◌, refl, sym, ap, subst, ◌∙◌}
 use Rattle.std.specs.Prelude.{nat_le}
 use Rattle.std.specs.Borrow.{Bor}
-use Rattle.std.proofs.lemmas.List.{append-nil}
 use Rattle.std.proofs.lemmas.Bool.{le-leb}
 use Rattle.tl_base.specs.declared.ids.NodeId.{NodeId}
 use Rattle.tl_tree.specs.Item.{Item}
 use Rattle.tl_tree.specs.Tree.{Tree}
 use Rattle.tl_tree.specs.Nodes.{lay, last_of}
+use Rattle.tl_tree.specs.Kinds.{IsWellFormedBlock}
+use Rattle.tl_tree.specs.Children.{HasChildrenFirst}
+use Rattle.tl_tree.proofs.TreeAt.{tree_at}
+use Rattle.tl_tree.proofs.Laying.{lays_children_first, reads_back}
 use Rattle.first_form.specs.Formula.{SourceFunction, Formula, operators}
 use Rattle.first_form.specs.Form.{◌>>=◌, where_true, trees_of, formula_of_tree, names_behind, typed_body_of, defined_of, function_with, function_of_body, function_of}
-use Rattle.first_form.specs.Layout.{IsSingle}
 use Rattle.first_form.specs.Reading.{names_of, names_behind_at, typed_body_at, definition_at, Finds}
 use Rattle.first_form.proofs.Seen.{Rel, There, each}
 use Rattle.first_form.proofs.Agreeing.{Defined, Typed, defined, typed_body, names_found}
@@ -20,9 +22,13 @@ pub length_names : (names : List (Bor (List ℕ))) → length (names_of names) �
 length_names [] = refl
 length_names (x ∷ names) = ap (λ (n : ℕ). suc n) (length_names names)
 
-whole : (items : List Item) (t : Tree) (root : NodeId) → items ≡ lay t [] → IsSingle t → root ≡ last_of items → There items t root
-whole items t root e s r =
-    (record { front = []; behind = []; are_laid = e ∙ sym (append-nil (lay t [])); is_last = r ∙ ap (λ (is : List Item). last_of is) e }, s)
+whole : (items : List Item) (t : Tree) (root : NodeId) → items ≡ lay t [] → IsWellFormedBlock t → root ≡ last_of items → There items t root
+whole items t root e w r = record {
+  children_first = subst (λ (is : List Item). HasChildrenFirst is) (sym e) (lays_children_first t w);
+  bound = suc (length items);
+  is_below = let e : root.0 ≡ pred (length items) = ap (λ (id : NodeId). id.0) r in omega (arith, e);
+  is = sym (ap (λ (id : NodeId). tree_at (suc (length items)) items id) r ∙ reads_back t w items (suc (length items)) e (omega arith));
+}
 
 rel_none : {A B : Type 0} (R : A → B → Type 0) (o : Option A) (p : Option B) → Rel R o p → p ≡ None → o ≡ None
 rel_none R None None r e = refl
@@ -39,10 +45,10 @@ rel_some R (Some a) (Some d) b r e = (a, refl, subst (λ (x : _). R a x) (some_i
     some_is : {A : Type 0} (x y : A) → Some x ≡ Some y → x ≡ y
     some_is x y e = cc
 
-module _ (items : List Item) (t : Tree) (root : NodeId) (is_laid : items ≡ lay t []) (single : IsSingle t) (is_root : root ≡ last_of items) where
+module _ (items : List Item) (t : Tree) (root : NodeId) (is_laid : items ≡ lay t []) (well_formed : IsWellFormedBlock t) (is_root : root ≡ last_of items) where
   pub no_definition : definition_at items root ≡ None → None ≡ function_of t
   no_definition e =
-      let none = rel_none (Defined items) (defined_of t) (definition_at items root) (defined items t root (whole items t root is_laid single is_root)) e in
+      let none = rel_none (Defined items) (defined_of t) (definition_at items root) (defined items t root (whole items t root is_laid well_formed is_root)) e in
       sym (ap (λ (o : Option (List ℕ × Tree)). o >>= λ d. function_of_body d.0 d.1) none)
 
   -- the function's name and body
@@ -51,7 +57,7 @@ module _ (items : List Item) (t : Tree) (root : NodeId) (is_laid : items ≡ lay
 
   named : (name : List ℕ) (body : NodeId) → definition_at items root ≡ Some (name, body) → Named name body
   named name body e =
-      let d = rel_some (Defined items) (defined_of t) (definition_at items root) (name, body) (defined items t root (whole items t root is_laid single is_root)) e in
+      let d = rel_some (Defined items) (defined_of t) (definition_at items root) (name, body) (defined items t root (whole items t root is_laid well_formed is_root)) e in
       (d.0.1, ap (λ (o : Option (List ℕ × Tree)). o >>= λ x. function_of_body x.0 x.1) d.1 ∙ ap (λ (x : List ℕ). function_of_body x d.0.1) d.2.0, d.2.1)
 
   module _ (name : List ℕ) (body : NodeId) (is_defined : definition_at items root ≡ Some (name, body)) where

@@ -1,5 +1,4 @@
 pub mod Formula
 pub mod Form
 pub mod Laws
-pub mod Layout
 pub mod Reading

@@ -4,11 +4,10 @@ ghost use Rattle.std.specs.Prelude.{◌≡◌, ◌≢◌, ◌≤◌, length, IfO
 ghost use Rattle.tl_tree.specs.Tree as trees;
 ghost use Rattle.tl_tree.specs.Nodes.{lay};
 ghost use Rattle.tl_tree.specs.Arena.{items_of};
-ghost use Rattle.tl_tree.specs.Laws.{IsChunk};
+ghost use Rattle.tl_tree.specs.Kinds.{IsWellFormedBlock};
 ghost use Rattle.first_form.specs.Formula.{shown, IsWithin};
 ghost use Rattle.first_form.specs.Form.{may_follow, function_of};
-ghost use Rattle.first_form.specs.Layout.{IsSingle};
-ghost use Rattle.first_form.specs.Laws.{IsAlwaysWithin, HasSingleTrees};
+ghost use Rattle.first_form.specs.Laws.{IsAlwaysWithin};
 ghost use Rattle.first_form.specs.Reading.{names_of, names_behind_at};
 
 use crate::expression::{expression, position};
@@ -66,7 +65,7 @@ fn names<'a>(
 ///
 /// `NoMemory` where memory was not found.
 pub fn function_of(alloc: Global, tree: &Tree<'_>) -> Result<Option<Function>, NoMemory>
-    ensures exactly { (t : trees.Tree) → items_of tree.now ≡ lay t [] → IsSingle t → IfOk result (λ found. option_map shown found ≡ function_of t) }
+    ensures exactly { (t : trees.Tree) → items_of tree.now ≡ lay t [] → IsWellFormedBlock t → IfOk result (λ found. option_map shown found ≡ function_of t) }
 {
     let Some((name, body)) = definition(tree, tree.root()) else {
         return Ok(None);
@@ -90,9 +89,4 @@ pub fn function_of(alloc: Global, tree: &Tree<'_>) -> Result<Option<Function>, N
 /// and literals up to 2047 alone.
 pub fn bounds()
     ensures { IsAlwaysWithin }
-{}
-
-/// A law: in the tree of a text one tree stands wherever one is to stand, as far as the form looks at it.
-pub fn single_trees()
-    ensures { HasSingleTrees IsChunk }
 {}

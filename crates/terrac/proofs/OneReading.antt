@@ -6,16 +6,16 @@ use Rattle.tl_tree.specs.Tokens.{Token, tokens_of, finish_of, place_of}
 use Rattle.tl_tree.specs.Tree.{Tree}
 use Rattle.tl_tree.specs.declared.tree.Tree as code
 use Rattle.tl_tree.specs.Nodes.{lay}
+use Rattle.tl_tree.specs.Kinds.{IsWellFormedBlock}
 use Rattle.tl_tree.specs.Arena.{items_of}
 use Rattle.tl_tree.specs.Refusing.{Language, Answer, Says, IsTree, Refused}
 use Rattle.tl_tree.specs.Laws.{HasOneAnswer, IsChunk}
 use Rattle.tl_tree.specs.Texts as texts
 use Rattle.tl_tree.proofs.Answering.{chunks_one}
+use Rattle.tl_tree.proofs.WellFormedTrees.{well_formed_trees}
 use Rattle.tl_parse.specs.Whole.{ComesOf}
 use Rattle.first_form.specs.Formula.{SourceFunction, IsWithin}
 use Rattle.first_form.specs.Form.{function_of}
-use Rattle.first_form.specs.Layout.{IsSingle}
-use Rattle.first_form.proofs.Singles.{single_chunk}
 use Rattle.first_form.proofs.Within.{always_within}
 use Rattle.terrac.specs.Due.{Reading, IsRefused, IsFunction, reading_of, IsTextReadAs, HasTree, HasNone, IsReadAs, IsTooLong, IsNotUtf8, IsText}
 
@@ -70,10 +70,6 @@ one_reading source _ _ (IsText a l u p) (IsText b m v q) = one_text source a b p
 
 -- ---- what a tree is
 
--- one tree stands wherever one is to stand
-pub single : (text : List ℕ) (tree : Tree) → texts.Reads text tree → IsSingle tree
-single text tree p = single_chunk (tokens_of text) tree p
-
 function_within : (o : Option SourceFunction) (f : SourceFunction) → ((g : SourceFunction) → o ≡ Some g → IsWithin g) → reading_of o ≡ IsFunction f → IsWithin f
 function_within None f h e = absurd cc
 function_within (Some g) f h e = let same : g ≡ f = cc in subst (λ (x : SourceFunction). IsWithin x) same (h g refl)
@@ -92,6 +88,6 @@ pub reads_within : (source : List ℕ) (f : SourceFunction) → IsReadAs source 
 reads_within source f p = source_within source (IsFunction f) f p refl
 
 -- the function that is found of the tree of a text
-pub text_tree : (text : List ℕ) (t : code.Tree) (found : Option SourceFunction) → ComesOf text (Ok t) → ((tree : Tree) → items_of t ≡ lay tree [] → IsSingle tree → found ≡ function_of tree) → IsTextReadAs text (reading_of found)
+pub text_tree : (text : List ℕ) (t : code.Tree) (found : Option SourceFunction) → ComesOf text (Ok t) → ((tree : Tree) → items_of t ≡ lay tree [] → IsWellFormedBlock tree → found ≡ function_of tree) → IsTextReadAs text (reading_of found)
 text_tree text t found comes finds =
-    subst (λ (o : Option SourceFunction). IsTextReadAs text (reading_of o)) (sym (finds comes.0 comes.2 (single text comes.0 comes.1))) (HasTree comes.0 comes.1)
+    subst (λ (o : Option SourceFunction). IsTextReadAs text (reading_of o)) (sym (finds comes.0 comes.2 (well_formed_trees text comes.0 comes.1))) (HasTree comes.0 comes.1)

@@ -103,15 +103,15 @@ last_item xs item {items} p =
 -- one more node, whose children are among those before it
 first_pushed : (xs : List Item) (item : Item) → HasChildrenFirst xs → Below (length xs) (children_of item) → HasChildrenFirst (xs ++ item ∷ [])
 first_pushed xs item h b id = elim (cases_lt id.0 (length xs)) [
-    inl lt ↦ subst (λ (i : Item). Below id.0 (children_of i)) (sym (get_front xs (item ∷ []) id.0 lt)) (h id)
+  | inl lt ↦ subst (λ (i : Item). Below id.0 (children_of i)) (sym (get_front xs (item ∷ []) id.0 lt)) (h id)
   | inr le ↦ elim (cases_lt (length xs) id.0) [
-        inl gt ↦ subst (λ (i : Item). Below id.0 (children_of i)) (sym (get_past (xs ++ item ∷ []) id.0 (omega (arith, length_pushed xs item, gt)))) (All-nil (λ child. child.0 < id.0))
-      | inr ge ↦ let e : length xs ≡ id.0 = omega (arith, le, ge) in
-                 let there : item ≡ get_or (xs ++ item ∷ []) id.0 absent_item =
-                     sym (get_middle xs item []) ∙ ap (λ (is : List Item). get_or is (length xs) absent_item) (append-nil (xs ++ item ∷ [])) ∙ ap (λ (n : ℕ). get_or (xs ++ item ∷ []) n absent_item) e in
-                 subst (λ (i : Item). Below id.0 (children_of i)) there (below_more (length xs) id.0 (children_of item) le b)
-    ]
+    | inl gt ↦ subst (λ (i : Item). Below id.0 (children_of i)) (sym (get_past (xs ++ item ∷ []) id.0 (omega (arith, length_pushed xs item, gt)))) (All-nil (λ child. child.0 < id.0))
+    | inr ge ↦ let e : length xs ≡ id.0 = omega (arith, le, ge) in
+        let there : item ≡ get_or (xs ++ item ∷ []) id.0 absent_item =
+        sym (get_middle xs item []) ∙ ap (λ (is : List Item). get_or is (length xs) absent_item) (append-nil (xs ++ item ∷ [])) ∙ ap (λ (n : ℕ). get_or (xs ++ item ∷ []) n absent_item) e in
+        subst (λ (i : Item). Below id.0 (children_of i)) there (below_more (length xs) id.0 (children_of item) le b)
   ]
+]
 
 -- ---- a tree that lies somewhere
 
@@ -136,7 +136,7 @@ before {s} {r} {a} {b} {front} {xs} {ys} {p} {q} l m = record {
 
 -- a node behind others that has this tree
 close : (a : Tree) {front : List Item} (ys : List Item) (item : Item) → Grows front ys → (HasChildrenFirst front → HasChildrenFirst ys) → Below (length ys) (children_of item)
-  → ((items : List Item) (n : ℕ) → Grows ys items → length ys ≤ n → of_item (λ id. tree_at n items id) item ≡ a) → LiesIn One a front (node ys item)
+    → ((items : List Item) (n : ℕ) → Grows ys items → length ys ≤ n → of_item (λ id. tree_at n items id) item ≡ a) → LiesIn One a front (node ys item)
 close a {front} ys item grows first below reads = record {
   grows = further grows (pushed ys item);
   first = λ h. first_pushed ys item (first h) below;
@@ -227,7 +227,7 @@ more {a} {b} {front} {xs} {ys} {p} {q} l m =
       first = k.first;
       below = joined (length ys) p (q ∷ []) k.below m.below;
       reads = λ items n g le.
-      read_pushed (λ id. tree_at n items id) t.Nothing p q ∙ ap (λ (x : Tree). t.More x (tree_at n items q)) (k.reads items n g le) ∙ ap (λ (x : Tree). t.More a x) (m.reads items n g le);
+          read_pushed (λ id. tree_at n items id) t.Nothing p q ∙ ap (λ (x : Tree). t.More x (tree_at n items q)) (k.reads items n g le) ∙ ap (λ (x : Tree). t.More a x) (m.reads items n g le);
     }
 
 just : {a : Tree} {front xs : List Item} {p : NodeId} → Lies One a front xs p → Lies Any (t.Just a) front xs (Some p)
