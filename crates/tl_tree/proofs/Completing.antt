@@ -37,13 +37,13 @@ Shows (Stop why (t ∷ rest)) r = (rest ≡ r) × IsLimit t why
 
 -- a rule that allows all uses of the last n tokens
 abbrev pub Lenient : Rule → ℕ → Type 0
-Lenient rule n = (role : Use) (ts : List Token) → length ts ≤ n → rule role ts ≡ true
+Lenient rule n = (usage : Use) (ts : List Token) → length ts ≤ n → rule usage ts ≡ true
 
 -- a rule that allows what was refused by the limits
 abbrev pub Forgives : {A : Type 0} → Outcome A → Rule → List Token → Type 0
 Forgives (Took a rest) rule tail = Unit {0}
 Forgives (Stop why []) rule tail = Unit {0}
-Forgives (Stop why (t ∷ rest)) rule tail = (role : Use) → bar role t ≡ Some why → rule role (t ∷ tail) ≡ true
+Forgives (Stop why (t ∷ rest)) rule tail = (usage : Use) → bar usage t ≡ Some why → rule usage (t ∷ tail) ≡ true
 
 -- tokens that complete the front, from this place on and whatever follows them, if its first token is of the class after
 pub record Completion {A : Type 0} (R : Rule → List Token → A → List Token → Type 0) (p : Position) (o : Outcome A) (first after : Token → Bool) (front : List Token) : Type 0 where
@@ -131,7 +131,7 @@ module _ {A B : Type 0} (o1 : List Token → Outcome A) (Reads1 : Rule → List 
               c2.more ++ close,
               subst (λ (x : List Token). Reads1 rule (front ++ x) c1.value (c2.more ++ close)) (sym same)
                   (c1.reads (c2.more ++ close) (c2.starts close k) rule al (subst (λ (x : List Token). Lenient rule (length x)) same le) (pass rule (c1.more ++ (c2.more ++ close)) (subst (λ (x : List Token). Forgives o' rule x) same fo))),
-              c2.reads close k rule al (λ role ts short. le role ts (omega arith)),
+              c2.reads close k rule al (λ usage ts short. le usage ts (omega arith)),
             );
       }
 
@@ -196,7 +196,7 @@ bare-both Reads1 Reads2 p first mid after c1 h =
             c1.value,
             c2.more ++ close,
             subst (λ (x : List Token). Reads1 rule x c1.value (c2.more ++ close)) (sym same) (c1.reads (c2.more ++ close) (c2.starts close k) rule al (subst (λ (x : List Token). Lenient rule (length x)) same le)),
-            c2.reads close k rule al (λ role ts short. le role ts (omega arith)),
+            c2.reads close k rule al (λ usage ts short. le usage ts (omega arith)),
           );
     }
 
@@ -222,7 +222,7 @@ module _ (levels : ℕ) (parts : Rule → Parts) where
         value = (t, c.value);
         starts = λ close h. good_first;
         reads = λ close h rule al le.
-            (c.more ++ close, refl, good, le (record { opens = opens t; levels = levels; extra = extra t }) (t ∷ (c.more ++ close)) (omega arith), c.reads close h rule al (λ role ts short. le role ts (omega arith)));
+            (c.more ++ close, refl, good, le (record { opens = opens t; levels = levels; extra = extra t }) (t ∷ (c.more ++ close)) (omega arith), c.reads close h rule al (λ usage ts short. le usage ts (omega arith)));
       }
 
   pub bare-none : (p : Position) (after : Token → Bool) → Bare (λ rule ts x rest. Opened (parts rule) None ts x rest) p after after
@@ -355,7 +355,7 @@ module _ (levels : ℕ) (readers : Readers) (parts : Rule → Parts) (part_after
         value = c.value;
         starts = λ none close k. good_first p;
         reads = λ close k rule al le fo.
-            let i = c.reads close k rule al (λ role ts short. le role ts (omega arith)) in (
+            let i = c.reads close k rule al (λ usage ts short. le usage ts (omega arith)) in (
               (t, i.0),
               i.1,
               (c.more ++ close, refl, good p, le (record { opens = opens t; levels = levels; extra = extra t }) (t ∷ (c.more ++ close)) (omega arith), i.2),

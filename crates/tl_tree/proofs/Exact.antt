@@ -9,7 +9,7 @@ use Rattle.tl_lex.specs.declared.SyntaxKind.TheVariants.{BadByte, OpenText, BadE
 use Rattle.tl_tree.specs.Symbols.{is_bad}
 use Rattle.tl_tree.specs.Tree.{Part}
 use Rattle.tl_tree.specs.Grammar.{Use, bar, breaks, is_too_large, is_too_deep, is_ambiguous, is_of, Grammar, give, token, bind, when, many, begins, Rule, Outcome, Took, Stop, ◌>>=◌, blame, unless, Readers, opened, turns, run}
-use Rattle.tl_tree.specs.Refusing.{any, limits, is_allowed, without, PastLimits, Against, Language, HasTree, Viable, Row, rank, FirstRow, NoRow, Refuses, Answer, IsTree, Refused, answer, Says}
+use Rattle.tl_tree.specs.Refusing.{any, limits, is_allowed, limit_at, PastLimits, GrammarRefuses, Language, HasTree, Viable, Row, rank, FirstRow, NoRow, Refuses, Answer, IsTree, Refused, answer, Says}
 use Rattle.tl_tree.proofs.Reading.{rest_of, with_rest, Allows, AllGood, Leaves, good, Answers, Barred}
 use Rattle.tl_tree.proofs.Spelled.{Spelled}
 use Rattle.tl_tree.proofs.Completing.{Shows, Forgives, Lenient, IsLimitKind, IsLimit, no_limit}
@@ -19,28 +19,28 @@ use Rattle.tl_tree.proofs.Completing.{Shows, Forgives, Lenient, IsLimitKind, IsL
 abbrev pub Blames : {A : Type 0} → Outcome A → Type 0
 Blames (Took a rest) = Unit {0}
 Blames (Stop why []) = why ≡ Unexpected
-Blames (Stop why (t ∷ rest)) = ((role : Use) × (bar role t ≡ Some why) × (is_bad t.symbol ≡ false)) ⊎ (why ≡ blame t.symbol)
+Blames (Stop why (t ∷ rest)) = ((usage : Use) × (bar usage t ≡ Some why) × (is_bad t.symbol ≡ false)) ⊎ (why ≡ blame t.symbol)
 
 blames-bind : {A B : Type 0} (o : Outcome A) (f : A → List Token → Outcome B) → Blames o → ((a : A) (mid : List Token) → Blames (f a mid)) → Blames (o >>= f)
 blames-bind (Took a mid) f p q = q a mid
 blames-bind (Stop why []) f p q = p
 blames-bind (Stop why (t ∷ r)) f p q = p
 
-blames-unless : {A : Type 0} (class : Token → Bool) (role : Use) (t : Token) (ts : List Token) (next other : Outcome A) (c : Bool) → is_of class t ≡ c → (o : Option SyntaxKind) → bar role t ≡ o → Blames next → Blames other → Blames (cond c (unless o (t ∷ ts) next) other)
-blames-unless class role t ts next other true h None k p q = p
-blames-unless class role t ts next other true h (Some why) k p q = inl (role, k, good class t h)
-blames-unless class role t ts next other false h o k p q = q
+blames-unless : {A : Type 0} (class : Token → Bool) (usage : Use) (t : Token) (ts : List Token) (next other : Outcome A) (c : Bool) → is_of class t ≡ c → (o : Option SyntaxKind) → bar usage t ≡ o → Blames next → Blames other → Blames (cond c (unless o (t ∷ ts) next) other)
+blames-unless class usage t ts next other true h None k p q = p
+blames-unless class usage t ts next other true h (Some why) k p q = inl (usage, k, good class t h)
+blames-unless class usage t ts next other false h o k p q = q
 
 blames-cond : {A : Type 0} (c : Bool) (x y : Outcome A) → Blames x → Blames y → Blames (cond c x y)
 blames-cond true x y p q = p
 blames-cond false x y p q = q
 
-module _ {A : Type 0} (class : A → Token → Bool) (role : A → Token → Use) (step : A → Token → List Token → Outcome A) (step_blames : (a : A) (t : Token) (ts : List Token) → Blames (step a t ts)) where
-  blames-turns : (n : ℕ) (a : A) (ts : List Token) → Blames (turns n class (λ a t. bar (role a t) t) step a ts)
+module _ {A : Type 0} (class : A → Token → Bool) (usage : A → Token → Use) (step : A → Token → List Token → Outcome A) (step_blames : (a : A) (t : Token) (ts : List Token) → Blames (step a t ts)) where
+  blames-turns : (n : ℕ) (a : A) (ts : List Token) → Blames (turns n class (λ a t. bar (usage a t) t) step a ts)
   blames-turns zero a [] = tt
   blames-turns (suc n) a [] = tt
   blames-turns zero a (t ∷ ts) = tt
-  blames-turns (suc n) a (t ∷ ts) = blames-unless (class a) (role a t) t ts (step a t ts >>= λ x mid. turns n class (λ a t. bar (role a t) t) step x mid) (Took a (t ∷ ts)) (is_of (class a) t) refl (bar (role a t) t) refl (blames-bind (step a t ts) (λ x mid. turns n class (λ a t. bar (role a t) t) step x mid) (step_blames a t ts) (λ x mid. blames-turns n x mid)) tt
+  blames-turns (suc n) a (t ∷ ts) = blames-unless (class a) (usage a t) t ts (step a t ts >>= λ x mid. turns n class (λ a t. bar (usage a t) t) step x mid) (Took a (t ∷ ts)) (is_of (class a) t) refl (bar (usage a t) t) refl (blames-bind (step a t ts) (λ x mid. turns n class (λ a t. bar (usage a t) t) step x mid) (step_blames a t ts) (λ x mid. blames-turns n x mid)) tt
 
 -- readers blame as the table says
 abbrev pub ReadersBlame : Readers → Type 0
@@ -77,8 +77,8 @@ bar_limit false true a kind e = subst (λ (k : SyntaxKind). IsLimitKind k) (some
 bar_limit false false true kind e = subst (λ (k : SyntaxKind). IsLimitKind k) (some_same Ambiguous kind e) tt
 bar_limit false false false kind e = absurd cc
 
-limit_kind : (role : Use) (t : Token) (kind : SyntaxKind) → bar role t ≡ Some kind → IsLimitKind kind
-limit_kind role t kind e = bar_limit (is_too_large role.extra t) (is_too_deep role) (is_ambiguous role t) kind e
+limit_kind : (usage : Use) (t : Token) (kind : SyntaxKind) → bar usage t ≡ Some kind → IsLimitKind kind
+limit_kind usage t kind e = bar_limit (is_too_large usage.extra t) (is_too_deep usage) (is_ambiguous usage t) kind e
 
 by_number : (n d a : Bool) → barred_by n d a ≡ Some BadNumber → n ≡ true
 by_number true d a e = refl
@@ -99,11 +99,11 @@ by_ambiguity false false true e = refl
 by_ambiguity false false false e = absurd cc
 
 -- a use that is refused for a reason breaks the limit that the reason names
-broken : (role : Use) (t : Token) (kind : SyntaxKind) → bar role t ≡ Some kind → breaks kind role t ≡ true
-broken role t BadNumber e = by_number (is_too_large role.extra t) (is_too_deep role) (is_ambiguous role t) e
-broken role t TooDeep e = by_depth (is_too_large role.extra t) (is_too_deep role) (is_ambiguous role t) e
-broken role t Ambiguous e = by_ambiguity (is_too_large role.extra t) (is_too_deep role) (is_ambiguous role t) e
-broken role t kind e = absurd (limit_kind role t kind e)
+broken : (usage : Use) (t : Token) (kind : SyntaxKind) → bar usage t ≡ Some kind → breaks kind usage t ≡ true
+broken usage t BadNumber e = by_number (is_too_large usage.extra t) (is_too_deep usage) (is_ambiguous usage t) e
+broken usage t TooDeep e = by_depth (is_too_large usage.extra t) (is_too_deep usage) (is_ambiguous usage t) e
+broken usage t Ambiguous e = by_ambiguity (is_too_large usage.extra t) (is_too_deep usage) (is_ambiguous usage t) e
+broken usage t kind e = absurd (limit_kind usage t kind e)
 
 number_free : (n d a : Bool) (kind : SyntaxKind) → barred_by n d a ≡ Some kind → 3 < rank kind → n ≡ false
 number_free true d a kind e lt = let r = ap (λ (k : SyntaxKind). rank k) (some_same BadNumber kind e) in absurd (omega (arith, r))
@@ -121,11 +121,11 @@ ambiguity_free false false true kind e lt = let r = ap (λ (k : SyntaxKind). ran
 ambiguity_free false false false kind e lt = refl
 
 -- and no limit that comes earlier in the table
-unbroken : (role : Use) (t : Token) (kind other : SyntaxKind) → bar role t ≡ Some kind → rank other < rank kind → breaks other role t ≡ false
-unbroken role t kind BadNumber e lt = number_free (is_too_large role.extra t) (is_too_deep role) (is_ambiguous role t) kind e lt
-unbroken role t kind TooDeep e lt = depth_free (is_too_large role.extra t) (is_too_deep role) (is_ambiguous role t) kind e lt
-unbroken role t kind Ambiguous e lt = ambiguity_free (is_too_large role.extra t) (is_too_deep role) (is_ambiguous role t) kind e lt
-unbroken role t kind _ e lt = refl
+unbroken : (usage : Use) (t : Token) (kind other : SyntaxKind) → bar usage t ≡ Some kind → rank other < rank kind → breaks other usage t ≡ false
+unbroken usage t kind BadNumber e lt = number_free (is_too_large usage.extra t) (is_too_deep usage) (is_ambiguous usage t) kind e lt
+unbroken usage t kind TooDeep e lt = depth_free (is_too_large usage.extra t) (is_too_deep usage) (is_ambiguous usage t) kind e lt
+unbroken usage t kind Ambiguous e lt = ambiguity_free (is_too_large usage.extra t) (is_too_deep usage) (is_ambiguous usage t) kind e lt
+unbroken usage t kind _ e lt = refl
 
 all_free : (n d a : Bool) → barred_by n d a ≡ None → (n ≡ false) × (d ≡ false) × (a ≡ false)
 all_free true d a e = absurd cc
@@ -134,11 +134,11 @@ all_free false false true e = absurd cc
 all_free false false false e = (refl, refl, refl)
 
 -- a use that the limits allow breaks none
-free : (role : Use) (t : Token) (kind : SyntaxKind) → bar role t ≡ None → breaks kind role t ≡ false
-free role t BadNumber e = (all_free (is_too_large role.extra t) (is_too_deep role) (is_ambiguous role t) e).0
-free role t TooDeep e = (all_free (is_too_large role.extra t) (is_too_deep role) (is_ambiguous role t) e).1
-free role t Ambiguous e = (all_free (is_too_large role.extra t) (is_too_deep role) (is_ambiguous role t) e).2
-free role t _ e = refl
+free : (usage : Use) (t : Token) (kind : SyntaxKind) → bar usage t ≡ None → breaks kind usage t ≡ false
+free usage t BadNumber e = (all_free (is_too_large usage.extra t) (is_too_deep usage) (is_ambiguous usage t) e).0
+free usage t TooDeep e = (all_free (is_too_large usage.extra t) (is_too_deep usage) (is_ambiguous usage t) e).1
+free usage t Ambiguous e = (all_free (is_too_large usage.extra t) (is_too_deep usage) (is_ambiguous usage t) e).2
+free usage t _ e = refl
 
 cond_same : (c : Bool) (b : Bool) → b ≡ true → cond c b true ≡ true
 cond_same true b e = e
@@ -156,34 +156,34 @@ not_same m n true e lt = absurd (omega (arith, eqb_same m n e))
 not_same m n false e lt = refl
 
 allows-any : Allows any
-allows-any role t ts e = refl
+allows-any usage t ts e = refl
 
 lenient-any : (n : ℕ) → Lenient any n
-lenient-any n role ts le = refl
+lenient-any n usage ts le = refl
 
 allows-limits : Allows limits
-allows-limits role t ts e = ap (λ (o : Option SyntaxKind). is_allowed o) e
+allows-limits usage t ts e = ap (λ (o : Option SyntaxKind). is_allowed o) e
 
-allows-without : (kind : SyntaxKind) (after : List Token) → Allows (without kind after)
-allows-without kind after role t ts e = cond_same (eqb (length (t ∷ ts)) (suc (length after))) (not (breaks kind role t)) (ap (λ (b : Bool). not b) (free role t kind e))
+allows-limit_at : (kind : SyntaxKind) (after : List Token) → Allows (limit_at kind after)
+allows-limit_at kind after usage t ts e = cond_same (eqb (length (t ∷ ts)) (suc (length after))) (not (breaks kind usage t)) (ap (λ (b : Bool). not b) (free usage t kind e))
 
-lenient-without : (kind : SyntaxKind) (after : List Token) (n : ℕ) → n ≤ length after → Lenient (without kind after) n
-lenient-without kind after n le role [] short = refl
-lenient-without kind after n le role (t ∷ ts) short = cond_not_here (eqb (length (t ∷ ts)) (suc (length after))) (not (breaks kind role t)) (not_same (length (t ∷ ts)) (suc (length after)) (eqb (length (t ∷ ts)) (suc (length after))) refl (omega arith))
+lenient-limit_at : (kind : SyntaxKind) (after : List Token) (n : ℕ) → n ≤ length after → Lenient (limit_at kind after) n
+lenient-limit_at kind after n le usage [] short = refl
+lenient-limit_at kind after n le usage (t ∷ ts) short = cond_not_here (eqb (length (t ∷ ts)) (suc (length after))) (not (breaks kind usage t)) (not_same (length (t ∷ ts)) (suc (length after)) (eqb (length (t ∷ ts)) (suc (length after))) refl (omega arith))
 
 -- ---- a token that is read meets no row
 
 not_bad : (s : Symbol) (kind : SyntaxKind) → s ≡ Bad kind → is_bad s ≡ false → ⊥
 not_bad s kind e h = let f = ap (λ (s : Symbol). is_bad s) e in cc
 
-no_row_at : {A : Type 0} (Reads : Language A) (before : List Token) (t : Token) (after : List Token) (tree : A) → is_bad t.symbol ≡ false → Reads any (before ++ t ∷ after) tree → ((kind : SyntaxKind) → Reads (without kind after) (before ++ t ∷ after) tree) → (kind : SyntaxKind) → Row Reads before t kind → ⊥
+no_row_at : {A : Type 0} (Reads : Language A) (before : List Token) (t : Token) (after : List Token) (tree : A) → is_bad t.symbol ≡ false → Reads any (before ++ t ∷ after) tree → ((kind : SyntaxKind) → Reads (limit_at kind after) (before ++ t ∷ after) tree) → (kind : SyntaxKind) → Row Reads before t kind → ⊥
 no_row_at {A} Reads before t after tree fine plain under kind (inl e) = not_bad t.symbol kind e fine
 no_row_at {A} Reads before t after tree fine plain under kind (inr row) = against kind row
   where
     past : (kind : SyntaxKind) → PastLimits Reads before t kind → ⊥
     past kind row = row.1 after tree (under kind)
 
-    against : (kind : SyntaxKind) → Against Reads before t kind → ⊥
+    against : (kind : SyntaxKind) → GrammarRefuses Reads before t kind → ⊥
     against BadNumber row = past BadNumber row
     against TooDeep row = past TooDeep row
     against Ambiguous row = past Ambiguous row
@@ -251,8 +251,8 @@ module _ {A : Type 0} (o : List Token → Outcome A) (Reads : Language A) (meets
       let same : front ++ w.0 ≡ before ++ t ∷ (between ++ w.0) = ap (λ (x : List Token). x ++ w.0) e ∙ append_assoc before (t ∷ between) w.0 in
       no_row_at Reads before t (between ++ w.0) w.1 (good_at before t between (subst (λ (x : List Token). AllGood x) e fine))
       (subst (λ (x : List Token). Reads any x w.1) same (w.2 any allows-any (lenient-any (length w.0))))
-      (λ other. subst (λ (x : List Token). Reads (without other (between ++ w.0)) x w.1) same
-      (w.2 (without other (between ++ w.0)) (allows-without other (between ++ w.0)) (lenient-without other (between ++ w.0) (length w.0) (omega (arith, length-append between w.0)))))
+      (λ other. subst (λ (x : List Token). Reads (limit_at other (between ++ w.0)) x w.1) same
+      (w.2 (limit_at other (between ++ w.0)) (allows-limit_at other (between ++ w.0)) (lenient-limit_at other (between ++ w.0) (length w.0) (omega (arith, length-append between w.0)))))
       kind row
 
   -- ---- the row at the refused token
@@ -294,7 +294,7 @@ module _ {A : Type 0} (o : List Token → Outcome A) (Reads : Language A) (meets
   rank_most NotUtf8 = omega arith
 
   -- where no text goes on, the grammar has nothing earlier against the token
-  not_against : (before : List Token) (t : Token) → Ended before t → (kind : SyntaxKind) → rank kind < 10 → Against Reads before t kind → ⊥
+  not_against : (before : List Token) (t : Token) → Ended before t → (kind : SyntaxKind) → rank kind < 10 → GrammarRefuses Reads before t kind → ⊥
   unfolding Ended
   not_against before t none BadNumber lt row = none row.0
   not_against before t none TooDeep lt row = none row.0
@@ -333,7 +333,7 @@ module _ {A : Type 0} (o : List Token → Outcome A) (Reads : Language A) (meets
       let is : o ((before ++ t ∷ []) ++ rest) ≡ Stop why (t ∷ rest) = ap (λ (x : List Token). o x) (append_assoc before (t ∷ []) rest) ∙ e in
       subst (λ (p : Outcome A). (more : List Token) × (a : A) × ((rule : Rule) → Allows rule → Lenient rule (length more) → Forgives p rule more → Reads rule ((before ++ t ∷ []) ++ more) a)) is (completes (before ++ t ∷ []) rest (subst (λ (o : Outcome A). Shows o rest) (sym is) (refl, limit)))
 
-  past_limits : (why : SyntaxKind) → IsLimitKind why → (before : List Token) (t : Token) → PastLimits Reads before t why → Against Reads before t why
+  past_limits : (why : SyntaxKind) → IsLimitKind why → (before : List Token) (t : Token) → PastLimits Reads before t why → GrammarRefuses Reads before t why
   past_limits BadNumber limit before t row = row
   past_limits TooDeep limit before t row = row
   past_limits Ambiguous limit before t row = row
@@ -342,35 +342,35 @@ module _ {A : Type 0} (o : List Token → Outcome A) (Reads : Language A) (meets
   here : (n : ℕ) → eqb n n ≡ true
   here n = eq-eqb n n refl
 
-  forbidden : (why : SyntaxKind) (role : Use) (t : Token) (more : List Token) → breaks why role t ≡ true → without why more role (t ∷ more) ≡ true → ⊥
-  forbidden why role t more h r =
-      let s : without why more role (t ∷ more) ≡ false = ap (λ (b : Bool). cond b (not (breaks why role t)) true) (here (length (t ∷ more))) ∙ ap (λ (b : Bool). not b) h in
+  forbidden : (why : SyntaxKind) (usage : Use) (t : Token) (more : List Token) → breaks why usage t ≡ true → limit_at why more usage (t ∷ more) ≡ true → ⊥
+  forbidden why usage t more h r =
+      let s : limit_at why more usage (t ∷ more) ≡ false = ap (λ (b : Bool). cond b (not (breaks why usage t)) true) (here (length (t ∷ more))) ∙ ap (λ (b : Bool). not b) h in
       cc
 
-  limit_row : (before rest : List Token) (t : Token) (why : SyntaxKind) → o (before ++ t ∷ rest) ≡ Stop why (t ∷ rest) → (role : Use) → bar role t ≡ Some why → is_bad t.symbol ≡ false → FirstRow Reads before t why
-  limit_row before rest t why e role k fine =
-      let limit : IsLimitKind why = limit_kind role t why k in
+  limit_row : (before rest : List Token) (t : Token) (why : SyntaxKind) → o (before ++ t ∷ rest) ≡ Stop why (t ∷ rest) → (usage : Use) → bar usage t ≡ Some why → is_bad t.symbol ≡ false → FirstRow Reads before t why
+  limit_row before rest t why e usage k fine =
+      let limit : IsLimitKind why = limit_kind usage t why k in
       let c = viable before rest t why (fine, limit) e in
       let begun : Viable Reads (before ++ t ∷ []) = (c.0, c.1, c.2 any allows-any (lenient-any (length c.0)) (λ r h. refl)) in
       record {
         holds = inr (past_limits why limit before t (
           begun,
           λ more a r.
-              let b = barred (without why more) before rest t why more a e r in
+              let b = barred (limit_at why more) before rest t why more a e r in
               forbidden why b.0 t more (broken b.0 t why b.2) b.1,
         ));
         earlier = λ other lt row. elim row [ inl f ↦ not_bad t.symbol other f fine | inr row ↦ none_earlier c.0 c.1 c.2 begun other lt row ];
       }
     where
-      none_earlier : (tail : List Token) (a : A) → ((rule : Rule) → Allows rule → Lenient rule (length tail) → Forgives {A = A} (Stop why (t ∷ rest)) rule tail → Reads rule ((before ++ t ∷ []) ++ tail) a) → Viable Reads (before ++ t ∷ []) → (other : SyntaxKind) → rank other < rank why → Against Reads before t other → ⊥
+      none_earlier : (tail : List Token) (a : A) → ((rule : Rule) → Allows rule → Lenient rule (length tail) → Forgives {A = A} (Stop why (t ∷ rest)) rule tail → Reads rule ((before ++ t ∷ []) ++ tail) a) → Viable Reads (before ++ t ∷ []) → (other : SyntaxKind) → rank other < rank why → GrammarRefuses Reads before t other → ⊥
       none_earlier tail a reads begun other lt row = against other lt row
         where
           past : (other : SyntaxKind) → rank other < rank why → PastLimits Reads before t other → ⊥
           past other lt row =
-              row.1 tail a (subst (λ (x : List Token). Reads (without other tail) x a) (append_assoc before (t ∷ []) tail)
-              (reads (without other tail) (allows-without other tail) (lenient-without other tail (length tail) (omega arith)) (λ r h. cond_same (eqb (length (t ∷ tail)) (suc (length tail))) (not (breaks other r t)) (ap (λ (b : Bool). not b) (unbroken r t why other h lt)))))
+              row.1 tail a (subst (λ (x : List Token). Reads (limit_at other tail) x a) (append_assoc before (t ∷ []) tail)
+              (reads (limit_at other tail) (allows-limit_at other tail) (lenient-limit_at other tail (length tail) (omega arith)) (λ r h. cond_same (eqb (length (t ∷ tail)) (suc (length tail))) (not (breaks other r t)) (ap (λ (b : Bool). not b) (unbroken r t why other h lt)))))
 
-          against : (other : SyntaxKind) → rank other < rank why → Against Reads before t other → ⊥
+          against : (other : SyntaxKind) → rank other < rank why → GrammarRefuses Reads before t other → ⊥
           against BadNumber lt row = past BadNumber lt row
           against TooDeep lt row = past TooDeep lt row
           against Ambiguous lt row = past Ambiguous lt row
@@ -539,7 +539,7 @@ module _ {A : Type 0} (o : List Token → Outcome A) (Reads : Language A) (meets
       row : (before : List Token) (t : Token) (after : List Token) → ts ≡ before ++ t ∷ after → (why : SyntaxKind) → Row Reads before t why → ⊥
       row before t after e why p =
           no_row_at Reads before t after tree (is_good before t after (subst (λ (x : List Token). AllGood x) e all_good)) (subst (λ (x : List Token). Reads any x tree) e (under any allows-any))
-          (λ other. subst (λ (x : List Token). Reads (without other after) x tree) e (under (without other after) (allows-without other after))) why p
+          (λ other. subst (λ (x : List Token). Reads (limit_at other after) x tree) e (under (limit_at other after) (allows-limit_at other after))) why p
 
       go : (why : SyntaxKind) (rest : List Token) → Refuses Reads ts why rest → ⊥
       go why [] p = p.2 tree (under any allows-any)

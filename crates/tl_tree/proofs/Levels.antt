@@ -76,7 +76,7 @@ module _ (table : Table) (after : Part → Token → Bool) (begun : Begun table 
   bare_within : (depth levels : ℕ) (part : Part) (p : Position) → Bare (λ rule ts x rest. parts_within (suc depth) levels part ts x rest) p (λ t. true) (after part)
   bare_within depth levels part p =
       let c = begun levels (λ rule q us y r. parts_within depth (down levels) q us y r) part p in
-      record { more = c.more; spelled = c.spelled; value = c.value; starts = c.starts; reads = λ close k rule al le. c.reads close k any (λ role t ts e. refl) (λ role ts e. refl) }
+      record { more = c.more; spelled = c.spelled; value = c.value; starts = c.starts; reads = λ close k rule al le. c.reads close k any (λ usage t ts e. refl) (λ usage ts e. refl) }
 
   abbrev deep_of : (depth levels : ℕ) → Facts depth (down levels) → Deep after
   deep_of depth levels facts =

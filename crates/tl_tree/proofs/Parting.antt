@@ -46,7 +46,7 @@ EndingAny {A} In Out after = (p : Position) (front r : List Token) (a : A) (rest
 pub ending_any : {A : Type 0} (In : Reading A) (Out : Rule → Reading A) (first after : Token → Bool) → ((p : Position) → Bare Out p first after) → Ending In (Out any) after → EndingAny In (Out any) after
 ending_any In Out first after bare ending p [] r a rest h k =
     let c = bare p in
-    record { more = c.more; spelled = c.spelled; value = c.value; reads = λ close g. c.reads close g any (λ role t ts e. refl) (λ role ts e. refl) }
+    record { more = c.more; spelled = c.spelled; value = c.value; reads = λ close g. c.reads close g any (λ usage t ts e. refl) (λ usage ts e. refl) }
 ending_any In Out first after bare ending p (t ∷ f) r a rest h k = ending p t f r a rest h k
 
 -- ---- where a reading is parted
@@ -107,7 +107,7 @@ ending_then {A} {B} First FirstOut Second SecondOut mid after first_leaves first
             c1.value,
             c2.more ++ close,
             subst (λ (x : List Token). FirstOut (front ++ x) c1.value (c2.more ++ close)) (sym (append_assoc c1.more c2.more close)) (c1.reads (c2.more ++ close) (c2.starts close f)),
-            c2.reads close f any (λ role t ts e. refl) (λ role ts e. refl),
+            c2.reads close f any (λ usage t ts e. refl) (λ usage ts e. refl),
           );
         }
 
@@ -331,7 +331,7 @@ module _ {part_after : Part → Token → Bool} (d : Deep part_after) where
             value = c.value;
             starts = λ close k. good_first p;
             reads = λ close k rule al le.
-                let i = c.reads close k rule al (λ role ts short. le role ts (omega arith)) in (
+                let i = c.reads close k rule al (λ usage ts short. le usage ts (omega arith)) in (
                   (t, i.0),
                   i.1,
                   (c.more ++ close, refl, good p, le (record { opens = opens t; levels = d.levels; extra = extra t }) (t ∷ (c.more ++ close)) (omega arith), i.2),

@@ -31,7 +31,7 @@ bind_took (Stop why r) f y rest e = absurd cc
 
 -- a rule that allows what the limits allow
 abbrev pub Allows : Rule → Type 0
-Allows rule = (role : Use) (t : Token) (ts : List Token) → bar role t ≡ None → rule role (t ∷ ts) ≡ true
+Allows rule = (usage : Use) (t : Token) (ts : List Token) → bar usage t ≡ None → rule usage (t ∷ ts) ≡ true
 
 -- ---- the tokens that are left are a back of the tokens, and those before are good
 
@@ -200,7 +200,7 @@ module _ (rule : Rule) (ok : Allows rule) (levels : ℕ) (readers : Readers) (pa
 
 abbrev pub Barred : Rule → SyntaxKind → List Token → Type 0
 Barred rule why [] = ⊥
-Barred rule why (t ∷ ts) = (role : Use) × (rule role (t ∷ ts) ≡ true) × (bar role t ≡ Some why) × (is_bad t.symbol ≡ false)
+Barred rule why (t ∷ ts) = (usage : Use) × (rule usage (t ∷ ts) ≡ true) × (bar usage t ≡ Some why) × (is_bad t.symbol ≡ false)
 
 abbrev pub Answers : {A : Type 0} → Rule → A → List Token → Outcome A → Type 0
 Answers rule b rest (Took x r) = (b ≡ x) × (rest ≡ r)
@@ -212,9 +212,9 @@ answers-bind rule (Took x r) f a mid b rest p q =
     subst (λ (o : Outcome _). Answers rule b rest (o >>= f)) (sym same) (q same)
 answers-bind rule (Stop why r) f a mid b rest p q = p
 
-answers-unless : {A : Type 0} (rule : Rule) (role : Use) (t : Token) (ts : List Token) (next : Outcome A) (b : A) (rest : List Token) (o : Option SyntaxKind) → is_bad t.symbol ≡ false → bar role t ≡ o → rule role (t ∷ ts) ≡ true → (o ≡ None → Answers rule b rest next) → Answers rule b rest (unless o (t ∷ ts) next)
-answers-unless rule role t ts next b rest None fine k r p = p refl
-answers-unless rule role t ts next b rest (Some why) fine k r p = (role, r, k, fine)
+answers-unless : {A : Type 0} (rule : Rule) (usage : Use) (t : Token) (ts : List Token) (next : Outcome A) (b : A) (rest : List Token) (o : Option SyntaxKind) → is_bad t.symbol ≡ false → bar usage t ≡ o → rule usage (t ∷ ts) ≡ true → (o ≡ None → Answers rule b rest next) → Answers rule b rest (unless o (t ∷ ts) next)
+answers-unless rule usage t ts next b rest None fine k r p = p refl
+answers-unless rule usage t ts next b rest (Some why) fine k r p = (usage, r, k, fine)
 
 -- a turn is barred, or goes on behind it
 answers-turn : {A B : Type 0} (rule : Rule) (ts : List Token) (o : Option SyntaxKind) (next : Outcome A) (f : A → List Token → Outcome B) (x : A) (mid : List Token) (b : B) (rest : List Token) → Answers rule x mid (unless o ts next) → (next ≡ Took x mid → Answers rule b rest (f x mid)) → Answers rule b rest (unless o ts (next >>= f))

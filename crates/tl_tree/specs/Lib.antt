@@ -16,8 +16,14 @@ pub mod TerraStatements
 pub mod Syntax
 -- What the definitions of the grammar are made of.
 pub mod Forms
--- Grammars as data, and their two meanings: what they read, and what reading them gives.
+-- Grammars as data, and their two meanings by one name.
 pub mod Grammar
+-- What a token may be used for, and what a grammar is made of.
+pub mod Notation
+-- Which tokens a grammar reads.
+pub mod Reading
+-- What reading from left to right gives.
+pub mod Running
 -- Trees, and the parts of a text that are one level of nesting each.
 pub mod Tree
 -- What may stand where in a tree.

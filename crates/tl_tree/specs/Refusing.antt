@@ -8,7 +8,7 @@ use Rattle.tl_tree.specs.Grammar.{breaks, bar, Rule, Outcome, Took, Stop, blame}
 
 -- every use is allowed
 abbrev pub any : Rule
-any role ts = true
+any usage ts = true
 
 abbrev pub is_allowed : Option SyntaxKind → Bool
 is_allowed None = true
@@ -16,13 +16,14 @@ is_allowed (Some kind) = false
 
 -- no use goes past the limits
 abbrev pub limits : Rule
-limits role [] = true
-limits role (t ∷ ts) = is_allowed (bar role t)
+limits usage [] = true
+limits usage (t ∷ ts) = is_allowed (bar usage t)
 
--- All is allowed but one thing: the token that has these tokens after it is not put to a use that goes past the limits in this way.
-abbrev pub without : SyntaxKind → List Token → Rule
-without kind after role [] = true
-without kind after role (t ∷ ts) = if length (t ∷ ts) == suc (length after) then not (breaks kind role t) else true
+-- One limit at one token: the token that has these tokens after it is not put to a use that goes past the limits in this way. All else is
+-- allowed.
+abbrev pub limit_at : SyntaxKind → List Token → Rule
+limit_at kind after usage [] = true
+limit_at kind after usage (t ∷ ts) = if length (t ∷ ts) == suc (length after) then not (breaks kind usage t) else true
 
 -- Under which rule which tokens are read, as which tree.
 abbrev pub Language : Type 0 → Type 1
@@ -39,19 +40,19 @@ Viable {A} Reads front = (more : List Token) × (tree : A) × Reads any (front +
 -- The tokens up to this one begin a text of the grammar, and none in which this one stays within the limits.
 abbrev pub PastLimits : {A : Type 0} → Language A → List Token → Token → SyntaxKind → Type 0
 PastLimits {A} Reads before t kind =
-    Viable Reads (before ++ t ∷ []) × ((after : List Token) (tree : A) → Reads (without kind after) (before ++ t ∷ after) tree → ⊥)
+    Viable Reads (before ++ t ∷ []) × ((after : List Token) (tree : A) → Reads (limit_at kind after) (before ++ t ∷ after) tree → ⊥)
 
 -- what the grammar says against a token, whatever its bytes
-abbrev pub Against : {A : Type 0} → Language A → List Token → Token → SyntaxKind → Type 0
-Against Reads before t BadNumber = PastLimits Reads before t BadNumber
-Against Reads before t TooDeep = PastLimits Reads before t TooDeep
-Against Reads before t Ambiguous = PastLimits Reads before t Ambiguous
-Against Reads before t Unexpected = Viable Reads (before ++ t ∷ []) → ⊥
-Against Reads before t _ = ⊥
+abbrev pub GrammarRefuses : {A : Type 0} → Language A → List Token → Token → SyntaxKind → Type 0
+GrammarRefuses Reads before t BadNumber = PastLimits Reads before t BadNumber
+GrammarRefuses Reads before t TooDeep = PastLimits Reads before t TooDeep
+GrammarRefuses Reads before t Ambiguous = PastLimits Reads before t Ambiguous
+GrammarRefuses Reads before t Unexpected = Viable Reads (before ++ t ∷ []) → ⊥
+GrammarRefuses Reads before t _ = ⊥
 
 -- The rows of the refusal table, for a token and the tokens before it: it breaks this rule of tokens, or the grammar has this against it.
 abbrev pub Row : {A : Type 0} → Language A → List Token → Token → SyntaxKind → Type 0
-Row Reads before t kind = (t.symbol ≡ Bad kind) ⊎ Against Reads before t kind
+Row Reads before t kind = (t.symbol ≡ Bad kind) ⊎ GrammarRefuses Reads before t kind
 
 -- The order of the rows. TooLong and NotUtf8 are refusals of whole sources, and hold at no token of a text.
 abbrev pub rank : SyntaxKind → ℕ
