@@ -51,14 +51,23 @@ module _ (text : List ℕ) where
   text_only : (y : TextAnswer) → SaysOf text y → y ≡ of_text text (reads (tokens_of text))
   unfolding of_text
   text_only (TreeOf tree) h = ap (λ (x : Answer Tree). of_text text x) (chunk_only (tokens_of text) (IsTree tree) h)
-  text_only (RefusedAt kind place) h = ap (λ (p : Place). RefusedAt kind p) h.is_there ∙ ap (λ (x : Answer Tree). of_text text x) (chunk_only (tokens_of text) (Refused kind h.rest) h.refuses)
+  text_only (RefusedAt kind place) h =
+      ap (λ (p : Place). RefusedAt kind p) h.is_there
+      ∙ ap (λ (x : Answer Tree). of_text text x) (chunk_only (tokens_of text) (Refused kind h.rest) h.refuses)
 
   pub one_text_answer : HasOneTextAnswer text
-  one_text_answer = (of_text text (reads (tokens_of text)), text_says (reads (tokens_of text)) (chunk_says (tokens_of text)), text_only)
+  one_text_answer = (
+    of_text text (reads (tokens_of text)),
+    text_says (reads (tokens_of text)) (chunk_says (tokens_of text)),
+    text_only,
+  )
 
 -- what goes on as a list of tokens goes on as a text
 pub chunk_goes : GoesOnAsText IsChunk
-chunk_goes text front rest e v = text_goes IsChunk text front rest e (λ p. viable_goes syntax_of after_part begun turned chunk p front v)
+chunk_goes text front rest e v =
+    text_goes IsChunk text front rest e (λ p. viable_goes syntax_of after_part begun turned chunk p front v)
 
 pub unrefused_goes : GoesOnUnrefused IsChunk
-unrefused_goes text front rest e none = chunk_goes text front rest e (unrefused_viable (λ us. readers_at syntax_of all_levels chunk us) IsChunk chunks_meet front none)
+unrefused_goes text front rest e none =
+    chunk_goes text front rest e
+    (unrefused_viable (λ us. readers_at syntax_of all_levels chunk us) IsChunk chunks_meet front none)

@@ -1,5 +1,6 @@
 -- Classes of tokens by lists of kinds: those that share none, and those that lie in one another.
-use Rattle.std.proofs.Common.{◌≡◌, ℕ, Bool, true, false, not, cond, eqb, List, [], ◌∷◌, refl, subst, arith, inl, inr, ◌⊎◌}
+use Rattle.std.proofs.Common.{◌≡◌, ℕ, Bool, true, false, not, cond, eqb, List, [], ◌∷◌, refl, subst, arith, inl, inr}
+use Rattle.std.proofs.Common.{◌⊎◌}
 use Rattle.std.specs.Prelude.{◌||◌, ◌&&◌}
 use Rattle.tl_tree.specs.Tokens.{Token}
 use Rattle.tl_tree.specs.declared.symbol.Symbol.{Symbol}
@@ -56,12 +57,16 @@ and_false : (a b : Bool) → a ≡ false → (a && b) ≡ false
 and_false true b e = absurd cc
 and_false false b e = refl
 
-pub apart_from : (xs ys : List Symbol) → disjoint xs ys ≡ true → (t : Token) → among xs t ≡ true → is_of (among ys) t ≡ false
+pub apart_from : (xs ys : List Symbol) → disjoint xs ys ≡ true → (t : Token) → among xs t ≡ true
+    → is_of (among ys) t ≡ false
 apart_from xs ys d t h = is_of_false (is_bad t.symbol) (among ys t) (has_apart xs ys d (number_of t.symbol) h)
 
 -- the same for a class that asks for more
-pub apart_from_and : (xs ys : List Symbol) (more : Token → Bool) → disjoint xs ys ≡ true → (t : Token) → among xs t ≡ true → is_of (λ u. among ys u && more u) t ≡ false
-apart_from_and xs ys more d t h = is_of_false (is_bad t.symbol) (among ys t && more t) (and_false (among ys t) (more t) (has_apart xs ys d (number_of t.symbol) h))
+pub apart_from_and : (xs ys : List Symbol) (more : Token → Bool) → disjoint xs ys ≡ true → (t : Token)
+    → among xs t ≡ true → is_of (λ u. among ys u && more u) t ≡ false
+apart_from_and xs ys more d t h =
+    is_of_false (is_bad t.symbol) (among ys t && more t)
+    (and_false (among ys t) (more t) (has_apart xs ys d (number_of t.symbol) h))
 
 pub within : (xs ys : List Symbol) → subset xs ys ≡ true → (t : Token) → among xs t ≡ true → among ys t ≡ true
 within xs ys d t h = has_within xs ys d (number_of t.symbol) h
@@ -71,7 +76,9 @@ and_of_false true b more e = refl
 and_of_false false b more e = and_false b more e
 
 -- a class that asks for more has no token that the class has not
-pub apart_and : (xs : List Symbol) (class more : Token → Bool) → ((t : Token) → among xs t ≡ true → is_of class t ≡ false) → (t : Token) → among xs t ≡ true → is_of (λ u. class u && more u) t ≡ false
+pub apart_and : (xs : List Symbol) (class more : Token → Bool)
+    → ((t : Token) → among xs t ≡ true → is_of class t ≡ false) → (t : Token) → among xs t ≡ true
+    → is_of (λ u. class u && more u) t ≡ false
 apart_and xs class more far t h = and_of_false (is_bad t.symbol) (class t) (more t) (far t h)
 
 or_of_false : (bad b c : Bool) → cond bad false b ≡ false → cond bad false c ≡ false → cond bad false (b || c) ≡ false
@@ -80,7 +87,10 @@ or_of_false false true c e f = absurd cc
 or_of_false false false c e f = f
 
 -- a class that is one of two
-pub apart_or : (xs : List Symbol) (class other : Token → Bool) → ((t : Token) → among xs t ≡ true → is_of class t ≡ false) → ((t : Token) → among xs t ≡ true → is_of other t ≡ false) → (t : Token) → among xs t ≡ true → is_of (λ u. class u || other u) t ≡ false
+pub apart_or : (xs : List Symbol) (class other : Token → Bool)
+    → ((t : Token) → among xs t ≡ true → is_of class t ≡ false)
+    → ((t : Token) → among xs t ≡ true → is_of other t ≡ false) → (t : Token) → among xs t ≡ true
+    → is_of (λ u. class u || other u) t ≡ false
 apart_or xs class other far also t h = or_of_false (is_bad t.symbol) (class t) (other t) (far t h) (also t h)
 
 -- the class of no token

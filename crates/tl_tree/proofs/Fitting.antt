@@ -2,8 +2,13 @@
 use Rattle.std.proofs.Common.{◌≡◌, Bool, true, false, refl}
 use Rattle.std.specs.Prelude.{◌&&◌, not}
 use Rattle.std.proofs.lemmas.Bool.{false≢true, and_from, and_parts}
-use Rattle.tl_tree.specs.Tree.{Tree, Nothing, More, Just, Name, Block, Arm, Body, Path, NamedField, KeyedField, Entry, Escape, TerraUnary, TerraBinary, TerraParen, TerraIndex, TerraSelect, Construct}
-use Rattle.tl_tree.specs.Kinds.{are, is_if_any, is_name, is_target, is_call, is_expression, is_field, is_entry, is_path, is_statement, is_block, is_arm, is_body, is_escape, begins_with_at, is_first_target, are_terra_targets, is_terra_name, is_terra_call, is_terra_expression, is_initialiser, is_terra_statement, is_terra_block, is_terra_arm, is_parameter, is_variable, is_terra_body, is_quoted}
+use Rattle.tl_tree.specs.Tree.{Tree, Nothing, More, Just, Name, Block, Arm, Body, Path, NamedField, KeyedField, Entry}
+use Rattle.tl_tree.specs.Tree.{Escape, TerraUnary, TerraBinary, TerraParen, TerraIndex, TerraSelect, Construct}
+use Rattle.tl_tree.specs.Kinds.{are, is_if_any, is_name, is_target, is_call, is_expression, is_field, is_entry, is_path}
+use Rattle.tl_tree.specs.Kinds.{is_statement, is_block, is_arm, is_body, is_escape, is_first_target}
+use Rattle.tl_tree.specs.Kinds.{are_terra_targets, is_terra_name, is_terra_call, is_terra_expression, is_initialiser}
+use Rattle.tl_tree.specs.Kinds.{is_terra_statement, is_terra_block, is_terra_arm, is_parameter, is_variable}
+use Rattle.tl_tree.specs.Kinds.{is_terra_body, is_quoted}
 
 -- what stands somewhere
 pub data Slot : Type 0 where
@@ -207,8 +212,10 @@ terra_targets (More before next) h =
     and_from (fits before Many) (fits next One) (terra_targets before parts.0) (terra_expression next parts.1)
 terra_targets _ h = absurd (false≢true h)
 
-both : (k l : Tree → Bool) → Single k → Single l → (a b : Tree) → (k a && l b) ≡ true → (fits a One && fits b One) ≡ true
-both k l p q a b h = let parts = and_parts (k a) (l b) h in and_from (fits a One) (fits b One) (p a parts.0) (q b parts.1)
+both : (k l : Tree → Bool) → Single k → Single l → (a b : Tree) → (k a && l b) ≡ true
+    → (fits a One && fits b One) ≡ true
+both k l p q a b h = let parts = and_parts (k a) (l b) h in
+    and_from (fits a One) (fits b One) (p a parts.0) (q b parts.1)
 
 pub field : Single is_field
 field (NamedField name' value) h = both is_name is_expression name expression name' value h

@@ -8,7 +8,9 @@ use Rattle.tl_tree.specs.Laws.{HasOwnNumbers}
 
 -- the symbols in the order of their numbers; at 65 stands that of what breaks a rule
 abbrev in_order : List Symbol
-in_order = words ++ signs ++ (symbols.Name ∷ symbols.Numeral ∷ symbols.LongNumeral ∷ symbols.UnsignedNumeral ∷ symbols.Literal ∷ symbols.Finish ∷ symbols.Finish ∷ [])
+in_order = words ++ signs
+    ++ (symbols.Name ∷ symbols.Numeral ∷ symbols.LongNumeral ∷ symbols.UnsignedNumeral ∷ symbols.Literal
+    ∷ symbols.Finish ∷ symbols.Finish ∷ [])
 
 abbrev symbol_at : ℕ → Symbol
 symbol_at n = get_or in_order n symbols.Finish
@@ -31,7 +33,8 @@ only_bad s h = bad_by s (eq-eqb (number_of s) 65 h)
 pub own_numbers : HasOwnNumbers
 own_numbers a b e = go (found a) (found b)
   where
-    go : (is_bad a ≡ true) ⊎ (symbol_at (number_of a) ≡ a) → (is_bad b ≡ true) ⊎ (symbol_at (number_of b) ≡ b) → (a ≡ b) ⊎ ((is_bad a ≡ true) × (is_bad b ≡ true))
+    go : (is_bad a ≡ true) ⊎ (symbol_at (number_of a) ≡ a) → (is_bad b ≡ true) ⊎ (symbol_at (number_of b) ≡ b)
+        → (a ≡ b) ⊎ ((is_bad a ≡ true) × (is_bad b ≡ true))
     go (inl p) q = inr (p, only_bad b (sym e ∙ bad_number a p))
     go (inr p) (inl q) = inr (only_bad a (e ∙ bad_number b q), q)
     go (inr p) (inr q) = inl (sym p ∙ ap (λ (n : ℕ). symbol_at n) e ∙ q)

@@ -2,7 +2,9 @@
 use Rattle.std.proofs.Common.{ℕ, true, List, refl}
 use Rattle.tl_tree.specs.declared.symbol.Symbol.{Symbol}
 use Rattle.tl_tree.specs.Tokens.{among}
-use Rattle.tl_tree.specs.Tree.{Tree, Part, Expression, Operand, Concatenation, Arguments, Fields, Statements, FunctionBody, Entries, TerraExpression, TerraOperand, TerraArguments, Initialisers, TerraStatements, TerraFunctionBody, QuotedCode}
+use Rattle.tl_tree.specs.Tree.{Tree, Part, Expression, Operand, Concatenation, Arguments, Fields, Statements}
+use Rattle.tl_tree.specs.Tree.{FunctionBody, Entries, TerraExpression, TerraOperand, TerraArguments, Initialisers}
+use Rattle.tl_tree.specs.Tree.{TerraStatements, TerraFunctionBody, QuotedCode}
 use Rattle.tl_tree.specs.Grammar.{Grammar, Rule, Parts}
 use Rattle.tl_tree.specs.Syntax.{syntax_of}
 use Rattle.tl_tree.proofs.Completing.{Starts, bare-within, completes-within}
@@ -11,13 +13,21 @@ use Rattle.tl_tree.proofs.Settings.{Setting}
 use Rattle.tl_tree.proofs.Levels.{Begun, Completed, Parted}
 use Rattle.tl_tree.proofs.Going.{Begins, Goes}
 use Rattle.tl_tree.proofs.Following.{following, after_part}
-use Rattle.tl_tree.proofs.LuaExpressionsGo.{begins-expression, begins-operand_of, begins-concatenation_of, begins-arguments_of, begins-fields, begins-entries, goes-expression, goes-operand_of, goes-concatenation_of, goes-arguments_of, goes-fields, goes-entries}
+use Rattle.tl_tree.proofs.LuaExpressionsGo.{begins-expression, begins-operand_of, begins-concatenation_of}
+use Rattle.tl_tree.proofs.LuaExpressionsGo.{begins-arguments_of, begins-fields, begins-entries, goes-expression}
+use Rattle.tl_tree.proofs.LuaExpressionsGo.{goes-operand_of, goes-concatenation_of, goes-arguments_of, goes-fields}
+use Rattle.tl_tree.proofs.LuaExpressionsGo.{goes-entries}
 use Rattle.tl_tree.proofs.LuaStatementsGo.{begins-block, begins-function_body, goes-block, goes-function_body}
-use Rattle.tl_tree.proofs.TerraExpressionsGo.{begins-terra_expression, begins-terra_operand_of, begins-terra_arguments_of, begins-initialisers, goes-terra_expression, goes-terra_operand_of, goes-terra_arguments_of, goes-initialisers}
-use Rattle.tl_tree.proofs.TerraStatementsGo.{begins-terra_block, begins-terra_function_body, begins-quoted_code, goes-terra_block, goes-terra_function_body, goes-quoted_code}
+use Rattle.tl_tree.proofs.TerraExpressionsGo.{begins-terra_expression, begins-terra_operand_of}
+use Rattle.tl_tree.proofs.TerraExpressionsGo.{begins-terra_arguments_of, begins-initialisers, goes-terra_expression}
+use Rattle.tl_tree.proofs.TerraExpressionsGo.{goes-terra_operand_of, goes-terra_arguments_of, goes-initialisers}
+use Rattle.tl_tree.proofs.TerraStatementsGo.{begins-terra_block, begins-terra_function_body, begins-quoted_code}
+use Rattle.tl_tree.proofs.TerraStatementsGo.{goes-terra_block, goes-terra_function_body, goes-quoted_code}
 
-started : {levels : ℕ} {parts : Rule → Parts} {g : Grammar Tree} {first after : List Symbol} → Begins levels parts g first after → Starts levels parts g (λ t. true) (among after)
-started {levels} {parts} {g} {first} {after} p = bare-within levels parts g (among first) (λ t. true) (among after) (among after) (λ t h. refl) (λ t h. h) p.starts
+started : {levels : ℕ} {parts : Rule → Parts} {g : Grammar Tree} {first after : List Symbol}
+    → Begins levels parts g first after → Starts levels parts g (λ t. true) (among after)
+started {levels} {parts} {g} {first} {after} p =
+    bare-within levels parts g (among first) (λ t. true) (among after) (among after) (λ t h. refl) (λ t h. h) p.starts
 
 pub begun : Begun syntax_of after_part
 begun levels parts (Expression m) = started (begins-expression)
@@ -41,7 +51,8 @@ record PartGoes (s : Setting after_part) (part : Part) : Type 0 where
   first : List Symbol
   goes : Goes s (syntax_of part) first (following part)
 
-gone : (s : Setting after_part) (part : Part) {first : List Symbol} → Goes s (syntax_of part) first (following part) → PartGoes s part
+gone : (s : Setting after_part) (part : Part) {first : List Symbol} → Goes s (syntax_of part) first (following part)
+    → PartGoes s part
 gone s part {first} p = record { first = first; goes = p }
 
 part_goes : (s : Setting after_part) (part : Part) → PartGoes s part
@@ -64,9 +75,11 @@ part_goes s QuotedCode = gone s QuotedCode goes-quoted_code
 pub completed : Completed syntax_of after_part
 completed s part =
     let p = part_goes s part in
-    completes-within s.levels s.readers s.parts after_part s.leave s.steady s.sound s.bare s.below (syntax_of part) (among p.first) (λ t. true) (after_part part) (after_part part) (λ t h. refl) (λ t h. h) p.goes.completes
+    completes-within s.levels s.readers s.parts after_part s.leave s.steady s.sound s.bare s.below (syntax_of part)
+    (among p.first) (λ t. true) (after_part part) (after_part part) (λ t h. refl) (λ t h. h) p.goes.completes
 
 pub turned : Parted syntax_of after_part
 turned s part =
     let p = part_goes s part in
-    turned-within s.deep (syntax_of part) (among p.first) (λ t. true) (after_part part) (after_part part) (λ t h. refl) (λ t h. h) p.goes.turned
+    turned-within s.deep (syntax_of part) (among p.first) (λ t. true) (after_part part) (after_part part) (λ t h. refl)
+    (λ t h. h) p.goes.turned

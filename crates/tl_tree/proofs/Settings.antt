@@ -1,4 +1,5 @@
--- What is known of the parts that tokens open, for the completions of a grammar: of what was not refused, and of what is parted at some token.
+-- What is known of the parts that tokens open, for the completions of a grammar: of what was not refused, and of what
+-- is parted at some token.
 use Rattle.std.proofs.Common.{◌≡◌, ℕ, Bool, true, false, List, ◌++◌, Option, Some, None}
 use Rattle.tl_lex.specs.Answers.{Position}
 use Rattle.tl_tree.specs.Tokens.{Token}
@@ -15,14 +16,19 @@ pub record Setting (part_after : Part → Token → Bool) : Type 1 where
   pub leave : ReadersLeave readers
   pub steady : ReadersSteady readers
   pub sound : (rule : Rule) → Allows rule → ReadersSound levels readers (parts rule)
-  pub bare : (part : Part) (p : Position) → Bare (λ rule ts x rest. parts rule part ts x rest) p (λ t. true) (part_after part)
-  pub below : is_none_left levels ≡ false → (part : Part) (p : Position) (front r : List Token) → Shows (readers part (front ++ r)) r → Completion (λ rule ts x rest. parts rule part ts x rest) p (readers part (front ++ r)) (λ t. true) (part_after part) front
+  pub bare : (part : Part) (p : Position)
+      → Bare (λ rule ts x rest. parts rule part ts x rest) p (λ t. true) (part_after part)
+  pub below : is_none_left levels ≡ false → (part : Part) (p : Position) (front r : List Token)
+      → Shows (readers part (front ++ r)) r
+      → Completion (λ rule ts x rest. parts rule part ts x rest) p (readers part (front ++ r)) (λ t. true)
+      (part_after part) front
   pub deep : Deep part_after
 
 module _ {part_after : Part → Token → Bool} (s : Setting part_after) where
   -- what the setting makes of reading can be completed
   abbrev pub Completable : {A : Type 0} → Grammar A → (Token → Bool) → (Token → Bool) → Type 0
-  Completable g first after = Completes s.levels s.readers s.parts part_after s.leave s.steady s.sound s.bare s.below g first after
+  Completable g first after =
+      Completes s.levels s.readers s.parts part_after s.leave s.steady s.sound s.bare s.below g first after
 
   abbrev pub CoveredBy : (Token → Bool) → Option Part → Type 0
   CoveredBy after o = Covers s.levels s.readers s.parts part_after s.leave s.steady s.sound s.bare s.below after o

@@ -18,7 +18,13 @@ is_written _ = true
 
 -- the shortest token of this symbol, behind a space at a position
 abbrev pub placed : Position → Symbol → Token
-placed p k = record { symbol = k; text = spelling k; place = (spaced p).place; offset = (spaced p).offset; first_on_line = (spaced p).place.word == 1 }
+placed p k = record {
+  symbol = k;
+  text = spelling k;
+  place = (spaced p).place;
+  offset = (spaced p).offset;
+  first_on_line = (spaced p).place.word == 1;
+}
 
 -- the position behind a space and a token with these bytes
 abbrev pub next_at : Position → List ℕ → Position
@@ -37,7 +43,8 @@ abbrev pub Spelled : Position → List Token → Type 0
 Spelled p [] = Unit {0}
 Spelled p (t ∷ ts) = ((k : Symbol) × (is_written k ≡ true) × (t ≡ placed p k)) × Spelled (next_at p t.text) ts
 
-pub spelled-append : (p : Position) (xs ys : List Token) → Spelled p xs → Spelled (behind p xs) ys → Spelled p (xs ++ ys)
+pub spelled-append : (p : Position) (xs ys : List Token) → Spelled p xs → Spelled (behind p xs) ys
+    → Spelled p (xs ++ ys)
 spelled-append p [] ys a b = b
 spelled-append p (x ∷ xs) ys a b = (a.0, spelled-append (next_at p x.text) xs ys a.1 b)
 

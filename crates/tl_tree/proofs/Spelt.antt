@@ -29,7 +29,9 @@ pub ascii_utf8 : (bytes : List ℕ) → list_all is_ascii bytes ≡ true → IsU
 ascii_utf8 [] e = IsUtf8-nil
 ascii_utf8 (c ∷ rest) e =
     let parts = and_parts (is_ascii c) (list_all is_ascii rest) e in
-    IsUtf8-append (c ∷ []) rest (IsUtf8-from_ascii (c ∷ []) (IsAscii-from_reads (c ∷ []) 1 (omega arith) (λ k lt. one k lt parts.0))) (ascii_utf8 rest parts.1)
+    IsUtf8-append (c ∷ []) rest
+    (IsUtf8-from_ascii (c ∷ []) (IsAscii-from_reads (c ∷ []) 1 (omega arith) (λ k lt. one k lt parts.0)))
+    (ascii_utf8 rest parts.1)
   where
     one : (k : ℕ) → k < 1 → is_ascii c ≡ true → get_or (c ∷ []) k 0 < 128
     one zero lt h = grind (arith, nat_tests)
@@ -45,17 +47,24 @@ pub record Spelt (s : Symbol) : Type 0 where
   pub ascii : list_all is_ascii (spelling s) ≡ true
   pub no_end : kind ≡ kinds.End → ⊥
 
-reserved : (s : Symbol) → Alone kinds.Reserved (spelling s) → symbol_of kinds.Reserved (spelling s) ≡ s → begins_black (spelling s) ≡ true → line_ends (spelling s) ≡ 0 → list_all is_ascii (spelling s) ≡ true → Spelt s
-reserved s a b c d u = record { kind = kinds.Reserved; alone = a; symbol = b; black = c; ends = d; ascii = u; no_end = λ e. absurd cc }
+reserved : (s : Symbol) → Alone kinds.Reserved (spelling s) → symbol_of kinds.Reserved (spelling s) ≡ s
+    → begins_black (spelling s) ≡ true → line_ends (spelling s) ≡ 0 → list_all is_ascii (spelling s) ≡ true → Spelt s
+reserved s a b c d u = record
+    { kind = kinds.Reserved; alone = a; symbol = b; black = c; ends = d; ascii = u; no_end = λ e. absurd cc }
 
-sign : (s : Symbol) → Alone kinds.Sign (spelling s) → symbol_of kinds.Sign (spelling s) ≡ s → begins_black (spelling s) ≡ true → line_ends (spelling s) ≡ 0 → list_all is_ascii (spelling s) ≡ true → Spelt s
-sign s a b c d u = record { kind = kinds.Sign; alone = a; symbol = b; black = c; ends = d; ascii = u; no_end = λ e. absurd cc }
+sign : (s : Symbol) → Alone kinds.Sign (spelling s) → symbol_of kinds.Sign (spelling s) ≡ s
+    → begins_black (spelling s) ≡ true → line_ends (spelling s) ≡ 0 → list_all is_ascii (spelling s) ≡ true → Spelt s
+sign s a b c d u = record
+    { kind = kinds.Sign; alone = a; symbol = b; black = c; ends = d; ascii = u; no_end = λ e. absurd cc }
 
-numeral : (s : Symbol) → Alone kinds.Numeral (spelling s) → symbol_of kinds.Numeral (spelling s) ≡ s → begins_black (spelling s) ≡ true → line_ends (spelling s) ≡ 0 → list_all is_ascii (spelling s) ≡ true → Spelt s
-numeral s a b c d u = record { kind = kinds.Numeral; alone = a; symbol = b; black = c; ends = d; ascii = u; no_end = λ e. absurd cc }
+numeral : (s : Symbol) → Alone kinds.Numeral (spelling s) → symbol_of kinds.Numeral (spelling s) ≡ s
+    → begins_black (spelling s) ≡ true → line_ends (spelling s) ≡ 0 → list_all is_ascii (spelling s) ≡ true → Spelt s
+numeral s a b c d u = record
+    { kind = kinds.Numeral; alone = a; symbol = b; black = c; ends = d; ascii = u; no_end = λ e. absurd cc }
 
 pub spelt : (s : Symbol) → is_written s ≡ true → Spelt s
-unfolding front_of word_front is_reserved numeral_front is_numeral sign_front sign_len bracket_level quoted_front characters quoted_character escape symbol_of
+unfolding front_of word_front is_reserved numeral_front is_numeral sign_front sign_len bracket_level quoted_front
+    characters quoted_character escape symbol_of
 spelt symbols.And e = reserved symbols.And refl refl refl refl refl
 spelt symbols.Break e = reserved symbols.Break refl refl refl refl refl
 spelt symbols.Do e = reserved symbols.Do refl refl refl refl refl
@@ -116,10 +125,21 @@ spelt symbols.Ampersand e = sign symbols.Ampersand refl refl refl refl refl
 spelt symbols.DoubleLess e = sign symbols.DoubleLess refl refl refl refl refl
 spelt symbols.DoubleGreater e = sign symbols.DoubleGreater refl refl refl refl refl
 spelt symbols.Backtick e = sign symbols.Backtick refl refl refl refl refl
-spelt symbols.Name e = record { kind = kinds.Name; alone = refl; symbol = refl; black = refl; ends = refl; ascii = refl; no_end = λ e. absurd cc }
+spelt symbols.Name e = record
+    { kind = kinds.Name; alone = refl; symbol = refl; black = refl; ends = refl; ascii = refl; no_end = λ e. absurd cc }
 spelt symbols.Numeral e = numeral symbols.Numeral refl refl refl refl refl
 spelt symbols.LongNumeral e = numeral symbols.LongNumeral refl refl refl refl refl
 spelt symbols.UnsignedNumeral e = numeral symbols.UnsignedNumeral refl refl refl refl refl
-spelt symbols.Literal e = record { kind = kinds.Literal; alone = refl; symbol = refl; black = refl; ends = refl; ascii = refl; no_end = λ e. absurd cc }
+spelt symbols.Literal e =
+    record {
+      kind = kinds.Literal;
+      alone = refl;
+      symbol = refl;
+      black = refl;
+      ends = refl;
+      ascii = refl;
+      no_end = λ e.
+          absurd cc;
+    }
 spelt (symbols.Bad why) e = absurd cc
 spelt symbols.Finish e = absurd cc

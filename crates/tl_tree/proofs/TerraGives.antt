@@ -9,15 +9,23 @@ use Rattle.tl_tree.specs.declared.mode.Shape.{Shape}
 use Rattle.tl_tree.specs.declared.mode.Shape.TheVariants as shapes
 use Rattle.tl_tree.specs.declared.node.UnaryOperator.TheVariants as unaries
 use Rattle.tl_tree.specs.Tokens.{Token}
-use Rattle.tl_tree.specs.Tree.{Tree, Nothing, More, Name, Escape, Arm, NamedField, SpliceParameter, TerraUnary, TerraBinary, TerraParen, Expression, TerraExpression, TerraOperand, TerraArguments, TerraStatements}
+use Rattle.tl_tree.specs.Tree.{Tree, Nothing, More, Name, Escape, Arm, NamedField, SpliceParameter, TerraUnary}
+use Rattle.tl_tree.specs.Tree.{TerraBinary, TerraParen, Expression, TerraExpression, TerraOperand, TerraArguments}
+use Rattle.tl_tree.specs.Tree.{TerraStatements}
 use Rattle.tl_tree.specs.Grammar.{Grammar, give, bind, Rule, Parts, down}
-use Rattle.tl_tree.specs.Forms.{listed_behind, name, chain, Chained, chained, operand, operators, multiplicative, additive, comparisons}
+use Rattle.tl_tree.specs.Forms.{listed_behind, name, chain, Chained, chained, operand, operators, multiplicative}
+use Rattle.tl_tree.specs.Forms.{additive, comparisons}
 use Rattle.tl_tree.specs.LuaExpressions as lua
 use Rattle.tl_tree.specs.LuaStatements as statements
 use Rattle.tl_tree.specs.TerraExpressions as terra
 use Rattle.tl_tree.specs.TerraStatements as terra_statements
-use Rattle.tl_tree.specs.Kinds.{are, is_if_any, is_name, is_expression, is_escape, begins_with_at, is_first_target, are_terra_targets, is_terra_name, is_terra_call, is_terra_expression, is_initialiser, is_terra_statement, is_terra_block, is_terra_arm, is_parameter, is_variable, is_terra_body, is_quoted, WellFormed}
-use Rattle.tl_tree.proofs.Giving.{Has, OpenedHas, Kept, Gives, gives_value, gives_bind, gives_then, gives_when, gives_token, gives_opening, gives_many, one_more, one_alone, gives_behind, gives_listed, gives_separated}
+use Rattle.tl_tree.specs.Kinds.{are, is_if_any, is_name, is_expression, is_escape, begins_with_at, is_first_target}
+use Rattle.tl_tree.specs.Kinds.{are_terra_targets, is_terra_name, is_terra_call, is_terra_expression, is_initialiser}
+use Rattle.tl_tree.specs.Kinds.{is_terra_statement, is_terra_block, is_terra_arm, is_parameter, is_variable}
+use Rattle.tl_tree.specs.Kinds.{is_terra_body, is_quoted, WellFormed}
+use Rattle.tl_tree.proofs.Giving.{Has, OpenedHas, Kept, Gives, gives_value, gives_bind, gives_then, gives_when}
+use Rattle.tl_tree.proofs.Giving.{gives_token, gives_opening, gives_many, one_more, one_alone}
+use Rattle.tl_tree.proofs.Giving.{gives_listed, gives_separated}
 use Rattle.tl_tree.proofs.LuaGives as of_lua
 
 -- a name is an expression, and a name of Terra code
@@ -68,7 +76,8 @@ at_first (TerraBinary place op a b) h = h
 at_first _ h = absurd (false≢true h)
 
 -- one more target behind the first
-one_target : (before e : Tree) → Has are_terra_targets before → Has is_terra_expression e → Has are_terra_targets (More before e)
+one_target : (before e : Tree) → Has are_terra_targets before → Has is_terra_expression e
+    → Has are_terra_targets (More before e)
 one_target (More x y) e p q = (and_from (are_terra_targets (More x y)) (is_terra_expression e) p.0 q.0, (p.1, q.1))
 one_target _ e p q = absurd (false≢true p.0)
 
@@ -85,30 +94,44 @@ module _ (rule : Rule) (levels : ℕ) (parts : Parts) (kept : Kept parts) where
   -- ---- names
 
   -- Lua code in brackets, and what depends on it
-  escaped : {A : Type 0} {P : A → Type 0} (goes : Place → Tree → Grammar A) → ((place : Place) (e : Tree) → Has is_expression e → Of P (goes place (Escape place e))) → Of P (terra.escaped goes)
-  escaped goes p = gives_bind (λ (x : Token × Tree). Has is_expression x.1) (gives_opening kept symbols.OpenBracket (Expression modes.Plain)) (λ x q. gives_then (λ y. p x.0.place x.1 q))
+  escaped : {A : Type 0} {P : A → Type 0} (goes : Place → Tree → Grammar A)
+      → ((place : Place) (e : Tree) → Has is_expression e → Of P (goes place (Escape place e)))
+      → Of P (terra.escaped goes)
+  escaped goes p = gives_bind (λ (x : Token × Tree). Has is_expression x.1)
+      (gives_opening kept symbols.OpenBracket (Expression modes.Plain)) (λ x q. gives_then (λ y. p x.0.place x.1 q))
 
   terra_name : Of (Has is_terra_name) terra.terra_name
-  terra_name = gives_when (escaped (λ place e. give e) (λ place e p. gives_value (refl, p))) (gives_then (λ n. gives_value (refl, tt)))
+  terra_name = gives_when (escaped (λ place e. give e) (λ place e p. gives_value (refl, p)))
+      (gives_then (λ n. gives_value (refl, tt)))
 
   -- ---- what may follow them
 
   terra_paren : Of Suffixed terra.terra_paren
-  terra_paren = gives_bind (λ (x : Token × Tree). Has is_terra_expression x.1) (gives_opening kept symbols.OpenParen TerraExpression) (λ x p. gives_then (λ y. gives_value ((refl, refl, p), refl)))
+  terra_paren = gives_bind (λ (x : Token × Tree). Has is_terra_expression x.1)
+      (gives_opening kept symbols.OpenParen TerraExpression)
+      (λ x p. gives_then (λ y. gives_value ((refl, refl, p), refl)))
 
   escape_base : Of Suffixed (bind terra.escape λ e. give (chained e chain shapes.Escape))
   escape_base =
-      gives_bind (λ (e : Tree). (is_terra_expression e ≡ true) × (is_escape e ≡ true) × WellFormed e) (escaped (λ place e. give e) (λ place e p. gives_value (refl, refl, p))) (λ e p. gives_value (p, escape_first e p.1))
+      gives_bind (λ (e : Tree). (is_terra_expression e ≡ true) × (is_escape e ≡ true) × WellFormed e)
+      (escaped (λ place e. give e) (λ place e p. gives_value (refl, refl, p)))
+      (λ e p. gives_value (p, escape_first e p.1))
 
   terra_base : Of Suffixed terra.terra_base
-  terra_base = gives_when terra_paren (gives_when escape_base (gives_bind (Has is_name) name_is (λ n p. gives_value ((name_expression n p.0, p.0, p.1), name_first n p.0))))
+  terra_base = gives_when terra_paren
+      (gives_when escape_base (gives_bind (Has is_name) name_is
+      (λ n p. gives_value ((name_expression n p.0, p.0, p.1), name_first n p.0))))
 
-  terra_suffix : (k : terra.TerraSuffix) (t : Token) (x : Tree) (a : Chained) → OpenedHas (terra.terra_suffix_opens k) x → Terra a → Of Suffixed (terra.terra_suffix k t x a)
+  terra_suffix : (k : terra.TerraSuffix) (t : Token) (x : Tree) (a : Chained)
+      → OpenedHas (terra.terra_suffix_opens k) x → Terra a → Of Suffixed (terra.terra_suffix k t x a)
   terra_suffix terra.InParens t x a o p = gives_then (λ y. gives_value ((refl, refl, ((p.0, p.2), o)), refl))
   terra_suffix terra.InBrackets t x a o p = gives_then (λ y. gives_value ((refl, refl, ((p.0, p.2), o)), refl))
-  terra_suffix terra.Selects t x a o p = gives_bind (Has is_terra_name) terra_name (λ n q. gives_value ((refl, refl, ((p.0, p.2), q)), refl))
+  terra_suffix terra.Selects t x a o p =
+      gives_bind (Has is_terra_name) terra_name (λ n q. gives_value ((refl, refl, ((p.0, p.2), q)), refl))
   terra_suffix terra.CallsMethod t x a o p =
-      gives_bind (Has is_terra_name) terra_name (λ n q. gives_bind (λ (x : Token × Tree). Has (are is_terra_expression) x.1) (gives_opening kept symbols.OpenParen TerraArguments) (λ es r.
+      gives_bind (Has is_terra_name) terra_name
+      (λ n q. gives_bind (λ (x : Token × Tree). Has (are is_terra_expression) x.1)
+      (gives_opening kept symbols.OpenParen TerraArguments) (λ es r.
       gives_then (λ y. gives_value ((refl, refl, ((p.0, p.2), q, r)), refl))))
   terra_suffix terra.Constructs t x a o p = gives_then (λ y. gives_value ((refl, refl, ((p.0, p.2), o)), refl))
 
@@ -116,7 +139,8 @@ module _ (rule : Rule) (levels : ℕ) (parts : Parts) (kept : Kept parts) where
   terra_suffixes a p = gives_many kept p (λ t x b q is o. terra_suffix (terra.terra_suffix_of t.symbol) t x b o q.0)
 
   terra_prefix : (n : ℕ) → Of Terra (terra.terra_prefix n)
-  terra_prefix n = gives_bind Suffixed terra_base (λ b p. gives_bind Suffixed (terra_suffixes b p) (λ a q. gives_value q.0))
+  terra_prefix n = gives_bind Suffixed terra_base
+      (λ b p. gives_bind Suffixed (terra_suffixes b p) (λ a q. gives_value q.0))
 
   terra_primary : (n : ℕ) → Of Terra (terra.terra_primary n)
   terra_primary n =
@@ -128,8 +152,10 @@ module _ (rule : Rule) (levels : ℕ) (parts : Parts) (kept : Kept parts) where
 
   -- ---- operators
 
-  binary : (ss : List Symbol) (x : ℕ → Grammar Chained) (a : Chained) → ((n : ℕ) → Of Terra (x n)) → Terra a → Of Terra (operators ss x terra.terra_operation a)
-  binary ss x a p q = gives_many kept q (λ t y b r is o. gives_bind Terra (p (down b.left)) (λ d s. gives_value (refl, refl, ((r.0, r.2), (s.0, s.2)))))
+  binary : (ss : List Symbol) (x : ℕ → Grammar Chained) (a : Chained) → ((n : ℕ) → Of Terra (x n)) → Terra a
+      → Of Terra (operators ss x terra.terra_operation a)
+  binary ss x a p q = gives_many kept q
+      (λ t y b r is o. gives_bind Terra (p (down b.left)) (λ d s. gives_value (refl, refl, ((r.0, r.2), (s.0, s.2)))))
 
   terra_prefixed : (n : ℕ) → Of Terra (terra.terra_prefixed n)
   terra_prefixed n = gives_bind _ (gives_token kept (λ t. Some TerraOperand)) (λ x p. gives_value (refl, refl, p.1))
@@ -138,7 +164,8 @@ module _ (rule : Rule) (levels : ℕ) (parts : Parts) (kept : Kept parts) where
   terra_exponent n = gives_when (terra_prefixed n) (terra_primary n)
 
   terra_power : (n : ℕ) → Of Terra (terra.terra_power n)
-  terra_power n = gives_bind Terra (terra_primary n) (λ a p. binary (symbols.Caret ∷ []) terra.terra_exponent a terra_exponent p)
+  terra_power n = gives_bind Terra (terra_primary n)
+      (λ a p. binary (symbols.Caret ∷ []) terra.terra_exponent a terra_exponent p)
 
   terra_unary : (n : ℕ) → Of Terra (terra.terra_unary n)
   terra_unary n = gives_when (terra_prefixed n) (terra_power n)
@@ -156,14 +183,19 @@ module _ (rule : Rule) (levels : ℕ) (parts : Parts) (kept : Kept parts) where
   terra_comparison n = gives_bind Terra (terra_shift n) (λ a p. binary comparisons terra.terra_shift a terra_shift p)
 
   terra_conjunction : (n : ℕ) → Of Terra (terra.terra_conjunction n)
-  terra_conjunction n = gives_bind Terra (terra_comparison n) (λ a p. binary (symbols.And ∷ []) terra.terra_comparison a terra_comparison p)
+  terra_conjunction n = gives_bind Terra (terra_comparison n)
+      (λ a p. binary (symbols.And ∷ []) terra.terra_comparison a terra_comparison p)
 
   terra_disjunction : (n : ℕ) → Of Terra (terra.terra_disjunction n)
-  terra_disjunction n = gives_bind Terra (terra_conjunction n) (λ a p. binary (symbols.Or ∷ []) terra.terra_conjunction a terra_conjunction p)
+  terra_disjunction n = gives_bind Terra (terra_conjunction n)
+      (λ a p. binary (symbols.Or ∷ []) terra.terra_conjunction a terra_conjunction p)
 
   -- behind an operand that begins with `@`
-  binary_at : (ss : List Symbol) (x : ℕ → Grammar Chained) (a : Chained) → ((n : ℕ) → Of Terra (x n)) → BeginsWithAt a → Of BeginsWithAt (operators ss x terra.terra_operation a)
-  binary_at ss x a p q = gives_many kept q (λ t y b r is o. gives_bind Terra (p (down b.left)) (λ d s. gives_value ((refl, refl, ((r.0.0, r.0.2), (s.0, s.2))), r.1)))
+  binary_at : (ss : List Symbol) (x : ℕ → Grammar Chained) (a : Chained) → ((n : ℕ) → Of Terra (x n)) → BeginsWithAt a
+      → Of BeginsWithAt (operators ss x terra.terra_operation a)
+  binary_at ss x a p q = gives_many kept q
+      (λ t y b r is o. gives_bind Terra (p (down b.left))
+      (λ d s. gives_value ((refl, refl, ((r.0.0, r.0.2), (s.0, s.2))), r.1)))
 
   terra_expression_behind : (a : Chained) → BeginsWithAt a → Of BeginsWithAt (terra.terra_expression_behind a)
   terra_expression_behind a p =
@@ -195,18 +227,25 @@ module _ (rule : Rule) (levels : ℕ) (parts : Parts) (kept : Kept parts) where
   positional e p = (expression_initialiser e p.0, p.1)
 
   named_initialiser : Of (Has is_initialiser) terra.named_initialiser
-  named_initialiser = gives_bind (Has is_name) name_is (λ n p. gives_then (λ y. gives_bind (Has is_terra_expression) terra_expression (λ v q. gives_value (named n v p q))))
+  named_initialiser = gives_bind (Has is_name) name_is
+      (λ n p. gives_then (λ y.
+      gives_bind (Has is_terra_expression) terra_expression (λ v q. gives_value (named n v p q))))
 
   positional_initialiser : Of (Has is_initialiser) terra.terra_expression
   positional_initialiser = record { all = λ ts b rest h. positional b (terra_expression.all ts b rest h) }
 
-  positional_initialisers : (e : Tree) → Has is_terra_expression e → Of (Has (are is_initialiser)) (terra.positional_initialisers e)
-  positional_initialisers e p = gives_separated kept is_initialiser positional_initialiser (one_alone is_initialiser e (positional e p))
+  positional_initialisers : (e : Tree) → Has is_terra_expression e
+      → Of (Has (are is_initialiser)) (terra.positional_initialisers e)
+  positional_initialisers e p =
+      gives_separated kept is_initialiser positional_initialiser (one_alone is_initialiser e (positional e p))
 
-  initialisers_behind : (shape : Shape) (e : Tree) → is_terra_expression e ≡ true → terra_fits shape e ≡ true → WellFormed e → Of (Has (are is_initialiser)) (terra.initialisers_behind shape e)
+  initialisers_behind : (shape : Shape) (e : Tree) → is_terra_expression e ≡ true → terra_fits shape e ≡ true
+      → WellFormed e → Of (Has (are is_initialiser)) (terra.initialisers_behind shape e)
   initialisers_behind shapes.Name e p q w =
       gives_when
-      (gives_then (λ y. gives_bind (Has is_terra_expression) terra_expression (λ v r. gives_separated kept is_initialiser named_initialiser (one_alone is_initialiser (NamedField e v) (named e v (q, w) r)))))
+      (gives_then (λ y. gives_bind (Has is_terra_expression) terra_expression
+      (λ v r. gives_separated kept is_initialiser named_initialiser
+      (one_alone is_initialiser (NamedField e v) (named e v (q, w) r)))))
       (positional_initialisers e (p, w))
   initialisers_behind shapes.Variable e p q w = positional_initialisers e (p, w)
   initialisers_behind shapes.Call e p q w = positional_initialisers e (p, w)
@@ -214,28 +253,37 @@ module _ (rule : Rule) (levels : ℕ) (parts : Parts) (kept : Kept parts) where
   initialisers_behind shapes.Other e p q w = positional_initialisers e (p, w)
 
   pub initialisers : Of (Has (are is_initialiser)) terra.initialisers
-  initialisers = gives_when (gives_value (refl, tt)) (gives_bind Terra (terra_disjunction chain) (λ e p. initialisers_behind e.shape e.tree p.0 p.1 p.2))
+  initialisers = gives_when (gives_value (refl, tt))
+      (gives_bind Terra (terra_disjunction chain) (λ e p. initialisers_behind e.shape e.tree p.0 p.1 p.2))
 
   -- ---- assignments, calls and splices
 
-  targets_behind : (e : Tree) → Has is_first_target e → Of (Has are_terra_targets) (listed_behind terra.terra_expression (More Nothing e))
+  targets_behind : (e : Tree) → Has is_first_target e
+      → Of (Has are_terra_targets) (listed_behind terra.terra_expression (More Nothing e))
   targets_behind e p =
-      gives_many kept (p.0, (tt, p.1)) (λ t y a q is o. gives_bind (Has is_terra_expression) terra_expression (λ d r. gives_value (one_target a d q r)))
+      gives_many kept (p.0, (tt, p.1))
+      (λ t y a q is o. gives_bind (Has is_terra_expression) terra_expression
+      (λ d r. gives_value (one_target a d q r)))
 
-  terra_assignment : (t : Token) (e : Tree) → Has is_first_target e → Of (Has is_terra_statement) (terra_statements.terra_assignment t e)
+  terra_assignment : (t : Token) (e : Tree) → Has is_first_target e
+      → Of (Has is_terra_statement) (terra_statements.terra_assignment t e)
   terra_assignment t e p =
       gives_bind (Has are_terra_targets) (targets_behind e p) (λ targets q. gives_then (λ y.
       gives_bind (Has (are is_terra_expression)) terra_expressions (λ es r. gives_value (refl, (q, r)))))
 
-  terra_simple_statement : (t : Token) (shape : Shape) (e : Tree) → terra_fits shape e ≡ true → may_assign shape e ≡ true → WellFormed e → Of (Has is_terra_statement) (terra_statements.terra_simple_statement t shape e)
+  terra_simple_statement : (t : Token) (shape : Shape) (e : Tree) → terra_fits shape e ≡ true
+      → may_assign shape e ≡ true → WellFormed e
+      → Of (Has is_terra_statement) (terra_statements.terra_simple_statement t shape e)
   terra_simple_statement t shapes.Call e q r w = gives_value (refl, (q, w))
   terra_simple_statement t shapes.Escape e q r w = gives_when (terra_assignment t e (r, w)) (gives_value (refl, (q, w)))
   terra_simple_statement t shapes.Name e q r w = terra_assignment t e (r, w)
   terra_simple_statement t shapes.Variable e q r w = terra_assignment t e (r, w)
   terra_simple_statement t shapes.Other e q r w = terra_assignment t e (r, w)
 
-  terra_simple_behind : (t : Token) (b : Chained) → Suffixed b → Of (Has is_terra_statement) (terra_statements.terra_simple_behind t b)
-  terra_simple_behind t b p = gives_bind Suffixed (terra_suffixes b p) (λ a q. terra_simple_statement t a.shape a.tree q.0.1 q.1 q.0.2)
+  terra_simple_behind : (t : Token) (b : Chained) → Suffixed b
+      → Of (Has is_terra_statement) (terra_statements.terra_simple_behind t b)
+  terra_simple_behind t b p =
+      gives_bind Suffixed (terra_suffixes b p) (λ a q. terra_simple_statement t a.shape a.tree q.0.1 q.1 q.0.2)
 
   -- ---- parts of statements
 
@@ -243,53 +291,82 @@ module _ (rule : Rule) (levels : ℕ) (parts : Parts) (kept : Kept parts) where
   terra_type = of_lua.expression rule levels parts kept modes.Types
 
   written_type : Of (Has (is_if_any is_expression)) terra_statements.written_type
-  written_type = gives_when (gives_then (λ y. gives_bind (Has is_expression) terra_type (λ e p. gives_value p))) (gives_value (refl, tt))
+  written_type = gives_when (gives_then (λ y. gives_bind (Has is_expression) terra_type (λ e p. gives_value p)))
+      (gives_value (refl, tt))
 
   terra_loop : Of (Has is_terra_block) terra_statements.terra_loop
-  terra_loop = gives_bind (λ (x : Token × Tree). Has is_terra_block x.1) (gives_opening kept symbols.Do TerraStatements) (λ x p. gives_then (λ y. gives_value p))
+  terra_loop = gives_bind (λ (x : Token × Tree). Has is_terra_block x.1)
+      (gives_opening kept symbols.Do TerraStatements) (λ x p. gives_then (λ y. gives_value p))
 
   terra_arm : (a : Tree) → Has (are is_terra_arm) a → Of (Has (are is_terra_arm)) (terra_statements.terra_arm a)
   terra_arm a p =
-      gives_bind (Has is_terra_expression) terra_expression (λ e q. gives_bind (λ (x : Token × Tree). Has is_terra_block x.1) (gives_opening kept symbols.Then TerraStatements) (λ x r.
-      gives_value (one_more is_terra_arm a (Arm e x.1) p (and_from (is_terra_expression e) (is_terra_block x.1) q.0 r.0, (q.1, r.1)))))
+      gives_bind (Has is_terra_expression) terra_expression
+      (λ e q. gives_bind (λ (x : Token × Tree). Has is_terra_block x.1)
+      (gives_opening kept symbols.Then TerraStatements) (λ x r.
+      gives_value (one_more is_terra_arm a (Arm e x.1) p
+      (and_from (is_terra_expression e) (is_terra_block x.1) q.0 r.0, (q.1, r.1)))))
 
   terra_otherwise : Of (Has (is_if_any is_terra_block)) terra_statements.terra_otherwise
-  terra_otherwise = gives_when (gives_bind (λ (x : Token × Tree). Has is_terra_block x.1) (gives_opening kept symbols.Else TerraStatements) (λ x p. gives_value p)) (gives_value (refl, tt))
+  terra_otherwise = gives_when
+      (gives_bind (λ (x : Token × Tree). Has is_terra_block x.1) (gives_opening kept symbols.Else TerraStatements)
+      (λ x p. gives_value p)) (gives_value (refl, tt))
 
   terra_step : Of (Has (is_if_any is_terra_expression)) terra_statements.terra_step
-  terra_step = gives_when (gives_then (λ y. gives_bind (Has is_terra_expression) terra_expression (λ e p. gives_value p))) (gives_value (refl, tt))
+  terra_step = gives_when (gives_then
+      (λ y. gives_bind (Has is_terra_expression) terra_expression (λ e p. gives_value p))) (gives_value (refl, tt))
 
-  variable_behind : (place : Place) (n : Tree) → Has is_terra_name n → Of (Has is_variable) (terra_statements.variable_behind place n)
-  variable_behind place n p = gives_bind (Has (is_if_any is_expression)) written_type (λ e q. gives_value (refl, (p, q)))
+  variable_behind : (place : Place) (n : Tree) → Has is_terra_name n
+      → Of (Has is_variable) (terra_statements.variable_behind place n)
+  variable_behind place n p =
+      gives_bind (Has (is_if_any is_expression)) written_type (λ e q. gives_value (refl, (p, q)))
 
   terra_variable : Of (Has is_variable) terra_statements.terra_variable
-  terra_variable = gives_when (escaped terra_statements.variable_behind (λ place e p. variable_behind place (Escape place e) (refl, p))) (gives_then (λ n. variable_behind n.0.place (Name n.0.place n.0.offset n.0.text) (refl, tt)))
+  terra_variable = gives_when
+      (escaped terra_statements.variable_behind (λ place e p. variable_behind place (Escape place e) (refl, p)))
+      (gives_then (λ n. variable_behind n.0.place (Name n.0.place n.0.offset n.0.text) (refl, tt)))
 
   -- ---- statements
 
-  terra_statement : (k : terra_statements.TerraStatement) (t : Token) (x : Tree) → OpenedHas (terra_statements.terra_statement_opens k) x → Of (Has is_terra_statement) (terra_statements.terra_statement k t x)
-  terra_statement terra_statements.FromName t x o = terra_simple_behind t (chained (Name t.place t.offset t.text) chain shapes.Name) ((refl, refl, tt), refl)
-  terra_statement terra_statements.FromParen t x o = gives_then (λ y. terra_simple_behind t (chained (TerraParen t.place x) chain shapes.Other) ((refl, refl, o), refl))
-  terra_statement terra_statements.FromBracket t x o = gives_then (λ y. terra_simple_behind t (chained (Escape t.place x) chain shapes.Escape) ((refl, refl, o), refl))
+  terra_statement : (k : terra_statements.TerraStatement) (t : Token) (x : Tree)
+      → OpenedHas (terra_statements.terra_statement_opens k) x
+      → Of (Has is_terra_statement) (terra_statements.terra_statement k t x)
+  terra_statement terra_statements.FromName t x o =
+      terra_simple_behind t (chained (Name t.place t.offset t.text) chain shapes.Name) ((refl, refl, tt), refl)
+  terra_statement terra_statements.FromParen t x o =
+      gives_then (λ y. terra_simple_behind t (chained (TerraParen t.place x) chain shapes.Other)
+      ((refl, refl, o), refl))
+  terra_statement terra_statements.FromBracket t x o =
+      gives_then (λ y. terra_simple_behind t (chained (Escape t.place x) chain shapes.Escape) ((refl, refl, o), refl))
   terra_statement terra_statements.FromAt t x o =
-      gives_bind BeginsWithAt (terra_expression_behind (operand chain (TerraUnary t.place unaries.Dereference x)) ((refl, refl, o), refl)) (λ a p.
+      gives_bind BeginsWithAt (terra_expression_behind (operand chain (TerraUnary t.place unaries.Dereference x))
+      ((refl, refl, o), refl)) (λ a p.
       terra_assignment t a.tree (at_first a.tree p.1, p.0.2))
   terra_statement terra_statements.FromDo t x o = gives_then (λ y. gives_value (refl, o))
   terra_statement terra_statements.FromWhile t x o =
-      gives_bind (Has is_terra_expression) terra_expression (λ e p. gives_bind (Has is_terra_block) terra_loop (λ b q. gives_value (refl, (p, q))))
-  terra_statement terra_statements.FromRepeat t x o = gives_then (λ y. gives_bind (Has is_terra_expression) terra_expression (λ e p. gives_value (refl, (o, p))))
+      gives_bind (Has is_terra_expression) terra_expression
+      (λ e p. gives_bind (Has is_terra_block) terra_loop (λ b q. gives_value (refl, (p, q))))
+  terra_statement terra_statements.FromRepeat t x o =
+      gives_then (λ y. gives_bind (Has is_terra_expression) terra_expression (λ e p. gives_value (refl, (o, p))))
   terra_statement terra_statements.FromIf t x o =
-      gives_bind (Has (are is_terra_arm)) (terra_arm Nothing (refl, tt)) (λ first p. gives_bind (Has (are is_terra_arm)) (gives_many kept p (λ u y b q is v. terra_arm b q)) (λ all q.
-      gives_bind (Has (is_if_any is_terra_block)) terra_otherwise (λ e r. gives_then (λ y. gives_value (refl, (q, r))))))
+      gives_bind (Has (are is_terra_arm)) (terra_arm Nothing (refl, tt))
+      (λ first p. gives_bind (Has (are is_terra_arm)) (gives_many kept p (λ u y b q is v. terra_arm b q)) (λ all q.
+      gives_bind (Has (is_if_any is_terra_block)) terra_otherwise
+      (λ e r. gives_then (λ y. gives_value (refl, (q, r))))))
   terra_statement terra_statements.FromFor t x o =
-      gives_bind (Has is_terra_name) terra_name (λ n p. gives_then (λ y. gives_bind (Has is_terra_expression) terra_expression (λ a q. gives_then (λ z.
-      gives_bind (Has is_terra_expression) terra_expression (λ b r. gives_bind (Has (is_if_any is_terra_expression)) terra_step (λ s u.
+      gives_bind (Has is_terra_name) terra_name
+      (λ n p. gives_then (λ y. gives_bind (Has is_terra_expression) terra_expression (λ a q. gives_then (λ z.
+      gives_bind (Has is_terra_expression) terra_expression
+      (λ b r. gives_bind (Has (is_if_any is_terra_expression)) terra_step (λ s u.
       gives_bind (Has is_terra_block) terra_loop (λ d v. gives_value (refl, (p, q, r, u, v)))))))))
   terra_statement terra_statements.FromVar t x o =
       gives_bind (Has (are is_variable)) (gives_listed kept is_variable terra_variable) (λ vs p.
-      gives_bind (Has (are is_terra_expression)) (gives_when (gives_then (λ y. terra_expressions)) (gives_value (refl, tt))) (λ es q. gives_value (refl, (p, q))))
+      gives_bind (Has (are is_terra_expression))
+      (gives_when (gives_then (λ y. terra_expressions)) (gives_value (refl, tt)))
+      (λ es q. gives_value (refl, (p, q))))
   terra_statement terra_statements.FromEscape t x o = gives_then (λ y. gives_value (refl, o))
-  terra_statement terra_statements.FromReturn t x o = gives_bind (Has (are is_terra_expression)) (gives_when terra_expressions (gives_value (refl, tt))) (λ es p. gives_value (refl, p))
+  terra_statement terra_statements.FromReturn t x o =
+      gives_bind (Has (are is_terra_expression)) (gives_when terra_expressions (gives_value (refl, tt)))
+      (λ es p. gives_value (refl, p))
   terra_statement terra_statements.FromBreak t x o = gives_value (refl, tt)
 
   -- the statements so far
@@ -299,7 +376,9 @@ module _ (rule : Rule) (levels : ℕ) (parts : Parts) (kept : Kept parts) where
   pub terra_block : Of (Has is_terra_block) terra_statements.terra_block
   terra_block =
       gives_bind So
-      (gives_many kept (refl, tt) (λ t x a p is o. gives_bind (Has is_terra_statement) (terra_statement (terra_statements.terra_statement_of t.symbol) t x o) (λ s q. gives_then (λ y.
+      (gives_many kept (refl, tt)
+      (λ t x a p is o. gives_bind (Has is_terra_statement)
+      (terra_statement (terra_statements.terra_statement_of t.symbol) t x o) (λ s q. gives_then (λ y.
       gives_value (one_more is_terra_statement a.statements s p q)))))
       (λ a p. gives_value p)
 
@@ -308,14 +387,21 @@ module _ (rule : Rule) (levels : ℕ) (parts : Parts) (kept : Kept parts) where
   terra_parameter : Of (Has is_parameter) terra_statements.terra_parameter
   terra_parameter =
       gives_when (escaped (λ place e. give (SpliceParameter place e)) (λ place e p. gives_value (refl, (refl, p))))
-      (gives_then (λ n. gives_then (λ y. gives_bind (Has is_expression) terra_type (λ e p. gives_value (refl, ((refl, tt), p))))))
+      (gives_then (λ n. gives_then
+      (λ y. gives_bind (Has is_expression) terra_type (λ e p. gives_value (refl, ((refl, tt), p))))))
 
   pub terra_function_body : (place : Place) → Of (Has is_terra_body) (terra_statements.terra_function_body place)
   terra_function_body place =
-      gives_bind (Has (are is_parameter)) (gives_when (gives_value (refl, tt)) (gives_listed kept is_parameter terra_parameter)) (λ ps p. gives_then (λ y.
-      gives_bind (Has (is_if_any is_expression)) written_type (λ r q. gives_bind (Has is_terra_block) terra_block (λ b s. gives_then (λ z. gives_value (refl, (p, q, s)))))))
+      gives_bind (Has (are is_parameter))
+      (gives_when (gives_value (refl, tt)) (gives_listed kept is_parameter terra_parameter))
+      (λ ps p. gives_then (λ y.
+      gives_bind (Has (is_if_any is_expression)) written_type
+      (λ r q. gives_bind (Has is_terra_block) terra_block
+      (λ b s. gives_then (λ z. gives_value (refl, (p, q, s)))))))
 
   pub quoted_code : Of (Has is_quoted) terra_statements.quoted_code
   quoted_code =
       gives_bind (Has is_terra_block) terra_block (λ b p.
-      gives_when (gives_then (λ y. gives_bind (Has is_terra_expression) terra_expression (λ e q. gives_value (refl, (p, q))))) (gives_value (refl, (p, (refl, tt)))))
+      gives_when (gives_then (λ y.
+      gives_bind (Has is_terra_expression) terra_expression (λ e q. gives_value (refl, (p, q)))))
+      (gives_value (refl, (p, (refl, tt)))))

@@ -57,7 +57,8 @@ module _ (at : NodeId → Tree) where
   of_statement place (statements.While e block) = t.While place (at e) (at block)
   of_statement place (statements.Repeat block e) = t.Repeat place (at block) (at e)
   of_statement place (statements.If arms otherwise) = t.If place (list arms) (if_any otherwise)
-  of_statement place (statements.NumericFor name a b step block) = t.NumericFor place (at name) (at a) (at b) (if_any step) (at block)
+  of_statement place (statements.NumericFor name a b step block) =
+      t.NumericFor place (at name) (at a) (at b) (if_any step) (at block)
   of_statement place (statements.GenericFor names es block) = t.GenericFor place (list names) (list es) (at block)
   of_statement place (statements.Function path body) = t.DefineFunction place (at path) (at body)
   of_statement place (statements.LocalFunction name body) = t.LocalFunction place (at name) (at body)
@@ -94,7 +95,8 @@ module _ (at : NodeId → Tree) where
   of_terra_statement place (terra_statements.While e block) = t.TerraWhile place (at e) (at block)
   of_terra_statement place (terra_statements.Repeat block e) = t.TerraRepeat place (at block) (at e)
   of_terra_statement place (terra_statements.If arms otherwise) = t.TerraIf place (list arms) (if_any otherwise)
-  of_terra_statement place (terra_statements.For name a b step block) = t.TerraFor place (at name) (at a) (at b) (if_any step) (at block)
+  of_terra_statement place (terra_statements.For name a b step block) =
+      t.TerraFor place (at name) (at a) (at b) (if_any step) (at block)
   of_terra_statement place (terra_statements.Var variables es) = t.Var place (list variables) (list es)
   of_terra_statement place (terra_statements.Escape block) = t.EscapeBlock place (at block)
   of_terra_statement place (terra_statements.Return es) = t.TerraReturn place (list es)
@@ -109,7 +111,8 @@ module _ (at : NodeId → Tree) where
   of_piece (pieces.KeyedField key value) = t.KeyedField (at key) (at value)
   of_piece (pieces.Entry name type) = t.Entry (at name) (at type)
   of_piece (pieces.Quoted block value) = t.Quoted (at block) (if_any value)
-  of_piece (pieces.TerraBody place parameters result block) = t.TerraBody place (list parameters) (if_any result) (at block)
+  of_piece (pieces.TerraBody place parameters result block) =
+      t.TerraBody place (list parameters) (if_any result) (at block)
   of_piece (pieces.Parameter place name type) = t.Parameter place (at name) (at type)
   of_piece (pieces.SpliceParameter place escape) = t.SpliceParameter place (at escape)
   of_piece (pieces.Variable place name type) = t.Variable place (at name) (if_any type)

@@ -1,6 +1,6 @@
--- The children of nodes, and what is proved of the nodes that the tree of a text lays out: each child has a smaller number than its parent,
--- and no other tree lays out the same nodes.
-use Rattle.std.specs.Prelude.{◌≡◌, ◌<◌, List, [], ◌∷◌, ◌++◌, Option}
+-- The children of nodes, and what is proved of the nodes that the tree of a text lays out: each child has a smaller
+-- number than its parent, and no other tree lays out the same nodes.
+use Rattle.std.specs.Prelude.{◌≡◌, ◌<◌, List, [], ◌∷◌, ◌++◌}
 use Rattle.std.specs.List.{All}
 use Rattle.std.specs.Option.{option_to_list}
 use Rattle.tl_base.specs.declared.ids.NodeId.{NodeId}

@@ -1,7 +1,7 @@
--- How many nodes of the language a tree has: each use of a statement, an expression, a Terra function's body and parameter, and a variable
--- that `var` declares is one; so is each expression within another one, each target of an assignment, and the first name of a path that
--- is not local. Other names, blocks and lists are none, and an escape that stands for a name or a statement is none beside its Lua code
--- and that statement.
+-- How many nodes of the language a tree has: each use of a statement, an expression, a Terra function's body and
+-- parameter, and a variable that `var` declares is one; so is each expression within another one, each target of an
+-- assignment, and the first name of a path that is not local. Other names, blocks and lists are none, and an escape
+-- that stands for a name or a statement is none beside its Lua code and that statement.
 use Rattle.std.specs.Prelude.{ℕ, ◌+◌, ◌-◌}
 use Rattle.tl_tree.specs.Tree as t
 use Rattle.tl_tree.specs.Tree.{Tree}
@@ -73,7 +73,8 @@ nodes_of (t.TerraDo place block) = 1 + nodes_of block
 nodes_of (t.TerraWhile place e block) = 1 + nodes_of e + nodes_of block
 nodes_of (t.TerraRepeat place block e) = 1 + nodes_of block + nodes_of e
 nodes_of (t.TerraIf place arms otherwise) = 1 + nodes_of arms + nodes_of otherwise
-nodes_of (t.TerraFor place name a b step block) = 1 + (nodes_of name - 1) + nodes_of a + nodes_of b + nodes_of step + nodes_of block
+nodes_of (t.TerraFor place name a b step block) =
+    1 + (nodes_of name - 1) + nodes_of a + nodes_of b + nodes_of step + nodes_of block
 nodes_of (t.Var place variables es) = 1 + nodes_of variables + nodes_of es
 nodes_of (t.EscapeBlock place block) = 1 + nodes_of block
 nodes_of (t.TerraReturn place es) = 1 + nodes_of es

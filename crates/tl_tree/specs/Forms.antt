@@ -28,7 +28,8 @@ opening s part = opening_at s (λ place. part)
 
 -- {"," x}, behind a list
 abbrev pub listed_behind : Grammar Tree → Tree → Grammar Tree
-listed_behind x before = many (λ a t. is symbols.Comma t) (λ a t. Plain) (λ a t. None) (λ t y a. bind x λ e. give (More a e)) before
+listed_behind x before =
+    many (λ a t. is symbols.Comma t) (λ a t. Plain) (λ a t. None) (λ t y a. bind x λ e. give (More a e)) before
 
 -- x {"," x}
 abbrev pub listed : Grammar Tree → Grammar Tree
@@ -60,13 +61,15 @@ semicolon = when (is symbols.Semicolon) (bind (sign symbols.Semicolon) λ y. giv
 abbrev pub separator : Grammar Tree
 separator =
     when (among (symbols.Comma ∷ symbols.Semicolon ∷ []))
-    (bind (token (among (symbols.Comma ∷ symbols.Semicolon ∷ [])) (λ t. Plain) (λ t. None) (sample symbols.Semicolon)) λ y. give Nothing)
+    (bind (token (among (symbols.Comma ∷ symbols.Semicolon ∷ [])) (λ t. Plain) (λ t. None) (sample symbols.Semicolon))
+    λ y. give Nothing)
     (give Nothing)
 
 -- {"." Name}: the names of a path have the places of their "."
 abbrev pub path_names : Tree → Grammar Tree
 path_names a =
-    many (λ b t. is symbols.Dot t) (λ b t. Plain) (λ b t. None) (λ t x b. bind (sign symbols.Name) λ n. give (More b (Name t.place n.0.offset n.0.text))) a
+    many (λ b t. is symbols.Dot t) (λ b t. Plain) (λ b t. None)
+    (λ t x b. bind (sign symbols.Name) λ n. give (More b (Name t.place n.0.offset n.0.text))) a
 
 -- ---- chains
 
@@ -123,7 +126,8 @@ unary_of symbols.At = unary.Dereference
 unary_of _ = unary.Negate
 
 abbrev pub comparisons : List Symbol
-comparisons = symbols.Less ∷ symbols.Greater ∷ symbols.LessEqual ∷ symbols.GreaterEqual ∷ symbols.NotEqual ∷ symbols.DoubleEqual ∷ []
+comparisons = symbols.Less ∷ symbols.Greater ∷ symbols.LessEqual ∷ symbols.GreaterEqual ∷ symbols.NotEqual
+    ∷ symbols.DoubleEqual ∷ []
 
 abbrev pub additive : List Symbol
 additive = symbols.Plus ∷ symbols.Minus ∷ []
@@ -131,16 +135,18 @@ additive = symbols.Plus ∷ symbols.Minus ∷ []
 abbrev pub multiplicative : List Symbol
 multiplicative = symbols.Star ∷ symbols.Slash ∷ symbols.Percent ∷ []
 
--- Operators of these symbols and their operands, which group to the left, behind a first operand. `make` makes the tree; an operand
--- is read in the chain that goes on.
+-- Operators of these symbols and their operands, which group to the left, behind a first operand. `make` makes the
+-- tree; an operand is read in the chain that goes on.
 abbrev pub operators : List Symbol → (ℕ → Grammar Chained) → (Token → Tree → Tree → Tree) → Chained → Grammar Chained
 operators ss x make a =
     many (λ a t. among ss t) (λ a t. Continues a.left) (λ a t. None)
     (λ t y a. bind (x (down a.left)) λ b. give (operand b.left (make t a.tree b.tree))) a
 
--- An operator that groups to the right, with the part that is its right operand, behind a left operand; or the operand alone.
+-- An operator that groups to the right, with the part that is its right operand, behind a left operand; or the operand
+-- alone.
 abbrev pub right_operator : Symbol → Part → (Token → Tree → Tree → Tree) → Chained → Grammar Chained
 right_operator s part make a =
     when (is s)
-    (bind (token (is s) (λ t. Continues a.left) (λ t. Some part) (sample s)) λ x. give (operand (down a.left) (make x.0 a.tree x.1)))
+    (bind (token (is s) (λ t. Continues a.left) (λ t. Some part) (sample s)) λ x.
+    give (operand (down a.left) (make x.0 a.tree x.1)))
     (give a)

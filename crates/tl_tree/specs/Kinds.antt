@@ -1,4 +1,5 @@
--- What may stand where in a tree: each child is of the kind that its parent wants. The trees of texts are so (`laws::well_formed_trees`).
+-- What may stand where in a tree: each child is of the kind that its parent wants. The trees of texts are so
+-- (`laws::well_formed_trees`).
 use Rattle.std.specs.Prelude.{◌≡◌, ℕ, Bool, true, false, List, ◌&&◌}
 use Rattle.tl_tree.specs.declared.node.UnaryOperator.{UnaryOperator}
 use Rattle.tl_tree.specs.declared.node.UnaryOperator.TheVariants as operators
@@ -159,8 +160,8 @@ begins_with_at (t.TerraUnary place op a) = is_dereference op
 begins_with_at (t.TerraBinary place op a b) = begins_with_at a
 begins_with_at _ = false
 
--- the first target of an assignment: a name with suffixes, Lua code or an expression in brackets with suffixes, and no call; or an expression
--- that begins with `@`
+-- the first target of an assignment: a name with suffixes, Lua code or an expression in brackets with suffixes, and no
+-- call; or an expression that begins with `@`
 abbrev pub is_first_target : Tree → Bool
 is_first_target (t.Name place offset text) = true
 is_first_target (t.Escape place e) = true
@@ -231,8 +232,8 @@ is_quoted _ = false
 abbrev pub child : (Tree → Bool) → Tree → Type 0 → Type 0
 child kind a inside = (kind a ≡ true) × inside
 
--- Each child is of the kind that its parent wants. What a list, a block, an arm, a body of Lua code, a path, a field and an entry hold is
--- said by the kind of these.
+-- Each child is of the kind that its parent wants. What a list, a block, an arm, a body of Lua code, a path, a field
+-- and an entry hold is said by the kind of these.
 abbrev pub WellFormed : Tree → Type 0
 WellFormed (t.More before next) = WellFormed before × WellFormed next
 WellFormed (t.Just a) = WellFormed a
@@ -246,44 +247,61 @@ WellFormed (t.Index place a key) = child is_expression a (WellFormed a) × child
 WellFormed (t.Select place a name) = child is_expression a (WellFormed a) × child is_name name (WellFormed name)
 WellFormed (t.Call place a es) = child is_expression a (WellFormed a) × child (are is_expression) es (WellFormed es)
 WellFormed (t.Method place a name es) =
-    child is_expression a (WellFormed a) × child is_name name (WellFormed name) × child (are is_expression) es (WellFormed es)
+    child is_expression a (WellFormed a) × child is_name name (WellFormed name)
+    × child (are is_expression) es (WellFormed es)
 WellFormed (t.TerraFunction place body) = child is_terra_body body (WellFormed body)
 WellFormed (t.Struct place entries) = child (are is_entry) entries (WellFormed entries)
 WellFormed (t.Quote place quoted) = child is_quoted quoted (WellFormed quoted)
 WellFormed (t.Backtick place e) = child is_terra_expression e (WellFormed e)
 -- statements of Lua code
-WellFormed (t.Assign place targets es) = child (are is_target) targets (WellFormed targets) × child (are is_expression) es (WellFormed es)
+WellFormed (t.Assign place targets es) =
+    child (are is_target) targets (WellFormed targets) × child (are is_expression) es (WellFormed es)
 WellFormed (t.Perform place call) = child is_call call (WellFormed call)
 WellFormed (t.Do place block) = child is_block block (WellFormed block)
 WellFormed (t.While place e block) = child is_expression e (WellFormed e) × child is_block block (WellFormed block)
 WellFormed (t.Repeat place block e) = child is_block block (WellFormed block) × child is_expression e (WellFormed e)
-WellFormed (t.If place arms otherwise) = child (are is_arm) arms (WellFormed arms) × child (is_if_any is_block) otherwise (WellFormed otherwise)
+WellFormed (t.If place arms otherwise) =
+    child (are is_arm) arms (WellFormed arms) × child (is_if_any is_block) otherwise (WellFormed otherwise)
 WellFormed (t.NumericFor place name a b step block) =
     child is_name name (WellFormed name) × child is_expression a (WellFormed a) × child is_expression b (WellFormed b)
     × child (is_if_any is_expression) step (WellFormed step) × child is_block block (WellFormed block)
 WellFormed (t.GenericFor place names es block) =
-    child (are is_name) names (WellFormed names) × child (are is_expression) es (WellFormed es) × child is_block block (WellFormed block)
-WellFormed (t.DefineFunction place path body) = child is_path path (WellFormed path) × child is_body body (WellFormed body)
-WellFormed (t.LocalFunction place name body) = child is_name name (WellFormed name) × child is_body body (WellFormed body)
-WellFormed (t.Local place names es) = child (are is_name) names (WellFormed names) × child (are is_expression) es (WellFormed es)
-WellFormed (t.DefineTerra place path body) = child is_path path (WellFormed path) × child is_terra_body body (WellFormed body)
+    child (are is_name) names (WellFormed names) × child (are is_expression) es (WellFormed es)
+    × child is_block block (WellFormed block)
+WellFormed (t.DefineFunction place path body) =
+    child is_path path (WellFormed path) × child is_body body (WellFormed body)
+WellFormed (t.LocalFunction place name body) =
+    child is_name name (WellFormed name) × child is_body body (WellFormed body)
+WellFormed (t.Local place names es) =
+    child (are is_name) names (WellFormed names) × child (are is_expression) es (WellFormed es)
+WellFormed (t.DefineTerra place path body) =
+    child is_path path (WellFormed path) × child is_terra_body body (WellFormed body)
 WellFormed (t.DeclareTerra place path e) = child is_path path (WellFormed path) × child is_expression e (WellFormed e)
-WellFormed (t.LocalTerra place word name body) = child is_name name (WellFormed name) × child is_terra_body body (WellFormed body)
-WellFormed (t.LocalDeclareTerra place word name e) = child is_name name (WellFormed name) × child is_expression e (WellFormed e)
-WellFormed (t.DefineStruct place path entries) = child is_path path (WellFormed path) × child (are is_entry) entries (WellFormed entries)
-WellFormed (t.LocalStruct place word name entries) = child is_name name (WellFormed name) × child (are is_entry) entries (WellFormed entries)
+WellFormed (t.LocalTerra place word name body) =
+    child is_name name (WellFormed name) × child is_terra_body body (WellFormed body)
+WellFormed (t.LocalDeclareTerra place word name e) =
+    child is_name name (WellFormed name) × child is_expression e (WellFormed e)
+WellFormed (t.DefineStruct place path entries) =
+    child is_path path (WellFormed path) × child (are is_entry) entries (WellFormed entries)
+WellFormed (t.LocalStruct place word name entries) =
+    child is_name name (WellFormed name) × child (are is_entry) entries (WellFormed entries)
 WellFormed (t.Emit place e) = child is_expression e (WellFormed e)
 WellFormed (t.Return place es) = child (are is_expression) es (WellFormed es)
 -- expressions of Terra code
-WellFormed (t.TerraBinary place op a b) = child is_terra_expression a (WellFormed a) × child is_terra_expression b (WellFormed b)
+WellFormed (t.TerraBinary place op a b) =
+    child is_terra_expression a (WellFormed a) × child is_terra_expression b (WellFormed b)
 WellFormed (t.TerraUnary place op a) = child is_terra_expression a (WellFormed a)
 WellFormed (t.TerraParen place a) = child is_terra_expression a (WellFormed a)
 WellFormed (t.Escape place e) = child is_expression e (WellFormed e)
-WellFormed (t.TerraIndex place a key) = child is_terra_expression a (WellFormed a) × child is_terra_expression key (WellFormed key)
-WellFormed (t.TerraSelect place a name) = child is_terra_expression a (WellFormed a) × child is_terra_name name (WellFormed name)
-WellFormed (t.TerraCall place a es) = child is_terra_expression a (WellFormed a) × child (are is_terra_expression) es (WellFormed es)
+WellFormed (t.TerraIndex place a key) =
+    child is_terra_expression a (WellFormed a) × child is_terra_expression key (WellFormed key)
+WellFormed (t.TerraSelect place a name) =
+    child is_terra_expression a (WellFormed a) × child is_terra_name name (WellFormed name)
+WellFormed (t.TerraCall place a es) =
+    child is_terra_expression a (WellFormed a) × child (are is_terra_expression) es (WellFormed es)
 WellFormed (t.TerraMethod place a name es) =
-    child is_terra_expression a (WellFormed a) × child is_terra_name name (WellFormed name) × child (are is_terra_expression) es (WellFormed es)
+    child is_terra_expression a (WellFormed a) × child is_terra_name name (WellFormed name)
+    × child (are is_terra_expression) es (WellFormed es)
 WellFormed (t.Construct place a initialisers) =
     child is_terra_expression a (WellFormed a) × child (are is_initialiser) initialisers (WellFormed initialisers)
 -- statements of Terra code
@@ -292,12 +310,15 @@ WellFormed (t.TerraAssign place targets es) =
 WellFormed (t.TerraPerform place call) = child is_terra_call call (WellFormed call)
 WellFormed (t.Splice place escape) = child is_escape escape (WellFormed escape)
 WellFormed (t.TerraDo place block) = child is_terra_block block (WellFormed block)
-WellFormed (t.TerraWhile place e block) = child is_terra_expression e (WellFormed e) × child is_terra_block block (WellFormed block)
-WellFormed (t.TerraRepeat place block e) = child is_terra_block block (WellFormed block) × child is_terra_expression e (WellFormed e)
+WellFormed (t.TerraWhile place e block) =
+    child is_terra_expression e (WellFormed e) × child is_terra_block block (WellFormed block)
+WellFormed (t.TerraRepeat place block e) =
+    child is_terra_block block (WellFormed block) × child is_terra_expression e (WellFormed e)
 WellFormed (t.TerraIf place arms otherwise) =
     child (are is_terra_arm) arms (WellFormed arms) × child (is_if_any is_terra_block) otherwise (WellFormed otherwise)
 WellFormed (t.TerraFor place name a b step block) =
-    child is_terra_name name (WellFormed name) × child is_terra_expression a (WellFormed a) × child is_terra_expression b (WellFormed b)
+    child is_terra_name name (WellFormed name) × child is_terra_expression a (WellFormed a)
+    × child is_terra_expression b (WellFormed b)
     × child (is_if_any is_terra_expression) step (WellFormed step) × child is_terra_block block (WellFormed block)
 WellFormed (t.Var place variables es) =
     child (are is_variable) variables (WellFormed variables) × child (are is_terra_expression) es (WellFormed es)
@@ -311,13 +332,17 @@ WellFormed (t.Path names method) = WellFormed names × WellFormed method
 WellFormed (t.NamedField name value) = WellFormed name × WellFormed value
 WellFormed (t.KeyedField key value) = WellFormed key × WellFormed value
 WellFormed (t.Entry name type) = WellFormed name × WellFormed type
-WellFormed (t.Quoted block value) = child is_terra_block block (WellFormed block) × child (is_if_any is_terra_expression) value (WellFormed value)
+WellFormed (t.Quoted block value) =
+    child is_terra_block block (WellFormed block) × child (is_if_any is_terra_expression) value (WellFormed value)
 WellFormed (t.TerraBody place parameters result block) =
-    child (are is_parameter) parameters (WellFormed parameters) × child (is_if_any is_expression) result (WellFormed result)
+    child (are is_parameter) parameters (WellFormed parameters)
+    × child (is_if_any is_expression) result (WellFormed result)
     × child is_terra_block block (WellFormed block)
-WellFormed (t.Parameter place name type) = child is_name name (WellFormed name) × child is_expression type (WellFormed type)
+WellFormed (t.Parameter place name type) =
+    child is_name name (WellFormed name) × child is_expression type (WellFormed type)
 WellFormed (t.SpliceParameter place escape) = child is_escape escape (WellFormed escape)
-WellFormed (t.Variable place name type) = child is_terra_name name (WellFormed name) × child (is_if_any is_expression) type (WellFormed type)
+WellFormed (t.Variable place name type) =
+    child is_terra_name name (WellFormed name) × child (is_if_any is_expression) type (WellFormed type)
 WellFormed _ = Unit {0}
 
 -- a block of Lua code, in which each child is of the kind that its parent wants

@@ -14,12 +14,14 @@ IsChunk rule ts tree = Whole syntax_of chunk rule ts tree
 
 -- each list of tokens has one tree, or is refused at one token for one reason
 abbrev pub HasOneAnswer : Language Tree → Type 0
-HasOneAnswer Reads = (ts : List Token) → (x : Answer Tree) × Says Reads ts x × ((y : Answer Tree) → Says Reads ts y → y ≡ x)
+HasOneAnswer Reads = (ts : List Token) → (x : Answer Tree) × Says Reads ts x
+    × ((y : Answer Tree) → Says Reads ts y → y ≡ x)
 
 -- a text has one tree at most
 abbrev pub HasOneTree : Language Tree → List ℕ → Type 0
 HasOneTree Reads text = (a b : Tree) → HasTree Reads (tokens_of text) a → HasTree Reads (tokens_of text) b → a ≡ b
 
--- Classes of tokens go by the numbers of symbols: two symbols have one number only if they are one, or both break a rule of tokens.
+-- Classes of tokens go by the numbers of symbols: two symbols have one number only if they are one, or both break a
+-- rule of tokens.
 abbrev pub HasOwnNumbers : Type 0
 HasOwnNumbers = (a b : Symbol) → number_of a ≡ number_of b → (a ≡ b) ⊎ ((is_bad a ≡ true) × (is_bad b ≡ true))

@@ -1,4 +1,5 @@
--- The promise: which text has which tree, which is refused where and why, and that each has one of the two. A reader can stop here.
+-- The promise: which text has which tree, which is refused where and why, and that each has one of the two. A reader
+-- can stop here.
 pub mod Texts
 -- The language of whole texts, and what is proved of it.
 pub mod Laws

@@ -9,16 +9,22 @@ use Rattle.tl_tree.specs.declared.mode.Extra.TheVariants.{Plain, Continues, Call
 use Rattle.tl_tree.specs.declared.mode.Shape.{Shape}
 use Rattle.tl_tree.specs.declared.mode.Shape.TheVariants as shapes
 use Rattle.tl_tree.specs.Tokens.{Token, among, is, sample}
-use Rattle.tl_tree.specs.Tree.{Tree, Nothing, More, Name, Numeral, Literal, Nil, False, True, Varargs, Function, Table, Binary, Unary, Paren, Index, Select, Call, Method, NamedField, KeyedField, TerraFunction, Struct, Quote, Backtick, Entry, Part, Expression, Operand, Concatenation, Arguments, Fields, FunctionBody, Entries, TerraFunctionBody, QuotedCode, TerraExpression}
+use Rattle.tl_tree.specs.Tree.{Tree, Nothing, More, Name, Numeral, Literal, Nil, False, True, Varargs, Function, Table}
+use Rattle.tl_tree.specs.Tree.{Binary, Unary, Paren, Index, Select, Call, Method, NamedField, KeyedField, TerraFunction}
+use Rattle.tl_tree.specs.Tree.{Struct, Quote, Backtick, Entry, Part, Expression, Operand, Concatenation, Arguments}
+use Rattle.tl_tree.specs.Tree.{Fields, FunctionBody, Entries, TerraFunctionBody, QuotedCode, TerraExpression}
 use Rattle.tl_tree.specs.Grammar.{Grammar, give, token, bind, when, many, down}
-use Rattle.tl_tree.specs.Forms.{sign, opening, opening_at, listed, separated_behind, separator, name, chain, Chained, chained, operand, in_chain, binary_of, unary_of, comparisons, additive, multiplicative, operators, right_operator}
+use Rattle.tl_tree.specs.Forms.{sign, opening, opening_at, listed, separated_behind, separator, name, chain, Chained}
+use Rattle.tl_tree.specs.Forms.{chained, operand, in_chain, binary_of, unary_of, comparisons, additive, multiplicative}
+use Rattle.tl_tree.specs.Forms.{operators, right_operator}
 
 -- ---- prefix expressions, and what may follow them
 
 -- "(" exp ")"
 abbrev pub paren : Mode → Grammar Chained
 paren m =
-    bind (opening symbols.OpenParen (Expression m)) λ x. bind (sign symbols.CloseParen) λ y. give (chained (Paren x.0.place x.1) chain shapes.Other)
+    bind (opening symbols.OpenParen (Expression m)) λ x. bind (sign symbols.CloseParen) λ y.
+    give (chained (Paren x.0.place x.1) chain shapes.Other)
 
 -- Name | "(" exp ")"
 abbrev pub base : Mode → Grammar Chained
@@ -26,7 +32,8 @@ base m = when (is symbols.OpenParen) (paren m) (bind name λ n. give (chained n 
 
 -- the tokens that follow a prefix expression, and belong to it
 abbrev pub suffix_symbols : List Symbol
-suffix_symbols = symbols.OpenParen ∷ symbols.OpenBracket ∷ symbols.Dot ∷ symbols.Colon ∷ symbols.OpenBrace ∷ symbols.Literal ∷ []
+suffix_symbols = symbols.OpenParen ∷ symbols.OpenBracket ∷ symbols.Dot ∷ symbols.Colon ∷ symbols.OpenBrace
+    ∷ symbols.Literal ∷ []
 
 -- In a type of Terra code, a `[` that is first on its line begins a statement.
 abbrev pub stays : Mode → Token → Bool
@@ -69,9 +76,11 @@ indexed a tree = chained tree (down a.left) shapes.Variable
 -- "(" [exps] ")" | table | Text, behind a method's name
 abbrev pub arguments : Mode → Grammar Tree
 arguments m =
-    when (is symbols.OpenParen) (bind (opening symbols.OpenParen (Arguments m)) λ x. bind (sign symbols.CloseParen) λ y. give x.1)
+    when (is symbols.OpenParen)
+    (bind (opening symbols.OpenParen (Arguments m)) λ x. bind (sign symbols.CloseParen) λ y. give x.1)
     (when (is symbols.OpenBrace)
-    (bind (opening symbols.OpenBrace (Fields m)) λ x. bind (sign symbols.CloseBrace) λ y. give (More Nothing (Table x.0.place x.1)))
+    (bind (opening symbols.OpenBrace (Fields m)) λ x. bind (sign symbols.CloseBrace) λ y.
+    give (More Nothing (Table x.0.place x.1)))
     (bind (sign symbols.Literal) λ x. give (More Nothing (Literal x.0.place x.0.text))))
 
 -- what a suffix has behind its first token and what that opens
@@ -80,12 +89,14 @@ suffix m InParens t x a = bind (sign symbols.CloseParen) λ y. give (called a (C
 suffix m InBrackets t x a = bind (sign symbols.CloseBracket) λ y. give (indexed a (Index t.place a.tree x))
 suffix m Selects t x a = bind name λ n. give (indexed a (Select t.place a.tree n))
 suffix m CallsMethod t x a = bind name λ n. bind (arguments m) λ es. give (called a (Method t.place a.tree n es))
-suffix m WithTable t x a = bind (sign symbols.CloseBrace) λ y. give (called a (Call t.place a.tree (More Nothing (Table t.place x))))
+suffix m WithTable t x a =
+    bind (sign symbols.CloseBrace) λ y. give (called a (Call t.place a.tree (More Nothing (Table t.place x))))
 suffix m WithText t x a = give (called a (Call t.place a.tree (More Nothing (Literal t.place t.text))))
 
 abbrev pub suffixes : Mode → Chained → Grammar Chained
 suffixes m a =
-    many (λ b t. is_suffix m t) (λ b t. suffix_extra b t) (λ b t. suffix_opens m (suffix_of t.symbol)) (λ t x b. suffix m (suffix_of t.symbol) t x b) a
+    many (λ b t. is_suffix m t) (λ b t. suffix_extra b t) (λ b t. suffix_opens m (suffix_of t.symbol))
+    (λ t x b. suffix m (suffix_of t.symbol) t x b) a
 
 -- prefix = var | call | "(" exp ")", as an operand
 abbrev pub prefix : Mode → ℕ → Grammar Chained
@@ -107,7 +118,8 @@ yes = bind (sign symbols.True) λ x. give (True x.0.place)
 
 -- A numeral in Lua code has no suffix, and a limit.
 abbrev pub number : Grammar Tree
-number = bind (token (is symbols.Numeral) (λ t. LuaNumber) (λ t. None) (sample symbols.Numeral)) λ x. give (Numeral x.0.place x.0.text)
+number = bind (token (is symbols.Numeral) (λ t. LuaNumber) (λ t. None) (sample symbols.Numeral)) λ x.
+    give (Numeral x.0.place x.0.text)
 
 abbrev pub literal : Grammar Tree
 literal = bind (sign symbols.Literal) λ x. give (Literal x.0.place x.0.text)
@@ -122,15 +134,18 @@ varargs = bind (sign symbols.Ellipsis) λ x. give (Varargs x.0.place)
 
 -- "function" fbody
 abbrev pub function : Grammar Tree
-function = bind (sign symbols.Function) λ f. bind (opening symbols.OpenParen FunctionBody) λ x. give (Function f.0.place x.1)
+function = bind (sign symbols.Function) λ f. bind (opening symbols.OpenParen FunctionBody) λ x.
+    give (Function f.0.place x.1)
 
 -- "{" fields "}"
 abbrev pub table : Mode → Grammar Tree
-table m = bind (opening symbols.OpenBrace (Fields m)) λ x. bind (sign symbols.CloseBrace) λ y. give (Table x.0.place x.1)
+table m = bind (opening symbols.OpenBrace (Fields m)) λ x. bind (sign symbols.CloseBrace) λ y.
+    give (Table x.0.place x.1)
 
 -- "terra" tbody
 abbrev pub terra_function : Grammar Tree
-terra_function = bind (sign symbols.Terra) λ t. bind (opening_at symbols.OpenParen TerraFunctionBody) λ x. give (TerraFunction t.0.place x.1)
+terra_function = bind (sign symbols.Terra) λ t. bind (opening_at symbols.OpenParen TerraFunctionBody) λ x.
+    give (TerraFunction t.0.place x.1)
 
 -- "{" {Name ":" exp ["," | ";"]} "}"
 abbrev pub struct_body : Mode → Grammar Tree
@@ -156,7 +171,8 @@ abbrev pub begins_terra : Token → Bool
 begins_terra t = among terra_symbols t
 
 abbrev pub terra_code : Mode → Grammar Tree
-terra_code m = when (is symbols.Terra) terra_function (when (is symbols.Struct) (struct m) (when (is symbols.Quote) quote backtick))
+terra_code m = when (is symbols.Terra) terra_function
+    (when (is symbols.Struct) (struct m) (when (is symbols.Quote) quote backtick))
 
 abbrev pub operation : Token → Tree → Tree → Tree
 operation t a b = Binary t.place (binary_of t.symbol) a b
@@ -247,7 +263,8 @@ field_behind m _ e = give e
 -- "[" exp "]" "=" exp
 abbrev pub keyed_field : Mode → Grammar Tree
 keyed_field m =
-    bind (opening symbols.OpenBracket (Expression m)) λ k. bind (sign symbols.CloseBracket) λ y. bind (sign symbols.Equal) λ z.
+    bind (opening symbols.OpenBracket (Expression m)) λ k. bind (sign symbols.CloseBracket) λ y.
+    bind (sign symbols.Equal) λ z.
     bind (expression m) λ v. give (KeyedField k.1 v)
 
 -- field = "[" exp "]" "=" exp | Name "=" exp | exp
@@ -262,5 +279,6 @@ fields m = when (is symbols.CloseBrace) (give Nothing) (bind (field m) λ f. sep
 abbrev pub entries : Mode → Grammar Tree
 entries m =
     many (λ a t. is symbols.Name t) (λ a t. Plain) (λ a t. None)
-    (λ t x a. bind (sign symbols.Colon) λ y. bind (expression m) λ e. bind separator λ z. give (More a (Entry (Name t.place t.offset t.text) e)))
+    (λ t x a. bind (sign symbols.Colon) λ y. bind (expression m) λ e. bind separator λ z.
+    give (More a (Entry (Name t.place t.offset t.text) e)))
     Nothing

@@ -1,4 +1,5 @@
--- The grammar of Lua statements and functions (Lua 5.1 manual, sections 2.4 and 8), one definition for each of its names.
+-- The grammar of Lua statements and functions (Lua 5.1 manual, sections 2.4 and 8), one definition for each of its
+-- names.
 use Rattle.std.specs.Prelude.{Bool, true, false, not, List, [], ◌∷◌, ◌&&◌, ◌||◌, if◌then◌else◌, Option, Some, None}
 use Rattle.tl_tree.specs.declared.symbol.Symbol.{Symbol}
 use Rattle.tl_tree.specs.declared.symbol.Symbol.TheVariants as symbols
@@ -9,10 +10,15 @@ use Rattle.tl_tree.specs.declared.mode.Extra.TheVariants.{Plain}
 use Rattle.tl_tree.specs.declared.mode.Shape.{Shape}
 use Rattle.tl_tree.specs.declared.mode.Shape.TheVariants as shapes
 use Rattle.tl_tree.specs.Tokens.{Token, among, is, sample}
-use Rattle.tl_tree.specs.Tree.{Tree, Nothing, More, Just, Name, Paren, Assign, Perform, Do, While, Repeat, If, NumericFor, GenericFor, DefineFunction, LocalFunction, Local, Return, Break, DefineTerra, DeclareTerra, LocalTerra, LocalDeclareTerra, DefineStruct, LocalStruct, Emit, Block, Arm, Body, Path, Part, Expression, Statements, FunctionBody, TerraFunctionBody}
+use Rattle.tl_tree.specs.Tree.{Tree, Nothing, More, Just, Name, Paren, Assign, Perform, Do, While, Repeat, If}
+use Rattle.tl_tree.specs.Tree.{NumericFor, GenericFor, DefineFunction, LocalFunction, Local, Return, Break, DefineTerra}
+use Rattle.tl_tree.specs.Tree.{DeclareTerra, LocalTerra, LocalDeclareTerra, DefineStruct, LocalStruct, Emit, Block, Arm}
+use Rattle.tl_tree.specs.Tree.{Body, Path, Part, Expression, Statements, FunctionBody, TerraFunctionBody}
 use Rattle.tl_tree.specs.Grammar.{Grammar, give, token, bind, when, many}
-use Rattle.tl_tree.specs.Forms.{sign, opening, opening_at, listed_behind, name, names, path_names, semicolon, chain, Chained, chained}
-use Rattle.tl_tree.specs.LuaExpressions.{paren, is_suffix, suffix_of, suffix_opens, suffix_extra, suffix, suffixes, struct_body, begins_terra, expression, expressions}
+use Rattle.tl_tree.specs.Forms.{sign, opening, opening_at, listed_behind, name, names, path_names, semicolon, chain}
+use Rattle.tl_tree.specs.Forms.{Chained, chained}
+use Rattle.tl_tree.specs.LuaExpressions.{paren, is_suffix, suffix_of, suffix_opens, suffix_extra, suffix, suffixes}
+use Rattle.tl_tree.specs.LuaExpressions.{struct_body, begins_terra, expression, expressions}
 
 -- ---- contexts
 
@@ -29,7 +35,8 @@ fresh m = record { mode = m; in_loop = false; emits = false }
 -- one suffix behind a prefix expression
 abbrev pub next_suffix : Mode → Chained → Grammar Chained
 next_suffix m a =
-    bind (token (is_suffix m) (λ t. suffix_extra a t) (λ t. suffix_opens m (suffix_of t.symbol)) (sample symbols.Dot)) λ x.
+    bind (token (is_suffix m) (λ t. suffix_extra a t) (λ t. suffix_opens m (suffix_of t.symbol)) (sample symbols.Dot))
+    λ x.
     suffix m (suffix_of x.0.symbol) x.0 x.1 a
 
 -- the tokens of suffixes that are calls
@@ -43,8 +50,10 @@ index_symbols = symbols.OpenBracket ∷ symbols.Dot ∷ []
 -- Calls and then an index, which make a variable of what is none.
 abbrev pub to_variable : Mode → Chained → Grammar Chained
 to_variable m a =
-    bind (many (λ b t. among call_symbols t && is_suffix m t) (λ b t. suffix_extra b t) (λ b t. suffix_opens m (suffix_of t.symbol)) (λ t x b. suffix m (suffix_of t.symbol) t x b) a) λ b.
-    bind (token (λ t. among index_symbols t && is_suffix m t) (λ t. suffix_extra b t) (λ t. suffix_opens m (suffix_of t.symbol)) (sample symbols.Dot)) λ x.
+    bind (many (λ b t. among call_symbols t && is_suffix m t) (λ b t. suffix_extra b t)
+    (λ b t. suffix_opens m (suffix_of t.symbol)) (λ t x b. suffix m (suffix_of t.symbol) t x b) a) λ b.
+    bind (token (λ t. among index_symbols t && is_suffix m t) (λ t. suffix_extra b t)
+    (λ t. suffix_opens m (suffix_of t.symbol)) (sample symbols.Dot)) λ x.
     suffix m (suffix_of x.0.symbol) x.0 x.1 b
 
 -- A call is no variable.
@@ -71,7 +80,8 @@ variable m =
 abbrev pub path_method : Tree → Grammar Tree
 path_method ns =
     when (is symbols.Colon)
-    (bind (sign symbols.Colon) λ c. bind (sign symbols.Name) λ n. give (Path ns (Just (Name c.0.place n.0.offset n.0.text))))
+    (bind (sign symbols.Colon) λ c. bind (sign symbols.Name) λ n.
+    give (Path ns (Just (Name c.0.place n.0.offset n.0.text))))
     (give (Path ns Nothing))
 
 -- path = Name {"." Name} [":" Name]
@@ -90,7 +100,8 @@ loop c = bind (opening symbols.Do (Statements (looped c))) λ x. bind (sign symb
 
 -- what a statement is, by its first token
 pub data Statement : Type 0 where
-  FromName FromParen FromDo FromWhile FromRepeat FromIf FromFor FromFunction FromLocal FromReturn FromBreak FromTerra FromStruct FromEmit : Statement
+  FromName FromParen FromDo FromWhile FromRepeat FromIf FromFor FromFunction FromLocal FromReturn FromBreak FromTerra
+      FromStruct FromEmit : Statement
 
 abbrev pub statement_of : Symbol → Statement
 statement_of symbols.OpenParen = FromParen
@@ -110,7 +121,8 @@ statement_of _ = FromName
 
 abbrev pub statement_symbols : List Symbol
 statement_symbols =
-    symbols.Name ∷ symbols.OpenParen ∷ symbols.Do ∷ symbols.While ∷ symbols.Repeat ∷ symbols.If ∷ symbols.For ∷ symbols.Function ∷ symbols.Local
+    symbols.Name ∷ symbols.OpenParen ∷ symbols.Do ∷ symbols.While ∷ symbols.Repeat ∷ symbols.If ∷ symbols.For
+    ∷ symbols.Function ∷ symbols.Local
     ∷ symbols.Return ∷ symbols.Break ∷ symbols.Terra ∷ symbols.Struct ∷ symbols.Emit ∷ []
 
 -- `break` stands in a loop, and `emit` in an `escape`.
@@ -154,13 +166,15 @@ parameters_of names variadic = record { names = names; variadic = variadic }
 -- Name | "..."
 abbrev pub parameter : Tree → Grammar Parameters
 parameter before =
-    when (is symbols.Ellipsis) (bind (sign symbols.Ellipsis) λ y. give (parameters_of before true)) (bind name λ n. give (parameters_of (More before n) false))
+    when (is symbols.Ellipsis) (bind (sign symbols.Ellipsis) λ y. give (parameters_of before true))
+    (bind name λ n. give (parameters_of (More before n) false))
 
 -- [names ["," "..."] | "..."], up to a ")"
 abbrev pub parameters : Grammar Parameters
 parameters =
     when (is symbols.CloseParen) (give (parameters_of Nothing false))
-    (bind (parameter Nothing) λ p. many (λ a t. is symbols.Comma t && not a.variadic) (λ a t. Plain) (λ a t. None) (λ t x a. parameter a.names) p)
+    (bind (parameter Nothing) λ p.
+    many (λ a t. is symbols.Comma t && not a.variadic) (λ a t. Plain) (λ a t. None) (λ t x a. parameter a.names) p)
 
 abbrev pub body_mode : Bool → Mode
 body_mode true = modes.Variadic
@@ -169,13 +183,15 @@ body_mode false = modes.Plain
 -- the tokens that begin an expression without Terra code
 abbrev pub expression_symbols : List Symbol
 expression_symbols =
-    symbols.Name ∷ symbols.Numeral ∷ symbols.Literal ∷ symbols.Nil ∷ symbols.False ∷ symbols.True ∷ symbols.Ellipsis ∷ symbols.Function
+    symbols.Name ∷ symbols.Numeral ∷ symbols.Literal ∷ symbols.Nil ∷ symbols.False ∷ symbols.True ∷ symbols.Ellipsis
+    ∷ symbols.Function
     ∷ symbols.OpenParen ∷ symbols.OpenBrace ∷ symbols.Not ∷ symbols.Hash ∷ symbols.Minus ∷ symbols.Ampersand ∷ []
 
 -- {"," var} "=" exps, behind the first variable
 abbrev pub assignment : Mode → Token → Tree → Grammar Tree
 assignment m t e =
-    bind (listed_behind (variable m) (More Nothing e)) λ targets. bind (sign symbols.Equal) λ y. bind (expressions m) λ es. give (Assign t.place targets es)
+    bind (listed_behind (variable m) (More Nothing e)) λ targets. bind (sign symbols.Equal) λ y.
+    bind (expressions m) λ es. give (Assign t.place targets es)
 
 -- A call alone is a statement; a variable is assigned to.
 abbrev pub call_or_assignment : Mode → Token → Shape → Tree → Grammar Tree
@@ -203,13 +219,15 @@ step m = when (is symbols.Comma) (bind (sign symbols.Comma) λ y. bind (expressi
 -- "for" Name "=" exp "," exp ["," exp] "do" block "end"
 abbrev pub numeric_for : Context → Token → Tree → Grammar Tree
 numeric_for c t n =
-    bind (sign symbols.Equal) λ y. bind (expression c.mode) λ a. bind (sign symbols.Comma) λ z. bind (expression c.mode) λ b. bind (step c.mode) λ s.
+    bind (sign symbols.Equal) λ y. bind (expression c.mode) λ a. bind (sign symbols.Comma) λ z.
+    bind (expression c.mode) λ b. bind (step c.mode) λ s.
     bind (loop c) λ x. give (NumericFor t.place n a b s x)
 
 -- "for" names "in" exps "do" block "end"
 abbrev pub generic_for : Context → Token → Tree → Grammar Tree
 generic_for c t n =
-    bind (listed_behind name (More Nothing n)) λ ns. bind (sign symbols.In) λ y. bind (expressions c.mode) λ es. bind (loop c) λ x.
+    bind (listed_behind name (More Nothing n)) λ ns. bind (sign symbols.In) λ y. bind (expressions c.mode) λ es.
+    bind (loop c) λ x.
     give (GenericFor t.place ns es x)
 
 -- ["=" exps]
@@ -234,8 +252,10 @@ terra_definition c declare define =
 abbrev pub local_terra : Context → Token → Grammar Tree
 local_terra c t =
     when (is symbols.Struct)
-    (bind (sign symbols.Struct) λ y. bind name λ n. bind (struct_body c.mode) λ es. give (LocalStruct t.place y.0.place n es))
-    (bind (sign symbols.Terra) λ y. bind name λ n. terra_definition c (LocalDeclareTerra t.place y.0.place n) (LocalTerra t.place y.0.place n))
+    (bind (sign symbols.Struct) λ y. bind name λ n. bind (struct_body c.mode) λ es.
+    give (LocalStruct t.place y.0.place n es))
+    (bind (sign symbols.Terra) λ y. bind name λ n.
+    terra_definition c (LocalDeclareTerra t.place y.0.place n) (LocalTerra t.place y.0.place n))
 
 -- the tokens of declarations of Terra code behind "local"
 abbrev pub begins_local_terra : Token → Bool
@@ -246,21 +266,27 @@ begins_local_terra t = among (symbols.Terra ∷ symbols.Struct ∷ []) t
 -- what a statement has behind its first token and what that opens
 abbrev pub statement : Context → Statement → Token → Tree → Grammar Tree
 statement c FromName t x =
-    bind (suffixes c.mode (chained (Name t.place t.offset t.text) chain shapes.Name)) λ a. call_or_assignment c.mode t a.shape a.tree
+    bind (suffixes c.mode (chained (Name t.place t.offset t.text) chain shapes.Name)) λ a.
+    call_or_assignment c.mode t a.shape a.tree
 statement c FromParen t x =
-    bind (sign symbols.CloseParen) λ y. bind (next_suffix c.mode (chained (Paren t.place x) chain shapes.Other)) λ b. bind (suffixes c.mode b) λ a.
+    bind (sign symbols.CloseParen) λ y. bind (next_suffix c.mode (chained (Paren t.place x) chain shapes.Other)) λ b.
+    bind (suffixes c.mode b) λ a.
     call_or_assignment c.mode t a.shape a.tree
 statement c FromDo t x = bind (sign symbols.End) λ y. give (Do t.place x)
 statement c FromWhile t x = bind (expression c.mode) λ e. bind (loop c) λ b. give (While t.place e b)
 statement c FromRepeat t x = bind (sign symbols.Until) λ y. bind (expression c.mode) λ e. give (Repeat t.place x e)
 statement c FromIf t x =
-    bind (arm c Nothing) λ first. bind (arms c first) λ all. bind (otherwise c) λ o. bind (sign symbols.End) λ y. give (If t.place all o)
+    bind (arm c Nothing) λ first. bind (arms c first) λ all. bind (otherwise c) λ o. bind (sign symbols.End) λ y.
+    give (If t.place all o)
 statement c FromFor t x = bind name λ n. when (is symbols.Equal) (numeric_for c t n) (generic_for c t n)
-statement c FromFunction t x = bind path λ p. bind (opening symbols.OpenParen FunctionBody) λ b. give (DefineFunction t.place p b.1)
+statement c FromFunction t x =
+    bind path λ p. bind (opening symbols.OpenParen FunctionBody) λ b. give (DefineFunction t.place p b.1)
 statement c FromLocal t x =
     when (is symbols.Function)
-    (bind (sign symbols.Function) λ y. bind name λ n. bind (opening symbols.OpenParen FunctionBody) λ b. give (LocalFunction t.place n b.1))
-    (when begins_local_terra (local_terra c t) (bind names λ ns. bind (initial_values c.mode) λ es. give (Local t.place ns es)))
+    (bind (sign symbols.Function) λ y. bind name λ n. bind (opening symbols.OpenParen FunctionBody) λ b.
+    give (LocalFunction t.place n b.1))
+    (when begins_local_terra (local_terra c t)
+    (bind names λ ns. bind (initial_values c.mode) λ es. give (Local t.place ns es)))
 statement c FromReturn t x = bind (returned_values c.mode) λ es. give (Return t.place es)
 statement c FromBreak t x = give (Break t.place)
 statement c FromTerra t x = bind path λ p. terra_definition c (DeclareTerra t.place p) (DefineTerra t.place p)
@@ -272,8 +298,10 @@ statement c FromEmit t x = bind (expression c.mode) λ e. give (Emit t.place e)
 -- block = { stat [";"] } [ last [";"] ]
 abbrev pub block : Context → Grammar Tree
 block c =
-    bind (many (λ a t. is_statement c t && not a.ended) (λ a t. Plain) (λ a t. statement_opens c (statement_of t.symbol))
-    (λ t x a. bind (statement c (statement_of t.symbol) t x) λ s. bind semicolon λ y. give (sequence (More a.statements s) (ends_block (statement_of t.symbol))))
+    bind (many (λ a t. is_statement c t && not a.ended) (λ a t. Plain)
+    (λ a t. statement_opens c (statement_of t.symbol))
+    (λ t x a. bind (statement c (statement_of t.symbol) t x) λ s. bind semicolon λ y.
+    give (sequence (More a.statements s) (ends_block (statement_of t.symbol))))
     (sequence Nothing false)) λ a.
     give (Block a.statements)
 
@@ -282,5 +310,6 @@ block c =
 -- the parameters, ")" block "end"
 abbrev pub function_body : Grammar Tree
 function_body =
-    bind parameters λ p. bind (sign symbols.CloseParen) λ y. bind (block (fresh (body_mode p.variadic))) λ b. bind (sign symbols.End) λ z.
+    bind parameters λ p. bind (sign symbols.CloseParen) λ y. bind (block (fresh (body_mode p.variadic))) λ b.
+    bind (sign symbols.End) λ z.
     give (Body p.names p.variadic b)

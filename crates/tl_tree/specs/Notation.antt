@@ -1,5 +1,6 @@
 -- Grammars as data: what a token may be used for, and what a grammar is made of.
-use Rattle.std.specs.Prelude.{ℕ, zero, suc, Bool, true, false, List, [], ◌∷◌, if◌then◌else◌, ◌||◌, ◌&&◌, nat_lt, Option, Some, None}
+use Rattle.std.specs.Prelude.{ℕ, zero, suc, Bool, true, false, List, [], ◌∷◌, if◌then◌else◌, ◌||◌, ◌&&◌, nat_lt, Option}
+use Rattle.std.specs.Prelude.{Some, None}
 use Rattle.tl_lex.specs.declared.SyntaxKind.{SyntaxKind}
 use Rattle.tl_lex.specs.declared.SyntaxKind.TheVariants as why
 use Rattle.tl_tree.specs.declared.mode.Extra.{Extra}
@@ -78,8 +79,10 @@ pub data Grammar : Type 0 → Type 1 where
   bind : {A B : Type 0} → Grammar A → (A → Grammar B) → Grammar B
   -- the first where the next token is of the class, else the second
   when : {A : Type 0} → (Token → Bool) → Grammar A → Grammar A → Grammar A
-  -- as long as the next token is of the class, which depends on what was read: this token, the part that it opens, and what follows
-  many : {A : Type 0} → (A → Token → Bool) → (A → Token → Extra) → (A → Token → Option Part) → (Token → Tree → A → Grammar A) → A → Grammar A
+  -- as long as the next token is of the class, which depends on what was read: this token, the part that it opens, and
+  -- what follows
+  many : {A : Type 0} → (A → Token → Bool) → (A → Token → Extra) → (A → Token → Option Part)
+      → (Token → Tree → A → Grammar A) → A → Grammar A
 
 -- ---- the grammars of parts
 

@@ -18,21 +18,29 @@ Opened parts None ts x rest = (x ≡ Nothing) × (rest ≡ ts)
 Opened parts (Some part) ts x rest = parts part ts x rest
 
 -- the turns of a repetition: it goes on as long as it can
-pub data Turns {A : Type 0} (class : A → Token → Bool) (Turn : A → Token → List Token → A → List Token → Type 0) : A → List Token → A → List Token → Type 0 where
+pub data Turns {A : Type 0} (class : A → Token → Bool) (Turn : A → Token → List Token → A → List Token → Type 0) : A
+    → List Token → A → List Token → Type 0 where
   stop : {a : A} {ts : List Token} → begins (class a) ts ≡ false → Turns class Turn a ts a ts
-  turn : {a x b : A} {t : Token} {ts mid rest : List Token} → is_of (class a) t ≡ true → Turn a t ts x mid → Turns class Turn x mid b rest → Turns class Turn a (t ∷ ts) b rest
+  turn : {a x b : A} {t : Token} {ts mid rest : List Token} → is_of (class a) t ≡ true → Turn a t ts x mid
+      → Turns class Turn x mid b rest → Turns class Turn a (t ∷ ts) b rest
 
 -- The grammar reads the tokens up to the rest, as this value. So many levels are left.
 abbrev pub Reads : {A : Type 0} → Rule → ℕ → Parts → Grammar A → List Token → A → List Token → Type 0
 Reads rule levels parts (give a) ts b rest = (b ≡ a) × (rest ≡ ts)
 Reads rule levels parts (token class extra opens sample) ts b rest =
-    (inner : List Token) × (ts ≡ b.0 ∷ inner) × (is_of class b.0 ≡ true) × (rule (record { opens = opens b.0; levels = levels; extra = extra b.0 }) ts ≡ true) × Opened parts (opens b.0) inner b.1 rest
-Reads rule levels parts (bind {A} g h) ts b rest = (a : A) × (mid : List Token) × Reads rule levels parts g ts a mid × Reads rule levels parts (h a) mid b rest
-Reads rule levels parts (when class g h) ts b rest = ((begins class ts ≡ true) × Reads rule levels parts g ts b rest) ⊎ ((begins class ts ≡ false) × Reads rule levels parts h ts b rest)
+    (inner : List Token) × (ts ≡ b.0 ∷ inner) × (is_of class b.0 ≡ true)
+    × (rule (record { opens = opens b.0; levels = levels; extra = extra b.0 }) ts ≡ true)
+    × Opened parts (opens b.0) inner b.1 rest
+Reads rule levels parts (bind {A} g h) ts b rest =
+    (a : A) × (mid : List Token) × Reads rule levels parts g ts a mid × Reads rule levels parts (h a) mid b rest
+Reads rule levels parts (when class g h) ts b rest =
+    ((begins class ts ≡ true) × Reads rule levels parts g ts b rest)
+    ⊎ ((begins class ts ≡ false) × Reads rule levels parts h ts b rest)
 Reads rule levels parts (many class extra opens step a) ts b rest =
     Turns class
     (λ a t inner y next.
-    (rule (record { opens = opens a t; levels = levels; extra = extra a t }) (t ∷ inner) ≡ true) × (x : Tree) × (mid : List Token) × Opened parts (opens a t) inner x mid × Reads rule levels parts (step t x a) mid y next)
+    (rule (record { opens = opens a t; levels = levels; extra = extra a t }) (t ∷ inner) ≡ true) × (x : Tree)
+    × (mid : List Token) × Opened parts (opens a t) inner x mid × Reads rule levels parts (step t x a) mid y next)
     a ts b rest
 
 -- ---- parts within parts
@@ -40,7 +48,8 @@ Reads rule levels parts (many class extra opens step a) ts b rest =
 -- which tokens the parts read that nest at most so deep, with so many levels left
 abbrev pub parts_at : Table → Rule → ℕ → ℕ → Parts
 parts_at table rule zero levels part ts tree rest = ⊥
-parts_at table rule (suc depth) levels part ts tree rest = Reads rule levels (parts_at table rule depth (down levels)) (table part) ts tree rest
+parts_at table rule (suc depth) levels part ts tree rest =
+    Reads rule levels (parts_at table rule depth (down levels)) (table part) ts tree rest
 
 -- Under a rule the tokens are a whole text, of this tree.
 abbrev pub Whole : Table → Part → Rule → List Token → Tree → Type 0

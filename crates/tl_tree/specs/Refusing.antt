@@ -1,7 +1,9 @@
 -- Which lists of tokens have a tree, and at which token one is refused that has none.
-use Rattle.std.specs.Prelude.{◌≡◌, ℕ, suc, ◌<◌, Bool, true, false, not, List, [], ◌∷◌, ◌++◌, length, if◌then◌else◌, ◌==◌, ◌⊎◌, Option, Some, None}
+use Rattle.std.specs.Prelude.{◌≡◌, ℕ, suc, ◌<◌, Bool, true, false, not, List, [], ◌∷◌, ◌++◌, length, if◌then◌else◌}
+use Rattle.std.specs.Prelude.{◌==◌, ◌⊎◌, Option, Some, None}
 use Rattle.tl_lex.specs.declared.SyntaxKind.{SyntaxKind}
-use Rattle.tl_lex.specs.declared.SyntaxKind.TheVariants.{BadByte, OpenText, BadEscape, BadNumber, NameTooLong, TextTooLong, TooDeep, Ambiguous, Unexpected, TooLong, NotUtf8}
+use Rattle.tl_lex.specs.declared.SyntaxKind.TheVariants.{BadByte, OpenText, BadEscape, BadNumber, NameTooLong}
+use Rattle.tl_lex.specs.declared.SyntaxKind.TheVariants.{TextTooLong, TooDeep, Ambiguous, Unexpected, TooLong, NotUtf8}
 use Rattle.tl_tree.specs.declared.symbol.Symbol.TheVariants.{Bad}
 use Rattle.tl_tree.specs.Tokens.{Token}
 use Rattle.tl_tree.specs.Grammar.{breaks, bar, Rule, Outcome, Took, Stop, blame}
@@ -19,8 +21,8 @@ abbrev pub limits : Rule
 limits usage [] = true
 limits usage (t ∷ ts) = is_allowed (bar usage t)
 
--- One limit at one token: the token that has these tokens after it is not put to a use that goes past the limits in this way. All else is
--- allowed.
+-- One limit at one token: the token that has these tokens after it is not put to a use that goes past the limits in
+-- this way. All else is allowed.
 abbrev pub limit_at : SyntaxKind → List Token → Rule
 limit_at kind after usage [] = true
 limit_at kind after usage (t ∷ ts) = if length (t ∷ ts) == suc (length after) then not (breaks kind usage t) else true
@@ -40,7 +42,8 @@ Viable {A} Reads front = (more : List Token) × (tree : A) × Reads any (front +
 -- The tokens up to this one begin a text of the grammar, and none in which this one stays within the limits.
 abbrev pub PastLimits : {A : Type 0} → Language A → List Token → Token → SyntaxKind → Type 0
 PastLimits {A} Reads before t kind =
-    Viable Reads (before ++ t ∷ []) × ((after : List Token) (tree : A) → Reads (limit_at kind after) (before ++ t ∷ after) tree → ⊥)
+    Viable Reads (before ++ t ∷ [])
+    × ((after : List Token) (tree : A) → Reads (limit_at kind after) (before ++ t ∷ after) tree → ⊥)
 
 -- what the grammar says against a token, whatever its bytes
 abbrev pub GrammarRefuses : {A : Type 0} → Language A → List Token → Token → SyntaxKind → Type 0
@@ -50,7 +53,8 @@ GrammarRefuses Reads before t Ambiguous = PastLimits Reads before t Ambiguous
 GrammarRefuses Reads before t Unexpected = Viable Reads (before ++ t ∷ []) → ⊥
 GrammarRefuses Reads before t _ = ⊥
 
--- The rows of the refusal table, for a token and the tokens before it: it breaks this rule of tokens, or the grammar has this against it.
+-- The rows of the refusal table, for a token and the tokens before it: it breaks this rule of tokens, or the grammar
+-- has this against it.
 abbrev pub Row : {A : Type 0} → Language A → List Token → Token → SyntaxKind → Type 0
 Row Reads before t kind = (t.symbol ≡ Bad kind) ⊎ GrammarRefuses Reads before t kind
 
@@ -69,18 +73,22 @@ rank NotUtf8 = 9
 rank Unexpected = 10
 
 -- the first row that holds at the token
-pub record FirstRow {A : Type 0} (Reads : Language A) (before : List Token) (t : Token) (kind : SyntaxKind) : Type 0 where
-  pub holds : Row Reads before t kind
-  pub earlier : (other : SyntaxKind) → rank other < rank kind → Row Reads before t other → ⊥
+pub record FirstRow {A : Type 0} (Reads : Language A) (before : List Token) (t : Token) (kind : SyntaxKind) : Type 0
+  where
+    pub holds : Row Reads before t kind
+    pub earlier : (other : SyntaxKind) → rank other < rank kind → Row Reads before t other → ⊥
 
 -- no row holds at any of these tokens
 abbrev pub NoRow : {A : Type 0} → Language A → List Token → Type 0
-NoRow Reads front = (before : List Token) (t : Token) (between : List Token) → front ≡ before ++ t ∷ between → (kind : SyntaxKind) → Row Reads before t kind → ⊥
+NoRow Reads front = (before : List Token) (t : Token) (between : List Token) → front ≡ before ++ t ∷ between
+    → (kind : SyntaxKind) → Row Reads before t kind → ⊥
 
--- The tokens are refused: the first at which a row holds has these tokens behind it, itself the first of them; none is left where it is the end.
+-- The tokens are refused: the first at which a row holds has these tokens behind it, itself the first of them; none is
+-- left where it is the end.
 abbrev pub Refuses : {A : Type 0} → Language A → List Token → SyntaxKind → List Token → Type 0
 Refuses {A} Reads ts kind [] = (kind ≡ Unexpected) × NoRow Reads ts × ((tree : A) → Reads any ts tree → ⊥)
-Refuses Reads ts kind (t ∷ after) = (before : List Token) × (ts ≡ before ++ t ∷ after) × NoRow Reads before × FirstRow Reads before t kind
+Refuses Reads ts kind (t ∷ after) =
+    (before : List Token) × (ts ≡ before ++ t ∷ after) × NoRow Reads before × FirstRow Reads before t kind
 
 -- what the outcome of reading says of a whole text
 pub data Answer (A : Type 0) : Type 0 where

@@ -41,20 +41,25 @@ abbrev pub opened : Readers → Option Part → List Token → Outcome Tree
 opened readers None ts = Took Nothing ts
 opened readers (Some part) ts = readers part ts
 
-abbrev pub turns : {A : Type 0} → ℕ → (A → Token → Bool) → (A → Token → Option SyntaxKind) → (A → Token → List Token → Outcome A) → A → List Token → Outcome A
+abbrev pub turns : {A : Type 0} → ℕ → (A → Token → Bool) → (A → Token → Option SyntaxKind)
+    → (A → Token → List Token → Outcome A) → A → List Token → Outcome A
 turns fuel class bars step a [] = Took a []
 turns zero class bars step a (t ∷ ts) = Took a (t ∷ ts)
-turns (suc fuel) class bars step a (t ∷ ts) = if is_of (class a) t then unless (bars a t) (t ∷ ts) (step a t ts >>= λ x mid. turns fuel class bars step x mid) else Took a (t ∷ ts)
+turns (suc fuel) class bars step a (t ∷ ts) =
+    if is_of (class a) t then unless (bars a t) (t ∷ ts) (step a t ts >>= λ x mid. turns fuel class bars step x mid)
+    else Took a (t ∷ ts)
 
 abbrev pub run : {A : Type 0} → ℕ → Readers → Grammar A → List Token → Outcome A
 run levels readers (give a) ts = Took a ts
 run levels readers (token class extra opens sample) [] = Stop why.Unexpected []
 run levels readers (token class extra opens sample) (t ∷ ts) =
-    if is_of class t then unless (bar (record { opens = opens t; levels = levels; extra = extra t }) t) (t ∷ ts) (opened readers (opens t) ts >>= λ x rest. Took (t, x) rest) else Stop (blame t.symbol) (t ∷ ts)
+    if is_of class t then unless (bar (record { opens = opens t; levels = levels; extra = extra t }) t) (t ∷ ts)
+    (opened readers (opens t) ts >>= λ x rest. Took (t, x) rest) else Stop (blame t.symbol) (t ∷ ts)
 run levels readers (bind g h) ts = run levels readers g ts >>= λ a mid. run levels readers (h a) mid
 run levels readers (when class g h) ts = if begins class ts then run levels readers g ts else run levels readers h ts
 run levels readers (many class extra opens step a) ts =
-    turns (length ts) class (λ a t. bar (record { opens = opens a t; levels = levels; extra = extra a t }) t) (λ a t inner. opened readers (opens a t) inner >>= λ x mid. run levels readers (step t x a) mid) a ts
+    turns (length ts) class (λ a t. bar (record { opens = opens a t; levels = levels; extra = extra a t }) t)
+    (λ a t inner. opened readers (opens a t) inner >>= λ x mid. run levels readers (step t x a) mid) a ts
 
 -- ---- parts within parts
 

@@ -1,5 +1,7 @@
--- The symbols of tokens: each reserved word and each sign is one, and so are names, numerals by their suffix, and literals.
-use Rattle.std.specs.Prelude.{ℕ, Bool, true, false, List, [], ◌∷◌, if◌then◌else◌, ◌==◌, ◌||◌, length, drop, ◌-◌, codes, bytes_eq}
+-- The symbols of tokens: each reserved word and each sign is one, and so are names, numerals by their suffix, and
+-- literals.
+use Rattle.std.specs.Prelude.{ℕ, Bool, true, false, List, [], ◌∷◌, if◌then◌else◌, ◌==◌, ◌||◌, length, drop, ◌-◌, codes}
+use Rattle.std.specs.Prelude.{bytes_eq}
 use Rattle.tl_lex.specs.declared.TokenKind.{TokenKind}
 use Rattle.tl_lex.specs.declared.TokenKind.TheVariants as kinds
 use Rattle.tl_tree.specs.declared.symbol.Symbol.{Symbol}

@@ -1,6 +1,8 @@
 -- The grammar of each part.
 use Rattle.tl_tree.specs.declared.mode.Mode.TheVariants as modes
-use Rattle.tl_tree.specs.Tree.{Part, Expression, Operand, Concatenation, Arguments, Fields, Statements, FunctionBody, Entries, TerraExpression, TerraOperand, TerraArguments, Initialisers, TerraStatements, TerraFunctionBody, QuotedCode}
+use Rattle.tl_tree.specs.Tree.{Part, Expression, Operand, Concatenation, Arguments, Fields, Statements, FunctionBody}
+use Rattle.tl_tree.specs.Tree.{Entries, TerraExpression, TerraOperand, TerraArguments, Initialisers, TerraStatements}
+use Rattle.tl_tree.specs.Tree.{TerraFunctionBody, QuotedCode}
 use Rattle.tl_tree.specs.Grammar.{Table}
 use Rattle.tl_tree.specs.LuaExpressions.{expression, operand_of, concatenation_of, arguments_of, fields, entries}
 use Rattle.tl_tree.specs.LuaStatements.{fresh, block, function_body}

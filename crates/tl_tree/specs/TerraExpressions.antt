@@ -8,16 +8,20 @@ use Rattle.tl_tree.specs.declared.mode.Extra.TheVariants.{Plain, TerraNumber}
 use Rattle.tl_tree.specs.declared.mode.Shape.{Shape}
 use Rattle.tl_tree.specs.declared.mode.Shape.TheVariants as shapes
 use Rattle.tl_tree.specs.Tokens.{Token, among, is, sample}
-use Rattle.tl_tree.specs.Tree.{Tree, Nothing, More, Numeral, NamedField, TerraNil, TerraFalse, TerraTrue, TerraBinary, TerraUnary, TerraParen, Escape, TerraIndex, TerraSelect, TerraCall, TerraMethod, Construct, Part, Expression, TerraExpression, TerraOperand, TerraArguments, Initialisers}
+use Rattle.tl_tree.specs.Tree.{Tree, Nothing, More, Numeral, NamedField, TerraNil, TerraFalse, TerraTrue, TerraBinary}
+use Rattle.tl_tree.specs.Tree.{TerraUnary, TerraParen, Escape, TerraIndex, TerraSelect, TerraCall, TerraMethod}
+use Rattle.tl_tree.specs.Tree.{Construct, Part, Expression, TerraExpression, TerraOperand, TerraArguments, Initialisers}
 use Rattle.tl_tree.specs.Grammar.{Grammar, give, token, bind, when, many, down}
-use Rattle.tl_tree.specs.Forms.{sign, opening, listed, separated_behind, name, chain, Chained, chained, operand, in_chain, binary_of, unary_of, comparisons, additive, multiplicative, operators}
+use Rattle.tl_tree.specs.Forms.{sign, opening, listed, separated_behind, name, chain, Chained, chained, operand}
+use Rattle.tl_tree.specs.Forms.{in_chain, binary_of, unary_of, comparisons, additive, multiplicative, operators}
 use Rattle.tl_tree.specs.LuaExpressions.{stays, suffix_extra, called, indexed, as_operand, literal}
 
 -- ---- names, and what may follow them
 
 -- "[" exp "]", and what depends on its place and on it
 abbrev pub escaped : {A : Type 0} → (Place → Tree → Grammar A) → Grammar A
-escaped goes = bind (opening symbols.OpenBracket (Expression modes.Plain)) λ x. bind (sign symbols.CloseBracket) λ y. goes x.0.place (Escape x.0.place x.1)
+escaped goes = bind (opening symbols.OpenBracket (Expression modes.Plain)) λ x. bind (sign symbols.CloseBracket) λ y.
+    goes x.0.place (Escape x.0.place x.1)
 
 -- "[" exp "]", where an expression stands and where a name does
 abbrev pub escape : Grammar Tree
@@ -30,13 +34,15 @@ terra_name = when (is symbols.OpenBracket) escape name
 -- "(" texp ")"
 abbrev pub terra_paren : Grammar Chained
 terra_paren =
-    bind (opening symbols.OpenParen TerraExpression) λ x. bind (sign symbols.CloseParen) λ y. give (chained (TerraParen x.0.place x.1) chain shapes.Other)
+    bind (opening symbols.OpenParen TerraExpression) λ x. bind (sign symbols.CloseParen) λ y.
+    give (chained (TerraParen x.0.place x.1) chain shapes.Other)
 
 -- Name | "[" exp "]" | "(" texp ")"
 abbrev pub terra_base : Grammar Chained
 terra_base =
     when (is symbols.OpenParen) terra_paren
-    (when (is symbols.OpenBracket) (bind escape λ e. give (chained e chain shapes.Escape)) (bind name λ n. give (chained n chain shapes.Name)))
+    (when (is symbols.OpenBracket) (bind escape λ e. give (chained e chain shapes.Escape))
+    (bind name λ n. give (chained n chain shapes.Name)))
 
 -- the tokens that follow a `tsuf`, and belong to it
 abbrev pub terra_suffix_symbols : List Symbol
@@ -70,12 +76,15 @@ terra_suffix InParens t x a = bind (sign symbols.CloseParen) λ y. give (called 
 terra_suffix InBrackets t x a = bind (sign symbols.CloseBracket) λ y. give (indexed a (TerraIndex t.place a.tree x))
 terra_suffix Selects t x a = bind terra_name λ n. give (indexed a (TerraSelect t.place a.tree n))
 terra_suffix CallsMethod t x a =
-    bind terra_name λ n. bind (opening symbols.OpenParen TerraArguments) λ es. bind (sign symbols.CloseParen) λ y. give (called a (TerraMethod t.place a.tree n es.1))
-terra_suffix Constructs t x a = bind (sign symbols.CloseBrace) λ y. give (chained (Construct t.place a.tree x) (down a.left) shapes.Other)
+    bind terra_name λ n. bind (opening symbols.OpenParen TerraArguments) λ es. bind (sign symbols.CloseParen) λ y.
+    give (called a (TerraMethod t.place a.tree n es.1))
+terra_suffix Constructs t x a =
+    bind (sign symbols.CloseBrace) λ y. give (chained (Construct t.place a.tree x) (down a.left) shapes.Other)
 
 abbrev pub terra_suffixes : Chained → Grammar Chained
 terra_suffixes a =
-    many (λ b t. is_terra_suffix t) (λ b t. suffix_extra b t) (λ b t. terra_suffix_opens (terra_suffix_of t.symbol)) (λ t x b. terra_suffix (terra_suffix_of t.symbol) t x b) a
+    many (λ b t. is_terra_suffix t) (λ b t. suffix_extra b t) (λ b t. terra_suffix_opens (terra_suffix_of t.symbol))
+    (λ t x b. terra_suffix (terra_suffix_of t.symbol) t x b) a
 
 -- a `tsuf`, as an operand
 abbrev pub terra_prefix : ℕ → Grammar Chained
@@ -97,7 +106,8 @@ terra_numerals = symbols.Numeral ∷ symbols.LongNumeral ∷ symbols.UnsignedNum
 
 -- A numeral in Terra code has a limit by its suffix.
 abbrev pub terra_number : Grammar Tree
-terra_number = bind (token (among terra_numerals) (λ t. TerraNumber) (λ t. None) (sample symbols.Numeral)) λ x. give (Numeral x.0.place x.0.text)
+terra_number = bind (token (among terra_numerals) (λ t. TerraNumber) (λ t. None) (sample symbols.Numeral)) λ x.
+    give (Numeral x.0.place x.0.text)
 
 abbrev pub terra_primary : ℕ → Grammar Chained
 terra_primary left =
@@ -129,7 +139,8 @@ terra_exponent left = when (among terra_prefix_symbols) (terra_prefixed left) (t
 
 -- `^` groups to the left.
 abbrev pub terra_power : ℕ → Grammar Chained
-terra_power left = bind (terra_primary left) λ a. operators (symbols.Caret ∷ []) (λ n. terra_exponent n) terra_operation a
+terra_power left = bind (terra_primary left) λ a.
+    operators (symbols.Caret ∷ []) (λ n. terra_exponent n) terra_operation a
 
 abbrev pub terra_unary : ℕ → Grammar Chained
 terra_unary left = when (among terra_prefix_symbols) (terra_prefixed left) (terra_power left)
@@ -154,17 +165,22 @@ abbrev pub terra_comparison : ℕ → Grammar Chained
 terra_comparison left = bind (terra_shift left) λ a. operators comparisons (λ n. terra_shift n) terra_operation a
 
 abbrev pub terra_conjunction : ℕ → Grammar Chained
-terra_conjunction left = bind (terra_comparison left) λ a. operators (symbols.And ∷ []) (λ n. terra_comparison n) terra_operation a
+terra_conjunction left =
+    bind (terra_comparison left) λ a. operators (symbols.And ∷ []) (λ n. terra_comparison n) terra_operation a
 
 abbrev pub terra_disjunction : ℕ → Grammar Chained
-terra_disjunction left = bind (terra_conjunction left) λ a. operators (symbols.Or ∷ []) (λ n. terra_conjunction n) terra_operation a
+terra_disjunction left =
+    bind (terra_conjunction left) λ a. operators (symbols.Or ∷ []) (λ n. terra_conjunction n) terra_operation a
 
 -- an expression whose first operand of these operators is read
 abbrev pub terra_expression_behind : Chained → Grammar Chained
 terra_expression_behind a =
-    bind (operators multiplicative (λ n. terra_unary n) terra_operation a) λ b. bind (operators additive (λ n. terra_product n) terra_operation b) λ d.
-    bind (operators shifts (λ n. terra_sum n) terra_operation d) λ e. bind (operators comparisons (λ n. terra_shift n) terra_operation e) λ f.
-    bind (operators (symbols.And ∷ []) (λ n. terra_comparison n) terra_operation f) λ g. operators (symbols.Or ∷ []) (λ n. terra_conjunction n) terra_operation g
+    bind (operators multiplicative (λ n. terra_unary n) terra_operation a) λ b.
+    bind (operators additive (λ n. terra_product n) terra_operation b) λ d.
+    bind (operators shifts (λ n. terra_sum n) terra_operation d) λ e.
+    bind (operators comparisons (λ n. terra_shift n) terra_operation e) λ f.
+    bind (operators (symbols.And ∷ []) (λ n. terra_comparison n) terra_operation f) λ g.
+    operators (symbols.Or ∷ []) (λ n. terra_conjunction n) terra_operation g
 
 abbrev pub terra_expression : Grammar Tree
 terra_expression = bind (terra_disjunction chain) λ a. give a.tree
@@ -194,10 +210,12 @@ positional_initialisers e = separated_behind terra_expression (More Nothing e)
 abbrev pub initialisers_behind : Shape → Tree → Grammar Tree
 initialisers_behind shapes.Name e =
     when (is symbols.Equal)
-    (bind (sign symbols.Equal) λ y. bind terra_expression λ v. separated_behind named_initialiser (More Nothing (NamedField e v)))
+    (bind (sign symbols.Equal) λ y. bind terra_expression λ v.
+    separated_behind named_initialiser (More Nothing (NamedField e v)))
     (positional_initialisers e)
 initialisers_behind _ e = positional_initialisers e
 
 -- [init {("," | ";") init} ["," | ";"]], up to a "}"
 abbrev pub initialisers : Grammar Tree
-initialisers = when (is symbols.CloseBrace) (give Nothing) (bind (terra_disjunction chain) λ e. initialisers_behind e.shape e.tree)
+initialisers = when (is symbols.CloseBrace) (give Nothing)
+    (bind (terra_disjunction chain) λ e. initialisers_behind e.shape e.tree)

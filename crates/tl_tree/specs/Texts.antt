@@ -1,5 +1,5 @@
--- Reading, as one promise: which text has which tree, which text is refused where and why, that each text has one of the two, and that
--- what goes on as a list of tokens goes on as a text.
+-- Reading, as one promise: which text has which tree, which text is refused where and why, that each text has one of
+-- the two, and that what goes on as a list of tokens goes on as a text.
 use Rattle.std.specs.Prelude.{◌≡◌, ℕ, List, ◌++◌}
 use Rattle.std.specs.Str.{IsUtf8}
 use Rattle.tl_base.specs.declared.place.Place.{Place}
@@ -38,17 +38,20 @@ HasOneTextAnswer text = (x : TextAnswer) × SaysOf text x × ((y : TextAnswer) �
 
 -- ---- what goes on
 
--- The text begins with bytes that have exactly these tokens, and with other bytes behind them a text is read, the limits aside. That text
--- is UTF-8 where this is.
+-- The text begins with bytes that have exactly these tokens, and with other bytes behind them a text is read, the
+-- limits aside. That text is UTF-8 where this is.
 abbrev pub TextGoesOn : {A : Type 0} → Language A → List ℕ → List Token → Type 0
 TextGoesOn {A} Reads text front =
     (begun left other : List ℕ) × (more : List Token) × (tree : A)
-    × (text ≡ begun ++ left) × (IsUtf8 text → IsUtf8 (begun ++ other)) × (tokens_of begun ≡ front) × (tokens_of (begun ++ other) ≡ front ++ more) × Reads any (front ++ more) tree
+    × (text ≡ begun ++ left) × (IsUtf8 text → IsUtf8 (begun ++ other)) × (tokens_of begun ≡ front)
+    × (tokens_of (begun ++ other) ≡ front ++ more) × Reads any (front ++ more) tree
 
 -- Where some list of tokens that begins with those that a text begins with is read, the text goes on behind them.
 abbrev pub GoesOnAsText : {A : Type 0} → Language A → Type 0
-GoesOnAsText Reads = (text : List ℕ) (front rest : List Token) → tokens_of text ≡ front ++ rest → Viable Reads front → TextGoesOn Reads text front
+GoesOnAsText Reads = (text : List ℕ) (front rest : List Token) → tokens_of text ≡ front ++ rest → Viable Reads front
+    → TextGoesOn Reads text front
 
 -- So it does where no row of the refusal table holds at any of them.
 abbrev pub GoesOnUnrefused : {A : Type 0} → Language A → Type 0
-GoesOnUnrefused Reads = (text : List ℕ) (front rest : List Token) → tokens_of text ≡ front ++ rest → NoRow Reads front → TextGoesOn Reads text front
+GoesOnUnrefused Reads = (text : List ℕ) (front rest : List Token) → tokens_of text ≡ front ++ rest → NoRow Reads front
+    → TextGoesOn Reads text front

@@ -18,11 +18,24 @@ pub record Token : Type 0 where
   pub first_on_line : Bool
 
 abbrev pub token_of : lexed.Token → Token
-token_of t = record { symbol = symbol_of t.kind t.text; text = t.text; place = t.place; offset = t.offset; first_on_line = t.first_on_line }
+token_of t = record {
+  symbol = symbol_of t.kind t.text;
+  text = t.text;
+  place = t.place;
+  offset = t.offset;
+  first_on_line = t.first_on_line;
+}
 
 -- the token that breaks a rule of tokens; no tree has its offset
 abbrev pub bad_token : LexError → Token
-bad_token e = record { symbol = symbols.Bad e.kind; text = []; place = e.place; offset = 0; first_on_line = e.place.word == 1 }
+bad_token e = record {
+  symbol = symbols.Bad e.kind;
+  text = [];
+  place = e.place;
+  offset = 0;
+  first_on_line =
+      e.place.word == 1;
+}
 
 -- A list of tokens, and the place where the text behind them ends.
 pub record Tokens : Type 0 where
@@ -67,4 +80,11 @@ is s t = among (s ∷ []) t
 
 -- a token with this symbol, for the shortest text that goes on
 abbrev pub sample : Symbol → Token
-sample s = record { symbol = s; text = spelling s; place = record { line = 0; word = 0 }; offset = 0; first_on_line = false }
+sample s = record {
+  symbol = s;
+  text = spelling s;
+  place = record { line = 0; word = 0 };
+  offset = 0;
+  first_on_line =
+      false;
+}

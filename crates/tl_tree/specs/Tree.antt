@@ -6,9 +6,9 @@ use Rattle.tl_tree.specs.declared.mode.Context.{Context}
 use Rattle.tl_tree.specs.declared.node.BinaryOperator.{BinaryOperator}
 use Rattle.tl_tree.specs.declared.node.UnaryOperator.{UnaryOperator}
 
--- The place of a tree is that of its first token, with these exceptions: a binary operator has the operator's; a call, index, selection
--- or method call that of its `(`, `[`, `.` or `:`, and a call whose argument is a table or text alone that argument's; a
--- constructor has that of its `{`. A name in a path has that of the `.` or `:` before it.
+-- The place of a tree is that of its first token, with these exceptions: a binary operator has the operator's; a call,
+-- index, selection or method call that of its `(`, `[`, `.` or `:`, and a call whose argument is a table or text alone
+-- that argument's; a constructor has that of its `{`. A name in a path has that of the `.` or `:` before it.
 pub data Tree : Type 0 where
   -- no tree, and the empty list
   Nothing : Tree
@@ -126,7 +126,8 @@ pub data Tree : Type 0 where
   Arm : Tree → Tree → Tree
   -- the parameters of a Lua function, whether `...` is one more, and its block
   Body : Tree → Bool → Tree → Tree
-  -- a first name and the names behind it, each of these with the place of its `.`, and the method's name, if there is one, with that of its `:`
+  -- a first name and the names behind it, each of these with the place of its `.`, and the method's name, if there is
+  -- one, with that of its `:`
   Path : Tree → Tree → Tree
   -- a name and its value
   NamedField : Tree → Tree → Tree
@@ -147,8 +148,8 @@ pub data Tree : Type 0 where
 
 -- What is read one level of nesting deeper than the token before it.
 pub data Part : Type 0 where
-  -- an expression of Lua code; the operand of a prefix operator, or the right operand of `^`; the right operand of `..`;
-  -- the arguments of a call; the fields of a table
+  -- an expression of Lua code; the operand of a prefix operator, or the right operand of `^`; the right operand of
+  -- `..`; the arguments of a call; the fields of a table
   Expression Operand Concatenation Arguments Fields : Mode → Part
   -- the statements of a block of Lua code
   Statements : Context → Part
@@ -156,11 +157,13 @@ pub data Part : Type 0 where
   FunctionBody : Part
   -- the entries of a struct
   Entries : Mode → Part
-  -- an expression of Terra code; the operand of a prefix operator; the arguments of a call; the initialisers of a constructor
+  -- an expression of Terra code; the operand of a prefix operator; the arguments of a call; the initialisers of a
+  -- constructor
   TerraExpression TerraOperand TerraArguments Initialisers : Part
   -- the statements of a block of Terra code
   TerraStatements : Part
-  -- the parameters of a Terra function behind their `(`, which stands at this place, its result type, its block and its `end`
+  -- the parameters of a Terra function behind their `(`, which stands at this place, its result type, its block and its
+  -- `end`
   TerraFunctionBody : Place → Part
   -- the statements of a quote, and its expression
   QuotedCode : Part
