@@ -1,7 +1,9 @@
 -- The language of whole texts, and that reading has one answer.
-use Rattle.std.specs.Prelude.{◌≡◌, ℕ, true, List, ◌⊎◌}
+use Rattle.std.specs.Prelude.{◌≡◌, ℕ, true, List, map, ◌⊎◌}
+use Rattle.tl_lex.specs.Tokens as tokens
+use Rattle.tl_lex.specs.Words.{reserved_words}
 use Rattle.tl_tree.specs.declared.symbol.Symbol.{Symbol}
-use Rattle.tl_tree.specs.Symbols.{number_of, is_bad}
+use Rattle.tl_tree.specs.Symbols.{spelling, number_of, words, signs, is_bad}
 use Rattle.tl_tree.specs.Tokens.{Token, tokens_of}
 use Rattle.tl_tree.specs.Tree.{Tree}
 use Rattle.tl_tree.specs.Grammar.{Whole}
@@ -25,3 +27,7 @@ HasOneTree Reads text = (a b : Tree) → HasTree Reads (tokens_of text) a → Ha
 -- rule of tokens.
 abbrev pub HasOwnNumbers : Type 0
 HasOwnNumbers = (a b : Symbol) → number_of a ≡ number_of b → (a ≡ b) ⊎ ((is_bad a ≡ true) × (is_bad b ≡ true))
+
+-- The words and the signs of the grammar are those of the rules of tokens.
+abbrev pub SpellsTokens : Type 0
+SpellsTokens = (map spelling words ≡ reserved_words) × (map spelling signs ≡ tokens.signs)

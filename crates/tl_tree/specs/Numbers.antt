@@ -19,13 +19,14 @@ abbrev pub number_in : ℕ → ℕ → List ℕ → ℕ
 number_in base before [] = before
 number_in base before (c ∷ rest) = option_map_or (λ d. number_in base (before * base + d) rest) (digit_of base c) before
 
-abbrev pub is_hexadecimal : List ℕ → Bool
-is_hexadecimal (z ∷ x ∷ rest) = (z == 48) && ((x == 120) || (x == 88))
-is_hexadecimal _ = false
+-- the text begins with `0x` or `0X`
+abbrev pub begins_hexadecimal : List ℕ → Bool
+begins_hexadecimal (z ∷ x ∷ rest) = (z == 48) && ((x == 120) || (x == 88))
+begins_hexadecimal _ = false
 
 -- the value of a numeral: decimal digits, or `0x` or `0X` and hexadecimal digits, and a suffix
 unfoldable pub value_of : List ℕ → ℕ
-value_of text = if is_hexadecimal text then number_in 16 0 (drop 2 text) else number_in 10 0 text
+value_of text = if begins_hexadecimal text then number_in 16 0 (drop 2 text) else number_in 10 0 text
 
 -- a number that has 64 bits at most
 abbrev pub fitting : ℕ → Option ℕ

@@ -1,5 +1,5 @@
-//! The trees of Lua and Terra code, the grammar that says which text has which tree, and which token of a text that has none is
-//! refused, and why.
+//! The trees of Lua and Terra code, the grammar that says which text has which tree, and which token of a text that
+//! has none is refused, and why.
 #![tactic(auto)]
 
 pub mod laws;

@@ -217,7 +217,8 @@ pub enum Piece {
     Arm(NodeId, NodeId),
     /// The parameters of a Lua function, whether `...` is one more, and its block.
     Body(NodeList, bool, NodeId),
-    /// A first name and the names behind it, each of these with the place of its `.`, and the method's name with that of its `:`.
+    /// A first name and the names behind it, each of these with the place of its `.`, and the method's name with that
+    /// of its `:`.
     Path(NodeList, Option<NodeId>),
     /// `name = value`
     NamedField(NodeId, NodeId),
@@ -240,8 +241,8 @@ pub enum Piece {
 /// A node of a tree. Texts are slices of the source.
 #[derive(Debug, Drop)]
 pub enum Node<'a> {
-    /// A name: an expression where one stands, and else what is declared, selected or called. Between its place and its text is the
-    /// offset of its token, in bytes of the source.
+    /// A name: an expression where one stands, and else what is declared, selected or called. Between its place and
+    /// its text is the offset of its token, in bytes of the source.
     Name(Place, u32, &'a str),
     Numeral(Place, &'a str),
     /// A text in quotes or in long brackets.

@@ -43,8 +43,8 @@ fn number_in(base: u64, bytes: &[u8]) -> Option<u64>
     Some(value)
 }
 
-/// The value of a numeral: decimal digits, or `0x` or `0X` and hexadecimal digits, and a suffix (Lua 5.1 manual, section 2.1).
-/// `None` where it has more than 64 bits.
+/// The value of a numeral: decimal digits, or `0x` or `0X` and hexadecimal digits, and a suffix (Lua 5.1 manual,
+/// section 2.1). `None` where it has more than 64 bits.
 #[tactic(auto, unfolding(crate::specs::Numbers::value_of))]
 pub fn numeral_value(text: &str) -> Option<u64>
     ensures { result ≡ numbers.fitting (numbers.value_of text.now) }

@@ -105,7 +105,10 @@ fn nodes_of_a_tree(rt: HostRuntime) -> Result<(), Fail> {
     assert!(rt; tree.root() == NodeId(2));
     assert!(rt; matches!(tree.node(NodeId(0)), Node::Name(at, 7, "x") if *at == place(2)));
     assert!(rt;
-        matches!(tree.node(NodeId(1)), Node::Statement(_, Statement::Return(list)) if list.as_slice() == [NodeId(0)].as_slice())
+        matches!(
+            tree.node(NodeId(1)),
+            Node::Statement(_, Statement::Return(list)) if list.as_slice() == [NodeId(0)].as_slice()
+        )
     );
     assert!(rt;
         matches!(tree.node(tree.root()), Node::Piece(Piece::Block(list)) if list.as_slice().len() == 1)
