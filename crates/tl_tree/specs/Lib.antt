@@ -45,3 +45,9 @@ pub mod Children
 pub mod Item
 -- What a tree of the code holds.
 pub mod Arena
+-- What the nodes of a tree hold.
+pub mod Code
+-- Which declaration a use of a local name refers to.
+pub mod Scopes
+-- Texts that differ in the names of their locals alone.
+pub mod Binding

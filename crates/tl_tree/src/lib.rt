@@ -2,6 +2,7 @@
 //! has none is refused, and why.
 #![tactic(auto)]
 
+pub mod binding_laws;
 pub mod laws;
 pub mod mode;
 pub mod node;
