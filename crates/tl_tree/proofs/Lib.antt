@@ -29,3 +29,6 @@ pub mod OwnNumbers
 pub mod TreeAt
 pub mod Fitting
 pub mod Laying
+pub mod Standings
+pub mod Searching
+pub mod Seeing

@@ -49,5 +49,7 @@ pub mod Arena
 pub mod Code
 -- Which declaration a use of a local name refers to.
 pub mod Scopes
+-- What that comes to, as relations on the text.
+pub mod ScopeLaws
 -- Texts that differ in the names of their locals alone.
 pub mod Binding

@@ -6,7 +6,7 @@
 --
 -- A local's scope begins after its statement; a `local function`, `local terra` or `local struct` sees itself. A parameter's scope is its
 -- function's block alone, so the types of parameters and the result type of a Terra function don't see it.
-use Rattle.std.specs.Prelude.{ℕ, zero, suc, ◌+◌, Bool, true, false, List, [], ◌∷◌, ◌++◌, length, take, map, flat_map, replicate, codes, bytes_eq, slice_set, slice_index_or, Option, Some, None, if◌then◌else◌}
+use Rattle.std.specs.Prelude.{ℕ, zero, suc, ◌+◌, Bool, true, false, List, [], ◌∷◌, ◌++◌, length, take, map, flat_map, replicate, codes, bytes_eq, nat_lt, slice_set, slice_index_or, Option, Some, None, if◌then◌else◌}
 use Rattle.tl_base.specs.declared.ids.NodeId.{NodeId}
 use Rattle.tl_tree.specs.declared.node.Expression as of_expressions
 use Rattle.tl_tree.specs.declared.node.Expression.TheVariants as expressions
@@ -247,30 +247,37 @@ Standing = List (Option Scope)
 abbrev pub scope_in : Standing → ℕ → Option Scope
 scope_in standing n = slice_index_or standing n None
 
-abbrev pub give : Standing → List Part → Standing
-give standing [] = standing
-give standing (part ∷ parts) = give (slice_set standing part.node.0 (Some part.scope)) parts
+-- nodes below a number are given where they stand
+abbrev pub give : ℕ → Standing → List Part → Standing
+give limit standing [] = standing
+give limit standing (part ∷ parts) =
+    give limit (if nat_lt part.node.0 limit then slice_set standing part.node.0 (Some part.scope) else standing) parts
 
 abbrev pub parts_if_any : Items → NodeId → Option Scope → List Part
 parts_if_any items n None = []
 parts_if_any items n (Some scope) = parts items n scope
 
--- the nodes below a number, from the last to the first
+-- The nodes below a number, from the last to the first, give their parts where these stand. A part has a smaller number than the node that
+-- it is in, so each node has been given its own before.
 abbrev pub give_below : Items → ℕ → Standing → Standing
 give_below items zero standing = standing
 give_below items (suc k) standing =
-    give_below items k (give standing (parts_if_any items (record { 0 = k }) (scope_in standing k)))
+    give_below items k (give k standing (parts_if_any items (record { 0 = k }) (scope_in standing k)))
 
 -- Around the chunk's block there is no owner.
 abbrev pub outermost : NodeId → Scope
 outermost root = record { owner = record { 0 = suc root.0 }; count = 0 }
 
--- A node's parts have smaller numbers, so each node is given its scope before it gives scopes to its parts. Names that are declared or
--- selected are given none.
+-- Where the root stands, and none of the others yet.
+abbrev pub standing_at_first : NodeId → Standing
+standing_at_first root = slice_set (replicate (suc root.0) None) root.0 (Some (outermost root))
+
+-- Where each node stands. Names that are declared or selected stand nowhere, nor does a block that is part of a larger owner.
 abbrev pub standing_of : Items → Standing
-standing_of items =
-    let root = last_of items in
-    give_below items (suc root.0) (give (replicate (suc root.0) None) (record { node = root; scope = outermost root } ∷ []))
+standing_of items = let root = last_of items in give_below items (suc root.0) (standing_at_first root)
+
+abbrev pub scope_at : Items → NodeId → Option Scope
+scope_at items n = scope_in (standing_of items) n.0
 
 -- ---- looking a name up
 
