@@ -32,3 +32,5 @@ pub mod Laying
 pub mod Standings
 pub mod Searching
 pub mod Seeing
+pub mod Nameless
+pub mod BindingAlike

@@ -5,6 +5,7 @@ use Rattle.tl_base.specs.declared.ids.NodeId.{NodeId}
 use Rattle.tl_tree.specs.Item as kept
 use Rattle.tl_tree.specs.Nodes.{item_at, last_of}
 use Rattle.tl_tree.specs.Code.{Items}
+use Rattle.tl_tree.specs.Binding.{bound}
 use Rattle.tl_tree.specs.Scopes.{Scope, Part, Found, within, declared_at, declared_in, sees_itself, parts, outermost, scope_at, has_name, binder}
 
 -- ---- where nodes stand
@@ -67,3 +68,9 @@ abbrev pub StatementsSeeBefore : Items → Type 0
 StatementsSeeBefore items =
     (n : NodeId) (scope : Scope) (before : List NodeId) (s : NodeId) (after : List NodeId)
     → (within items n).statements ≡ before ++ s ∷ after → SeesBefore items n scope before s
+
+-- ---- texts that bind alike
+
+-- Where two trees are alike but for the names of locals, each use finds its declaration in both by the same steps.
+abbrev pub BoundDetermines : Items → Items → Type 0
+BoundDetermines items other = (finish end : Place) → bound items finish ≡ bound other end → (n : NodeId) → binder items n ≡ binder other n

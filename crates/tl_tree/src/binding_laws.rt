@@ -1,7 +1,7 @@
 //! Laws of scopes. The functions do nothing: their contracts are the laws.
 
 ghost use Rattle.tl_tree.specs.Arena.{items_of};
-ghost use Rattle.tl_tree.specs.ScopeLaws.{NodesStand, BinderFinds, StatementsSeeBefore};
+ghost use Rattle.tl_tree.specs.ScopeLaws.{NodesStand, BinderFinds, StatementsSeeBefore, BoundDetermines};
 
 use crate::tree::Tree;
 
@@ -21,4 +21,10 @@ pub fn binder_finds(tree: &Tree)
 /// what it declares itself exactly where it is a `local function`, a `local terra` or a `local struct`.
 pub fn statements_see_before(tree: &Tree)
     ensures { StatementsSeeBefore (items_of tree.now) }
+{}
+
+/// Where two texts bind alike, each use of a local in one finds its declaration as that in the other does: by as many owners to go outwards,
+/// at the same position, in the same node.
+pub fn bound_determines_binders(tree: &Tree, other: &Tree)
+    ensures { BoundDetermines (items_of tree.now) (items_of other.now) }
 {}
