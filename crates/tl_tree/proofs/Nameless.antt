@@ -1,6 +1,6 @@
 -- Scopes don't depend on what names are: a tree without the texts of its names has the same.
-use Rattle.std.specs.Prelude.{◌≡◌, ℕ, zero, suc, ◌+◌, Bool, true, false, List, [], ◌∷◌, ◌++◌, length, get_or, map, flat_map, pred, Option, Some, None, if◌then◌else◌}
-use Rattle.std.proofs.Common.{refl, sym, ap, subst, ◌∙◌}
+use Rattle.std.specs.Prelude.{◌≡◌, ℕ, zero, suc, ◌+◌, Bool, false, List, [], ◌∷◌, ◌++◌, length, map, flat_map, pred, Option, Some, None, if◌then◌else◌}
+use Rattle.std.proofs.Common.{refl, ap, ◌∙◌}
 use Rattle.std.proofs.lemmas.List.{length-map}
 use Rattle.std.proofs.Math.ListN.{get_or-map}
 use Rattle.tl_base.specs.declared.ids.NodeId.{NodeId}
@@ -16,8 +16,8 @@ use Rattle.tl_tree.specs.declared.node.Piece.TheVariants as pieces
 use Rattle.tl_tree.specs.Item.{Item}
 use Rattle.tl_tree.specs.Item as kept
 use Rattle.tl_tree.specs.Nodes.{item_at, last_of, absent_item}
-use Rattle.tl_tree.specs.Code.{Items, Parts, statements_of, statements_at, path_names_of, path_names_at, path_method_of, names_method, is_any, function_of, function_at, body_of, if_any}
-use Rattle.tl_tree.specs.Scopes.{Scope, Part, Found, Standing, Within, scope_in, standing_of, standing_at_first, or_found, last_found, declared_in, found_from, within, within_item, within_statement, within_terra_expression, within_terra_statement, within_piece, within_function, within_terra_function, path_use, first_only, implicit_self, owner, plain, is_name, if_name, unless_name, bound_by, all_bound_by, declared_by, declared_at, declarations, sees_itself, in_order, all_in, parts, parts_if_any, give, give_below}
+use Rattle.tl_tree.specs.Code.{Items, Parts, statements_of, statements_at, path_names_of, path_method_of, names_method, is_any, function_of, function_at, body_of, if_any}
+use Rattle.tl_tree.specs.Scopes.{Scope, Part, Standing, Within, scope_in, standing_of, standing_at_first, within, within_item, within_statement, within_terra_expression, within_terra_statement, within_piece, within_function, within_terra_function, path_use, first_only, implicit_self, owner, plain, is_name, if_name, unless_name, bound_by, all_bound_by, declared_by, declared_at, declarations, sees_itself, in_order, all_in, parts, parts_if_any, give, give_below}
 
 -- a node without its text
 abbrev pub bare : Item → Item

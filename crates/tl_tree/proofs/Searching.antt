@@ -1,13 +1,10 @@
 -- What a name finds is the last of the names in scope, or what it finds around the owner.
-use Rattle.std.specs.Prelude.{◌≡◌, ℕ, zero, suc, ◌+◌, ◌<◌, ◌≤◌, Bool, true, false, List, [], ◌∷◌, ◌++◌, length, take, Option, Some, None, ⊤, if◌then◌else◌}
+use Rattle.std.specs.Prelude.{◌≡◌, ℕ, zero, suc, ◌+◌, ◌<◌, ◌≤◌, Bool, true, false, List, [], ◌∷◌, length, Option, Some, None, if◌then◌else◌}
 use Rattle.std.proofs.Common.{refl, sym, ap, subst, ◌∙◌, arith}
-use Rattle.tl_base.specs.declared.place.Place.{Place}
 use Rattle.tl_base.specs.declared.ids.NodeId.{NodeId}
-use Rattle.tl_tree.specs.Item.{Item}
-use Rattle.tl_tree.specs.Item as kept
-use Rattle.tl_tree.specs.Nodes.{item_at, last_of}
+use Rattle.tl_tree.specs.Nodes.{last_of}
 use Rattle.tl_tree.specs.Code.{Items}
-use Rattle.tl_tree.specs.Scopes.{Scope, Part, Found, Standing, scope_in, scope_at, standing_of, or_found, last_found, declared_in, found_from, found_for, has_name, binder}
+use Rattle.tl_tree.specs.Scopes.{Scope, Found, Standing, scope_in, scope_at, standing_of, or_found, last_found, declared_in, found_from, found_for, has_name}
 use Rattle.tl_tree.specs.ScopeLaws.{HasNone, IsLast, Finds, Here, Around, Nowhere, BinderFinds}
 use Rattle.tl_tree.proofs.Standings.{owners_before, standing_length}
 

@@ -1,13 +1,13 @@
 -- What statements see.
-use Rattle.std.specs.Prelude.{◌≡◌, ℕ, zero, suc, ◌+◌, ◌<◌, ◌≤◌, Bool, true, false, List, [], ◌∷◌, ◌++◌, length, take, flat_map, if◌then◌else◌}
+use Rattle.std.specs.Prelude.{◌≡◌, ℕ, ◌+◌, Bool, true, false, List, [], ◌∷◌, ◌++◌, length, take, flat_map, if◌then◌else◌}
 use Rattle.std.proofs.Common.{refl, sym, ap, subst, ◌∙◌, arith, append_assoc, length-append}
 use Rattle.std.proofs.lemmas.List.{append-nil}
 use Rattle.std.proofs.Math.Seq.{take-append_seam}
 use Rattle.tl_base.specs.declared.ids.NodeId.{NodeId}
 use Rattle.tl_tree.specs.Nodes.{item_at}
 use Rattle.tl_tree.specs.Code.{Items}
-use Rattle.tl_tree.specs.Scopes.{Scope, Part, within, declared_at, declared_in, declarations, sees_itself, parts, in_order, all_in}
-use Rattle.tl_tree.specs.ScopeLaws.{SeesBefore, StatementsSeeBefore}
+use Rattle.tl_tree.specs.Scopes.{Part, within, declared_at, declarations, sees_itself, in_order, all_in}
+use Rattle.tl_tree.specs.ScopeLaws.{StatementsSeeBefore}
 
 abbrev all_declared : Items → List NodeId → List NodeId
 all_declared items ns = flat_map (declared_at items) ns

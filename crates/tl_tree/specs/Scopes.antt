@@ -18,6 +18,11 @@ use Rattle.tl_tree.specs.declared.node.TerraStatement as of_terra_statements
 use Rattle.tl_tree.specs.declared.node.TerraStatement.TheVariants as terra_statements
 use Rattle.tl_tree.specs.declared.node.Piece as of_pieces
 use Rattle.tl_tree.specs.declared.node.Piece.TheVariants as pieces
+-- Where a node stands: the innermost owner around it, and how many of its declarations are in scope. Around the owner those are in scope that
+-- are where the owner stands. And what a use finds: the owners to go outwards, the position among the declarations there, and the node that
+-- declares.
+pub use Rattle.tl_tree.specs.declared.scope.Scope.{Scope}
+pub use Rattle.tl_tree.specs.declared.scope.Found.{Found}
 use Rattle.tl_tree.specs.Item.{Item}
 use Rattle.tl_tree.specs.Item as kept
 use Rattle.tl_tree.specs.Nodes.{item_at, last_of}
@@ -210,12 +215,6 @@ declarations items n = let w = within items n in w.names ++ flat_map (declared_a
 
 -- ---- where a node stands
 
--- Where a node stands: the innermost owner around it, and how many of this owner's declarations are in scope. Around the owner those are
--- in scope that are where the owner stands.
-pub record Scope : Type 0 where
-  pub owner : NodeId
-  pub count : ℕ
-
 -- a node, and where it stands
 pub record Part : Type 0 where
   pub node : NodeId
@@ -280,12 +279,6 @@ abbrev pub scope_at : Items → NodeId → Option Scope
 scope_at items n = scope_in (standing_of items) n.0
 
 -- ---- looking a name up
-
--- a declaration as a use finds it: how many owners to go outwards, the position among the declarations there, and the node that makes it
-pub record Found : Type 0 where
-  pub depth : ℕ
-  pub position : ℕ
-  pub declaration : NodeId
 
 abbrev pub or_found : Option Found → Option Found → Option Found
 or_found (Some found) other = Some found

@@ -7,6 +7,7 @@ pub mod laws;
 pub mod mode;
 pub mod node;
 pub mod numeral;
+pub mod scope;
 mod spelling;
 pub mod symbol;
 pub mod tree;
@@ -17,6 +18,7 @@ pub use node::{
     UnaryOperator,
 };
 pub use numeral::numeral_value;
+pub use scope::{Found, Scope};
 pub use spelling::symbol_of;
 pub use symbol::Symbol;
 pub use tree::Tree;
