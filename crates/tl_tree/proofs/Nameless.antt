@@ -16,7 +16,7 @@ use Rattle.tl_tree.specs.declared.node.Piece.TheVariants as pieces
 use Rattle.tl_tree.specs.Item.{Item}
 use Rattle.tl_tree.specs.Item as kept
 use Rattle.tl_tree.specs.Nodes.{item_at, last_of, absent_item}
-use Rattle.tl_tree.specs.Code.{Items, Parts, statements_of, statements_at, path_names_of, path_method_of, names_method, is_any, function_of, function_at, body_of, if_any}
+use Rattle.tl_tree.specs.Code.{Items, statements_of, statements_at, path_names_of, path_method_of, names_method, is_any, if_any}
 use Rattle.tl_tree.specs.Scopes.{Scope, Part, Standing, Within, scope_in, standing_of, standing_at_first, within, within_item, within_statement, within_terra_expression, within_terra_statement, within_piece, within_function, within_terra_function, path_use, first_only, implicit_self, owner, plain, is_name, if_name, unless_name, bound_by, all_bound_by, declared_by, declared_at, declarations, sees_itself, in_order, all_in, parts, parts_if_any, give, give_below}
 
 -- a node without its text
@@ -93,8 +93,11 @@ sees_same items n = blind_at sees_itself (λ p o t. refl, λ p t. refl, λ p t. 
 
 -- ---- what is within a node
 
-function_same : (items : Items) (n : NodeId) (around : List NodeId) (function : Parts) → within_function (all_bare items) n around function ≡ within_function items n around function
-function_same items n around function = ap (λ l. owner around (implicit_self function.method n ++ function.names) l []) (statements_same items function.block)
+function_changes : (items : Items) (n : NodeId) (around : List NodeId) (method : Bool) (i : Item)
+  → within_function (all_bare items) n around method i ≡ within_function items n around method i
+function_changes items n around method (kept.Piece (pieces.Body names variadic block)) =
+    ap (λ l. owner around (implicit_self method n ++ names) l []) (statements_same items block)
+function_changes items n around method _ = refl
 
 terra_function_changes : (items : Items) (n : NodeId) (around : List NodeId) (method : Bool) (i : Item)
   → within_terra_function (all_bare items) n around method i ≡ within_terra_function items n around method i
@@ -109,11 +112,11 @@ terra_function_same items n around method body =
     blind_at (within_terra_function (all_bare items) n around method) (λ p o t. refl, λ p t. refl, λ p t. refl) items body
     ∙ terra_function_changes items n around method (item_at items body)
 
-body_same : (items : Items) (n : NodeId) (around : List NodeId) (method : Bool) (body : NodeId)
-  → within_function (all_bare items) n around (body_of method (item_at (all_bare items) body)) ≡ within_function items n around (body_of method (item_at items body))
-body_same items n around method body =
-    function_same items n around (body_of method (item_at (all_bare items) body))
-    ∙ ap (within_function items n around) (blind_at (body_of method) (λ p o t. refl, λ p t. refl, λ p t. refl) items body)
+function_same : (items : Items) (n : NodeId) (around : List NodeId) (method : Bool) (body : NodeId)
+  → within_function (all_bare items) n around method (item_at (all_bare items) body) ≡ within_function items n around method (item_at items body)
+function_same items n around method body =
+    blind_at (within_function (all_bare items) n around method) (λ p o t. refl, λ p t. refl, λ p t. refl) items body
+    ∙ function_changes items n around method (item_at items body)
 
 statement_same : (items : Items) (n : NodeId) (s : of_statements.Statement) → within_statement (all_bare items) n s ≡ within_statement items n s
 statement_same items n (statements.Repeat block condition) = ap (λ l. owner [] [] l (condition ∷ [])) (statements_same items block)
@@ -121,9 +124,9 @@ statement_same items n (statements.NumericFor name first limit step block) =
     ap (λ l. owner (first ∷ limit ∷ if_any step) (name ∷ []) l []) (statements_same items block)
 statement_same items n (statements.GenericFor names es block) = ap (λ l. owner es names l []) (statements_same items block)
 statement_same items n (statements.Function path body) =
-    ap (λ l. within_function (all_bare items) n l (body_of (names_method (all_bare items) path) (item_at (all_bare items) body))) (path_use_same items path)
-    ∙ ap (λ m. within_function (all_bare items) n (path_use items path) (body_of m (item_at (all_bare items) body))) (names_method_same items path)
-    ∙ body_same items n (path_use items path) (names_method items path) body
+    ap (λ l. within_function (all_bare items) n l (names_method (all_bare items) path) (item_at (all_bare items) body)) (path_use_same items path)
+    ∙ ap (λ m. within_function (all_bare items) n (path_use items path) m (item_at (all_bare items) body)) (names_method_same items path)
+    ∙ function_same items n (path_use items path) (names_method items path) body
 statement_same items n (statements.Terra path body) =
     ap (λ l. within_terra_function (all_bare items) n l (names_method (all_bare items) path) (item_at (all_bare items) body)) (path_use_same items path)
     ∙ ap (λ m. within_terra_function (all_bare items) n (path_use items path) m (item_at (all_bare items) body)) (names_method_same items path)
@@ -145,19 +148,9 @@ terra_statement_same items (terra_statements.For name first limit step block) =
     ∙ ap (λ l. owner (unless_name items name ++ first ∷ limit ∷ if_any step) (if_name items name) l []) (statements_same items block)
 terra_statement_same items _ = refl
 
-function_of_changes : (items : Items) (i : Item) → function_of (all_bare items) i ≡ function_of items i
-function_of_changes items (kept.Statement place (statements.Function path body)) =
-    ap (λ m. body_of m (item_at (all_bare items) body)) (names_method_same items path)
-    ∙ blind_at (body_of (names_method items path)) (λ p o t. refl, λ p t. refl, λ p t. refl) items body
-function_of_changes items _ = refl
-
-function_at_same : (items : Items) (n : NodeId) → function_at (all_bare items) n ≡ function_at items n
-function_at_same items n =
-    blind_at (function_of (all_bare items)) (λ p o t. refl, λ p t. refl, λ p t. refl) items n ∙ function_of_changes items (item_at items n)
-
 piece_same : (items : Items) (n : NodeId) (p : of_pieces.Piece) → within_piece (all_bare items) n p ≡ within_piece items n p
 piece_same items n (pieces.Body names variadic block) =
-    ap (within_function (all_bare items) n []) (function_at_same items n) ∙ function_same items n [] (function_at items n)
+    function_changes items n [] false (kept.Piece (pieces.Body names variadic block))
 piece_same items n (pieces.Quoted block e) = ap (λ l. owner [] [] l (if_any e)) (statements_same items block)
 piece_same items n (pieces.TerraBody place parameters result block) =
     terra_function_changes items n [] false (kept.Piece (pieces.TerraBody place parameters result block))
@@ -198,13 +191,13 @@ in_order_same items owner count (n ∷ ns) =
     ∙ ap (λ b. ordered owner n b count (declared_at items n) (in_order (all_bare items) owner (count + length (declared_at items n)) ns)) (sees_same items n)
     ∙ ap (λ l. ordered owner n (sees_itself (item_at items n)) count (declared_at items n) l) (in_order_same items owner (count + length (declared_at items n)) ns)
 
-abbrev parts_of : Items → NodeId → Scope → Within → ℕ → List Part
-parts_of items n scope w all = all_in scope w.around ++ in_order items n (length w.names) w.statements ++ all_in (record { owner = n; count = all }) w.behind
+abbrev parts_by : Items → NodeId → Scope → Within → ℕ → List Part
+parts_by items n scope w all = all_in scope w.around ++ in_order items n (length w.names) w.statements ++ all_in (record { owner = n; count = all }) w.behind
 
 parts_same : (items : Items) (n : NodeId) (scope : Scope) → parts (all_bare items) n scope ≡ parts items n scope
 parts_same items n scope =
-    ap (λ w. parts_of (all_bare items) n scope w (length (declarations (all_bare items) n))) (within_same items n)
-    ∙ ap (λ d. parts_of (all_bare items) n scope (within items n) (length d)) (declarations_same items n)
+    ap (λ w. parts_by (all_bare items) n scope w (length (declarations (all_bare items) n))) (within_same items n)
+    ∙ ap (λ d. parts_by (all_bare items) n scope (within items n) (length d)) (declarations_same items n)
     ∙ ap (λ l. all_in scope (within items n).around ++ l ++ all_in (record { owner = n; count = length (declarations items n) }) (within items n).behind)
         (in_order_same items n (length (within items n).names) (within items n).statements)
 

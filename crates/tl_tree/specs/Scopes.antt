@@ -26,7 +26,7 @@ pub use Rattle.tl_tree.specs.declared.scope.Found.{Found}
 use Rattle.tl_tree.specs.Item.{Item}
 use Rattle.tl_tree.specs.Item as kept
 use Rattle.tl_tree.specs.Nodes.{item_at, last_of}
-use Rattle.tl_tree.specs.Code.{Items, Parts, statements_at, path_names_at, names_method, function_at, body_of, if_any}
+use Rattle.tl_tree.specs.Code.{Items, statements_at, path_names_at, names_method, if_any}
 
 -- ---- what a node declares
 
@@ -106,9 +106,10 @@ abbrev pub implicit_self : Bool → NodeId → List NodeId
 implicit_self true n = n ∷ []
 implicit_self false n = []
 
-abbrev pub within_function : Items → NodeId → List NodeId → Parts → Within
-within_function items n around function =
-    owner around (implicit_self function.method n ++ function.names) (statements_at items function.block) []
+abbrev pub within_function : Items → NodeId → List NodeId → Bool → Item → Within
+within_function items n around method (kept.Piece (pieces.Body names variadic block)) =
+    owner around (implicit_self method n ++ names) (statements_at items block) []
+within_function items n around method _ = plain around
 
 abbrev pub within_terra_function : Items → NodeId → List NodeId → Bool → Item → Within
 within_terra_function items n around method (kept.Piece (pieces.TerraBody place parameters result block)) =
@@ -142,7 +143,7 @@ within_statement items n (statements.NumericFor name first limit step block) =
     owner (first ∷ limit ∷ if_any step) (name ∷ []) (statements_at items block) []
 within_statement items n (statements.GenericFor names es block) = owner es names (statements_at items block) []
 within_statement items n (statements.Function path body) =
-    within_function items n (path_use items path) (body_of (names_method items path) (item_at items body))
+    within_function items n (path_use items path) (names_method items path) (item_at items body)
 within_statement items n (statements.LocalFunction name body) = plain (body ∷ [])
 within_statement items n (statements.Local names es) = plain es
 within_statement items n (statements.Terra path body) =
@@ -186,7 +187,7 @@ within_terra_statement items terra_statements.Break = plain []
 abbrev pub within_piece : Items → NodeId → of_pieces.Piece → Within
 within_piece items n (pieces.Block ns) = owner [] [] ns []
 within_piece items n (pieces.Arm condition block) = plain (condition ∷ block ∷ [])
-within_piece items n (pieces.Body names variadic block) = within_function items n [] (function_at items n)
+within_piece items n (pieces.Body names variadic block) = within_function items n [] false (kept.Piece (pieces.Body names variadic block))
 within_piece items n (pieces.Path names method) = plain []
 within_piece items n (pieces.NamedField name value) = plain (value ∷ [])
 within_piece items n (pieces.KeyedField key value) = plain (key ∷ value ∷ [])
@@ -209,9 +210,12 @@ within_item items n _ = plain []
 abbrev pub within : Items → NodeId → Within
 within items n = within_item items n (item_at items n)
 
+abbrev pub all_declared : Items → Within → List NodeId
+all_declared items w = w.names ++ flat_map (declared_at items) w.statements
+
 -- all that a node declares, in order of the text; a node that is no owner declares nothing
 abbrev pub declarations : Items → NodeId → List NodeId
-declarations items n = let w = within items n in w.names ++ flat_map (declared_at items) w.statements
+declarations items n = all_declared items (within items n)
 
 -- ---- where a node stands
 
@@ -231,13 +235,15 @@ in_order items owner count (n ∷ ns) =
     let seen = if sees_itself (item_at items n) then after else count in
     record { node = n; scope = record { owner = owner; count = seen } } ∷ in_order items owner after ns
 
--- the nodes within a node that stands there, each with where it stands
-abbrev pub parts : Items → NodeId → Scope → List Part
-parts items n scope =
-    let w = within items n in
+-- what is within a node that stands there, each with where it stands
+abbrev pub parts_of : Items → NodeId → Scope → Within → List Part
+parts_of items n scope w =
     all_in scope w.around
     ++ in_order items n (length w.names) w.statements
-    ++ all_in (record { owner = n; count = length (declarations items n) }) w.behind
+    ++ all_in (record { owner = n; count = length (all_declared items w) }) w.behind
+
+abbrev pub parts : Items → NodeId → Scope → List Part
+parts items n scope = parts_of items n scope (within items n)
 
 -- of each node where it stands, as far as it is known
 abbrev pub Standing : Type 0
