@@ -1,10 +1,13 @@
--- The form of a source: one Terra function of 64-bit numbers that returns an expression of its parameters. It is a function of the
--- tree that the source has.
-use Rattle.std.specs.Prelude.{ℕ, zero, suc, ◌+◌, ◌-◌, ◌*◌, Bool, true, false, not, ◌&&◌, ◌==◌, nat_le, nat_lt, List, [], ◌∷◌, ◌++◌, length, take, Option, Some, None, option_map, option_and_then, is_none, if◌then◌else◌, codes}
+-- The form of a source: one Terra function of 64-bit numbers that returns an expression of its parameters. It is a
+-- function of the tree that the source has.
+use Rattle.std.specs.Prelude.{ℕ, zero, suc, ◌+◌, ◌-◌, ◌*◌, Bool, true, false, not, ◌&&◌, ◌==◌, nat_le, nat_lt, List, []}
+use Rattle.std.specs.Prelude.{◌∷◌, ◌++◌, length, take, Option, Some, None, option_map, option_and_then, is_none}
+use Rattle.std.specs.Prelude.{if◌then◌else◌, codes}
 use Rattle.std.specs.Str.{bytes_eq}
 use Rattle.tl_tree.specs.declared.node.BinaryOperator.{BinaryOperator}
 use Rattle.tl_tree.specs.declared.node.BinaryOperator.TheVariants as binary
-use Rattle.tl_tree.specs.Tree.{Tree, Nothing, More, Just, Name, Numeral, DefineTerra, TerraBinary, TerraParen, TerraReturn, Block, Path, TerraBody}
+use Rattle.tl_tree.specs.Tree.{Tree, Nothing, More, Just, Name, Numeral, DefineTerra, TerraBinary, TerraParen}
+use Rattle.tl_tree.specs.Tree.{TerraReturn, Block, Path, TerraBody}
 use Rattle.tl_tree.specs.Tree as trees
 use Rattle.first_form.specs.declared.function.Operator.{Operator}
 use Rattle.first_form.specs.declared.function.Operator.TheVariants.{Add, Subtract, Multiply}
@@ -91,7 +94,8 @@ small_number n (digit ∷ digits) =
 
 -- the value of a decimal literal, from `0LL` to `2047LL`, whose digits are the first of these
 abbrev pub literal_with : List ℕ → List ℕ → Option ℕ
-literal_with digits bytes = where_true (bytes_eq bytes (digits ++ codes "LL") && has_no_leading_zero digits) (small_number 0 digits)
+literal_with digits bytes =
+    where_true (bytes_eq bytes (digits ++ codes "LL") && has_no_leading_zero digits) (small_number 0 digits)
 
 unfoldable pub literal_of : List ℕ → Option ℕ
 literal_of bytes = literal_with (take (length bytes - 2) bytes) bytes
@@ -127,7 +131,8 @@ formula_of_tree parameters levels (Name place offset name) = option_map Paramete
 formula_of_tree parameters levels (Numeral place text) = option_map Literal (literal_of text)
 formula_of_tree parameters levels (TerraBinary place operator left right) =
     between (operator_of operator) (formula_of_tree parameters levels left) (formula_of_tree parameters levels right)
-formula_of_tree parameters levels (TerraParen place inside) = in_brackets levels (λ n. formula_of_tree parameters n inside)
+formula_of_tree parameters levels (TerraParen place inside) =
+    in_brackets levels (λ n. formula_of_tree parameters n inside)
 formula_of_tree parameters levels _ = None
 
 -- ---- functions
@@ -146,11 +151,13 @@ free_name_of tree = name_of tree >>= λ name. where_true (not (is_int64 name)) (
 
 -- the name of a function whose path is one plain name
 abbrev pub plain_name_of : Tree → Option (List ℕ)
-plain_name_of tree = path_of tree >>= λ path. where_true (is_none (first (trees_of path.1))) (only (trees_of path.0)) >>= λ name. free_name_of name
+plain_name_of tree = path_of tree >>= λ path. where_true (is_none (first (trees_of path.1))) (only (trees_of path.0))
+    >>= λ name. free_name_of name
 
 -- the name of a number
 abbrev pub parameter_name_of : Tree → Option (List ℕ)
-parameter_name_of tree = parameter_of tree >>= λ parameter. where_true (is_number_type parameter.1) (free_name_of parameter.0)
+parameter_name_of tree =
+    parameter_of tree >>= λ parameter. where_true (is_number_type parameter.1) (free_name_of parameter.0)
 
 -- May a parameter of this name stand behind those of these names? There are at most eight, and their names differ.
 abbrev pub may_follow : List (List ℕ) → List ℕ → Bool
@@ -164,29 +171,34 @@ names_behind names (tree ∷ more) =
 
 -- the one expression that a block returns
 abbrev pub value_of : Tree → Option Tree
-value_of block = statements_of block >>= λ statements. only (trees_of statements) >>= λ s. returned_of s >>= λ values. only (trees_of values)
+value_of block = statements_of block >>= λ statements. only (trees_of statements) >>= λ s. returned_of s
+    >>= λ values. only (trees_of values)
 
 -- the parameters and the value of a body whose result is a number
 abbrev pub typed_body_of : Tree → Option (Tree × Tree)
 typed_body_of tree =
-    body_of tree >>= λ body. first (trees_of body.1) >>= λ type. where_true (is_number_type type) (value_of body.2) >>= λ value. Some (body.0, value)
+    body_of tree >>= λ body. first (trees_of body.1) >>= λ type. where_true (is_number_type type) (value_of body.2)
+    >>= λ value. Some (body.0, value)
 
--- The function of this name with these parameters, which returns this expression: its brackets nest at most 20 levels deep, and it has
--- at most 1,000 operators.
+-- The function of this name with these parameters, which returns this expression: its brackets nest at most 20 levels
+-- deep, and it has at most 1,000 operators.
 abbrev pub function_with : List ℕ → List (List ℕ) → Tree → Option SourceFunction
 function_with name parameters value =
     formula_of_tree parameters 20 value
-    >>= λ formula. where_true (nat_le (operators formula) 1000) (Some (record { name = name; arity = length parameters; body = formula }))
+    >>= λ formula. where_true (nat_le (operators formula) 1000)
+    (Some (record { name = name; arity = length parameters; body = formula }))
 
 -- the function of this name that a body is
 abbrev pub function_of_body : List ℕ → Tree → Option SourceFunction
 function_of_body name tree =
-    typed_body_of tree >>= λ body. names_behind [] (trees_of body.0) >>= λ parameters. function_with name parameters body.1
+    typed_body_of tree >>= λ body. names_behind [] (trees_of body.0)
+    >>= λ parameters. function_with name parameters body.1
 
 -- the name and the body of the one function that a chunk defines
 abbrev pub defined_of : Tree → Option (List ℕ × Tree)
 defined_of chunk =
-    statements_of chunk >>= λ statements. only (trees_of statements) >>= λ s. definition_of s >>= λ definition. plain_name_of definition.0
+    statements_of chunk >>= λ statements. only (trees_of statements) >>= λ s. definition_of s
+    >>= λ definition. plain_name_of definition.0
     >>= λ name. Some (name, definition.1)
 
 -- The function that a chunk is: its one statement defines it.

@@ -99,8 +99,8 @@ fn binary(
     Ok(Expression::Binary(operator, left, right))
 }
 
-/// An expression of these parameters, and how many operators are left behind it. So many levels of brackets and so many operators may
-/// stand there.
+/// An expression of these parameters, and how many operators are left behind it. So many levels of brackets and so
+/// many operators may stand there.
 pub(crate) fn expression(
     alloc: Global,
     tree: &Tree<'_>,

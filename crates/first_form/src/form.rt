@@ -39,7 +39,8 @@ fn names<'a>(
     tree: &Tree<'a>,
     ids: &[NodeId],
 ) -> Result<Option<Vec<&'a [u8]>>, NoMemory>
-    ensures { IfOk result (λ names. option_map (λ found. names_of found.items) names ≡ names_behind_at (items_of tree.now) [] ids.now) }
+    ensures { IfOk result (λ names.
+        option_map (λ found. names_of found.items) names ≡ names_behind_at (items_of tree.now) [] ids.now) }
 {
     let mut names = Vec::new(alloc);
     for id in ids {
@@ -54,18 +55,20 @@ fn names<'a>(
     Ok(Some(names))
 }
 
-/// The function that a tree is, or `None` where it is none of the form.
+/// The function that a tree is, or `None` where it is none of the form. It is promised for each well-formed block, such as the
+/// tree of a text (`tl_tree`: `laws::well_formed_trees`).
 ///
-/// The one statement of the chunk is `terra NAME ( PARAMETERS ) : int64 return E end`. A parameter is a name, `:` and `int64`; there are
-/// at most eight, and their names are different. E is made of parameters, decimal literals from `0LL` to `2047LL` without leading zeros,
-/// `+`, `-`, `*` and round brackets that nest at most 20 levels deep; it has at most 1,000 operators. No function and no parameter is
-/// called `int64`.
+/// The one statement of the chunk is `terra NAME ( PARAMETERS ) : int64 return E end`. A parameter is a name, `:` and
+/// `int64`; there are at most eight, and their names are different. E is made of parameters, decimal literals from
+/// `0LL` to `2047LL` without leading zeros, `+`, `-`, `*` and round brackets that nest at most 20 levels deep; it has
+/// at most 1,000 operators. No function and no parameter is called `int64`.
 ///
 /// # Errors
 ///
 /// `NoMemory` where memory was not found.
 pub fn function_of(alloc: Global, tree: &Tree<'_>) -> Result<Option<Function>, NoMemory>
-    ensures exactly { (t : trees.Tree) → items_of tree.now ≡ lay t [] → IsWellFormedBlock t → IfOk result (λ found. option_map shown found ≡ function_of t) }
+    ensures exactly { (t : trees.Tree) → items_of tree.now ≡ lay t [] → IsWellFormedBlock t
+        → IfOk result (λ found. option_map shown found ≡ function_of t) }
 {
     let Some((name, body)) = definition(tree, tree.root()) else {
         return Ok(None);
@@ -85,8 +88,8 @@ pub fn function_of(alloc: Global, tree: &Tree<'_>) -> Result<Option<Function>, N
     Ok(Some(Function { name, arity, body }))
 }
 
-/// A law: the function of a tree has at most eight parameters and at most 1,000 operators, and its expression has parameters of the function
-/// and literals up to 2047 alone.
+/// A law: the function of a tree has at most eight parameters and at most 1,000 operators, and its expression has
+/// parameters of the function and literals up to 2047 alone.
 pub fn bounds()
     ensures { IsAlwaysWithin }
 {}

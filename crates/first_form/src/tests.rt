@@ -17,7 +17,8 @@ fn list(alloc: Global, ids: &[u64]) -> Result<NodeList, Fail> {
     Ok(list)
 }
 
-/// The tree of `terra f(a : int64) : int64 return a - 7LL end`, with these names for `a` at its second place and for its type.
+/// The tree of `terra f(a : int64) : int64 return a - 7LL end`, with these names for `a` at its second place and for
+/// its type.
 fn tree<'a>(alloc: Global, used: &'a str, kind: &'a str) -> Result<Tree<'a>, Fail> {
     let place = |word| Place { line: 1, word };
     let mut nodes = Vec::new(alloc);

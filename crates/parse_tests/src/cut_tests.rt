@@ -1,5 +1,6 @@
-// A file of Lua and Terra code, cut after each of its bytes: each front has a tree, or is refused for a kind at a place.
-// What is wanted was worked out apart from the parser, from the grammar in docs/LANGUAGE.md, by the script bench/cuts.
+// A file of Lua and Terra code, cut after each of its bytes: each front has a tree, or is refused for a kind at a
+// place. What is wanted was worked out apart from the parser, from the grammar in docs/LANGUAGE.md, by the script
+// bench/cuts.
 use crate::answers::refusal;
 use std::alloc::Global;
 use std::process::Abort;
@@ -74,8 +75,8 @@ static LINES: [&str; 64] = [
     "total:compile(); print(total.name, pair and \"pair\", { `total, [3] = struct { } })",
 ];
 
-/// For each run of fronts that are answered alike, in order, from how many bytes on, and what they are: `tree`, the place
-/// where they are Unexpected, or another kind and its place.
+/// For each run of fronts that are answered alike, in order, from how many bytes on, and what they are: `tree`, the
+/// place where they are Unexpected, or another kind and its place.
 static ANSWERS: [&str; 56] = [
     "0 tree, 1 1:1, 2 tree, 45 2:2, 51 tree, 56 2:4, 58 tree, 60 3:2, 66 tree, 74 3:4, 76 tree, 77 3:4,",
     "78 tree, 80 4:2, 87 4:3, 93 4:4, 95 4:5, 101 4:6, 103 4:7, 104 4:6, 105 4:7, 106 4:8, 108 4:9, 113 4:10,",

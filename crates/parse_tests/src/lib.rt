@@ -1,5 +1,5 @@
-//! The tests of the parser of both languages: texts with their trees and refusals. A tree is compared as a text, which `text` writes. They
-//! stand apart from the parser, since a crate with tests is proved twice.
+//! The tests of the parser of both languages: texts with their trees and refusals. A tree is compared as a text,
+//! which `text` writes. They stand apart from the parser, since a crate with tests is proved twice.
 #![tactic(auto)]
 
 #[cfg(test)]

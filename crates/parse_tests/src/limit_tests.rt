@@ -3,8 +3,8 @@ use crate::answers::refusal;
 use std::alloc::Global;
 use std::test::Fail;
 
-/// A text: what it begins with, a part and how often it stands, what is inside, what closes each part, what the text ends with, and its
-/// refusal, or nothing where it has a tree.
+/// A text: what it begins with, a part and how often it stands, what is inside, what closes each part, what the text
+/// ends with, and its refusal, or nothing where it has a tree.
 static LIMITS: [(&str, &str, u32, &str, &str, &str, &str); 41] = [
     ("", "do ", 100, "", "end ", "", ""),
     ("", "do ", 101, "", "end ", "", "syntax TooDeep at 1:101"),

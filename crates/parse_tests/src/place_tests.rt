@@ -1,4 +1,5 @@
-// Texts with the places of their nodes, the offsets of their names and the places where they end, by hand from the rules of places.
+// Texts with the places of their nodes, the offsets of their names and the places where they end, by hand from the
+// rules of places.
 use std::alloc::Global;
 use std::process::Abort;
 use std::test::Fail;
@@ -7,7 +8,8 @@ use tl_lex::LONGEST_TEXT;
 use tl_parse::parse;
 use tl_tree::{Node, Piece, Tree};
 
-/// Texts, and for each node with a place, in order, its line and word, of a name with the offset of its token; last where the text ends.
+/// Texts, and for each node with a place, in order, its line and word, of a name with the offset of its token; last
+/// where the text ends.
 static PLACES: [(&str, &str); 43] = [
     ("", "end 1:1"),
     // The place of the end is that of a token there, on a line of its own behind a line end.

@@ -39,8 +39,9 @@ fn unary(operator: UnaryOperator) -> &'static str {
     }
 }
 
-/// The text of a tree without its places: each node in brackets behind a word that says what it is, a block in square brackets, and names,
-/// numbers and texts as the source has them. A child that doesn't stand before its node, as in the tree of no text, is left out.
+/// The text of a tree without its places: each node in brackets behind a word that says what it is, a block in square
+/// brackets, and names, numbers and texts as the source has them. A child that doesn't stand before its node, as in
+/// the tree of no text, is left out.
 ///
 /// `NoMemory` comes where memory for the text was not found.
 pub(crate) fn text_of(alloc: Global, tree: &Tree) -> Result<String, NoMemory> {
@@ -49,7 +50,8 @@ pub(crate) fn text_of(alloc: Global, tree: &Tree) -> Result<String, NoMemory> {
     Ok(out)
 }
 
-/// The nodes of a list, one after the other with this between them. The children of a node stand before it, so each has a smaller number.
+/// The nodes of a list, one after the other with this between them. The children of a node stand before it, so each
+/// has a smaller number.
 #[cycle(shown)]
 fn nodes(
     tree: &Tree,

@@ -18,11 +18,13 @@ returns-then-has_no_leading_zero c =
     let is : suffix ≡ codes "LL" = search rules in
     let ends = strip_suffix_is Decides-eqb c.args.bytes.now suffix c.strip_suffix.result c.strip_suffix.ensures.cases in
     c.small_number.ensures
-    ∙ sym (ends_some c.args.bytes.now suffix c.strip_suffix.result c.in_ok-digits.digits true is ends c.in_ok-digits.was (sym c.has_no_leading_zero.ensures ∙ c.if-has_no_leading_zero.true))
+    ∙ sym (ends_some c.args.bytes.now suffix c.strip_suffix.result c.in_ok-digits.digits true is ends
+    c.in_ok-digits.was (sym c.has_no_leading_zero.ensures ∙ c.if-has_no_leading_zero.true))
 
 pub returns-else-has_no_leading_zero : goal.returns-else-has_no_leading_zero
 returns-else-has_no_leading_zero c =
     let suffix = c.as_slice.result.now in
     let is : suffix ≡ codes "LL" = search rules in
     let ends = strip_suffix_is Decides-eqb c.args.bytes.now suffix c.strip_suffix.result c.strip_suffix.ensures.cases in
-    sym (ends_some c.args.bytes.now suffix c.strip_suffix.result c.in_ok-digits.digits false is ends c.in_ok-digits.was (sym c.has_no_leading_zero.ensures ∙ c.if-has_no_leading_zero.false))
+    sym (ends_some c.args.bytes.now suffix c.strip_suffix.result c.in_ok-digits.digits false is ends c.in_ok-digits.was
+    (sym c.has_no_leading_zero.ensures ∙ c.if-has_no_leading_zero.false))
