@@ -18,8 +18,8 @@ Opened parts None ts x rest = (x ≡ Nothing) × (rest ≡ ts)
 Opened parts (Some part) ts x rest = parts part ts x rest
 
 -- the turns of a repetition: it goes on as long as it can
-pub data Turns {A : Type 0} (class : A → Token → Bool) (Turn : A → Token → List Token → A → List Token → Type 0) : A
-    → List Token → A → List Token → Type 0 where
+pub data Turns {A : Type 0} (class : A → Token → Bool) (Turn : A → Token → List Token → A → List Token → Type 0)
+    : A → List Token → A → List Token → Type 0 where
   stop : {a : A} {ts : List Token} → begins (class a) ts ≡ false → Turns class Turn a ts a ts
   turn : {a x b : A} {t : Token} {ts mid rest : List Token} → is_of (class a) t ≡ true → Turn a t ts x mid
       → Turns class Turn x mid b rest → Turns class Turn a (t ∷ ts) b rest

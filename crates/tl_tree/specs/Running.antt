@@ -53,8 +53,10 @@ abbrev pub run : {A : Type 0} → ℕ → Readers → Grammar A → List Token �
 run levels readers (give a) ts = Took a ts
 run levels readers (token class extra opens sample) [] = Stop why.Unexpected []
 run levels readers (token class extra opens sample) (t ∷ ts) =
-    if is_of class t then unless (bar (record { opens = opens t; levels = levels; extra = extra t }) t) (t ∷ ts)
-    (opened readers (opens t) ts >>= λ x rest. Took (t, x) rest) else Stop (blame t.symbol) (t ∷ ts)
+    if is_of class t then
+    unless (bar (record { opens = opens t; levels = levels; extra = extra t }) t) (t ∷ ts)
+    (opened readers (opens t) ts >>= λ x rest. Took (t, x) rest)
+    else Stop (blame t.symbol) (t ∷ ts)
 run levels readers (bind g h) ts = run levels readers g ts >>= λ a mid. run levels readers (h a) mid
 run levels readers (when class g h) ts = if begins class ts then run levels readers g ts else run levels readers h ts
 run levels readers (many class extra opens step a) ts =
