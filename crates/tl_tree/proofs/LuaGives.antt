@@ -37,7 +37,7 @@ name_target _ h = absurd (false≢true h)
 
 -- an expression is a field
 expression_field : (a : Tree) → is_expression a ≡ true → is_field a ≡ true
-expression_field (trees.NamedField name value) h = absurd (false≢true h)
+expression_field (trees.NamedField _ value) h = absurd (false≢true h)
 expression_field (trees.KeyedField key value) h = absurd (false≢true h)
 expression_field _ h = h
 

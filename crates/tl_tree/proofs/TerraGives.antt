@@ -35,7 +35,7 @@ name_expression _ h = absurd (false≢true h)
 
 -- an expression is an initialiser
 expression_initialiser : (a : Tree) → is_terra_expression a ≡ true → is_initialiser a ≡ true
-expression_initialiser (NamedField name value) h = absurd (false≢true h)
+expression_initialiser (NamedField _ value) h = absurd (false≢true h)
 expression_initialiser _ h = h
 
 -- what a shape says of its tree
