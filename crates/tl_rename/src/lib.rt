@@ -1,13 +1,10 @@
-// A library with one function.
+//! Names of locals: which declaration each use finds.
 #![tactic(auto)]
 
-ghost use Rattle.std.specs.Prelude.{◌≡◌};
-ghost use Rattle.tl_rename.specs.Echo.{echo_of};
+mod ids;
+mod within;
+//pub mod slots;
+//mod standing;
+//mod search;
 
-// The `ensures` clause is the contract: what `echo` returns is `echo_of` of its argument, a definition
-// in `specs/Echo.antt`, which a caller's clause can cite too.
-pub fn echo(x: usize) -> usize
-    ensures { result ≡ echo_of x }
-{
-    x
-}
+//pub use slots::{Slots, resolve};

@@ -9,7 +9,8 @@ use Rattle.tl_tree.specs.Item.{Item}
 use Rattle.tl_tree.specs.Item as kept
 use Rattle.tl_tree.specs.Nodes.{item_at, absent_item}
 use Rattle.tl_tree.specs.Code.{Items}
-use Rattle.tl_tree.specs.Scopes.{Scope, Found, Standing, scope_in, scope_at, standing_of, or_found, last_found, declared_in, declarations, found_from, found_for, has_name, binder}
+use Rattle.tl_tree.specs.declared.scope.Scope.{Scope}
+use Rattle.tl_tree.specs.Scopes.{Found, Standing, scope_in, scope_at, standing_of, or_found, last_found, declared_in, declarations, found_from, found_for, has_name, binder}
 use Rattle.tl_tree.specs.Binding.{BoundItem, Declared, Used, OtherName, NumberValue, TextValue, Other, bound, bound_from, bound_item, bound_name, name_alone, is_declared_below}
 use Rattle.tl_tree.specs.ScopeLaws.{BoundDetermines}
 use Rattle.tl_tree.proofs.Nameless.{bare, all_bare, declarations_same, standing_same}

@@ -17,7 +17,8 @@ use Rattle.tl_tree.specs.Item.{Item}
 use Rattle.tl_tree.specs.Item as kept
 use Rattle.tl_tree.specs.Nodes.{item_at, last_of, absent_item}
 use Rattle.tl_tree.specs.Code.{Items, statements_of, statements_at, path_names_of, path_method_of, names_method, is_any, if_any}
-use Rattle.tl_tree.specs.Scopes.{Scope, Part, Standing, Within, scope_in, standing_of, standing_at_first, within, within_item, within_statement, within_terra_expression, within_terra_statement, within_piece, within_function, within_terra_function, path_use, first_only, implicit_self, owner, plain, is_name, if_name, unless_name, bound_by, all_bound_by, declared_by, declared_at, declarations, sees_itself, in_order, all_in, parts, parts_if_any, give, give_below}
+use Rattle.tl_tree.specs.declared.scope.Scope.{Scope}
+use Rattle.tl_tree.specs.Scopes.{Part, Standing, Within, scope_in, standing_of, standing_at_first, within, within_item, within_statement, within_terra_expression, within_terra_statement, within_piece, within_function, within_terra_function, path_use, first_only, implicit_self, owner, plain, is_name, if_name, unless_name, bound_by, all_bound_by, declared_by, declared_at, declarations, sees_itself, in_order, all_in, parts, parts_if_any, give, give_below}
 
 -- a node without its text
 abbrev pub bare : Item → Item

@@ -8,7 +8,8 @@ use Rattle.std.proofs.lemmas.Option.{none-some}
 use Rattle.tl_base.specs.declared.ids.NodeId.{NodeId}
 use Rattle.tl_tree.specs.Nodes.{item_at, last_of}
 use Rattle.tl_tree.specs.Code.{Items}
-use Rattle.tl_tree.specs.Scopes.{Scope, Part, Standing, scope_in, give, give_below, parts, parts_if_any, standing_at_first, standing_of, outermost, all_in, in_order, within, declarations, declared_at, sees_itself}
+use Rattle.tl_tree.specs.declared.scope.Scope.{Scope}
+use Rattle.tl_tree.specs.Scopes.{Part, Standing, scope_in, give, give_below, parts, parts_if_any, standing_at_first, standing_of, outermost, all_in, in_order, within, declarations, declared_at, sees_itself}
 use Rattle.tl_tree.specs.ScopeLaws.{Stands, NodesStand, AtRoot, InNode}
 
 -- each of the parts

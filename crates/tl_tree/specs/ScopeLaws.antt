@@ -6,7 +6,8 @@ use Rattle.tl_tree.specs.Item as kept
 use Rattle.tl_tree.specs.Nodes.{item_at, last_of}
 use Rattle.tl_tree.specs.Code.{Items}
 use Rattle.tl_tree.specs.Binding.{bound}
-use Rattle.tl_tree.specs.Scopes.{Scope, Part, Found, within, declared_at, declared_in, sees_itself, parts, outermost, scope_at, has_name, binder}
+use Rattle.tl_tree.specs.declared.scope.Scope.{Scope}
+use Rattle.tl_tree.specs.Scopes.{Part, Found, within, declared_at, declared_in, sees_itself, parts, outermost, scope_at, has_name, binder}
 
 -- ---- where nodes stand
 

@@ -18,11 +18,8 @@ use Rattle.tl_tree.specs.declared.node.TerraStatement as of_terra_statements
 use Rattle.tl_tree.specs.declared.node.TerraStatement.TheVariants as terra_statements
 use Rattle.tl_tree.specs.declared.node.Piece as of_pieces
 use Rattle.tl_tree.specs.declared.node.Piece.TheVariants as pieces
--- Where a node stands: the innermost owner around it, and how many of its declarations are in scope. Around the owner those are in scope that
--- are where the owner stands. And what a use finds: the owners to go outwards, the position among the declarations there, and the node that
--- declares.
-pub use Rattle.tl_tree.specs.declared.scope.Scope.{Scope}
-pub use Rattle.tl_tree.specs.declared.scope.Found.{Found}
+use Rattle.tl_tree.specs.declared.scope.Scope.{Scope}
+use Rattle.tl_tree.specs.declared.scope.Binder.{Binder}
 use Rattle.tl_tree.specs.Item.{Item}
 use Rattle.tl_tree.specs.Item as kept
 use Rattle.tl_tree.specs.Nodes.{item_at, last_of}
@@ -219,7 +216,8 @@ declarations items n = all_declared items (within items n)
 
 -- ---- where a node stands
 
--- a node, and where it stands
+-- A node, and where it stands: the innermost owner around it, and how many of this owner's declarations are in scope. Around the owner
+-- those are in scope that are where the owner stands.
 pub record Part : Type 0 where
   pub node : NodeId
   pub scope : Scope
@@ -285,6 +283,10 @@ abbrev pub scope_at : Items → NodeId → Option Scope
 scope_at items n = scope_in (standing_of items) n.0
 
 -- ---- looking a name up
+
+-- What a use finds: how many owners to go outwards, the position among the declarations there, and the node that declares.
+abbrev pub Found : Type 0
+Found = Binder
 
 abbrev pub or_found : Option Found → Option Found → Option Found
 or_found (Some found) other = Some found

@@ -18,7 +18,7 @@ pub use node::{
     UnaryOperator,
 };
 pub use numeral::numeral_value;
-pub use scope::{Found, Scope};
+pub use scope::{Binder, Scope};
 pub use spelling::symbol_of;
 pub use symbol::Symbol;
 pub use tree::Tree;

@@ -13,7 +13,7 @@ pub struct Scope {
 /// The declaration that a use of a local finds: how many owners to go outwards, the position among the owner's declarations, from 0, and
 /// the node that makes it, which is the name that is declared, or for an implicit `self` the function.
 #[derive(Clone, Copy, Debug, PartialEq, Eq)]
-pub struct Found {
+pub struct Binder {
     pub depth: u32,
     pub position: u32,
     pub declaration: NodeId,
