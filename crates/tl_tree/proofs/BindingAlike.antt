@@ -98,9 +98,9 @@ here_narrow q depth at d f true h e =
 here_narrow q depth at d f false h e = absurd (none-some f h)
 
 last_narrow_by : (p q : NodeId → Bool) → Among q p → (depth at : ℕ) (d : NodeId) (ds : List NodeId) (f : Found) → q f.declaration ≡ true
-  → ((g : Found) → last_found p depth (at + 1) ds ≡ Some g → q g.declaration ≡ true → last_found q depth (at + 1) ds ≡ Some g)
-  → (rest : Option Found) → last_found p depth (at + 1) ds ≡ rest → or_found rest (one (p d) depth at d) ≡ Some f
-  → last_found q depth at (d ∷ ds) ≡ Some f
+    → ((g : Found) → last_found p depth (at + 1) ds ≡ Some g → q g.declaration ≡ true → last_found q depth (at + 1) ds ≡ Some g)
+    → (rest : Option Found) → last_found p depth (at + 1) ds ≡ rest → or_found rest (one (p d) depth at d) ≡ Some f
+    → last_found q depth at (d ∷ ds) ≡ Some f
 last_narrow_by p q among depth at d ds f e more (Some g) r h =
     let same : g ≡ f = some_inj g f h in
     ap (λ o. or_found o (one (q d) depth at d)) (more g r (ap (λ x. q x.declaration) same ∙ e)) ∙ h
@@ -108,33 +108,33 @@ last_narrow_by p q among depth at d ds f e more None r h =
     ap (λ o. or_found o (one (q d) depth at d)) (none_narrow p q among depth (at + 1) ds r) ∙ here_narrow q depth at d f (p d) h e
 
 last_narrow : (p q : NodeId → Bool) → Among q p → (depth at : ℕ) (ds : List NodeId) (f : Found) → last_found p depth at ds ≡ Some f → q f.declaration ≡ true
-  → last_found q depth at ds ≡ Some f
+    → last_found q depth at ds ≡ Some f
 last_narrow p q among depth at [] f h e = absurd (none-some f h)
 last_narrow p q among depth at (d ∷ ds) f h e =
     last_narrow_by p q among depth at d ds f e (λ g. last_narrow p q among depth (at + 1) ds g) (last_found p depth (at + 1) ds) refl h
 
 found_narrow_by : (items : Items) (standing : Standing) (p q : NodeId → Bool) → Among q p → (owners depth : ℕ) (scope : Scope) (f : Found) → q f.declaration ≡ true
-  → (found_from owners items standing p (depth + 1) (scope_in standing scope.owner.0) ≡ Some f
+    → (found_from owners items standing p (depth + 1) (scope_in standing scope.owner.0) ≡ Some f
     → found_from owners items standing q (depth + 1) (scope_in standing scope.owner.0) ≡ Some f)
-  → (last : Option Found) → last_found p depth 0 (declared_in items scope) ≡ last
-  → or_found last (found_from owners items standing p (depth + 1) (scope_in standing scope.owner.0)) ≡ Some f
-  → found_from (suc owners) items standing q depth (Some scope) ≡ Some f
+    → (last : Option Found) → last_found p depth 0 (declared_in items scope) ≡ last
+    → or_found last (found_from owners items standing p (depth + 1) (scope_in standing scope.owner.0)) ≡ Some f
+    → found_from (suc owners) items standing q depth (Some scope) ≡ Some f
 found_narrow_by items standing p q among owners depth scope f e more (Some g) r h =
     let same : g ≡ f = some_inj g f h in
     ap (λ o. or_found o (found_from owners items standing q (depth + 1) (scope_in standing scope.owner.0)))
-        (last_narrow p q among depth 0 (declared_in items scope) g r (ap (λ x. q x.declaration) same ∙ e)) ∙ h
+    (last_narrow p q among depth 0 (declared_in items scope) g r (ap (λ x. q x.declaration) same ∙ e)) ∙ h
 found_narrow_by items standing p q among owners depth scope f e more None r h =
     ap (λ o. or_found o (found_from owners items standing q (depth + 1) (scope_in standing scope.owner.0)))
-        (none_narrow p q among depth 0 (declared_in items scope) r) ∙ more h
+    (none_narrow p q among depth 0 (declared_in items scope) r) ∙ more h
 
 found_narrow : (items : Items) (standing : Standing) (p q : NodeId → Bool) → Among q p → (owners depth : ℕ) (scope : Option Scope) (f : Found)
-  → found_from owners items standing p depth scope ≡ Some f → q f.declaration ≡ true → found_from owners items standing q depth scope ≡ Some f
+    → found_from owners items standing p depth scope ≡ Some f → q f.declaration ≡ true → found_from owners items standing q depth scope ≡ Some f
 found_narrow items standing p q among zero depth scope f h e = absurd (none-some f h)
 found_narrow items standing p q among (suc owners) depth None f h e = absurd (none-some f h)
 found_narrow items standing p q among (suc owners) depth (Some scope) f h e =
     found_narrow_by items standing p q among owners depth scope f e
-        (λ g. found_narrow items standing p q among owners (depth + 1) (scope_in standing scope.owner.0) f g e)
-        (last_found p depth 0 (declared_in items scope)) refl h
+    (λ g. found_narrow items standing p q among owners (depth + 1) (scope_in standing scope.owner.0) f g e)
+    (last_found p depth 0 (declared_in items scope)) refl h
 
 -- ---- what is found is asked for
 
@@ -143,7 +143,7 @@ one_asked p depth at d f true e h = subst (λ g. p g.declaration ≡ true) (some
 one_asked p depth at d f false e h = absurd (none-some f h)
 
 last_asked_by : (p : NodeId → Bool) (depth at : ℕ) (d : NodeId) (f : Found) (rest : Option Found) → (rest ≡ Some f → p f.declaration ≡ true)
-  → or_found rest (one (p d) depth at d) ≡ Some f → p f.declaration ≡ true
+    → or_found rest (one (p d) depth at d) ≡ Some f → p f.declaration ≡ true
 last_asked_by p depth at d f (Some g) more h = more h
 last_asked_by p depth at d f None more h = one_asked p depth at d f (p d) refl h
 
@@ -152,17 +152,17 @@ last_asked p depth at [] f h = absurd (none-some f h)
 last_asked p depth at (d ∷ ds) f h = last_asked_by p depth at d f (last_found p depth (at + 1) ds) (last_asked p depth (at + 1) ds f) h
 
 or_asked : (p : NodeId → Bool) (f : Found) (last around : Option Found) → (last ≡ Some f → p f.declaration ≡ true) → (around ≡ Some f → p f.declaration ≡ true)
-  → or_found last around ≡ Some f → p f.declaration ≡ true
+    → or_found last around ≡ Some f → p f.declaration ≡ true
 or_asked p f (Some g) around a b h = a h
 or_asked p f None around a b h = b h
 
 found_asked : (items : Items) (standing : Standing) (p : NodeId → Bool) (owners depth : ℕ) (scope : Option Scope) (f : Found)
-  → found_from owners items standing p depth scope ≡ Some f → p f.declaration ≡ true
+    → found_from owners items standing p depth scope ≡ Some f → p f.declaration ≡ true
 found_asked items standing p zero depth scope f h = absurd (none-some f h)
 found_asked items standing p (suc owners) depth None f h = absurd (none-some f h)
 found_asked items standing p (suc owners) depth (Some scope) f h =
     or_asked p f (last_found p depth 0 (declared_in items scope)) (found_from owners items standing p (depth + 1) (scope_in standing scope.owner.0))
-        (last_asked p depth 0 (declared_in items scope) f) (found_asked items standing p owners (depth + 1) (scope_in standing scope.owner.0) f) h
+    (last_asked p depth 0 (declared_in items scope) f) (found_asked items standing p owners (depth + 1) (scope_in standing scope.owner.0) f) h
 
 -- ---- a use by its declaration's number
 
@@ -173,15 +173,15 @@ abbrev by_number : Items → Standing → NodeId → ℕ → Option Found
 by_number items standing n k = found_from (length standing) items standing (is_number k) 0 (scope_in standing n.0)
 
 found_by_number : (items : Items) (n : NodeId) (f : Found) (i : Item) → found_for items (standing_of items) i (scope_at items n) ≡ Some f
-  → by_number items (standing_of items) n f.declaration.0 ≡ Some f
+    → by_number items (standing_of items) n f.declaration.0 ≡ Some f
 found_by_number items n f (kept.Name place offset text) h =
     let standing = standing_of items in
     let named = found_asked items standing (has_name items text) (length standing) 0 (scope_at items n) f h in
     found_narrow items standing (has_name items text) (is_number f.declaration.0)
-        (λ d e. let same : d.0 ≡ f.declaration.0 = eqb-true d.0 f.declaration.0 e in
-            let id : d ≡ f.declaration = ap (λ k. record { 0 = k }) same in
-            ap (has_name items text) id ∙ named)
-        (length standing) 0 (scope_at items n) f h (eq-eqb f.declaration.0 f.declaration.0 refl)
+    (λ d e. let same : d.0 ≡ f.declaration.0 = eqb-true d.0 f.declaration.0 e in
+    let id : d ≡ f.declaration = ap (λ k. record { 0 = k }) same in
+    ap (has_name items text) id ∙ named)
+    (length standing) 0 (scope_at items n) f h (eq-eqb f.declaration.0 f.declaration.0 refl)
 found_by_number items n f (kept.Numeral place text) h = absurd (none-some f h)
 found_by_number items n f (kept.Literal place text) h = absurd (none-some f h)
 found_by_number items n f (kept.Expression place e) h = absurd (none-some f h)
@@ -191,7 +191,7 @@ found_by_number items n f (kept.TerraStatement place s) h = absurd (none-some f 
 found_by_number items n f (kept.Piece p) h = absurd (none-some f h)
 
 found_alike : (a b : Items) → ((n : NodeId) → declarations a n ≡ declarations b n) → (standing : Standing) (asked : NodeId → Bool) (owners depth : ℕ) (scope : Option Scope)
-  → found_from owners a standing asked depth scope ≡ found_from owners b standing asked depth scope
+    → found_from owners a standing asked depth scope ≡ found_from owners b standing asked depth scope
 found_alike a b e standing asked zero depth scope = refl
 found_alike a b e standing asked (suc owners) depth None = refl
 found_alike a b e standing asked (suc owners) depth (Some scope) =

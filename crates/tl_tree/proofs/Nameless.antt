@@ -95,26 +95,26 @@ sees_same items n = blind_at sees_itself (λ p o t. refl, λ p t. refl, λ p t. 
 -- ---- what is within a node
 
 function_changes : (items : Items) (n : NodeId) (around : List NodeId) (method : Bool) (i : Item)
-  → within_function (all_bare items) n around method i ≡ within_function items n around method i
+    → within_function (all_bare items) n around method i ≡ within_function items n around method i
 function_changes items n around method (kept.Piece (pieces.Body names variadic block)) =
     ap (λ l. owner around (implicit_self method n ++ names) l []) (statements_same items block)
 function_changes items n around method _ = refl
 
 terra_function_changes : (items : Items) (n : NodeId) (around : List NodeId) (method : Bool) (i : Item)
-  → within_terra_function (all_bare items) n around method i ≡ within_terra_function items n around method i
+    → within_terra_function (all_bare items) n around method i ≡ within_terra_function items n around method i
 terra_function_changes items n around method (kept.Piece (pieces.TerraBody place parameters result block)) =
     ap (λ l. owner (around ++ parameters ++ if_any result) (implicit_self method n ++ l) (statements_at (all_bare items) block) []) (all_bound_by_same items parameters)
     ∙ ap (λ l. owner (around ++ parameters ++ if_any result) (implicit_self method n ++ all_bound_by items parameters) l []) (statements_same items block)
 terra_function_changes items n around method _ = refl
 
 terra_function_same : (items : Items) (n : NodeId) (around : List NodeId) (method : Bool) (body : NodeId)
-  → within_terra_function (all_bare items) n around method (item_at (all_bare items) body) ≡ within_terra_function items n around method (item_at items body)
+    → within_terra_function (all_bare items) n around method (item_at (all_bare items) body) ≡ within_terra_function items n around method (item_at items body)
 terra_function_same items n around method body =
     blind_at (within_terra_function (all_bare items) n around method) (λ p o t. refl, λ p t. refl, λ p t. refl) items body
     ∙ terra_function_changes items n around method (item_at items body)
 
 function_same : (items : Items) (n : NodeId) (around : List NodeId) (method : Bool) (body : NodeId)
-  → within_function (all_bare items) n around method (item_at (all_bare items) body) ≡ within_function items n around method (item_at items body)
+    → within_function (all_bare items) n around method (item_at (all_bare items) body) ≡ within_function items n around method (item_at items body)
 function_same items n around method body =
     blind_at (within_function (all_bare items) n around method) (λ p o t. refl, λ p t. refl, λ p t. refl) items body
     ∙ function_changes items n around method (item_at items body)
@@ -200,7 +200,7 @@ parts_same items n scope =
     ap (λ w. parts_by (all_bare items) n scope w (length (declarations (all_bare items) n))) (within_same items n)
     ∙ ap (λ d. parts_by (all_bare items) n scope (within items n) (length d)) (declarations_same items n)
     ∙ ap (λ l. all_in scope (within items n).around ++ l ++ all_in (record { owner = n; count = length (declarations items n) }) (within items n).behind)
-        (in_order_same items n (length (within items n).names) (within items n).statements)
+    (in_order_same items n (length (within items n).names) (within items n).statements)
 
 parts_if_any_same : (items : Items) (n : NodeId) (scope : Option Scope) → parts_if_any (all_bare items) n scope ≡ parts_if_any items n scope
 parts_if_any_same items n None = refl

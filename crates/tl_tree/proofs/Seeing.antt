@@ -24,7 +24,7 @@ record Split (items : Items) (owner : NodeId) (count : ℕ) (before : List NodeI
   there : ℕ
   there_is : there ≡ count + length (all_declared items before)
   split : in_order items owner count (before ++ s ∷ after)
-    ≡ front ++ record { node = s; scope = record { owner = owner; count = if sees_itself (item_at items s) then there + length (declared_at items s) else there } } ∷ back
+      ≡ front ++ record { node = s; scope = record { owner = owner; count = if sees_itself (item_at items s) then there + length (declared_at items s) else there } } ∷ back
 
 split_at : (items : Items) (owner s : NodeId) (after before : List NodeId) (count : ℕ) → Split items owner count before s after
 split_at items owner s after [] count =
@@ -33,16 +33,19 @@ split_at items owner s after (b ∷ before) count =
     let rest = split_at items owner s after before (count + length (declared_at items b)) in
     let first : Part = record { node = b; scope = record { owner = owner; count = if sees_itself (item_at items b) then count + length (declared_at items b) else count } } in
     record {
-      front = first ∷ rest.front; back = rest.back; there = rest.there;
+      front = first ∷ rest.front;
+      back = rest.back;
+      there = rest.there;
       there_is = rest.there_is ∙ omega (arith, length-append (declared_at items b) (all_declared items before));
-      split = ap (λ l. first ∷ l) rest.split }
+      split = ap (λ l. first ∷ l) rest.split;
+    }
 
 -- the declarations up to a point
 up_to : (xs ys : List NodeId) (n : ℕ) → n ≡ length xs → take n (xs ++ ys) ≡ xs
 up_to xs ys n e = subst (λ k. take k (xs ++ ys) ≡ xs) (sym e) (take-append_seam xs ys)
 
 seen : (names front own rest : List NodeId) (count : ℕ) → count ≡ length names + length front → (b : Bool)
-  → take (if b then count + length own else count) (names ++ (front ++ (own ++ rest))) ≡ names ++ front ++ (if b then own else [])
+    → take (if b then count + length own else count) (names ++ (front ++ (own ++ rest))) ≡ names ++ front ++ (if b then own else [])
 seen names front own rest count e true =
     ap (λ l. take (count + length own) l) (sym (append_assoc names front (own ++ rest)) ∙ sym (append_assoc (names ++ front) own rest))
     ∙ up_to (names ++ front ++ own) rest (count + length own) (omega (arith, e, length-append names front, length-append (names ++ front) own))
@@ -66,9 +69,10 @@ statements_see_before items n scope before s after e =
       part = part;
       back = there.back ++ behind;
       are_parts =
-        ap (λ l. all_in scope w.around ++ l ++ behind) (ap (λ l. in_order items n (length w.names) l) e ∙ there.split)
-        ∙ parted (all_in scope w.around) there.front part there.back behind;
+          ap (λ l. all_in scope w.around ++ l ++ behind) (ap (λ l. in_order items n (length w.names) l) e ∙ there.split)
+          ∙ parted (all_in scope w.around) there.front part there.back behind;
       is_statement = refl;
       sees =
-        ap (λ l. take part.scope.count (w.names ++ l)) (ap (λ l. all_declared items l) e ∙ declared_append items before (s ∷ after))
-        ∙ seen w.names (all_declared items before) (declared_at items s) (all_declared items after) there.there there.there_is (sees_itself (item_at items s)) }
+          ap (λ l. take part.scope.count (w.names ++ l)) (ap (λ l. all_declared items l) e ∙ declared_append items before (s ∷ after))
+          ∙ seen w.names (all_declared items before) (declared_at items s) (all_declared items after) there.there there.there_is (sees_itself (item_at items s));
+    }

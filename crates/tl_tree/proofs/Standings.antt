@@ -53,14 +53,15 @@ read_after standing i n v scope h = read_by standing i n v scope h (eqb n i) ref
 set_holds : (Q : ℕ → Scope → Type 0) (standing : Standing) (i : ℕ) (v : Scope) → Holds Q standing → Q i v → Holds Q (set standing i (Some v))
 set_holds Q standing i v hs q n scope h =
     elim (read_after standing i n v scope h) as (λ _. Q n scope) [
-      inl e ↦ subst (λ m. Q m scope) (sym e.0) (subst (λ s. Q i s) e.1 q)
-    | inr g ↦ hs n scope g ]
+      | inl e ↦ subst (λ m. Q m scope) (sym e.0) (subst (λ s. Q i s) e.1 q)
+      | inr g ↦ hs n scope g
+    ]
 
 abbrev May : (ℕ → Scope → Type 0) → ℕ → Part → Type 0
 May Q limit part = part.node.0 < limit → Q part.node.0 part.scope
 
 write_holds : (Q : ℕ → Scope → Type 0) (limit : ℕ) (standing : Standing) (part : Part) (b : Bool) → ltb part.node.0 limit ≡ b → Holds Q standing → May Q limit part
-  → Holds Q (if b then slice_set standing part.node.0 (Some part.scope) else standing)
+    → Holds Q (if b then slice_set standing part.node.0 (Some part.scope) else standing)
 write_holds Q limit standing part true e hs h = set_holds Q standing part.node.0 part.scope hs (h (ltb-true part.node.0 limit e))
 write_holds Q limit standing part false e hs h = hs
 
@@ -68,14 +69,14 @@ give_holds : (Q : ℕ → Scope → Type 0) (limit : ℕ) (standing : Standing) 
 give_holds Q limit standing [] hs each = hs
 give_holds Q limit standing (p ∷ ps) hs each =
     give_holds Q limit (if nat_lt p.node.0 limit then slice_set standing p.node.0 (Some p.scope) else standing) ps
-        (write_holds Q limit standing p (ltb p.node.0 limit) refl hs each.0) each.1
+    (write_holds Q limit standing p (ltb p.node.0 limit) refl hs each.0) each.1
 
 -- what holds of a node's place passes to its parts
 abbrev pub Passes : Items → (ℕ → Scope → Type 0) → Type 0
 Passes items Q = (n : ℕ) (scope : Scope) → Q n scope → Each (May Q n) (parts items (record { 0 = n }) scope)
 
 if_any_each : (Q : ℕ → Scope → Type 0) (items : Items) (k : ℕ) (standing : Standing) → Passes items Q → Holds Q standing → (o : Option Scope) → scope_in standing k ≡ o
-  → Each (May Q k) (parts_if_any items (record { 0 = k }) o)
+    → Each (May Q k) (parts_if_any items (record { 0 = k }) o)
 if_any_each Q items k standing pass hs (Some s) e = pass k s (hs k s e)
 if_any_each Q items k standing pass hs None e = tt
 
@@ -83,8 +84,8 @@ below_holds : (Q : ℕ → Scope → Type 0) (items : Items) → Passes items Q 
 below_holds Q items pass zero standing hs = hs
 below_holds Q items pass (suc k) standing hs =
     below_holds Q items pass k (give k standing (parts_if_any items (record { 0 = k }) (scope_in standing k)))
-        (give_holds Q k standing (parts_if_any items (record { 0 = k }) (scope_in standing k)) hs
-            (if_any_each Q items k standing pass hs (scope_in standing k) refl))
+    (give_holds Q k standing (parts_if_any items (record { 0 = k }) (scope_in standing k)) hs
+    (if_any_each Q items k standing pass hs (scope_in standing k) refl))
 
 none_at_first : (Q : ℕ → Scope → Type 0) (k : ℕ) → Holds Q (replicate k None)
 none_at_first Q k n scope h =
@@ -94,7 +95,7 @@ pub standing_holds : (Q : ℕ → Scope → Type 0) (items : Items) → Passes i
 standing_holds Q items pass first =
     let root = (last_of items).0 in
     below_holds Q items pass (suc root) (standing_at_first (last_of items))
-        (set_holds Q (replicate (suc root) None) root (outermost (last_of items)) (none_at_first Q (suc root)) first)
+    (set_holds Q (replicate (suc root) None) root (outermost (last_of items)) (none_at_first Q (suc root)) first)
 
 -- ---- lengths
 
@@ -132,21 +133,21 @@ each_all_in P scope [] h = tt
 each_all_in P scope (n ∷ ns) h = (h n, each_all_in P scope ns h)
 
 each_in_order : (P : Part → Type 0) (items : Items) (owner : NodeId) (count : ℕ) (ns : List NodeId)
-  → ((n : NodeId) (c : ℕ) → P (record { node = n; scope = record { owner = owner; count = c } })) → Each P (in_order items owner count ns)
+    → ((n : NodeId) (c : ℕ) → P (record { node = n; scope = record { owner = owner; count = c } })) → Each P (in_order items owner count ns)
 each_in_order P items owner count [] h = tt
 each_in_order P items owner count (n ∷ ns) h = (h n (if sees_itself (item_at items n) then count + length (declared_at items n) else count), each_in_order P items owner (count + length (declared_at items n)) ns h)
 
 -- each part of a node stands where the node does, or in the node
 pub parts_each : (P : Part → Type 0) (items : Items) (n : NodeId) (scope : Scope) → ((m : NodeId) → P (record { node = m; scope = scope }))
-  → ((m : NodeId) (c : ℕ) → P (record { node = m; scope = record { owner = n; count = c } })) → Each P (parts items n scope)
+    → ((m : NodeId) (c : ℕ) → P (record { node = m; scope = record { owner = n; count = c } })) → Each P (parts items n scope)
 parts_each P items n scope outside inside =
     let w = within items n in
     let all = length (declarations items n) in
     let around = all_in scope w.around in
     let ordered = in_order items n (length w.names) w.statements in
     each_append P (around ++ ordered) (all_in (record { owner = n; count = all }) w.behind)
-        (each_append P around ordered (each_all_in P scope w.around outside) (each_in_order P items n (length w.names) w.statements inside))
-        (each_all_in P (record { owner = n; count = all }) w.behind (λ m. inside m all))
+    (each_append P around ordered (each_all_in P scope w.around outside) (each_in_order P items n (length w.names) w.statements inside))
+    (each_all_in P (record { owner = n; count = all }) w.behind (λ m. inside m all))
 
 -- ---- owners stand behind what they own, and none behind the root
 
@@ -163,14 +164,14 @@ pub owners_before : (items : Items) → Holds (IsBefore (suc (last_of items).0))
 owners_before items =
     let end = suc (last_of items).0 in
     standing_holds (IsBefore end) items
-        (λ n scope h. parts_each (May (IsBefore end) n) items (record { 0 = n }) scope
-            (λ m lt. inside_before end n m.0 scope h lt) (λ m c lt. owner_before end n m.0 scope h lt))
-        (omega arith, omega arith)
+    (λ n scope h. parts_each (May (IsBefore end) n) items (record { 0 = n }) scope
+    (λ m lt. inside_before end n m.0 scope h lt) (λ m c lt. owner_before end n m.0 scope h lt))
+    (omega arith, omega arith)
 
 -- ---- where nodes stand is where the relation says
 
 each_split : (P : Part → Type 0) (l done rest : List Part) → l ≡ done ++ rest
-  → ((before : List Part) (part : Part) (after : List Part) → l ≡ before ++ part ∷ after → P part) → Each P rest
+    → ((before : List Part) (part : Part) (after : List Part) → l ≡ before ++ part ∷ after → P part) → Each P rest
 each_split P l done [] e f = tt
 each_split P l done (p ∷ ps) e f = (f done p ps e, each_split P l (done ++ p ∷ []) ps (e ∙ sym (append_assoc done (p ∷ []) ps)) f)
 
@@ -178,6 +179,6 @@ pub nodes_stand : (items : Items) → NodesStand items
 nodes_stand items n scope h =
     let Q : ℕ → Scope → Type 0 = λ m s. Stands items (record { 0 = m }) s in
     standing_holds Q items
-        (λ m s q. each_split (May Q m) (parts items (record { 0 = m }) s) [] (parts items (record { 0 = m }) s) refl
-            (λ before part after e lt. InNode (record { 0 = m }) s before part after q e))
-        AtRoot n.0 scope h
+    (λ m s q. each_split (May Q m) (parts items (record { 0 = m }) s) [] (parts items (record { 0 = m }) s) refl
+    (λ before part after e lt. InNode (record { 0 = m }) s before part after q e))
+    AtRoot n.0 scope h

@@ -15,7 +15,7 @@ use Rattle.tl_tree.specs.Scopes.{Part, Found, within, declared_at, declared_in, 
 pub data Stands (items : Items) : NodeId → Scope → Type 0 where
   AtRoot : Stands items (last_of items) (outermost (last_of items))
   InNode : (n : NodeId) (scope : Scope) (before : List Part) (part : Part) (after : List Part) → Stands items n scope
-    → parts items n scope ≡ before ++ part ∷ after → Stands items part.node part.scope
+      → parts items n scope ≡ before ++ part ∷ after → Stands items part.node part.scope
 
 abbrev pub NodesStand : Items → Type 0
 NodesStand items = (n : NodeId) (scope : Scope) → scope_at items n ≡ Some scope → Stands items n scope
@@ -40,11 +40,11 @@ pub record IsLast (items : Items) (name : List ℕ) (ds : List NodeId) (position
 -- where there is none, what it finds around the owner.
 pub data Finds (items : Items) (name : List ℕ) : ℕ → Scope → Option Found → Type 0 where
   Here : (depth : ℕ) (scope : Scope) (position : ℕ) (declaration : NodeId) → IsLast items name (declared_in items scope) position declaration
-    → Finds items name depth scope (Some (record { depth = depth; position = position; declaration = declaration }))
+      → Finds items name depth scope (Some (record { depth = depth; position = position; declaration = declaration }))
   Around : (depth : ℕ) (scope outer : Scope) (found : Option Found) → HasNone items name (declared_in items scope)
-    → scope_at items scope.owner ≡ Some outer → Finds items name (depth + 1) outer found → Finds items name depth scope found
+      → scope_at items scope.owner ≡ Some outer → Finds items name (depth + 1) outer found → Finds items name depth scope found
   Nowhere : (depth : ℕ) (scope : Scope) → HasNone items name (declared_in items scope) → scope_at items scope.owner ≡ None
-    → Finds items name depth scope None
+      → Finds items name depth scope None
 
 -- `binder` is what a name finds from where it stands.
 abbrev pub BinderFinds : Items → Type 0
@@ -63,7 +63,7 @@ pub record SeesBefore (items : Items) (n : NodeId) (scope : Scope) (before : Lis
   pub are_parts : parts items n scope ≡ front ++ part ∷ back
   pub is_statement : part.node ≡ s
   pub sees : declared_in items part.scope
-    ≡ (within items n).names ++ flat_map (declared_at items) before ++ (if sees_itself (item_at items s) then declared_at items s else [])
+      ≡ (within items n).names ++ flat_map (declared_at items) before ++ (if sees_itself (item_at items s) then declared_at items s else [])
 
 abbrev pub StatementsSeeBefore : Items → Type 0
 StatementsSeeBefore items =

@@ -297,7 +297,7 @@ abbrev pub last_found : (NodeId → Bool) → ℕ → ℕ → List NodeId → Op
 last_found asked depth at [] = None
 last_found asked depth at (d ∷ ds) =
     or_found (last_found asked depth (at + 1) ds)
-        (if asked d then Some (record { depth = depth; position = at; declaration = d }) else None)
+    (if asked d then Some (record { depth = depth; position = at; declaration = d }) else None)
 
 -- the declarations of the innermost owner that are in scope
 abbrev pub declared_in : Items → Scope → List NodeId
@@ -310,7 +310,7 @@ found_from zero items standing asked depth scope = None
 found_from (suc owners) items standing asked depth None = None
 found_from (suc owners) items standing asked depth (Some scope) =
     or_found (last_found asked depth 0 (declared_in items scope))
-        (found_from owners items standing asked (depth + 1) (scope_in standing scope.owner.0))
+    (found_from owners items standing asked (depth + 1) (scope_in standing scope.owner.0))
 
 -- the declaration is one of this name
 abbrev pub has_name : Items → List ℕ → NodeId → Bool
