@@ -26,7 +26,7 @@ use Rattle.tl_parse.specs.Expressions as suffixed
 use Rattle.tl_parse.specs.Statements.{is_unsettled, settling, settle_at, variable_at, more_targets_at, is_call, values_at, call_or_assignment_at, do_at, loop_at, while_at, repeat_at, arm_at, more_arms_at, arms_at, otherwise_at, if_at, step_at, numeric_at, generic, generic_at, for_at, function_statement_at, local_function_at, initial_values_at, local_names_at, definition_symbols, local_at, first_symbols, returned_values_at, return_at, break_at, emit_at, statement_at, last_symbols, next_statement_at, goes_on, parameter_at, with_parameter, more_parameters, more_parameters_at, parameters_at, body_at}
 use Rattle.tl_parse.specs.Paths.{more_names_at, names_at, path_at}
 use Rattle.tl_parse.specs.TerraDefinitions.{local_terra_at}
-use Rattle.tl_parse.proofs.Uses.{both, bind_same, opened_at, opens_any, token_is, plain_is, sign_is, unrolls, ends, refuses, used_classes}
+use Rattle.tl_parse.proofs.Uses.{never, both, bind_same, opened_at, opens_any, token_is, plain_is, sign_is, unrolls, ends, refuses, used_classes}
 use Rattle.tl_parse.proofs.Agreeing.{sign_then, open_then, then, either_is, name_agrees, paren_agrees, expression_agrees}
 use Rattle.tl_parse.proofs.Turns.{with_suffix, used_here, used_use, use_same, suffix_turn_of}
 use Rattle.tl_parse.proofs.Paths.{names_agree, path_agrees}
@@ -98,7 +98,7 @@ kind_by levels m left symbols.OpenBrace text place offset first ts h = IsCall h 
 kind_by levels m left symbols.Literal text place offset first ts h = IsCall h (literal_shaped left _)
 kind_by levels m left symbols.OpenBracket text place offset first ts h = IsIndex refl h (index_shaped levels m left _)
 kind_by levels m left symbols.Dot text place offset first ts h = IsIndex refl h (select_shaped left _)
-kind_by levels m left _ text place offset first ts h = absurd cc
+kind_by levels m left _ text place offset first ts h = absurd (never h)
 
 -- the grammars of the two turns of a target
 abbrev more_calls : Mode → Chained → Grammar Chained
@@ -502,7 +502,7 @@ statement_by levels c symbols.Terra text place offset first ts h = define_terra_
 statement_by levels c symbols.Struct text place offset first ts h = define_struct_is levels c (token_with symbols.Struct text place offset first) ts refl
 statement_by levels c symbols.Name text place offset first ts h = name_statement levels c text place offset first ts (barred false levels Plain (token_with symbols.Name text place offset first))
 statement_by levels c symbols.OpenParen text place offset first ts h = paren_statement levels c text place offset first ts (barred true levels Plain (token_with symbols.OpenParen text place offset first))
-statement_by levels c _ text place offset first ts h = absurd cc
+statement_by levels c _ text place offset first ts h = absurd (never h)
 
 -- ---- blocks
 

@@ -25,7 +25,7 @@ use Rattle.tl_parse.specs.Statements.{last_symbols}
 use Rattle.tl_parse.specs.TerraExpressions.{escape_at, terra_name_at, terra_paren_at, terra_base_at, terra_suffixes_at, terra_applied_at, terra_prefixed_at, terra_unary_at, terra_binary_at, more_terra_expressions_at, terra_expressions_at}
 use Rattle.tl_parse.specs.TerraStatements.{written_type_at, terra_loop_at, terra_arm_at, more_terra_arms_at, terra_arms_at, terra_otherwise_at, terra_step_at, terra_variable_at, more_terra_variables_at, terra_variables_at, terra_initial_values_at, terra_returned_values_at, terra_target_at, terra_assignment_at, assignment_symbols, terra_statement_behind_at, terra_simple_statement_at, terra_do_at, terra_while_at, terra_repeat_at, terra_if_at, terra_for_at, terra_var_at, escape_block_at, terra_return_at, terra_break_at, terra_statement_at, terra_parameter_at, more_terra_parameters_at, terra_parameters_at}
 use Rattle.tl_parse.specs.declared.terra_expressions.TerraPrecedence.TheVariants as precedences
-use Rattle.tl_parse.proofs.Uses.{bind_same, opens_any, opened_at}
+use Rattle.tl_parse.proofs.Uses.{never, bind_same, opens_any, opened_at}
 use Rattle.tl_parse.proofs.Following.{sign_then, open_then, then, either_is}
 use Rattle.tl_parse.proofs.Turns.{used_here, used_use}
 use Rattle.tl_parse.proofs.TerraAgreeing.{terra_name_agrees, terra_unary_agrees, terra_expression_agrees}
@@ -436,12 +436,12 @@ statement_by levels symbols.Var text place offset first ts h = var_is levels (re
 statement_by levels symbols.Escape text place offset first ts h = escape_is levels (record { symbol = symbols.Escape; text = text; place = place; offset = offset; first_on_line = first }) ts refl
 statement_by levels symbols.Return text place offset first ts h = return_is levels (record { symbol = symbols.Return; text = text; place = place; offset = offset; first_on_line = first }) ts refl
 statement_by levels symbols.Break text place offset first ts h = break_is levels (record { symbol = symbols.Break; text = text; place = place; offset = offset; first_on_line = first }) ts refl
-statement_by levels _ text place offset first ts h = absurd cc
+statement_by levels _ text place offset first ts h = absurd (never h)
 
 -- `return` and `break` end a block
 pub ends_is : (symbol : Symbol) (text : List ℕ) (place : Place) (offset : ℕ) (first : Bool) (ts : List Token) → is_of (among terra.terra_statement_symbols) (record { symbol = symbol; text = text; place = place; offset = offset; first_on_line = first }) ≡ true →
     terra.ends_terra_block (terra.terra_statement_of symbol) ≡ begins (among last_symbols) (record { symbol = symbol; text = text; place = place; offset = offset; first_on_line = first } ∷ ts)
-ends_is (symbols.Bad kind) text place offset first ts h = absurd cc
+ends_is (symbols.Bad kind) text place offset first ts h = absurd (never h)
 ends_is symbols.Return text place offset first ts h = refl
 ends_is symbols.Break text place offset first ts h = refl
 ends_is _ text place offset first ts h = refl

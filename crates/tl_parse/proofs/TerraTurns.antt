@@ -21,7 +21,7 @@ use Rattle.tl_parse.specs.TerraExpressions.{TerraSuffixed, terra_attached, terra
 use Rattle.tl_parse.specs.TerraExpressions as suffixed
 use Rattle.tl_parse.specs.Entries.{separator_at, entry_at, more_entries_at}
 use Rattle.tl_parse.specs.declared.terra_expressions.TerraPrecedence.{TerraPrecedence}
-use Rattle.tl_parse.proofs.Uses.{both, operator_with, opened_at, opens_any, token_is, plain_is, sign_is, repeats, ends, shorter_turn}
+use Rattle.tl_parse.proofs.Uses.{never, both, operator_with, opened_at, opens_any, token_is, plain_is, sign_is, repeats, ends, shorter_turn}
 use Rattle.tl_parse.proofs.Following.{sign_then, open_then, then, either_is}
 use Rattle.tl_parse.proofs.TerraAgreeing.{terra_name_agrees, initialiser_agrees}
 use Rattle.tl_parse.proofs.Turns.{list_goes, list_ends, list_shorter, operators_goes, operators_turn, fields_turn, used_here, used_use, use_behind}
@@ -216,7 +216,7 @@ suffix_by levels a symbols.Colon text place offset first ts h =
     let t : Token = record { symbol = symbols.Colon; text = text; place = place; offset = offset; first_on_line = first } in
     use_behind (barred false levels (Continues a.left) t) t ts (λ mid. behind levels a t mid)
     (λ t b. terra_name_at levels b >>= λ n c. open_at symbols.OpenParen levels c >>= λ u d. part_at (levels - 1) TerraArguments d >>= λ x e. sign_at symbols.CloseParen e >>= λ y rest. Took (suffixed.CallsMethod t.place n x) rest) (λ r. with_suffix a r) (method_behind levels a place ts)
-suffix_by levels a _ text place offset first ts h = absurd cc
+suffix_by levels a _ text place offset first ts h = absurd (never h)
 
 suffix_turn : (levels : ℕ) (a : Chained) (ts : List Token) → begins (λ t. terra.is_terra_suffix t) ts ≡ true →
     reading levels (bind (token (λ t. terra.is_terra_suffix t) (λ t. lua.suffix_extra a t) (λ t. terra.terra_suffix_opens (terra.terra_suffix_of t.symbol)) (sample symbols.Dot)) λ x. terra.terra_suffix (terra.terra_suffix_of x.0.symbol) x.0 x.1 a) ts

@@ -19,7 +19,7 @@ use Rattle.tl_parse.specs.Expressions.{name_at, more_expressions_at, next_expres
 use Rattle.tl_parse.specs.Expressions as suffixed
 use Rattle.tl_tree.specs.Tree as trees
 use Rattle.tl_parse.specs.declared.expressions.Precedence.{Precedence}
-use Rattle.tl_parse.proofs.Uses.{both, operator_with, bind_same, opened_at, opens_any, token_is, plain_is, sign_is, repeats, ends, shorter_turn}
+use Rattle.tl_parse.proofs.Uses.{never, both, operator_with, bind_same, opened_at, opens_any, token_is, plain_is, sign_is, repeats, ends, shorter_turn}
 use Rattle.tl_parse.proofs.Agreeing.{name_agrees, method_arguments_agree, field_agrees}
 
 -- ---- lists
@@ -216,7 +216,7 @@ suffix_by levels m a symbols.Colon text place offset first ts h =
 suffix_by levels m a symbols.Literal text place offset first ts h =
     let t : Token = record { symbol = symbols.Literal; text = text; place = place; offset = offset; first_on_line = first } in
     use_behind (barred false levels (Continues a.left) t) t ts (λ mid. behind levels m a t mid) (λ t rest. Took (suffixed.Calls t.place (More Nothing (trees.Literal t.place t.text))) rest) (λ r. with_suffix a r) refl
-suffix_by levels m a _ text place offset first ts h = absurd cc
+suffix_by levels m a _ text place offset first ts h = absurd (never h)
 
 pub suffix_turn_of : (levels : ℕ) (class : Token → Bool) (m : Mode) (a : Chained) (ts : List Token) → begins class ts ≡ true → begins (λ t. lua.is_suffix m t) ts ≡ true →
     reading levels (bind (token class (λ t. lua.suffix_extra a t) (λ t. lua.suffix_opens m (lua.suffix_of t.symbol)) (sample symbols.Dot)) λ x. lua.suffix m (lua.suffix_of x.0.symbol) x.0 x.1 a) ts

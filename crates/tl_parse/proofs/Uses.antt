@@ -17,6 +17,10 @@ use Rattle.tl_tree.proofs.Reading.{rest_of, Leaves, leaves, leaves_length, leave
 use Rattle.tl_tree.proofs.Unrolling.{bind_again, many_turn, many_barred, many_ends, below_leave}
 use Rattle.tl_parse.specs.Using.{reading, part_at, barred, used, sign_at, open_at}
 
+-- no token is of a class that it is not of
+pub never : false ≡ true → ⊥
+never h = cc
+
 pub bind_same : {A B : Type 0} (o : Outcome A) (f g : A → List Token → Outcome B) → ((a : A) (mid : List Token) → f a mid ≡ g a mid) → (o >>= f) ≡ (o >>= g)
 bind_same (Took a mid) f g h = h a mid
 bind_same (Stop kind rest) f g h = refl
