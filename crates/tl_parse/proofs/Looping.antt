@@ -47,6 +47,13 @@ listing_next start now new o more e n numbers longer s goes finish ready items i
       list = list ∙ ap (λ (x : NodeId). numbers ++ x ∷ []) (is_last ∙ ap (λ (i : List Item). last_of i) all) ∙ ap (λ (ns : List NodeId). ns ++ last_of (laid e (laid s.tree (items_of start)).items).items ∷ []) s.list;
     }
 
+-- the numbers of one more tree
+pub numbers_next : (start now new : Parser) (tree e : Tree) (n : NodeId) (numbers longer : List NodeId) → items_of now ≡ (laid tree (items_of start)).items → numbers ≡ (laid tree (items_of start)).numbers → items_of new ≡ (laid e (items_of now)).items → n ≡ last_of (items_of new) → longer ≡ numbers ++ n ∷ [] →
+    longer ≡ (laid (More tree e) (items_of start)).numbers
+numbers_next start now new tree e n numbers longer before list items is_last one_more =
+    let all : items_of new ≡ (laid e (laid tree (items_of start)).items).items = items ∙ ap (λ (i : List Item). (laid e i).items) before in
+    one_more ∙ ap (λ (x : NodeId). numbers ++ x ∷ []) (is_last ∙ ap (λ (i : List Item). last_of i) all) ∙ ap (λ (ns : List NodeId). ns ++ last_of (laid e (laid tree (items_of start)).items).items ∷ []) list
+
 -- ---- targets
 
 pub targets_begin : (levels : ℕ) (m : Mode) (ts us : List Token) (tree : Tree) (left : ℕ) (shape : Shape) → applied_at levels m true ts ≡ Took (chained tree left shape) us → is_call shape ≡ false →

@@ -1,0 +1,28 @@
+use Rattle.std.proofs.Common.{List, [], ◌∷◌, ◌++◌, ap, sym, ◌∙◌}
+use Rattle.tl_base.specs.declared.ids.NodeId.{NodeId}
+use Rattle.tl_tree.specs.Tokens.{Token}
+use Rattle.tl_tree.specs.Tree.{Tree, Nothing, More, Path}
+use Rattle.tl_tree.specs.Grammar.{Outcome, Took, ◌>>=◌}
+use Rattle.tl_parse.specs.Parsing.{tokens_left}
+use Rattle.tl_parse.specs.Paths.{path_at, path_names_at, path_method_at}
+use Rattle.tl_parse.proofs.Looping.{listing_first, listing_next}
+use Rattle.tl_parse.proofs.StatementTurns.{path_goes}
+use Rattle.tl_parse.proofs.parser.Parser.path.Goals as goal
+
+-- what is read behind the names
+abbrev behind : Tree → List Token → Outcome Tree
+behind ns b = path_method_at b >>= λ o rest. Took (Path ns o) rest
+
+pub more-init : goal.more-init
+unfolding path_at
+more-init c =
+    let n = c.in-Ok.ensures.ok in
+    listing_first c.args.self.now c.name.new.self _ _ n.tree c.in-Ok.x c.add.new.list (ap (λ (o : Outcome Tree). o >>= λ n a. path_names_at c.args.levels (More Nothing n) a >>= λ ns b. behind ns b) n.took)
+    n.finish n.ready n.items n.is_last (c.in-Ok-add.ensures.ok ∙ ap (λ (ns : List NodeId). ns ++ c.in-Ok.x ∷ []) c.no_nodes-list.ensures)
+
+pub more-preserved : goal.more-preserved
+more-preserved c =
+    let e = c.in-Ok-behind_sign.ensures.ok in
+    listing_next c.args.self.now c.more.self c.behind_sign.new.self _ _ e.tree c.in-Ok-behind_sign.x c.more.list c.add-in-more.new.list c.more.invariant
+    (ap (λ (o : Outcome Tree). o >>= λ ns b. behind ns b) (path_goes c.args.levels c.more.invariant.tree (tokens_left c.more.self) (sym c.next_is.ensures ∙ c.more-test.true) ∙ ap (λ (o : Outcome Tree). o >>= λ e rest. path_names_at c.args.levels (More c.more.invariant.tree e) rest) e.took))
+    e.finish e.ready e.items e.is_last c.in-Ok-add-2.ensures.ok
