@@ -150,7 +150,7 @@ impl<'a> Parser<'a> {
 
     /// "false"
     #[tactic(auto, using(crate::proofs::Failing::fails_bind, crate::proofs::Failing::fails_after), unfolding(crate::specs::Expressions::constant_at))]
-    fn no(&mut self) -> Result<NodeId, SyntaxError>
+    fn false_constant(&mut self) -> Result<NodeId, SyntaxError>
         requires { Ready self.old }
         ensures ok { IfOk result (λ r. TookTree self.old self.new (constant_at Symbol.False (tokens_left self.old)) r) }
         ensures err { IfErr result (λ e. Fails self.old (constant_at Symbol.False (tokens_left self.old)) e) }
@@ -161,7 +161,7 @@ impl<'a> Parser<'a> {
 
     /// "true"
     #[tactic(auto, using(crate::proofs::Failing::fails_bind, crate::proofs::Failing::fails_after), unfolding(crate::specs::Expressions::constant_at))]
-    fn yes(&mut self) -> Result<NodeId, SyntaxError>
+    fn true_constant(&mut self) -> Result<NodeId, SyntaxError>
         requires { Ready self.old }
         ensures ok { IfOk result (λ r. TookTree self.old self.new (constant_at Symbol.True (tokens_left self.old)) r) }
         ensures err { IfErr result (λ e. Fails self.old (constant_at Symbol.True (tokens_left self.old)) e) }
@@ -555,10 +555,10 @@ impl<'a> Parser<'a> {
             return self.nil();
         }
         if self.next_is(Symbol::False) {
-            return self.no();
+            return self.false_constant();
         }
         if self.next_is(Symbol::True) {
-            return self.yes();
+            return self.true_constant();
         }
         if self.next_is(Symbol::Ellipsis) {
             return self.varargs();

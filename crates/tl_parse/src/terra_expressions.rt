@@ -115,7 +115,7 @@ impl<'a> Parser<'a> {
 
     /// "false"
     #[tactic(auto, using(crate::proofs::Failing::fails_bind, crate::proofs::Failing::fails_after), unfolding(crate::specs::TerraExpressions::terra_constant_at))]
-    fn terra_no(&mut self) -> Result<NodeId, SyntaxError>
+    fn terra_false(&mut self) -> Result<NodeId, SyntaxError>
         requires { Ready self.old }
         ensures ok { IfOk result (λ r. TookTree self.old self.new (terra_constant_at Symbol.False (tokens_left self.old)) r) }
         ensures err { IfErr result (λ e. Fails self.old (terra_constant_at Symbol.False (tokens_left self.old)) e) }
@@ -126,7 +126,7 @@ impl<'a> Parser<'a> {
 
     /// "true"
     #[tactic(auto, using(crate::proofs::Failing::fails_bind, crate::proofs::Failing::fails_after), unfolding(crate::specs::TerraExpressions::terra_constant_at))]
-    fn terra_yes(&mut self) -> Result<NodeId, SyntaxError>
+    fn terra_true(&mut self) -> Result<NodeId, SyntaxError>
         requires { Ready self.old }
         ensures ok { IfOk result (λ r. TookTree self.old self.new (terra_constant_at Symbol.True (tokens_left self.old)) r) }
         ensures err { IfErr result (λ e. Fails self.old (terra_constant_at Symbol.True (tokens_left self.old)) e) }
@@ -152,9 +152,9 @@ impl<'a> Parser<'a> {
             return self.terra_nil();
         }
         if self.next_is(Symbol::False) {
-            return self.terra_no();
+            return self.terra_false();
         }
-        self.terra_yes()
+        self.terra_true()
     }
 
     /// Adds an operator with its operands, in a chain that so many tokens may continue.
