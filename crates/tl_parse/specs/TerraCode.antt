@@ -1,5 +1,5 @@
--- What reading the Terra code in expressions of Lua code gives, from left to right. `proofs/TerraParts.antt` and
--- `proofs/TerraTurns.antt` show that it is what the grammar of each name gives.
+-- What reading the Terra code in expressions of Lua code gives, from left to right. `proofs/TerraCodeAgreeing.antt`
+-- shows that it is what the grammar of each name gives.
 use Rattle.std.specs.Prelude.{ℕ, ◌-◌, List, if◌then◌else◌}
 use Rattle.tl_tree.specs.declared.symbol.Symbol.TheVariants as symbols
 use Rattle.tl_tree.specs.declared.mode.Mode.{Mode}

@@ -1,5 +1,5 @@
--- What reading each name of the grammar of Terra expressions gives, from left to right. `proofs/TerraParts.antt` and
--- `proofs/TerraTurns.antt` show that it is what the grammar of the name gives.
+-- What reading each name of the grammar of Terra expressions gives, from left to right. `proofs/TerraAgreeing.antt`
+-- shows that it is what the grammar of the name gives.
 use Rattle.std.specs.Prelude.{ℕ, ◌-◌, Bool, true, false, List, [], ◌∷◌, if◌then◌else◌, Option, Some, None}
 use Rattle.tl_base.specs.declared.place.Place.{Place}
 use Rattle.tl_tree.specs.declared.symbol.Symbol.{Symbol}
