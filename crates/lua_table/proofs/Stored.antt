@@ -107,7 +107,7 @@ is_stored ps border key value b = record {
   free = λ other. value_elsewhere ps key value (Number (pos (border + 1))) other ∙ b.free;
 }
 
-key_at : (key : Value) (m : ℕ) → index_in key ≡ suc m → key ≡ Number (pos (suc m))
+pub key_at : (key : Value) (m : ℕ) → index_in key ≡ suc m → key ≡ Number (pos (suc m))
 key_at (Number (pos n)) m e = ap (λ k. Number (pos k)) e
 key_at _ m e = absurd (cc e)
 
@@ -163,3 +163,8 @@ grown_by ps border key value k false s v at h e nil =
 
 pub grown : (ps : Pairs) (border : ℕ) (key value : Value) → IsStored ps border key value → is_nil value ≡ false → index_in key ≡ border + 1 → IsFull ps (border + 1)
 grown ps border key value s full at k h = grown_by ps border key value k (same_value (Number (pos (k + 1))) key) s (not_nil_from_test value full) at h refl
+
+-- a value that isn't nil leaves no hole
+pub full_stored : (ps : Pairs) (border : ℕ) (key value : Value) → IsBorder ps border → is_nil value ≡ false → IsFull (with_value ps key value) border
+full_stored ps border key value b full k h =
+    full_by (with_value ps key value) border key value k (same_value (Number (pos (k + 1))) key) (is_stored ps border key value b) (not_nil_from_test value full) h refl

@@ -1,5 +1,6 @@
--- The border that a table keeps beside its pairs.
-use Rattle.std.specs.Prelude.{◌≡◌, ◌≢◌, ℕ, ◌+◌, ◌<◌, ◌≤◌, pos, false}
+-- The border of a table, and the list that a table keeps beside its pairs.
+use Rattle.std.specs.Prelude.{◌≡◌, ◌≢◌, ℕ, ◌+◌, ◌<◌, ◌≤◌, pos, false, List, length, slice_get, slice_index_or, Some}
+use Rattle.std.specs.Map.{keys_of}
 use Rattle.lua_value.specs.Numbers.{largest_size}
 use Rattle.lua_value.specs.Values.{same_value}
 use Rattle.lua_value.specs.declared.value.Value.{Value}
@@ -16,11 +17,23 @@ pub record IsBorder (pairs : Pairs) (n : ℕ) : Type 0 where
   pub full : IsFull pairs n
   pub free : value_at pairs (n + 1) ≡ Nil
 
--- what holds of the pairs of every table, and of its border
-pub record AreTable (pairs : Pairs) (border : ℕ) : Type 0 where
+-- the place of the pair of each number from 1 on
+abbrev pub AreListed : Pairs → List ℕ → Type 0
+AreListed pairs listed = (i : ℕ) → i < length listed → slice_get (keys_of pairs) (slice_index_or listed i 0) ≡ Some (Number (pos (i + 1)))
+
+-- a list of the places of numbers from 1 on, all of which have values
+pub record AreFull (pairs : Pairs) (listed : List ℕ) : Type 0 where
   pub keyed : AreKeyed pairs
-  pub small : border ≤ largest_size
-  pub least : IsBorder pairs border
+  pub small : length listed ≤ largest_size
+  pub full : IsFull pairs (length listed)
+  pub places : AreListed pairs listed
+
+-- what holds of the pairs of every table, and of its list of places, which goes to the border
+pub record AreTable (pairs : Pairs) (listed : List ℕ) : Type 0 where
+  pub keyed : AreKeyed pairs
+  pub small : length listed ≤ largest_size
+  pub least : IsBorder pairs (length listed)
+  pub places : AreListed pairs listed
 
 -- the whole number from 1 up that a key is, and 0 for any other key
 abbrev pub index_in : Value → ℕ

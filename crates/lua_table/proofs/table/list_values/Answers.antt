@@ -1,0 +1,8 @@
+use Rattle.std.proofs.Common.{◌≤◌, length, rules}
+use Rattle.lua_table.proofs.Listed.{table_all}
+use Rattle.lua_table.proofs.table.list_values.Goals as goal
+
+pub returns : goal.returns
+returns c =
+    let most : length c.args.entries.now.entries ≤ length c.loop-listed.listed.items = search rules in
+    table_all c.args.entries.now.entries c.loop-listed.listed.items c.loop-listed.invariant.1 most
