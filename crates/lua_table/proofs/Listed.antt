@@ -4,19 +4,19 @@ use Rattle.std.proofs.Math.ListN.{get_or-append}
 use Rattle.std.proofs.Math.Seq.{get_or-append_seam}
 use Rattle.std.proofs.lemmas.Bool.Decides.{nat_tests}
 use Rattle.std.proofs.lemmas.List.{append-nil, length-append, length-take-le, get_or-take}
-use Rattle.std.specs.Map.{keys_of, lookup}
-use Rattle.std.specs.List.{position, position_or_len}
-use Rattle.indexmap.specs.IndexMap.{insert_entry}
+use Rattle.std.specs.Map.{keys_of, values_of, lookup}
+use Rattle.std.specs.List.{position, position_or_len, IsDistinct, AllByRecursion}
+use Rattle.indexmap.specs.IndexMap.{insert_entry, set_value_at}
 use Rattle.lua_value.specs.Numbers.{largest_size}
 use Rattle.lua_value.specs.Values.{same_value, is_nil}
 use Rattle.lua_value.specs.declared.value.Value.{Value}
 use Rattle.lua_value.specs.declared.value.Value.TheVariants.{Nil, Number}
-use Rattle.lua_value.proofs.Same.{same_value_equal}
-use Rattle.lua_table.specs.Keys.{IsKey, AreKeyed}
+use Rattle.lua_value.proofs.Same.{same_value_equal, same_value_self}
+use Rattle.lua_table.specs.Keys.{IsKey}
 use Rattle.lua_table.specs.Borders.{IsFull, IsBorder, AreListed, AreFull, AreTable, IsStored, index_in}
 use Rattle.lua_table.specs.Pairs.{Pairs, value_in, value_at, with_value}
 use Rattle.lua_table.proofs.Border.{none_beyond}
-use Rattle.lua_table.proofs.Stored.{keyed_stored, is_stored, emptied, kept_empty, kept_full, grown, key_at, stored_full}
+use Rattle.lua_table.proofs.Stored.{keyed_stored, is_stored, emptied, kept_empty, kept_full, grown, key_at, stored_full, differs, apart_test}
 
 -- ---- places stay
 
@@ -84,17 +84,7 @@ place_there ps key place found =
     let x = found_at (same_value key) (keys_of ps) h.0 in
     ap (λ n. slice_get (keys_of ps) n) h.1 ∙ x.1 ∙ ap (λ k. Some k) (sym (same_value_equal key x.0 x.2))
 
-key_here : (ps : Pairs) (place : ℕ) (pair : Value × Value) (key : Value) → slice_get ps place ≡ Some pair → slice_get (keys_of ps) place ≡ Some key → pair.0 ≡ key
-key_here [] place pair key at there = absurd (cc at)
-key_here (p ∷ ps) zero pair key at there = let same : p ≡ pair = cc at in let k : p.0 ≡ key = cc there in ap (λ (q : Value × Value). q.0) (sym same) ∙ k
-key_here (p ∷ ps) (suc place) pair key at there = key_here ps place pair key at there
-
-none_here : (ps : Pairs) (place : ℕ) (key : Value) → slice_get ps place ≡ None → slice_get (keys_of ps) place ≡ Some key → ⊥
-none_here [] place key none there = absurd (cc there)
-none_here (p ∷ ps) zero key none there = absurd (cc none)
-none_here (p ∷ ps) (suc place) key none there = none_here ps place key none there
-
-listed_key : (ps : Pairs) (listed : List ℕ) (key : Value) (index : ℕ) → AreListed ps listed → index_in key ≡ index → 0 < index → index ≤ length listed → slice_get (keys_of ps) (get_or listed (index - 1) 0) ≡ Some key
+pub listed_key : (ps : Pairs) (listed : List ℕ) (key : Value) (index : ℕ) → AreListed ps listed → index_in key ≡ index → 0 < index → index ≤ length listed → slice_get (keys_of ps) (get_or listed (index - 1) 0) ≡ Some key
 listed_key ps listed key index places at above within =
     let i = index - 1 in
     let next : index_in key ≡ suc i = omega (arith, at, above) in
@@ -102,16 +92,30 @@ listed_key ps listed key index places at above within =
     let low : i < length listed = omega (arith, above, within) in
     places i low ∙ ap (λ n. Some (Number (pos n))) (sym same) ∙ ap (λ k. Some k) (sym (key_at key i next))
 
--- the value of the pair at a listed place
-pub listed_read : (ps : Pairs) (listed : List ℕ) (key : Value) (index : ℕ) (pair : Value × Value) → AreListed ps listed → index_in key ≡ index → 0 < index → index ≤ length listed → slice_get ps (get_or listed (index - 1) 0) ≡ Some pair → lookup (same_value pair.0) ps ≡ Some pair.1 → pair.1 ≡ value_in ps key
-listed_read ps listed key index pair places at above within here found =
-    let same : pair.0 ≡ key = key_here ps (get_or listed (index - 1) 0) pair key here (listed_key ps listed key index places at above within) in
-    sym (ap (λ k. unwrap_or (lookup (same_value k) ps) Nil) (sym same) ∙ ap (λ o. unwrap_or o Nil) found)
+-- ---- a value is replaced at the place of its key
 
--- at a listed place stands a pair
-pub listed_there : (ps : Pairs) (listed : List ℕ) (key : Value) (index : ℕ) → AreListed ps listed → index_in key ≡ index → 0 < index → index ≤ length listed → slice_get ps (get_or listed (index - 1) 0) ≡ None → ⊥
-listed_there ps listed key index places at above within none =
-    none_here ps (get_or listed (index - 1) 0) key none (listed_key ps listed key index places at above within)
+distinct_from : (x : Value) (keys : List Value) (i : ℕ) (k : Value) → AllByRecursion (λ y. same_value x y ≡ false) keys → slice_get keys i ≡ Some k → same_value x k ≡ false
+distinct_from x [] i k all at = absurd (cc at)
+distinct_from x (y ∷ keys) zero k all at = let e : y ≡ k = cc at in ap (λ q. same_value x q) (sym e) ∙ all.0
+distinct_from x (y ∷ keys) (suc i) k all at = distinct_from x keys i k all.1 at
+
+here_by : (p : Value × Value) (ps stored : Pairs) (value : Value) (t : Bool) → t ≡ true → (p.0, value) ∷ ps ≡ cond t ((p.0, value) ∷ ps) (p ∷ stored)
+here_by p ps stored value true e = refl
+here_by p ps stored value false e = absurd (cc e)
+
+later_by : (p : Value × Value) (ps replaced stored : Pairs) (value : Value) (t : Bool) → t ≡ false → replaced ≡ stored → p ∷ replaced ≡ cond t ((p.0, value) ∷ ps) (p ∷ stored)
+later_by p ps replaced stored value true e same = absurd (cc e)
+later_by p ps replaced stored value false e same = ap (λ l. p ∷ l) same
+
+pub replaced : (ps : Pairs) (key value : Value) (place : ℕ) → IsDistinct same_value (keys_of ps) → slice_get (keys_of ps) place ≡ Some key → set_value_at ps place value ≡ with_value ps key value
+unfolding IsDistinct
+replaced [] key value place d at = absurd (cc at)
+replaced (p ∷ ps) key value zero d at =
+    let e : p.0 ≡ key = cc at in
+    here_by p ps (with_value ps key value) value (same_value key p.0) (same_value_self key p.0 (sym e))
+replaced (p ∷ ps) key value (suc i) d at =
+    let other : same_value p.0 key ≡ false = distinct_from p.0 (keys_of ps) i key d.0 at in
+    later_by p ps (set_value_at ps i value) (with_value ps key value) value (same_value key p.0) (apart_test key p.0 (λ e. differs p.0 key other (sym e))) (replaced ps key value i d.1 at)
 
 -- ---- tables
 
@@ -121,23 +125,26 @@ listed_take ps listed m h places i below =
     let low : i < m = omega (arith, e, below) in
     ap (λ n. slice_get (keys_of ps) n) (get_or-take m listed i 0 low) ∙ places i (omega (arith, low, h))
 
-pub table_unlisted : (ps : Pairs) (listed : List ℕ) (key : Value) → AreKeyed ps → length listed ≤ largest_size → IsStored ps (length listed) key Nil → AreListed ps listed → 0 < index_in key → index_in key ≤ length listed → AreTable ps (take (index_in key - 1) listed)
-table_unlisted ps listed key keyed small stored places above within =
+-- emptying a listed number cuts the list before it
+pub table_cut : (ps : Pairs) (listed : List ℕ) (key value : Value) → IsKey key → AreTable ps listed → is_nil value ≡ true → 0 < index_in key → index_in key ≤ length listed → AreTable (with_value ps key value) (take (index_in key - 1) listed)
+table_cut ps listed key value k t empty above within =
     let h : index_in key - 1 ≤ length listed = omega (arith, within) in
     let e : length (take (index_in key - 1) listed) ≡ index_in key - 1 = length-take-le (index_in key - 1) listed h in
+    let stored : IsStored (with_value ps key value) (length listed) key value = is_stored ps (length listed) key value t.least in
     record {
-      keyed = keyed;
-      small = omega (arith, e, small, h);
-      least = subst (IsBorder ps) (sym e) (emptied ps (length listed) key Nil stored refl above within);
-      places = listed_take ps listed (index_in key - 1) h places;
+      keyed = keyed_stored ps key value t.keyed k;
+      small = omega (arith, e, t.small, h);
+      least = subst (IsBorder (with_value ps key value)) (sym e) (emptied (with_value ps key value) (length listed) key value stored empty above within);
+      places = listed_take (with_value ps key value) listed (index_in key - 1) h (listed_stored ps key value listed t.places);
     }
 
-pub table_kept : (ps : Pairs) (listed : List ℕ) (key : Value) → AreKeyed ps → length listed ≤ largest_size → IsStored ps (length listed) key Nil → AreListed ps listed → (0 < index_in key → index_in key ≤ length listed → ⊥) → AreTable ps listed
-table_kept ps listed key keyed small stored places past = record {
-  keyed = keyed;
-  small = small;
-  least = kept_empty ps (length listed) key Nil stored refl past;
-  places = places;
+-- a key that isn't listed is emptied
+table_kept : (ps : Pairs) (listed : List ℕ) (key value : Value) → IsKey key → AreTable ps listed → is_nil value ≡ true → (0 < index_in key → index_in key ≤ length listed → ⊥) → AreTable (with_value ps key value) listed
+table_kept ps listed key value k t empty past = record {
+  keyed = keyed_stored ps key value t.keyed k;
+  small = t.small;
+  least = kept_empty (with_value ps key value) (length listed) key value (is_stored ps (length listed) key value t.least) empty past;
+  places = listed_stored ps key value listed t.places;
 }
 
 -- a value that isn't nil under another key than the number after the border
@@ -149,12 +156,23 @@ table_stored ps listed key value k t full other = record {
   places = listed_stored ps key value listed t.places;
 }
 
--- what unlisting begins with
-pub stored_nil : (ps : Pairs) (listed : List ℕ) (key : Value) → AreTable ps listed → IsStored (with_value ps key Nil) (length listed) key Nil
-stored_nil ps listed key t = is_stored ps (length listed) key Nil t.least
+elsewhere_by : (ps : Pairs) (listed : List ℕ) (key value : Value) (t : Bool) → is_nil value ≡ t → IsKey key → AreTable ps listed → (0 < index_in key → index_in key ≤ length listed → ⊥) → (is_nil value ≡ false → index_in key ≡ length listed + 1 → ⊥) → AreTable (with_value ps key value) listed
+elsewhere_by ps listed key value true e k table past other = table_kept ps listed key value k table e past
+elsewhere_by ps listed key value false e k table past other = table_stored ps listed key value k table e (other e)
 
-pub places_stored : (ps : Pairs) (listed : List ℕ) (key value : Value) → AreTable ps listed → AreListed (with_value ps key value) listed
-places_stored ps listed key value t = listed_stored ps key value listed t.places
+-- a store under a key that is neither listed nor the number after the border with a value
+pub table_elsewhere : (ps : Pairs) (listed : List ℕ) (key value : Value) → IsKey key → AreTable ps listed → (0 < index_in key → index_in key ≤ length listed → ⊥) → (is_nil value ≡ false → index_in key ≡ length listed + 1 → ⊥) → AreTable (with_value ps key value) listed
+table_elsewhere ps listed key value k table past other = elsewhere_by ps listed key value (is_nil value) refl k table past other
+
+nowhere_by : (ps : Pairs) (place : ℕ) (key : Value) → slice_get (values_of ps) place ≡ None → slice_get (keys_of ps) place ≡ Some key → ⊥
+nowhere_by [] place key none there = absurd (cc there)
+nowhere_by (p ∷ ps) zero key none there = absurd (cc none)
+nowhere_by (p ∷ ps) (suc place) key none there = nowhere_by ps place key none there
+
+-- at a listed place stands a value
+pub listed_value_there : (ps : Pairs) (listed : List ℕ) (key : Value) (index : ℕ) → AreListed ps listed → index_in key ≡ index → 0 < index → index ≤ length listed → slice_get (values_of ps) (get_or listed (index - 1) 0) ≡ None → ⊥
+listed_value_there ps listed key index places at above within none =
+    nowhere_by ps (get_or listed (index - 1) 0) key none (listed_key ps listed key index places at above within)
 
 push_by : (ps : Pairs) (listed : List ℕ) (place i : ℕ) (within : Bool) → within ≡ ltb i (length listed) → AreListed ps listed → slice_get (keys_of ps) place ≡ Some (Number (pos (length listed + 1))) → i < length listed + 1 → slice_get (keys_of ps) (get_or (listed ++ place ∷ []) i 0) ≡ Some (Number (pos (i + 1)))
 push_by ps listed place i true e places at h =
@@ -168,23 +186,6 @@ listed_push : (ps : Pairs) (listed : List ℕ) (place : ℕ) → AreListed ps li
 listed_push ps listed place places at i h =
     let n : length (listed ++ place ∷ []) ≡ length listed + 1 = length-append listed (place ∷ []) in
     push_by ps listed place i (ltb i (length listed)) refl places at (omega (arith, h, n))
-
-full_one : (ps : Pairs) (n k : ℕ) (within : Bool) → within ≡ ltb k n → IsFull ps n → value_at ps (n + 1) ≢ Nil → k < n + 1 → value_at ps (k + 1) ≢ Nil
-full_one ps n k true e full next h = full k (grind (arith, nat_tests))
-full_one ps n k false e full next h =
-    let last : k ≡ n = grind (arith, nat_tests) in
-    subst (λ m. value_at ps (m + 1) ≢ Nil) (sym last) next
-
--- one more number is listed
-pub full_pushed : (ps : Pairs) (listed : List ℕ) (place : ℕ) → AreFull ps listed → length listed + 1 ≤ largest_size → value_at ps (length listed + 1) ≢ Nil → slice_get (keys_of ps) place ≡ Some (Number (pos (length listed + 1))) → AreFull ps (listed ++ place ∷ [])
-full_pushed ps listed place f small next at =
-    let n : length (listed ++ place ∷ []) ≡ length listed + 1 = length-append listed (place ∷ []) in
-    record {
-      keyed = f.keyed;
-      small = omega (arith, n, small);
-      full = subst (IsFull ps) (sym n) (λ k h. full_one ps (length listed) k (ltb k (length listed)) refl f.full next h);
-      places = listed_push ps listed place f.places at;
-    }
 
 index_small : (key : Value) → IsKey key → index_in key ≤ largest_size
 index_small (Number (pos n)) k = k
@@ -205,7 +206,7 @@ full_appended ps listed key value place k full t at here =
     }
 
 -- the list is done
-pub table_full : (ps : Pairs) (listed : List ℕ) → AreFull ps listed → value_at ps (length listed + 1) ≡ Nil → AreTable ps listed
+table_full : (ps : Pairs) (listed : List ℕ) → AreFull ps listed → value_at ps (length listed + 1) ≡ Nil → AreTable ps listed
 table_full ps listed f free = record {
   keyed = f.keyed;
   small = f.small;

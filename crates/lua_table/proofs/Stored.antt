@@ -13,14 +13,14 @@ use Rattle.lua_table.specs.Borders.{IsFull, IsBorder, IsStored, index_in}
 use Rattle.lua_table.specs.Pairs.{Pairs, value_in, value_at, with_value}
 use Rattle.lua_table.proofs.Border.{nil_from_test, not_nil_from_test}
 
-differs : (a b : Value) → same_value a b ≡ false → (a ≡ b → ⊥)
+pub differs : (a b : Value) → same_value a b ≡ false → (a ≡ b → ⊥)
 differs a b h e = let t : same_value a b ≡ true = same_value_self a b e in absurd (cc)
 
 untrue : (b : Bool) → (b ≡ true → ⊥) → b ≡ false
 untrue true h = absurd (h refl)
 untrue false h = refl
 
-apart_test : (a b : Value) → (a ≡ b → ⊥) → same_value a b ≡ false
+pub apart_test : (a b : Value) → (a ≡ b → ⊥) → same_value a b ≡ false
 apart_test a b h = untrue (same_value a b) (λ t. h (same_value_equal a b t))
 
 -- ---- a store is an insertion, but for nil under a key that isn't there
