@@ -4,3 +4,4 @@ pub mod Texts
 pub mod Trees
 pub mod Parts
 pub mod Staying
+mod Examples

@@ -8,6 +8,10 @@ pub mod TermText
 pub mod Terms
 pub mod TypedTerms
 pub mod Planted
+-- What typed terms do with names, which of them typing can leave, and what of a store they need.
+pub mod Events
+pub mod Stores
+pub mod WellTyped
 -- Views of the code, which private contracts cite.
 pub mod Statics
 pub mod Pieces
