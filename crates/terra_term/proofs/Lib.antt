@@ -5,3 +5,4 @@ pub mod Trees
 pub mod Parts
 pub mod Staying
 mod Examples
+pub mod KeptSizes

@@ -1,6 +1,6 @@
 -- What a store holds, what each call reads of it, and what each call makes of it. Ids are places in these lists, and an id past
 -- the end names nothing.
-use Rattle.std.specs.Prelude.{ℕ, ◌+◌, ◌*◌, ◌/◌, Bool, true, false, ◌&&◌, nat_eq, nat_le, if◌then◌else◌, List, [], ◌∷◌, ◌++◌, length, find, position, bytes_eq, Option, Some, None, slice_get, slice_set, option_map}
+use Rattle.std.specs.Prelude.{ℕ, ◌<◌, ◌+◌, ◌*◌, ◌/◌, Bool, true, false, ◌&&◌, nat_eq, nat_le, if◌then◌else◌, List, [], ◌∷◌, ◌++◌, length, find, position, bytes_eq, Option, Some, None, slice_get, slice_set, option_map}
 use Rattle.std.specs.Option.{option_map_or}
 use Rattle.tl_base.specs.declared.place.Place.{Place}
 use Rattle.tl_base.specs.declared.ids.ConstantId.{ConstantId}
@@ -26,7 +26,10 @@ use Rattle.terra_term.specs.declared.store.Static.{Static}
 use Rattle.terra_term.specs.declared.store.Symbol.{Symbol}
 use Rattle.terra_term.specs.declared.store.TerraConstant.{TerraConstant}
 use Rattle.terra_term.specs.declared.store.TextBytes.{TextBytes}
+use Rattle.terra_term.specs.declared.store.Quote.TheVariants as quote_kinds
 use Rattle.terra_term.specs.declared.term.Term.{Term}
+use Rattle.terra_term.specs.declared.term.Term.TheVariants as term_kinds
+use Rattle.terra_term.specs.declared.term.Expression.TheVariants as expression_kinds
 use Rattle.terra_term.specs.declared.typed.Typed.{Typed}
 
 -- types, symbols, functions, quotes, globals, constants, statics, the bytes of names, and the nodes of specialised and typed terms
@@ -72,6 +75,16 @@ next_quote s = record { 0 = length s.quotes }
 
 abbrev pub with_quote : Held → Quote → Held
 with_quote s q = record s { quotes = s.quotes ++ q ∷ [] }
+
+-- a typed quote, and a term that it is spliced into, name a typed term that is there
+
+abbrev pub QuotesTyped : (count : ℕ) → Quote → Type 0
+QuotesTyped count (quote_kinds.Typed source made) = made.0 < count
+QuotesTyped count _ = Unit {0}
+
+abbrev pub NamesTyped : (count : ℕ) → Term → Type 0
+NamesTyped count (term_kinds.Expression at (expression_kinds.Typed source made)) = made.0 < count
+NamesTyped count _ = Unit {0}
 
 abbrev pub next_constant : Held → ConstantId
 next_constant s = record { 0 = length s.constants }

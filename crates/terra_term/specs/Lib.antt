@@ -8,6 +8,8 @@ pub mod TermText
 pub mod Terms
 pub mod TypedTerms
 pub mod Planted
+-- How many nodes and levels terms have.
+pub mod Sizes
 -- What typed terms do with names, which of them typing can leave, and what of a store they need.
 pub mod Events
 pub mod Stores
@@ -16,3 +18,4 @@ pub mod WellTyped
 pub mod Statics
 pub mod Pieces
 pub mod Lending
+pub mod Sizing

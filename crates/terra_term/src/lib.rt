@@ -11,6 +11,8 @@ pub mod operators;
 mod piece;
 mod pieces;
 pub mod refusal;
+pub mod size;
+mod sizing;
 pub mod store;
 pub mod term;
 pub mod text;
@@ -22,6 +24,7 @@ pub use lists::{
 };
 pub use operators::{Constant, Operation, Primitive, UnaryOperator};
 pub use refusal::{Refusal, RefusalKind, Standing};
+pub use size::Size;
 pub use store::{
     Export, Function, FunctionState, Quote, Static, Store, Symbol, TerraConstant, TerraGlobal,
     TextBytes,

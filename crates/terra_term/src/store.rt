@@ -2,10 +2,14 @@
 
 ghost use Rattle.std.specs.Prelude.{◌≡◌, ◌≤◌, ◌++◌, ◌∷◌, [], ◌+◌, length, slice_get, IfOk, IfSome, IsOk, OnOk, OnErr};
 ghost use Rattle.std.specs.Option.{option_copied};
-ghost use Rattle.terra_term.specs.Held.{empty, next_symbol, with_symbol, next_function, with_function, state_of, term_in, standing_in, standing_of, with_defined, with_state, begun, finished, refused, next_quote, with_quote, next_constant, with_constant, next_term, with_term, next_typed, with_typed, ended, text_address, room_for, placed_text, with_text, placed_global, with_global, name_of, name_place, with_name};
+ghost use Rattle.terra_term.specs.Held.{empty, next_symbol, with_symbol, next_function, with_function, state_of, term_in, standing_in, standing_of, with_defined, with_state, begun, finished, refused, next_quote, with_quote, next_constant, with_constant, next_term, with_term, next_typed, with_typed, NamesTyped, QuotesTyped, ended, text_address, room_for, placed_text, with_text, placed_global, with_global, name_of, name_place, with_name};
+
+ghost use Rattle.terra_term.specs.Sizes.{size_of_term, size_of_typed};
 
 use crate::lists::TermList;
 use crate::refusal::{Refusal, RefusalKind, Standing};
+use crate::size::{Size, SizedNode};
+use crate::sizing::{size_term, size_typed};
 use crate::term::Term;
 use crate::typed::Typed;
 use std::alloc::Global;
@@ -106,6 +110,9 @@ pub struct Store {
     names: Vec<TextBytes>,
     terms: Vec<Term>,
     typed: Vec<Typed>,
+    /// The sizes of the nodes, in their order.
+    term_sizes: Vec<SizedNode>,
+    typed_sizes: Vec<SizedNode>,
     /// The first address behind all statics.
     statics_end: u64,
 }
@@ -129,8 +136,10 @@ impl Model for Store {
     } };
 
     ghost use Rattle.terra_term.specs.Statics.{EndsAt};
+    ghost use Rattle.terra_term.specs.Sizing.{AreSized};
 
-    ghost invariant = { λ s. EndsAt s.statics.items s.statics_end };
+    ghost invariant = { λ s. EndsAt s.statics.items s.statics_end
+        × AreSized s.quotes.items s.terms.items s.typed.items s.term_sizes.items s.typed_sizes.items };
 }
 
 impl Store {
@@ -153,6 +162,8 @@ impl Store {
             names: Vec::new(alloc),
             terms: Vec::new(alloc),
             typed: Vec::new(alloc),
+            term_sizes: Vec::new(alloc),
+            typed_sizes: Vec::new(alloc),
             statics_end: FIRST_STATIC,
         }
     }
@@ -294,8 +305,9 @@ impl Store {
         self.set_state(f, state);
     }
 
-    /// Makes a quote.
+    /// Makes a quote. The typed term of a typed one is there.
     pub fn new_quote(&mut self, quote: Quote) -> Result<QuoteId, NoMemory>
+        requires { QuotesTyped (length self.old.typed) quote }
         ensures id { IfOk result (λ id. id ≡ next_quote self.old) }
         ensures ok { OnOk result (self.new ≡ with_quote self.old quote) }
         ensures err { OnErr result (self.new ≡ self.old) }
@@ -307,7 +319,8 @@ impl Store {
 
     /// A quote; `None` exactly where there is none of that id.
     pub fn quote(&self, quote: QuoteId) -> Option<&Quote>
-        ensures { option_copied result ≡ slice_get self.now.quotes quote.0 }
+        ensures quote { option_copied result ≡ slice_get self.now.quotes quote.0 }
+        ensures there { IfSome result (λ q. QuotesTyped (length self.now.typed) q.now) }
     {
         self.quotes.get(quote.0 as usize)
     }
@@ -330,14 +343,18 @@ impl Store {
         self.constants.get(constant.0 as usize).copied()
     }
 
-    /// Adds a node of specialised code.
+    /// Adds a node of specialised code. The typed term of a typed quote is there.
     pub fn new_term(&mut self, term: Term) -> Result<TermId, NoMemory>
+        requires { NamesTyped (length self.old.typed) term }
         ensures id { IfOk result (λ id. id ≡ next_term self.old) }
         ensures ok { OnOk result (self.new ≡ with_term self.old term) }
         ensures err { OnErr result (self.new ≡ self.old) }
     {
         let id = TermId(self.terms.len() as u64);
+        let size = size_term(&self.typed_sizes, &self.term_sizes, &term);
+        self.term_sizes.reserve(1)?;
         self.terms.push(term)?;
+        self.term_sizes.push(size)?;
         Ok(id)
     }
 
@@ -355,7 +372,10 @@ impl Store {
         ensures err { OnErr result (self.new ≡ self.old) }
     {
         let id = TermId(self.typed.len() as u64);
+        let size = size_typed(&self.typed_sizes, &typed);
+        self.typed_sizes.reserve(1)?;
         self.typed.push(typed)?;
+        self.typed_sizes.push(size)?;
         Ok(id)
     }
 
@@ -364,6 +384,27 @@ impl Store {
         ensures { option_copied result ≡ slice_get self.now.typed typed.0 }
     {
         self.typed.get(typed.0 as usize)
+    }
+
+    /// How many nodes and levels a node of specialised code has with its parts, a typed quote as its typed term; `None` exactly
+    /// where there is none of that id.
+    pub fn size_of_term(&self, term: TermId) -> Option<Size>
+        ensures { result ≡ size_of_term self.now term }
+    {
+        match self.term_sizes.get(term.0 as usize) {
+            Some(node) => Some(node.size()),
+            None => None,
+        }
+    }
+
+    /// How many nodes and levels a node of typed code has with its parts; `None` exactly where there is none of that id.
+    pub fn size_of_typed(&self, typed: TermId) -> Option<Size>
+        ensures { result ≡ size_of_typed self.now typed }
+    {
+        match self.typed_sizes.get(typed.0 as usize) {
+            Some(node) => Some(node.size()),
+            None => None,
+        }
     }
 
     /// Where a static of so many bytes comes to lie; `None` exactly where it would pass half of the memory, which is in bytes.

@@ -1,0 +1,85 @@
+// How many nodes and levels a term has.
+
+ghost use Rattle.std.specs.Prelude.{◌≡◌};
+ghost use Rattle.terra_term.specs.Sizes.{above, capped, joined, leaf, names_size, none};
+
+/// How many nodes and levels a term has, each at most 4,294,967,295: a larger number is kept as that one.
+#[derive(Clone, Copy, Debug, PartialEq, Eq)]
+pub struct Size {
+    pub nodes: u32,
+    pub levels: u32,
+}
+
+impl Size {
+    /// The size of nothing.
+    pub fn none() -> Size
+        ensures { result ≡ none }
+    {
+        Size {
+            nodes: 0,
+            levels: 0,
+        }
+    }
+
+    /// The size of a node without parts.
+    pub fn leaf() -> Size
+        ensures { result ≡ leaf }
+    {
+        Size {
+            nodes: 1,
+            levels: 1,
+        }
+    }
+
+    /// The size of parts that stand side by side.
+    pub fn joined(self, other: Size) -> Size
+        ensures { result ≡ capped (joined self other) }
+    {
+        Size {
+            nodes: self.nodes.saturating_add(other.nodes),
+            levels: self.levels.max(other.levels),
+        }
+    }
+
+    /// The size of a node with these parts.
+    pub fn above(self) -> Size
+        ensures { result ≡ capped (above self) }
+    {
+        Size {
+            nodes: self.nodes.saturating_add(1),
+            levels: self.levels.saturating_add(1),
+        }
+    }
+
+    /// The size of so many names side by side.
+    pub(crate) fn of_names(count: usize) -> Size
+        ensures { result ≡ capped (names_size count) }
+    {
+        let nodes = if count < u32::MAX as usize { count as u32 } else { u32::MAX };
+        let levels = if count == 0 { 0 } else { 1 };
+        Size { nodes, levels }
+    }
+}
+
+/// What a node is, with its size.
+#[derive(Clone, Copy, Debug, PartialEq, Eq)]
+pub(crate) enum SizedNode {
+    Expression(Size),
+    Statement(Size),
+    Function(Size),
+}
+
+impl SizedNode {
+    ghost use Rattle.terra_term.specs.Sizing.{node_size};
+
+    /// The size alone.
+    pub(crate) fn size(self) -> Size
+        ensures { result ≡ node_size self }
+    {
+        match self {
+            SizedNode::Expression(size) => size,
+            SizedNode::Statement(size) => size,
+            SizedNode::Function(size) => size,
+        }
+    }
+}
