@@ -61,8 +61,8 @@ var s t e = statement at (Var (named s t ∷ []) (one e))
 abbrev quoted : Expression
 quoted =
     typed at int32 (Let
-      (and_then (var z int8 (typed at int8 (Operate operations.Convert (one (use_of y))))) done)
-      (typed at int32 (Operate operations.Convert (one (typed at int8 (Variable z))))))
+    (and_then (var z int8 (typed at int8 (Operate operations.Convert (one (use_of y))))) done)
+    (typed at int32 (Operate operations.Convert (one (typed at int8 (Variable z))))))
 
 -- with `1` as the number that is added
 abbrev sample : Expression → Body
@@ -70,10 +70,10 @@ sample step = record {
   parameters = named x int32 ∷ [];
   result = int32;
   body =
-    and_then (var y int32 (typed at int32 (Operate (operations.Binary Add) (two (use_of x) step))))
-    (and_then (statement at (If (typed at boolean (Operate (operations.Binary Less) (two (use_of y) (number 3))))
+      and_then (var y int32 (typed at int32 (Operate (operations.Binary Add) (two (use_of x) step))))
+      (and_then (statement at (If (typed at boolean (Operate (operations.Binary Less) (two (use_of y) (number 3))))
       (and_then (statement at (Return (typed at int32 (Operate (operations.Call f) (one (use_of y)))))) done)))
-    (and_then (statement at (Return quoted)) done));
+      (and_then (statement at (Return quoted)) done));
 }
 
 abbrev store : Contents

@@ -105,8 +105,8 @@ typed-block : (before : List typed.Item) (ts : List TermId) → capped (sizes.ty
 typed-block before [] = refl
 typed-block before (t ∷ ts) =
     joined-capped _ _ _ _
-      (typed-doing-in (slice_get before t.0) ∙ ap statement_in (sym (slice_get-map kept_typed before t.0)))
-      (typed-block before ts)
+    (typed-doing-in (slice_get before t.0) ∙ ap statement_in (sym (slice_get-map kept_typed before t.0)))
+    (typed-block before ts)
 
 typed-expression : (before : List typed.Item) (at : Place) (of : TypeId) (x : typed_expressions.TypedExpression) → kept_typed (planted.typed_planted before (typed_kinds.Expression at of x)) ≡ sized.Expression (typed_form (map kept_typed before) x)
 typed-expression before at of (te.Constant c) = refl
@@ -175,8 +175,8 @@ term-block : (made : List typed.Item) (before : List terms.Item) (ts : List Term
 term-block made before [] = refl
 term-block made before (t ∷ ts) =
     joined-capped _ _ _ _
-      (doing-in made (slice_get before t.0) ∙ ap statement_in (sym (slice_get-map (kept_term made) before t.0)))
-      (term-block made before ts)
+    (doing-in made (slice_get before t.0) ∙ ap statement_in (sym (slice_get-map (kept_term made) before t.0)))
+    (term-block made before ts)
 
 term-expression : (made : List typed.Item) (before : List terms.Item) (at : Place) (x : expressions.Expression) → kept_term made (planted.planted before (kinds.Expression at x)) ≡ sized.Expression (form (map kept_typed made) (map (kept_term made) before) x)
 term-expression made before at (e.Unary op a) = ap sized.Expression (above-capped _ _ (term-at made before a))
@@ -255,7 +255,7 @@ term-read : (h : Held) (made kept : List SizedNode) (t : TermId) → made ≡ ty
 term-read h made kept t first same =
     let all = planted.typed_trees h.typed in
     ap (λ (l : List SizedNode). option_map node_size (slice_get l t.0))
-      (same ∙ (ap (λ (m : List SizedNode). terms_kept m h.terms) (first ∙ sym (typed-trees-sized h.typed)) ∙ sym (trees-sized all h.terms))) ∙
+    (same ∙ (ap (λ (m : List SizedNode). terms_kept m h.terms) (first ∙ sym (typed-trees-sized h.typed)) ∙ sym (trees-sized all h.terms))) ∙
     (ap (option_map node_size) (slice_get-map (kept_term all) (planted.trees h.terms) t.0) ∙
     read-term all (slice_get (planted.trees h.terms) t.0))
 
@@ -326,9 +326,9 @@ sized-typed qs ns made kept kept_made n h =
     let longer : length made ≤ length (made ++ n ∷ []) = omega (arith, length-append made (n ∷ [])) in
     record {
       of_typed =
-        ap (λ (l : List SizedNode). l ++ typed_sized l n ∷ []) h.of_typed ∙ sym (grown-more typed_sized [] made (n ∷ []));
+          ap (λ (l : List SizedNode). l ++ typed_sized l n ∷ []) h.of_typed ∙ sym (grown-more typed_sized [] made (n ∷ []));
       of_terms =
-        h.of_terms ∙ terms-stay kept_made (typed_sized kept_made n ∷ []) [] ns (subst (λ m. AllHold (NamesTyped m) ns) (sym same) h.named);
+          h.of_terms ∙ terms-stay kept_made (typed_sized kept_made n ∷ []) [] ns (subst (λ m. AllHold (NamesTyped m) ns) (sym same) h.named);
       named = hold-more _ _ (names-more (length made) (length (made ++ n ∷ [])) longer) ns h.named;
       quoted = hold-more _ _ (quotes-more (length made) (length (made ++ n ∷ [])) longer) qs h.quoted;
     }
@@ -337,7 +337,7 @@ sized-term : (qs : List Quote) (ns : List nodes.Term) (made : List typed_nodes.T
 sized-term qs ns made kept kept_made n h p = record {
   of_typed = h.of_typed;
   of_terms =
-    ap (λ (l : List SizedNode). l ++ term_sized kept_made l n ∷ []) h.of_terms ∙ sym (grown-more (term_sized kept_made) [] ns (n ∷ []));
+      ap (λ (l : List SizedNode). l ++ term_sized kept_made l n ∷ []) h.of_terms ∙ sym (grown-more (term_sized kept_made) [] ns (n ∷ []));
   named = hold-push _ ns n h.named p;
   quoted = h.quoted;
 }
@@ -347,7 +347,7 @@ sized-term qs ns made kept kept_made n h p = record {
 pub sized-typed-by : (view : Held) (kept kept_made read reserved : List SizedNode) (made' : List typed_nodes.Typed) (kept' : List SizedNode) (n : typed_nodes.Typed) (size : SizedNode) → AreSized view.quotes view.terms view.typed kept kept_made → made' ≡ view.typed ++ n ∷ [] → read ≡ kept_made → size ≡ typed_sized read n → reserved ≡ kept_made → kept' ≡ reserved ++ size ∷ [] → AreSized view.quotes view.terms made' kept kept'
 sized-typed-by view kept kept_made read reserved made' kept' n size h p r s e q =
     let all : kept' ≡ kept_made ++ typed_sized kept_made n ∷ [] =
-      q ∙ (ap (λ (l : List SizedNode). l ++ size ∷ []) e ∙ ap (λ (x : SizedNode). kept_made ++ x ∷ []) (s ∙ ap (λ (l : List SizedNode). typed_sized l n) r)) in
+    q ∙ (ap (λ (l : List SizedNode). l ++ size ∷ []) e ∙ ap (λ (x : SizedNode). kept_made ++ x ∷ []) (s ∙ ap (λ (l : List SizedNode). typed_sized l n) r)) in
     subst (λ m. AreSized view.quotes view.terms m kept kept') (sym p)
     (subst (λ k. AreSized view.quotes view.terms (view.typed ++ n ∷ []) kept k) (sym all)
     (sized-typed view.quotes view.terms view.typed kept kept_made n h))
@@ -355,8 +355,8 @@ sized-typed-by view kept kept_made read reserved made' kept' n size h p r s e q 
 pub sized-term-by : (view now : Held) → view ≡ now → (kept kept_made read_made read reserved : List SizedNode) (terms' : List nodes.Term) (kept' : List SizedNode) (n : nodes.Term) (size : SizedNode) → AreSized view.quotes view.terms view.typed kept kept_made → NamesTyped (length now.typed) n → terms' ≡ view.terms ++ n ∷ [] → read_made ≡ kept_made → read ≡ kept → size ≡ term_sized read_made read n → reserved ≡ kept → kept' ≡ reserved ++ size ∷ [] → AreSized view.quotes terms' view.typed kept' kept_made
 sized-term-by view now same kept kept_made read_made read reserved terms' kept' n size h names p m r s e q =
     let all : kept' ≡ kept ++ term_sized kept_made kept n ∷ [] =
-      q ∙ (ap (λ (l : List SizedNode). l ++ size ∷ []) e ∙
-      ap (λ (x : SizedNode). kept ++ x ∷ []) (s ∙ (ap (λ (l : List SizedNode). term_sized l read n) m ∙ ap (λ (l : List SizedNode). term_sized kept_made l n) r))) in
+    q ∙ (ap (λ (l : List SizedNode). l ++ size ∷ []) e ∙
+    ap (λ (x : SizedNode). kept ++ x ∷ []) (s ∙ (ap (λ (l : List SizedNode). term_sized l read n) m ∙ ap (λ (l : List SizedNode). term_sized kept_made l n) r))) in
     let there : NamesTyped (length view.typed) n = subst (λ (v : Held). NamesTyped (length v.typed) n) (sym same) names in
     subst (λ t. AreSized view.quotes t view.typed kept' kept_made) (sym p)
     (subst (λ k. AreSized view.quotes (view.terms ++ n ∷ []) view.typed k kept_made) (sym all)

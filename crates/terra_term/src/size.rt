@@ -55,7 +55,11 @@ impl Size {
     pub(crate) fn of_names(count: usize) -> Size
         ensures { result ≡ capped (names_size count) }
     {
-        let nodes = if count < u32::MAX as usize { count as u32 } else { u32::MAX };
+        let nodes = if count < u32::MAX as usize {
+            count as u32
+        } else {
+            u32::MAX
+        };
         let levels = if count == 0 { 0 } else { 1 };
         Size { nodes, levels }
     }

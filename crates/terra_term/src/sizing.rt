@@ -143,9 +143,8 @@ fn typed_expression_size(before: &[SizedNode], x: &TypedExpression) -> Size
     ensures { result ≡ typed_form before.now x.now }
 {
     match x {
-        TypedExpression::Constant(_) | TypedExpression::Variable(_) | TypedExpression::Global(_) => {
-            Size::leaf()
-        }
+        TypedExpression::Constant(_) | TypedExpression::Variable(_) | TypedExpression::Global(_) =>
+            { Size::leaf() }
         TypedExpression::Operate(operation, list) => {
             let first = callee_size_of(operation);
             first.joined(list_size(before, list.as_slice())).above()

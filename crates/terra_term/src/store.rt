@@ -3,7 +3,6 @@
 ghost use Rattle.std.specs.Prelude.{◌≡◌, ◌≤◌, ◌++◌, ◌∷◌, [], ◌+◌, length, slice_get, IfOk, IfSome, IsOk, OnOk, OnErr};
 ghost use Rattle.std.specs.Option.{option_copied};
 ghost use Rattle.terra_term.specs.Held.{empty, next_symbol, with_symbol, next_function, with_function, state_of, term_in, standing_in, standing_of, with_defined, with_state, begun, finished, refused, next_quote, with_quote, next_constant, with_constant, next_term, with_term, next_typed, with_typed, NamesTyped, QuotesTyped, ended, text_address, room_for, placed_text, with_text, placed_global, with_global, name_of, name_place, with_name};
-
 ghost use Rattle.terra_term.specs.Sizes.{size_of_term, size_of_typed};
 
 use crate::lists::TermList;

@@ -3,7 +3,10 @@ use Rattle.terra_term.proofs.Statics.{end-push}
 use Rattle.terra_term.proofs.store.Store.new_global.Goals as goal
 
 pub invariant_of-self-2 : goal.invariant_of-self-2
-invariant_of-self-2 c = (record {
-  same = rw c.in_ok-push.ensures.items (rw end-push (cc));
-  within = omega (arith, c.in-Some.ensures.within);
-}, c.self.invariant.1)
+invariant_of-self-2 c = (
+  record {
+    same = rw c.in_ok-push.ensures.items (rw end-push (cc));
+    within = omega (arith, c.in-Some.ensures.within);
+  },
+  c.self.invariant.1,
+)
