@@ -1,0 +1,6 @@
+-- What a run of typed terms gives. A reader can stop here.
+pub mod Meaning
+-- What a run has: its variables, where they lie, and how values stand in memory.
+pub mod Running
+pub mod Frames
+pub mod Values
