@@ -1,0 +1,12 @@
+// What the definitions mean together. Each function does nothing, and its clause is a law.
+
+ghost use Rattle.std.specs.Prelude.{◌≡◌, ℕ, List};
+ghost use Rattle.tl_base.specs.declared.ids.FnId.{FnId};
+ghost use Rattle.terra_words.specs.Runs.{Value, Run};
+ghost use Rattle.tac_form.specs.Flow.{Program, TacRun};
+
+/// A function has at most one run on the same arguments at the same count.
+pub fn code_has_one_run()
+    ensures { (p : Program) (statics : List ℕ) (memory n : ℕ) (f : FnId) (arguments : List Value) (r q : Run) →
+        TacRun p statics memory n f arguments r → TacRun p statics memory n f arguments q → q ≡ r }
+{}
