@@ -1,2 +1,7 @@
+pub mod Counts
 mod Examples
+pub mod Larger
+pub mod Leaves
+mod Limits
+pub mod Meant
 mod Rows

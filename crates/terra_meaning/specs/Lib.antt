@@ -4,3 +4,5 @@ pub mod Meaning
 pub mod Running
 pub mod Frames
 pub mod Values
+-- What larger and smaller counts do to it.
+pub mod Laws

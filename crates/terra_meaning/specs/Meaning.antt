@@ -56,51 +56,51 @@ in_block ss = length (declared_in (block_events ss))
 
 -- memory
 
-abbrev read : Call → Place → TypeId → State → Option (List ℕ) → Got Value
-read c at of s None = fault BadAddress at s
-read c at of s (Some bs) = Gives (decoded c.store.types of bs) s
+abbrev pub read : List TypeForm → Place → TypeId → State → Option (List ℕ) → Got Value
+read types at of s None = fault BadAddress at s
+read types at of s (Some bs) = Gives (decoded types of bs) s
 
 -- the value of a type at an address
-abbrev loaded : Call → Place → TypeId → ℕ → State → Got Value
-loaded c at of a s = read c at of s (range_of s.region a (bytes_at c.store.types of))
+abbrev pub loaded : List TypeForm → Place → TypeId → ℕ → State → Got Value
+loaded types at of a s = read types at of s (range_of s.region a (bytes_at types of))
 
-abbrev written : Place → State → Option regions.Contents → Got Value
+abbrev pub written : Place → State → Option regions.Contents → Got Value
 written at s None = fault BadAddress at s
 written at s (Some r) = Gives (word 0) (record s { region = r })
 
 -- a value of a type is stored at an address
-abbrev stored : Call → Place → TypeId → ℕ → Value → State → Got Value
-stored c at of a v s = written at s (put_bytes s.region a (encoded c.store.types of v))
+abbrev pub stored : List TypeForm → Place → TypeId → ℕ → Value → State → Got Value
+stored types at of a v s = written at s (put_bytes s.region a (encoded types of v))
 
 -- what is asked of an expression: its value, or the address of the place that it is
 pub data Wanted : Type 0 where
   the_value the_address : Wanted
 
 -- a place was reached by its address
-abbrev reached : Call → Wanted → Place → TypeId → ℕ → State → Got Value
-reached c the_value at of a s = loaded c at of a s
-reached c the_address at of a s = Gives (word a) s
+abbrev pub reached : List TypeForm → Wanted → Place → TypeId → ℕ → State → Got Value
+reached types the_value at of a s = loaded types at of a s
+reached types the_address at of a s = Gives (word a) s
 
-abbrev variable : Call → Wanted → Place → TypeId → Option Held → State → Got Value
-variable c want at of None s = stuck s
-variable c want at of (Some (held v)) s = Gives (word v) s
-variable c want at of (Some (lies a)) s = reached c want at of a s
+abbrev pub variable : List TypeForm → Wanted → Place → TypeId → Option Held → State → Got Value
+variable types want at of None s = stuck s
+variable types want at of (Some (held v)) s = Gives (word v) s
+variable types want at of (Some (lies a)) s = reached types want at of a s
 
 -- operations
 
-abbrev position_of : FnId → List FnId → ℕ → ℕ
+abbrev pub position_of : FnId → List FnId → ℕ → ℕ
 position_of f [] n = 0
 position_of f (g ∷ gs) n = if nat_eq f.0 g.0 then n else position_of f gs (suc n)
 
 -- a function as a value is its position among the entries, from 1
-abbrev constant : Call → Constant → ℕ
-constant c (constants.Number bits) = bits
-constant c (constants.Truth b) = flag b
-constant c constants.Nil = 0
-constant c (constants.Static address) = address
-constant c (constants.FnValue f) = position_of f c.entries 1
+abbrev pub constant : (entries : List FnId) → Constant → ℕ
+constant entries (constants.Number bits) = bits
+constant entries (constants.Truth b) = flag b
+constant entries constants.Nil = 0
+constant entries (constants.Static address) = address
+constant entries (constants.FnValue f) = position_of f entries 1
 
-abbrev binary : Place → Width → BinaryOperator → ℕ → ℕ → State → Got Value
+abbrev pub binary : Place → Width → BinaryOperator → ℕ → ℕ → State → Got Value
 binary at w op x y s =
     if divides op && nat_eq y 0 then fault DivZero at s else Gives (word (applied w op x y)) s
 
@@ -108,74 +108,74 @@ binary at w op x y s =
 abbrev pub converted : List TypeForm → TypeId → ℕ → ℕ
 converted types to x = if nat_eq to.0 boolean.0 then flag (nat_lt 0 x) else wrapped (width_of types to) x
 
-abbrev negation : List TypeForm → TypeId → ℕ → ℕ
+abbrev pub negation : List TypeForm → TypeId → ℕ → ℕ
 negation types of x = if nat_eq of.0 boolean.0 then 1 - x else complemented (width_of types of) x
 
-abbrev printed : State → List ℕ → Got Value
+abbrev pub printed : State → List ℕ → Got Value
 printed s bs = Gives (word 0) (record s { out = s.out ++ bs })
 
-abbrev print_range : Place → State → Option (List ℕ) → Got Value
+abbrev pub print_range : Place → State → Option (List ℕ) → Got Value
 print_range at s None = fault BadAddress at s
 print_range at s (Some bs) = printed s bs
 
-abbrev allocated : State → ℕ × regions.Contents → Got Value
+abbrev pub allocated : State → ℕ × regions.Contents → Got Value
 allocated s p = Gives (word p.0) (record s { region = p.1 })
 
-abbrev primitive : Place → Primitive → List Value → State → Got Value
+abbrev pub primitive : Place → Primitive → List Value → State → Got Value
 primitive at PutByte vs s = printed s (number (value_at vs 0) % 256 ∷ [])
 primitive at Write vs s =
     let count = number (value_at vs 1) in
-    if is_negative count then fault BadAddress at s else print_range at s (range_of s.region (number
-        (value_at vs 0)) count)
+    if is_negative count then fault BadAddress at s
+    else print_range at s (range_of s.region (number (value_at vs 0)) count)
 primitive at Alloc vs s = allocated s (alloc_of s.region (signed (number (value_at vs 0))))
 
 -- the bytes of a struct: its entries at their offsets, and zeros
-abbrev constructed : Call → List ℕ → List ℕ → List TypeId → List Value → List ℕ
-constructed c all (offset ∷ offsets) (t ∷ ts) (v ∷ vs) =
-    constructed c (overwritten all offset (encoded c.store.types t v)) offsets ts vs
-constructed c all _ _ _ = all
+abbrev pub constructed : List TypeForm → List ℕ → List ℕ → List TypeId → List Value → List ℕ
+constructed types all (offset ∷ offsets) (t ∷ ts) (v ∷ vs) =
+    constructed types (overwritten all offset (encoded types t v)) offsets ts vs
+constructed types all _ _ _ = all
 
-abbrev same_types : List TypeId → List TypedName → Bool
+abbrev pub same_types : List TypeId → List TypedName → Bool
 same_types [] [] = true
 same_types (t ∷ ts) (x ∷ xs) = nat_eq t.0 x.of.0 && same_types ts xs
 same_types _ _ = false
 
-abbrev has_type : TypeForm → Option Callable → Bool
+abbrev pub has_type : TypeForm → Option Callable → Bool
 has_type (forms.Function params result) (Some k) =
     same_types params k.body.parameters && nat_eq result.0 k.body.result.0
 has_type _ _ = false
 
-abbrev called_value : Call → Place → TypeForm → Option FnId → List Value → State → Got Value
+abbrev pub called_value : Call → Place → TypeForm → Option FnId → List Value → State → Got Value
 called_value c at of None vs s = fault BadCall at s
-called_value c at of (Some f) vs s = if has_type of
-    (callable_of c.store f) then c.call f vs at s else fault BadCall at s
+called_value c at of (Some f) vs s =
+    if has_type of (callable_of c.store f) then c.call f vs at s else fault BadCall at s
 
-abbrev entry : List FnId → ℕ → Option FnId
+abbrev pub entry : List FnId → ℕ → Option FnId
 entry fs zero = None
 entry fs (suc i) = slice_get fs i
 
-abbrev behind : List Value → List Value
+abbrev pub behind : List Value → List Value
 behind [] = []
 behind (v ∷ vs) = vs
 
-abbrev type_at : List TypeId → ℕ → TypeId
+abbrev pub type_at : List TypeId → ℕ → TypeId
 type_at ts i = unwrap_or (slice_get ts i) unit
 
 -- a distance in bytes, in elements of a size
-abbrev in_elements : (apart size : ℕ) → State → Got Value
+abbrev pub in_elements : (apart size : ℕ) → State → Got Value
 in_elements apart zero s = stuck s
 in_elements apart (suc size) s = Gives (word (applied long_width operators.Divide apart (suc size))) s
 
 -- an operation on operands of these types and values
-abbrev operated : Call → Place → TypeId → Operation → List TypeId → List Value → State → Got Value
-operated c at of operations.Negate ts vs s = Gives (word (negated (width_of c.store.types of) (number
-    (value_at vs 0)))) s
+abbrev pub operated : Call → Place → TypeId → Operation → List TypeId → List Value → State → Got Value
+operated c at of operations.Negate ts vs s =
+    Gives (word (negated (width_of c.store.types of) (number (value_at vs 0)))) s
 operated c at of operations.Not ts vs s = Gives (word (negation c.store.types of (number (value_at vs 0)))) s
 operated c at of (operations.Binary op) ts vs s =
     binary at (width_of c.store.types (type_at ts 0)) op (number (value_at vs 0)) (number (value_at vs 1)) s
 operated c at of operations.StepForward ts vs s =
-    Gives (word (moved (number (value_at vs 0)) (number (value_at vs 1) * bytes_at c.store.types
-        (target_of c.store.types of)))) s
+    let size = bytes_at c.store.types (target_of c.store.types of) in
+    Gives (word (moved (number (value_at vs 0)) (number (value_at vs 1) * size))) s
 operated c at of operations.StepBack ts vs s =
     let size = bytes_at c.store.types (target_of c.store.types of) in
     Gives (word (moved (number (value_at vs 0)) (2 ^ 64 - (number (value_at vs 1) * size) % 2 ^ 64))) s
@@ -190,9 +190,9 @@ operated c at of (operations.Primitive p) ts vs s = primitive at p vs s
 operated c at of operations.CallValue ts vs s =
     called_value c at (form_at c.store.types (type_at ts 0)) (entry c.entries (number (value_at vs 0))) (behind vs) s
 operated c at of (operations.Construct offsets) ts vs s =
-    Gives (bytes (constructed c (replicate (bytes_at c.store.types of) 0) offsets ts vs)) s
+    Gives (bytes (constructed c.store.types (replicate (bytes_at c.store.types of) 0) offsets ts vs)) s
 
-abbrev types_of : Expressions → List TypeId
+abbrev pub types_of : Expressions → List TypeId
 types_of no_more = []
 types_of (then_one e es) = type_of e ∷ types_of es
 
@@ -200,44 +200,45 @@ types_of (then_one e es) = type_of e ∷ types_of es
 
 -- the variable of a declaration, with its value or without. An unplaced one without a value is zero, and a placed one
 -- holds the bytes that are there.
-abbrev declared_at : Call → Place → TypedName → Option Value → Home → State → Got Value
+abbrev pub declared_at : Call → Place → TypedName → Option Value → Home → State → Got Value
 declared_at c at x None by_value s = Gives (word 0) (with_variable x.symbol (held 0) s)
 declared_at c at x (Some v) by_value s = Gives (word 0) (with_variable x.symbol (held (number v)) s)
 declared_at c at x None (in_frame offset) s = Gives (word 0) (with_variable x.symbol (lies (c.base + offset)) s)
 declared_at c at x (Some v) (in_frame offset) s =
-    next (stored c at x.of (c.base + offset) v s) (λ _ s'. Gives (word 0) (with_variable x.symbol (lies
-        (c.base + offset)) s'))
+    next (stored c.store.types at x.of (c.base + offset) v s)
+    (λ _ s'. Gives (word 0) (with_variable x.symbol (lies (c.base + offset)) s'))
 
 -- the k-th declaration of the function
-abbrev declared : Call → Place → TypedName → Option Value → ℕ → State → Got Value
+abbrev pub declared : Call → Place → TypedName → Option Value → ℕ → State → Got Value
 declared c at x v k s = declared_at c at x v (home_at c.homes k) s
 
-abbrev first_of : List Value → Option Value
+abbrev pub first_of : List Value → Option Value
 first_of [] = None
 first_of (v ∷ vs) = Some v
 
 -- those from the k-th on
-abbrev declared_all : Call → Place → List TypedName → List Value → ℕ → State → Got Value
+abbrev pub declared_all : Call → Place → List TypedName → List Value → ℕ → State → Got Value
 declared_all c at [] vs k s = Gives (word 0) s
 declared_all c at (x ∷ xs) vs k s =
     next (declared c at x (first_of vs) k s) (λ _ s'. declared_all c at xs (behind vs) (suc k) s')
 
 -- assignments
 
-abbrev held_symbol : Option Held → Bool
+abbrev pub held_symbol : Option Held → Bool
 held_symbol (Some (held v)) = true
 held_symbol _ = false
 
 -- a value goes to a place that was reached by its address, or to a variable that has none
-abbrev assigned : Call → Expression → Value → Value → State → Got Value
-assigned c (typed at of (Variable x)) a v s =
-    if held_symbol (found x s) then Gives (word 0) (with_value x (number v) s) else stored c at of (number a) v s
-assigned c (typed at of form) a v s = stored c at of (number a) v s
+abbrev pub assigned : List TypeForm → Expression → Value → Value → State → Got Value
+assigned types (typed at of (Variable x)) a v s =
+    if held_symbol (found x s) then Gives (word 0) (with_value x (number v) s) else stored types at of (number a) v s
+assigned types (typed at of form) a v s = stored types at of (number a) v s
 
-abbrev assigned_all : Call → Expressions → List Value → List Value → State → Got Value
-assigned_all c no_more places vs s = Gives (word 0) s
-assigned_all c (then_one e es) places vs s =
-    next (assigned c e (value_at places 0) (value_at vs 0) s) (λ _ s'. assigned_all c es (behind places) (behind vs) s')
+abbrev pub assigned_all : List TypeForm → Expressions → List Value → List Value → State → Got Value
+assigned_all types no_more places vs s = Gives (word 0) s
+assigned_all types (then_one e es) places vs s =
+    next (assigned types e (value_at places 0) (value_at vs 0) s)
+    (λ _ s'. assigned_all types es (behind places) (behind vs) s')
 
 -- statements
 
@@ -250,38 +251,38 @@ pub data Way : Type 0 where
 abbrev pub going : Got Value → Got Way
 going got = next got (λ _ s. Gives goes_on s)
 
-abbrev along : Way → State → (State → Got Way) → Got Way
+abbrev pub along : Way → State → (State → Got Way) → Got Way
 along goes_on s go = go s
 along breaks s go = Gives breaks s
 along (gives_back v) s go = Gives (gives_back v) s
 
-abbrev turned : Way → State → (State → Got Way) → Got Way
+abbrev pub turned : Way → State → (State → Got Way) → Got Way
 turned goes_on s go = counted s go
 turned breaks s go = Gives goes_on s
 turned (gives_back v) s go = Gives (gives_back v) s
 
 -- a loop: rounds until one breaks or gives back; one that goes on counts
-abbrev rounds : ℕ → (State → Got Way) → State → Got Way
+abbrev pub rounds : ℕ → (State → Got Way) → State → Got Way
 rounds zero round s = need_more s
 rounds (suc n) round s = next (round s) (λ way s'. turned way s' (rounds n round))
 
 -- whether a `for` goes on to a value: below its limit for a step above zero, above it for one below zero
-abbrev runs : Width → (i limit step : ℕ) → Bool
+abbrev pub runs : Width → (i limit step : ℕ) → Bool
 runs w i limit zero = false
 runs w i limit (suc step) = if w.signed && is_negative (suc step) then is_less w limit i else is_less w i limit
 
-abbrev for_rounds : ℕ → Width → (limit step : ℕ) → (ℕ → State → Got Way) → ℕ → State → Got Way
+abbrev pub for_rounds : ℕ → Width → (limit step : ℕ) → (ℕ → State → Got Way) → ℕ → State → Got Way
 for_rounds zero w limit step round i s = need_more s
 for_rounds (suc n) w limit step round i s =
     if runs w i limit step
     then next (round i s) (λ way s'. turned way s' (for_rounds n w limit step round (wrapped w (i + step))))
     else Gives goes_on s
 
-abbrev step_of : List Value → ℕ
+abbrev pub step_of : List Value → ℕ
 step_of [] = 1
 step_of (v ∷ vs) = number v
 
-abbrev counted_for : Call → Width → (ℕ → State → Got Way) → List Value → State → Got Way
+abbrev pub counted_for : Call → Width → (ℕ → State → Got Way) → List Value → State → Got Way
 counted_for c w round vs s =
     for_rounds c.turns w (number (value_at vs 1)) (step_of (behind (behind vs))) round (number (value_at vs 0)) s
 
@@ -289,29 +290,29 @@ counted_for c w round vs s =
 -- function's stand before this part, in the order of evaluation.
 abbrev mutual
   pub meant : Call → Wanted → Expression → (from : ℕ) → State → Got Value
-  meant c want (typed at of (Constant' k)) from s = Gives (word (constant c k)) s
-  meant c want (typed at of (Variable x)) from s = variable c want at of (found x s) s
-  meant c want (typed at of (Global a)) from s = reached c want at of a s
+  meant c want (typed at of (Constant' k)) from s = Gives (word (constant c.entries k)) s
+  meant c want (typed at of (Variable x)) from s = variable c.store.types want at of (found x s) s
+  meant c want (typed at of (Global a)) from s = reached c.store.types want at of a s
   meant c want (typed at of (Operate op es)) from s =
       next (meant_all c the_value es from s) (λ vs s'. operated c at of op (types_of es) vs s')
   meant c want (typed at of (Both a b)) from s =
       next (meant c the_value a from s) (λ v s'. if is_true v then meant c the_value b
-          (from + in_expression a) s' else Gives v s')
+      (from + in_expression a) s' else Gives v s')
   meant c want (typed at of (Either a b)) from s =
       next (meant c the_value a from s) (λ v s'. if is_true v then Gives v s' else meant c the_value b
-          (from + in_expression a) s')
+      (from + in_expression a) s')
   meant c want (typed at of (Dereference p)) from s =
-      next (meant c the_value p from s) (λ v s'. reached c want at of (number v) s')
+      next (meant c the_value p from s) (λ v s'. reached c.store.types want at of (number v) s')
   meant c want (typed at of (Select offset e)) from s =
-      next (meant c the_address e from s) (λ v s'. reached c want at of (moved (number v) offset) s')
+      next (meant c the_address e from s) (λ v s'. reached c.store.types want at of (moved (number v) offset) s')
   meant c want (typed at of (Follow offset p)) from s =
-      next (meant c the_value p from s) (λ v s'. reached c want at of (moved (number v) offset) s')
+      next (meant c the_value p from s) (λ v s'. reached c.store.types want at of (moved (number v) offset) s')
   meant c want (typed at of (Element a i)) from s =
       next (meant c the_address a from s) (λ v s'. next (meant c the_value i (from + in_expression a) s')
-      (λ n s''. reached c want at of (moved (number v) (number n * bytes_at c.store.types of)) s''))
+      (λ n s''. reached c.store.types want at of (moved (number v) (number n * bytes_at c.store.types of)) s''))
   meant c want (typed at of (Index p i)) from s =
       next (meant c the_value p from s) (λ v s'. next (meant c the_value i (from + in_expression p) s')
-      (λ n s''. reached c want at of (moved (number v) (number n * bytes_at c.store.types of)) s''))
+      (λ n s''. reached c.store.types want at of (moved (number v) (number n * bytes_at c.store.types of)) s''))
   meant c want (typed at of (Address e)) from s = meant c the_address e from s
   meant c want (typed at of (Decay a)) from s = meant c the_address a from s
   meant c want (typed at of (Let block e)) from s =
@@ -321,16 +322,16 @@ abbrev mutual
   meant_all c want no_more from s = Gives [] s
   meant_all c want (then_one e es) from s =
       next (meant c want e from s) (λ v s'. next (meant_all c want es (from + in_expression e) s') (λ vs s''. Gives
-          (v ∷ vs) s''))
+      (v ∷ vs) s''))
 
   pub done_one : Call → Statement → (from : ℕ) → State → Got Way
   done_one c (statement at (Var names values)) from s =
       next (meant_all c the_value values from s) (λ vs s'. going (declared_all c at names vs
-          (from + in_list values) s'))
+      (from + in_list values) s'))
   done_one c (statement at (Assign targets values)) from s =
       next (meant_all c the_value values from s) (λ vs s'. next (meant_all c the_address targets
-          (from + in_list values) s')
-      (λ places s''. going (assigned_all c targets places vs s'')))
+      (from + in_list values) s')
+      (λ places s''. going (assigned_all c.store.types targets places vs s'')))
   done_one c (statement at (If test then_block)) from s =
       next (meant c the_value test from s) (λ v s'. if is_true v
       then scoped s' (done_all c then_block (from + in_expression test) s') else Gives goes_on s')
@@ -344,7 +345,7 @@ abbrev mutual
   done_one c (statement at (Repeat body test)) from s =
       rounds c.turns (λ s1. scoped s1 (next (done_all c body from s1) (λ way s2. along way s2 (λ s3.
       next (meant c the_value test (from + in_block body) s3) (λ v s4. Gives
-          (if is_true v then breaks else goes_on) s4))))) s
+      (if is_true v then breaks else goes_on) s4))))) s
   done_one c (statement at (For x bounds body)) from s =
       next (meant_all c the_value bounds from s) (λ vs s'. counted_for c (width_of c.store.types x.of)
       (λ i s1. scoped s1 (next (declared c at x (Some (word i)) (from + in_list bounds) s1)
@@ -363,27 +364,28 @@ abbrev mutual
 -- functions
 
 -- a body that ends gives nothing, which is a fault where a result is due
-abbrev given_back : Callable → Way → State → Got Value
+abbrev pub given_back : Callable → Way → State → Got Value
 given_back k (gives_back v) s = Gives v s
 given_back k _ s = if nat_eq k.body.result.0 unit.0 then Gives (word 0) s else fault NoReturn k.at s
 
 -- a body, with its parameters, whose frame lies at the call's base
-abbrev body_run : Call → Callable → List Value → State → Got Value
+abbrev pub body_run : Call → Callable → List Value → State → Got Value
 body_run c k arguments s =
     next (declared_all c k.at k.body.parameters arguments 0 (record s { variables = [] }))
     (λ _ s'. next (done_all c k.body.body (length k.body.parameters) s') (given_back k))
 
-abbrev kept : List running.Variable → Got Value → Got Value
+abbrev pub kept : List running.Variable → Got Value → Got Value
 kept variables (Gives v s) = Gives v (record s { variables = variables })
 kept variables (Ends r) = Ends r
 
 -- a call of a function gives this to its caller, whose variables are there again
-abbrev Calls : Type 0
+abbrev pub Calls : Type 0
 Calls = (top : ℕ) → FnId → List Value → Place → State → Got Value
 
 -- A function begins with so many callers, whose frames end at `top`: depth is tested, then the data stack. Its frame
 -- lies directly below.
-abbrev entered : Contents → List FnId → Calls → (turns depth top : ℕ) → Place → Option Callable → List Value → State →
+abbrev pub entered : Contents → List FnId → Calls → (turns depth top : ℕ) → Place → Option Callable → List Value →
+    State →
     Got Value
 entered store entries calls turns depth top at None arguments s = stuck s
 entered store entries calls turns depth top at (Some k) arguments s =
@@ -405,14 +407,14 @@ apply store entries zero depth top f arguments at s = need_more s
 apply store entries (suc n) depth top f arguments at s =
     entered store entries
     (λ base g vs place s'. counted s' (λ s''. kept s'.variables (apply store entries n
-        (suc depth) base g vs place s'')))
+    (suc depth) base g vs place s'')))
     (suc n) depth top at (callable_of store f) arguments s
 
-abbrev run_of : Got Value → Run
+abbrev pub run_of : Got Value → Run
 run_of (Gives v s) = Over (Returned v) s.out
 run_of (Ends r) = r
 
-abbrev place_in : Option Callable → Place
+abbrev pub place_in : Option Callable → Place
 place_in None = record { line = 0; word = 0 }
 place_in (Some k) = k.at
 

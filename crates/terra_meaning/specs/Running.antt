@@ -43,7 +43,7 @@ stuck s = Ends (Over Stuck s.out)
 abbrev pub need_more : {A : Type 0} → State → Got A
 need_more s = Ends (More s.out)
 
-abbrev counted_from : {A : Type 0} → ℕ → State → (State → Got A) → Got A
+abbrev pub counted_from : {A : Type 0} → ℕ → State → (State → Got A) → Got A
 counted_from zero s go = need_more s
 counted_from (suc left) s go = go (record s { left = left })
 
@@ -63,14 +63,14 @@ abbrev pub with_variable : SymId → Held → State → State
 with_variable x is s = record s { variables = record { symbol = x; is = is } ∷ s.variables }
 
 -- the nearest variable of a symbol
-abbrev find : SymId → List Variable → Option Held
+abbrev pub find : SymId → List Variable → Option Held
 find x [] = None
 find x (v ∷ vs) = if nat_eq x.0 v.symbol.0 then Some v.is else find x vs
 
 abbrev pub found : SymId → State → Option Held
 found x s = find x s.variables
 
-abbrev set : SymId → Held → List Variable → List Variable
+abbrev pub set : SymId → Held → List Variable → List Variable
 set x is [] = []
 set x is (v ∷ vs) = if nat_eq x.0 v.symbol.0 then record v { is = is } ∷ vs else v ∷ set x is vs
 

@@ -4,3 +4,7 @@
 //! that are values or addresses, and with a count that bounds calls and turns of loops. Lowering to three-address code keeps this
 //! meaning. `proofs/Examples.antt` and `proofs/Rows.antt` have small functions with their runs, computed by the checker.
 #![tactic(auto)]
+
+pub mod laws;
+
+pub use laws::{larger_counts_extend_runs, runs_need_one_count};

@@ -1,0 +1,21 @@
+// What the definitions mean together. Each function does nothing, and its clause is a law.
+
+ghost use Rattle.std.specs.Prelude.{◌≡◌, ◌≤◌, ℕ, List, false};
+ghost use Rattle.tl_base.specs.declared.ids.FnId.{FnId};
+ghost use Rattle.terra_words.specs.Runs.{Value, Extends};
+ghost use Rattle.terra_term.specs.Stores.{Contents};
+ghost use Rattle.terra_meaning.specs.Meaning.{meaning};
+ghost use Rattle.terra_meaning.specs.Laws.{Need, needs_more};
+
+/// A larger count changes no end, and takes back no output.
+pub fn larger_counts_extend_runs()
+    ensures { (store : Contents) (entries : List FnId) (memory : ℕ) (f : FnId) (arguments : List Value) (n m : ℕ) → n ≤ m →
+        Extends (meaning store entries memory n f arguments) (meaning store entries memory m f arguments) }
+{}
+
+/// A run that is over at some count needs one count: at each smaller one it needs more, and at each larger one it is the same.
+pub fn runs_need_one_count()
+    ensures { (store : Contents) (entries : List FnId) (memory : ℕ) (f : FnId) (arguments : List Value) (n : ℕ) →
+        needs_more (meaning store entries memory n f arguments) ≡ false →
+        (count : ℕ) × (count ≤ n) × Need (λ m. meaning store entries memory m f arguments) count }
+{}
