@@ -26,22 +26,22 @@ abbrev constant_events : Place → Constant → List Event
 constant_events at (constants.FnValue f) = Mentions at f ∷ []
 constant_events at _ = []
 
-abbrev operation_events : Place → Operation → List Event
+abbrev pub operation_events : Place → Operation → List Event
 operation_events at (operations.Call f) = Mentions at f ∷ []
 operation_events at _ = []
 
-abbrev takes : Expression → List Event
+abbrev pub takes : Expression → List Event
 takes (typed at of (Variable x)) = Takes x ∷ []
 takes _ = []
 
-abbrev declares : TypedName → List Event
+abbrev pub declares : TypedName → List Event
 declares name = Declares name.symbol name.of ∷ []
 
-abbrev declares_all : List TypedName → List Event
+abbrev pub declares_all : List TypedName → List Event
 declares_all [] = []
 declares_all (name ∷ names) = declares name ++ declares_all names
 
-abbrev scope : List Event → List Event
+abbrev pub scope : List Event → List Event
 scope events = Opens ∷ events ++ Closes ∷ []
 
 abbrev mutual
