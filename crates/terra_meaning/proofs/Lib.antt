@@ -1,3 +1,4 @@
+pub mod Alike
 pub mod Counts
 mod Examples
 pub mod Larger

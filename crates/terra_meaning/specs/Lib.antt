@@ -4,5 +4,5 @@ pub mod Meaning
 pub mod Running
 pub mod Frames
 pub mod Values
--- What larger and smaller counts do to it.
+-- What it depends on, and what larger and smaller counts do to it.
 pub mod Laws

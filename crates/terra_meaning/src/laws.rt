@@ -5,7 +5,7 @@ ghost use Rattle.tl_base.specs.declared.ids.FnId.{FnId};
 ghost use Rattle.terra_words.specs.Runs.{Value, Extends};
 ghost use Rattle.terra_term.specs.Stores.{Contents};
 ghost use Rattle.terra_meaning.specs.Meaning.{meaning};
-ghost use Rattle.terra_meaning.specs.Laws.{Need, needs_more};
+ghost use Rattle.terra_meaning.specs.Laws.{AreAlike, Need, needs_more};
 
 /// A larger count changes no end, and takes back no output.
 pub fn larger_counts_extend_runs()
@@ -18,4 +18,11 @@ pub fn runs_need_one_count()
     ensures { (store : Contents) (entries : List FnId) (memory : ℕ) (f : FnId) (arguments : List Value) (n : ℕ) →
         needs_more (meaning store entries memory n f arguments) ≡ false →
         (count : ℕ) × (count ≤ n) × Need (λ m. meaning store entries memory m f arguments) count }
+{}
+
+/// A run depends on nothing of a store but its types, its statics, and the places and typed terms of the functions that are
+/// reached.
+pub fn runs_depend_on_what_is_reached()
+    ensures { (a b : Contents) (entries : List FnId) (memory n : ℕ) (f : FnId) (arguments : List Value) → AreAlike entries f a b →
+        meaning a entries memory n f arguments ≡ meaning b entries memory n f arguments }
 {}
