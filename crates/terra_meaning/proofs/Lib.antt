@@ -5,4 +5,5 @@ pub mod Larger
 pub mod Leaves
 mod Limits
 pub mod Meant
+mod Operators
 mod Rows
