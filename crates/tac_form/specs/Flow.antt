@@ -1,7 +1,6 @@
 -- What three-address code does, in small steps, with the same count as the meaning of typed terms. Code that lowering
 -- doesn't give is stuck: where it divides by zero without a test, reads bytes of an area that hold nothing yet,
--- passes what
--- isn't taken so, or goes to what isn't there.
+-- passes what isn't taken so, or goes to what isn't there.
 use Rattle.std.specs.Prelude.{◌≡◌, ℕ, zero, suc, ◌+◌, ◌-◌, ◌%◌, Bool, true, false, ◌&&◌, nat_eq, nat_le, nat_lt, if◌then◌else◌, List, [], ◌∷◌, ◌++◌, length, replicate, Option, Some, None, slice_get, unwrap_or}
 use Rattle.tl_base.specs.declared.place.Place.{Place}
 use Rattle.tl_base.specs.declared.ids.FnId.{FnId}

@@ -8,7 +8,7 @@
 pub mod laws;
 pub mod tac;
 
-pub use laws::code_has_one_run;
+pub use laws::{code_has_one_run, code_steps_add_up};
 pub use tac::{
     Address, Block, BlockList, Destination, DestinationList, Edge, Exit, Instruction,
     InstructionList, Operand, OperandList, Part, PartList, Signature, SizeList, Spot, Tac, TypeIds,

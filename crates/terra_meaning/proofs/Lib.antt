@@ -7,3 +7,5 @@ mod Limits
 pub mod Meant
 mod Operators
 mod Rows
+pub mod Scopes
+pub mod Scoping

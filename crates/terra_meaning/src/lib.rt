@@ -7,4 +7,7 @@
 
 pub mod laws;
 
-pub use laws::{larger_counts_extend_runs, runs_depend_on_what_is_reached, runs_need_one_count};
+pub use laws::{
+    larger_counts_extend_runs, runs_depend_on_what_is_reached, runs_need_one_count,
+    scopes_keep_variables,
+};
