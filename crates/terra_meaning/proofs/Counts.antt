@@ -14,7 +14,8 @@ more-before (Over e out) q h k = absurd (grind (arith, h, k))
 abbrev Least : (ℕ → Run) → ℕ → Type 0
 Least runs n = (count : ℕ) × (count ≤ n) × Need runs count
 
-at-last : (runs : ℕ → Run) → ((n m : ℕ) → n ≤ m → Extends (runs n) (runs m)) → (n : ℕ) → needs_more (runs (suc n)) ≡ false →
+at-last : (runs : ℕ → Run) → ((n m : ℕ) → n ≤ m → Extends (runs n) (runs m)) → (n : ℕ) → needs_more (runs
+    (suc n)) ≡ false →
     (needs_more (runs n) ≡ false → Least runs n) → (b : Bool) → needs_more (runs n) ≡ b → Least runs (suc n)
 at-last runs extend n k before false p =
     let found : Least runs n = before p in

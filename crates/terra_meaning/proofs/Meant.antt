@@ -280,9 +280,11 @@ mutual
 
 longer-given-back : (d : ℕ) (k : Callable) (way : Way) → Longer d (given_back k way) (given_back k way)
 longer-given-back d k (gives_back v) = longer-gives d v
-longer-given-back d k goes_on = longer-if d (nat_eq k.body.result.0 unit.0) (λ s. Gives (word 0) s) (λ s. Gives (word 0) s)
+longer-given-back d k goes_on = longer-if d (nat_eq k.body.result.0 unit.0) (λ s. Gives (word 0) s) (λ s. Gives
+    (word 0) s)
     (λ s. fault NoReturn k.at s) (λ s. fault NoReturn k.at s) (longer-gives d (word 0)) (longer-fault d NoReturn k.at)
-longer-given-back d k breaks = longer-if d (nat_eq k.body.result.0 unit.0) (λ s. Gives (word 0) s) (λ s. Gives (word 0) s)
+longer-given-back d k breaks = longer-if d (nat_eq k.body.result.0 unit.0) (λ s. Gives (word 0) s) (λ s. Gives
+    (word 0) s)
     (λ s. fault NoReturn k.at s) (λ s. fault NoReturn k.at s) (longer-gives d (word 0)) (longer-fault d NoReturn k.at)
 
 -- a part that begins without variables
@@ -300,13 +302,15 @@ longer-body d c h k vs =
     (λ s. declared_all (after d c h) k.at k.body.parameters vs 0 (record s { variables = [] }))
     (λ _ s'. next (done_all c k.body.body (length k.body.parameters) s') (given_back k))
     (λ _ s'. next (done_all (after d c h) k.body.body (length k.body.parameters) s') (given_back k))
-    (longer-cleared d (declared_all c k.at k.body.parameters vs 0) (declared_all (after d c h) k.at k.body.parameters vs 0)
+    (longer-cleared d (declared_all c k.at k.body.parameters vs 0) (declared_all
+    (after d c h) k.at k.body.parameters vs 0)
     (longer-declared-all d c h.call h.turns k.at k.body.parameters vs 0))
     (λ _. longer-next d (done_all c k.body.body (length k.body.parameters))
     (done_all (after d c h) k.body.body (length k.body.parameters)) (given_back k) (given_back k)
     (longer-block d c h k.body.body (length k.body.parameters)) (longer-given-back d k))
 
-longer-entered : (d : ℕ) (store : Contents) (entries : List FnId) (calls more_calls : Calls) (n m depth top : ℕ) → n ≤ m →
+longer-entered : (d : ℕ) (store : Contents) (entries : List FnId) (calls more_calls : Calls) (n m depth top : ℕ) →
+    n ≤ m →
     ((base : ℕ) (f : FnId) (vs : List Value) (at : Place) → Longer d (calls base f vs at) (more_calls base f vs at)) →
     (at : Place) (o : Option Callable) (vs : List Value) →
     Longer d (entered store entries calls n depth top at o vs) (entered store entries more_calls m depth top at o vs)
@@ -326,9 +330,11 @@ longer-entered d store entries calls more_calls n m depth top le h at (Some k) v
     (λ s. if nat_lt top (heap_limit s.region + size) then fault StackFull at s else body_run c k vs s)
     (λ s. if nat_lt top (heap_limit s.region + size) then fault StackFull at s else body_run (after d c a) k vs s)
     (longer-fault d CallDepth at)
-    (longer-by d (λ s. nat_lt top (heap_limit s.region + size)) (λ b s. if b then fault StackFull at s else body_run c k vs s)
+    (longer-by d (λ s. nat_lt top (heap_limit s.region + size))
+    (λ b s. if b then fault StackFull at s else body_run c k vs s)
     (λ b s. if b then fault StackFull at s else body_run (after d c a) k vs s) (λ s. refl)
-    (λ b. longer-if d b (λ s. fault StackFull at s) (λ s. fault StackFull at s) (body_run c k vs) (body_run (after d c a) k vs)
+    (λ b. longer-if d b (λ s. fault StackFull at s) (λ s. fault StackFull at s) (body_run c k vs) (body_run
+    (after d c a) k vs)
     (longer-fault d StackFull at) (longer-body d c a k vs)))
 
 -- a call below so many callers, with a meaning of the functions that it calls
@@ -339,8 +345,10 @@ longer-applied : (d : ℕ) (store : Contents) (entries : List FnId) (n m depth :
     Longer d (apply store entries (suc n) depth top f vs at) (apply store entries (suc m) depth top f vs at)
 longer-applied d store entries n m depth le h top f vs at =
     longer-entered d store entries
-    (λ base g us place s'. counted s' (λ s''. kept s'.variables (apply store entries n (suc depth) base g us place s'')))
-    (λ base g us place s'. counted s' (λ s''. kept s'.variables (apply store entries m (suc depth) base g us place s'')))
+    (λ base g us place s'. counted s' (λ s''. kept s'.variables (apply store entries n
+    (suc depth) base g us place s'')))
+    (λ base g us place s'. counted s' (λ s''. kept s'.variables (apply store entries m
+    (suc depth) base g us place s'')))
     (suc n) (suc m) depth top (omega (arith, le))
     (λ base g us place. longer-call d (apply store entries n (suc depth) base g us place)
     (apply store entries m (suc depth) base g us place) (h base g us place))
@@ -350,7 +358,8 @@ same-apply : (store : Contents) (entries : List FnId) (n depth top : ℕ) (f : F
     Longer 0 (apply store entries n depth top f vs at) (apply store entries n depth top f vs at)
 same-apply store entries zero depth top f vs at = longer-more 0 (λ s. need_more s) (λ s. front-self s.out)
 same-apply store entries (suc n) depth top f vs at =
-    longer-applied 0 store entries n n depth (omega arith) (λ base g us place. same-apply store entries n (suc depth) base g us place)
+    longer-applied 0 store entries n n depth (omega arith) (λ base g us place. same-apply store entries n
+    (suc depth) base g us place)
     top f vs at
 
 pub longer-apply : (d : ℕ) (store : Contents) (entries : List FnId) (n m depth top : ℕ) → n ≤ m →
@@ -381,7 +390,8 @@ larger-count store entries memory f arguments n d =
     ((longer-apply d store entries (suc n) (suc (n + d)) 0 (end_address region) (omega arith) f arguments
     (place_in (callable_of store f))).carries s)
 
-pub larger-counts : (store : Contents) (entries : List FnId) (memory : ℕ) (f : FnId) (arguments : List Value) (n m : ℕ) →
+pub larger-counts : (store : Contents) (entries : List FnId) (memory : ℕ) (f : FnId) (arguments : List Value)
+    (n m : ℕ) →
     n ≤ m → Extends (meaning store entries memory n f arguments) (meaning store entries memory m f arguments)
 larger-counts store entries memory f arguments n m le =
     let e : m ≡ n + (m - n) = omega (arith, le) in

@@ -1,4 +1,5 @@
--- Every operator at every width on operands at the edges, computed, against what C's rules with wrapping give. The numbers are
+-- Every operator at every width on operands at the edges, computed, against what C's rules with wrapping give. The
+-- numbers are
 -- those of bench/operators/table.py, which mixes all results of an operator at a width into one.
 use Rattle.std.specs.Prelude.{◌≡◌, refl, ℕ, ◌+◌, ◌-◌, ◌*◌, ◌%◌, ◌^◌, Bool, true, false, ◌&&◌, nat_eq, if◌then◌else◌, List, [], ◌∷◌, map}
 use Rattle.std.specs.List.{list_all}
