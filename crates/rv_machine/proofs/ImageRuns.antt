@@ -1,12 +1,13 @@
 -- The runs of images, by those of their programs.
-use Rattle.std.proofs.Common.{◌≡◌, ℕ, ◌-◌, List, [], ◌++◌, take, drop, Option, refl, sym, ap, ◌∙◌, subst}
+use Rattle.std.proofs.Common.{◌≡◌, ◌⊎◌, inl, inr, ℕ, ◌-◌, List, [], ◌++◌, length, ◌≤◌, ◌<◌, take, drop, Option, refl, sym, ap, ◌∙◌, subst}
+use Rattle.std.proofs.lemmas.Bool.{cases_order}
 use Rattle.elf_image.specs.declared.image.Image.{Image}
 use Rattle.rv_isa.specs.declared.instr.Instr.{Instr}
 use Rattle.rv_machine.specs.Machine.{State, start_state, loaded_state, run_of}
 use Rattle.rv_machine.specs.Program.{IsProgram}
 use Rattle.rv_machine.specs.Runs.{Agrees, IsBeforeWrite}
 use Rattle.rv_machine.specs.declared.stops.Stop.{Stop}
-use Rattle.rv_machine.specs.ImageRun.{region_bytes, private_bytes, image_start, OneRun, ImageRunsGoOn, ImageRunsStayOver, MachinesRunImages, RanImage, RanImageToWrite, WritesAreFronts}
+use Rattle.rv_machine.specs.ImageRun.{RvRun, region_bytes, private_bytes, image_start, OneEnd, OneRun, ImageRunsGoOn, ImageRunsStayOver, MachinesRunImages, RanImage, RanImageToWrite, WritesAreFronts}
 use Rattle.rv_machine.proofs.Runs.{run_of-add, run_of-over}
 use Rattle.rv_machine.proofs.Reaches.{writes_front, writes_more}
 use Rattle.rv_machine.proofs.Programs.{one_program}
@@ -18,8 +19,9 @@ start_same image heap loaded address arguments same_heap same =
     ∙ ap (λ (s : State). start_state address image.heap arguments s.region s.private) same
 
 pub machine_runs : MachinesRunImages
-machine_runs image program heap loaded address arguments steps decoded same_heap same =
+machine_runs image program heap loaded address arguments steps few decoded same_heap same =
     record {
+      few = few;
       program = program;
       decoded = decoded;
       runs = ap (λ s. run_of program s steps) (sym (start_same image heap loaded address arguments same_heap same));
@@ -35,6 +37,7 @@ pub runs_go_on : ImageRunsGoOn
 runs_go_on image program address arguments first rest middle output decoded h =
     let same : h.program ≡ program = one_program image.text h.program program h.decoded decoded in
     record {
+      few = h.few;
       program = program;
       decoded = decoded;
       runs = run_of-add program (image_start image address arguments) middle output first rest (ap (λ p. run_of p (image_start image address arguments) first) (sym same) ∙ h.runs);
@@ -43,12 +46,24 @@ runs_go_on image program address arguments first rest middle output decoded h =
 pub runs_stay_over : ImageRunsStayOver
 runs_stay_over image address arguments first more ran h over =
     record {
+      few = h.few;
       program = h.program;
       decoded = h.decoded;
       runs = run_of-over h.program (image_start image address arguments) ran first more h.runs over;
     }
 
-module _ (image : Image) (address : ℕ) (arguments : List ℕ) (steps heap : ℕ) (program after_start : List (Option Instr)) (loaded started stopped : State) (decoded : IsProgram image.text program) (same_heap : heap ≡ image.heap) (same_memory : loaded ≡ loaded_state (region_bytes image) (private_bytes image)) (same_program : after_start ≡ program) (same_start : started ≡ start_state address heap arguments loaded.region loaded.private) (before after : Option (List ℕ)) where
+pub one_end : OneEnd
+one_end image address arguments steps more one other e f =
+    elim (cases_order steps more) [
+      | inl same ↦ (same, one_run image address arguments more one other (subst (λ (n : ℕ). RvRun image address arguments n one) same e.runs) f.runs)
+      | inr differ ↦
+          elim differ [
+            | inl fewer ↦ absurd (e.over (f.least steps one fewer e.runs))
+            | inr further ↦ absurd (f.over (e.least more other further f.runs))
+          ]
+    ]
+
+module _ (image : Image) (address : ℕ) (arguments : List ℕ) (steps heap : ℕ) (few : length arguments ≤ 8) (program after_start : List (Option Instr)) (loaded started stopped : State) (decoded : IsProgram image.text program) (same_heap : heap ≡ image.heap) (same_memory : loaded ≡ loaded_state (region_bytes image) (private_bytes image)) (same_program : after_start ≡ program) (same_start : started ≡ start_state address heap arguments loaded.region loaded.private) (before after : Option (List ℕ)) where
   starts : started ≡ image_start image address arguments
   starts = same_start ∙ start_same image heap loaded address arguments same_heap same_memory
 
@@ -62,6 +77,7 @@ module _ (image : Image) (address : ℕ) (arguments : List ℕ) (steps heap : �
         ran = run_of after_start started steps;
         runs =
             record {
+              few = few;
               program = after_start;
               decoded = still;
               runs = ap (λ s. run_of after_start s steps) (sym starts);
@@ -75,6 +91,7 @@ module _ (image : Image) (address : ℕ) (arguments : List ℕ) (steps heap : �
   pub ran_to_write : IsBeforeWrite after_start started steps stopped before after → RanImageToWrite image address arguments steps before after
   ran_to_write h =
       record {
+        few = few;
         program = after_start;
         decoded = still;
         stands = stopped;
@@ -85,7 +102,7 @@ pub writes_are_fronts : WritesAreFronts
 writes_are_fronts image address arguments steps before after h =
     record {
       ran = run_of h.program (image_start image address arguments) steps;
-      runs = record { program = h.program; decoded = h.decoded; runs = refl };
+      runs = record { few = h.few; program = h.program; decoded = h.decoded; runs = refl };
       part = h.writes.output ++ take h.writes.front h.writes.bytes;
       rest = drop h.writes.front h.writes.bytes ++ (run_of h.program h.writes.next (steps - h.writes.done - 1)).output;
       front = writes_front h.program (image_start image address arguments) steps h.stands before after h.writes;

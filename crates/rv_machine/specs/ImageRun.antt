@@ -1,5 +1,5 @@
 -- The run of an image, its laws, and what a call that runs an image does.
-use Rattle.std.specs.Prelude.{◌≡◌, ◌≢◌, ℕ, ◌+◌, ◌-◌, List, [], ◌++◌, length, replicate, Option}
+use Rattle.std.specs.Prelude.{◌≡◌, ◌≢◌, ℕ, ◌+◌, ◌-◌, ◌<◌, ◌≤◌, List, [], ◌++◌, length, replicate, Option}
 use Rattle.elf_image.specs.declared.image.Image.{Image}
 use Rattle.rv_isa.specs.declared.instr.Instr.{Instr}
 use Rattle.rv_machine.specs.declared.stops.Stop.{Stop}
@@ -21,9 +21,10 @@ abbrev pub image_start : Image → (address : ℕ) → (arguments : List ℕ) �
 image_start image address arguments =
     start_state address image.heap arguments (region_bytes image) (private_bytes image)
 
--- The run of an image: at most `steps` steps from its start at an address with arguments. Its value says why it stopped, in which
--- state, and what it wrote to the output until then.
+-- The run of an image: at most `steps` steps from its start at an address with at most eight arguments. Its value says why it
+-- stopped, in which state, and what it wrote to the output until then.
 pub record RvRun (image : Image) (address : ℕ) (arguments : List ℕ) (steps : ℕ) (ran : Ran) : Type 0 where
+  pub few : length arguments ≤ 8
   pub program : List (Option Instr)
   pub decoded : IsProgram image.text program
   pub runs : run_of program (image_start image address arguments) steps ≡ ran
@@ -32,6 +33,7 @@ pub record RvRun (image : Image) (address : ℕ) (arguments : List ℕ) (steps :
 abbrev pub MachinesRunImages : Type 0
 MachinesRunImages =
     (image : Image) (program : List (Option Instr)) (heap : ℕ) (loaded : State) (address : ℕ) (arguments : List ℕ) (steps : ℕ) →
+    length arguments ≤ 8 →
     IsProgram image.text program →
     heap ≡ image.heap →
     loaded ≡ loaded_state (region_bytes image) (private_bytes image) →
@@ -60,6 +62,18 @@ ImageRunsStayOver =
     RvRun image address arguments first ran → ran.stop ≢ Unfinished →
     RvRun image address arguments (first + more) ran
 
+-- The run of the image is over after so many steps, and not after fewer.
+pub record EndsAfter (image : Image) (address : ℕ) (arguments : List ℕ) (steps : ℕ) (ran : Ran) : Type 0 where
+  pub runs : RvRun image address arguments steps ran
+  pub over : ran.stop ≢ Unfinished
+  pub least : (fewer : ℕ) (other : Ran) → fewer < steps → RvRun image address arguments fewer other → other.stop ≡ Unfinished
+
+-- a run ends after one number of steps, and in one way
+abbrev pub OneEnd : Type 0
+OneEnd =
+    (image : Image) (address : ℕ) (arguments : List ℕ) (steps more : ℕ) (one other : Ran) →
+    EndsAfter image address arguments steps one → EndsAfter image address arguments more other → (steps ≡ more) × (one ≡ other)
+
 -- The call stopped where the run of the image does, and the sink took the run's output: where that has no byte, it stays the same.
 pub record RanImage (image : Image) (address : ℕ) (arguments : List ℕ) (steps : ℕ) (stop : Stop) (before after : Option (List ℕ)) (Same : Type 0) : Type 0 where
   pub ran : Ran
@@ -71,6 +85,7 @@ pub record RanImage (image : Image) (address : ℕ) (arguments : List ℕ) (step
 -- The call came, in fewer than its steps, to an instruction of the image that writes. The sink took the output up to there and a
 -- front of that instruction's bytes, and not all of them.
 pub record RanImageToWrite (image : Image) (address : ℕ) (arguments : List ℕ) (steps : ℕ) (before after : Option (List ℕ)) : Type 0 where
+  pub few : length arguments ≤ 8
   pub program : List (Option Instr)
   pub decoded : IsProgram image.text program
   pub stands : State

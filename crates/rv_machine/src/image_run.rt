@@ -3,7 +3,7 @@
 ghost use Rattle.std.specs.Prelude.{◌≡◌, ◌≢◌, ◌≤◌, length, IfOk, OnErr};
 ghost use Rattle.elf_image.specs.Lawful.{IsLawful};
 ghost use Rattle.rv_machine.specs.declared.stops.Stop.TheVariants.{WriteFault};
-ghost use Rattle.rv_machine.specs.ImageRun.{MachinesRunImages, OneRun, ImageRunsGoOn, ImageRunsStayOver, RanImage, RanImageToWrite, WritesAreFronts};
+ghost use Rattle.rv_machine.specs.ImageRun.{MachinesRunImages, OneEnd, OneRun, ImageRunsGoOn, ImageRunsStayOver, RanImage, RanImageToWrite, WritesAreFronts};
 ghost use Rattle.rv_machine.specs.Steps.{Counted};
 
 use crate::machine::Machine;
@@ -36,12 +36,13 @@ pub fn run_image<K: Sink>(
 }
 
 /// The laws of the runs of images. A machine that an image was loaded into, and that was then started and run, runs as the image
-/// does; an image has one run of so many steps; a run may be made in parts; one that is over stays over; and a sink that stops a run
-/// took a front of what the whole run writes.
+/// does; an image has one run of so many steps; a run may be made in parts; one that is over stays over, and ends after one number of
+/// steps; and a sink that stops a run took a front of what the whole run writes.
 pub fn images_have_runs()
     ensures machines { MachinesRunImages }
     ensures one { OneRun }
     ensures parts { ImageRunsGoOn }
     ensures over { ImageRunsStayOver }
+    ensures ends { OneEnd }
     ensures fronts { WritesAreFronts }
 {}
