@@ -1,9 +1,9 @@
 -- Arguments, word by word.
-use Rattle.std.proofs.Common.{◌≡◌, ℕ, zero, suc, ◌+◌, ◌-◌, ◌<◌, List, [], ◌∷◌, ◌++◌, length, drop, get_or, Some, None, ap, sym, ◌∙◌, arith, add-one}
+use Rattle.std.proofs.Common.{◌≡◌, ℕ, ◌+◌, ◌<◌, List, [], ◌∷◌, ◌++◌, length, drop, get_or, Some, None, ap, sym, ◌∙◌, arith, add-one, length-append}
 use Rattle.std.specs.Borrow.{Bor}
 use Rattle.std.proofs.Math.Seq.{drop-cons, drop-length}
-use Rattle.terrac.specs.Arguments.{Good, Bad, with_argument, then_arguments, argument_of, arguments_of}
 use Rattle.terrac.specs.JobView.{texts_of}
+use Rattle.terrac.specs.Arguments.{Arguments, Good, Bad, with_argument, then_arguments, argument_of, arguments_of}
 use Rattle.terrac.proofs.Numbers.{with_arguments, with_arguments-good, with_arguments-bad, with_arguments-more}
 
 -- the word at an index comes first behind those before it
@@ -11,64 +11,79 @@ pub word_at : (words : List (Bor (List ℕ))) (i : ℕ) (blank : Bor (List ℕ))
     texts_of (drop i words) ≡ (get_or words i blank).now ∷ texts_of (drop (i + 1) words)
 word_at words i blank h = rw add-one (ap texts_of (drop-cons words i blank h))
 
-one_too_many : (left position : ℕ) (word : List ℕ) (texts words : List (List ℕ)) → texts ≡ word ∷ words → left ≡ 0 → arguments_of left position texts ≡ Bad position
-one_too_many zero position word texts words parts none = ap (arguments_of 0 position) parts
-one_too_many (suc left) position word texts words parts none = absurd (omega arith)
+-- and so does the code
+pub code_at : (codes : List ℕ) (i : ℕ) → i < length codes → drop i codes ≡ get_or codes i 0 ∷ drop (i + 1) codes
+code_at codes i h = rw add-one (drop-cons codes i 0 h)
 
-bad_word : (left position : ℕ) (word : List ℕ) (texts words : List (List ℕ)) → texts ≡ word ∷ words → argument_of word ≡ None → 0 < left →
-    arguments_of left position texts ≡ Bad position
-bad_word zero position word texts words parts bad some = absurd (omega arith)
-bad_word (suc left) position word texts words parts bad some =
-    ap (arguments_of (suc left) position) parts ∙ ap (λ value. then_arguments value position (arguments_of left (position + 1) words)) bad
+pub no_code : (codes : List ℕ) (i : ℕ) → i ≡ length codes → drop i codes ≡ []
+no_code codes i over = ap (λ n. drop n codes) over ∙ drop-length codes
 
-good_word : (left position value : ℕ) (word : List ℕ) (texts words : List (List ℕ)) → texts ≡ word ∷ words → argument_of word ≡ Some value → 0 < left →
-    arguments_of left position texts ≡ with_argument value (arguments_of (left - 1) (position + 1) words)
-good_word zero position value word texts words parts good some = absurd (omega arith)
-good_word (suc left) position value word texts words parts good some =
-    let one_less : left ≡ suc left - 1 = omega arith in
-    ap (arguments_of (suc left) position) parts ∙ ap (λ value. then_arguments value position (arguments_of left (position + 1) words)) good
-    ∙ ap (λ n. with_argument value (arguments_of n (position + 1) words)) one_less
+pub no_word : (words : List (Bor (List ℕ))) (i : ℕ) → i ≡ length words → texts_of (drop i words) ≡ []
+no_word words i over = ap texts_of (ap (λ n. drop n words) over ∙ drop-length words)
 
-missing : (left position : ℕ) (texts : List (List ℕ)) → texts ≡ [] → 0 < left → arguments_of left position texts ≡ Bad position
-missing zero position texts none some = absurd (omega arith)
-missing (suc left) position texts none some = ap (arguments_of (suc left) position) none
+-- what the codes and words so far gave, with those that are left
+pub record Begun (values codes : List ℕ) (texts : List (List ℕ)) (whole : Arguments) : Type 0 where
+  pub same : with_arguments values (arguments_of codes (length values + 1) texts) ≡ whole
 
-whole : (left position : ℕ) (texts : List (List ℕ)) → texts ≡ [] → left ≡ 0 → arguments_of left position texts ≡ Good []
-whole zero position texts none over = ap (arguments_of 0 position) none
-whole (suc left) position texts none over = absurd (omega arith)
+module _ (values codes : List ℕ) (texts : List (List ℕ)) (whole : Arguments) (begun : Begun values codes texts whole) where
+  pub too_many : (word : List ℕ) (words : List (List ℕ)) → texts ≡ word ∷ words → codes ≡ [] → Bad (length values + 1) ≡ whole
+  too_many word words parts none =
+      sym (with_arguments-bad values (length values + 1))
+      ∙ sym (ap (λ cs. with_arguments values (arguments_of cs (length values + 1) (word ∷ words))) none)
+      ∙ sym (ap (λ ts. with_arguments values (arguments_of codes (length values + 1) ts)) parts)
+      ∙ begun.same
 
--- what the words up to an index gave
-pub record Begun (arity : ℕ) (words : List (Bor (List ℕ))) (values : List ℕ) (index : ℕ) : Type 0 where
-  pub same : arguments_of arity 1 (texts_of words) ≡ with_arguments values (arguments_of (arity - index) (index + 1) (texts_of (drop index words)))
+  module _ (code : ℕ) (more : List ℕ) (word : List ℕ) (words : List (List ℕ)) (coded : codes ≡ code ∷ more) (parts : texts ≡ word ∷ words) where
+    first : with_arguments values (then_arguments (argument_of code word) (length values + 1) (arguments_of more (length values + 1 + 1) words)) ≡ whole
+    first =
+        sym (ap (λ cs. with_arguments values (arguments_of cs (length values + 1) (word ∷ words))) coded)
+        ∙ sym (ap (λ ts. with_arguments values (arguments_of codes (length values + 1) ts)) parts)
+        ∙ begun.same
 
-module _ (arity : ℕ) (words : List (Bor (List ℕ))) (values : List ℕ) (index : ℕ) (begun : Begun arity words values index) where
-  pub ends_too_many : (blank : Bor (List ℕ)) → index < length words → arity - index ≡ 0 → Bad (index + 1) ≡ arguments_of arity 1 (texts_of words)
-  ends_too_many blank within over =
-      sym (begun.same ∙ ap (with_arguments values) (one_too_many (arity - index) (index + 1) _ _ _ (word_at words index blank within) over) ∙ with_arguments-bad values (index + 1))
+    pub bad_word : argument_of code word ≡ None → Bad (length values + 1) ≡ whole
+    bad_word bad =
+        sym (with_arguments-bad values (length values + 1))
+        ∙ sym (ap (λ o. with_arguments values (then_arguments o (length values + 1) (arguments_of more (length values + 1 + 1) words))) bad)
+        ∙ first
 
-  pub ends_bad : (blank : Bor (List ℕ)) → index < length words → argument_of (get_or words index blank).now ≡ None → 0 < arity - index →
-      Bad (index + 1) ≡ arguments_of arity 1 (texts_of words)
-  ends_bad blank within bad some =
-      sym (begun.same ∙ ap (with_arguments values) (bad_word (arity - index) (index + 1) _ _ _ (word_at words index blank within) bad some) ∙ with_arguments-bad values (index + 1))
+    pub good_word : (value : ℕ) → argument_of code word ≡ Some value → Begun (values ++ value ∷ []) more words whole
+    good_word value good =
+        let longer : length values + 1 + 1 ≡ length (values ++ value ∷ []) + 1 = omega (arith, length-append values (value ∷ [])) in
+        record {
+          same =
+              ap (λ n. with_arguments (values ++ value ∷ []) (arguments_of more n words)) (sym longer)
+              ∙ sym (with_arguments-more values value (arguments_of more (length values + 1 + 1) words))
+              ∙ sym (ap (λ o. with_arguments values (then_arguments o (length values + 1) (arguments_of more (length values + 1 + 1) words))) good)
+              ∙ first;
+        }
 
-  pub goes_on : (blank : Bor (List ℕ)) (value : ℕ) → index < length words → argument_of (get_or words index blank).now ≡ Some value → 0 < arity - index →
-      Begun arity words (values ++ value ∷ []) (index + 1)
-  goes_on blank value within good some = record {
-    same =
-        begun.same
-        ∙ ap (with_arguments values) (good_word (arity - index) (index + 1) value _ _ _ (word_at words index blank within) good some)
-        ∙ with_arguments-more values value _
-        ∙ ap (λ left. with_arguments (values ++ value ∷ []) (arguments_of left (index + 1 + 1) (texts_of (drop (index + 1) words)))) fewer;
-  }
-    where
-      fewer : arity - index - 1 ≡ arity - (index + 1)
-      fewer = omega arith
+  pub missing : (code : ℕ) (more : List ℕ) → codes ≡ code ∷ more → texts ≡ [] → Bad (length values + 1) ≡ whole
+  missing code more coded none =
+      sym (with_arguments-bad values (length values + 1))
+      ∙ sym (ap (λ cs. with_arguments values (arguments_of cs (length values + 1) [])) coded)
+      ∙ sym (ap (λ ts. with_arguments values (arguments_of codes (length values + 1) ts)) none)
+      ∙ begun.same
 
-  none_left : index ≡ length words → texts_of (drop index words) ≡ []
-  none_left over = ap texts_of (ap (λ i. drop i words) over ∙ drop-length words)
+  pub ended : codes ≡ [] → texts ≡ [] → Good values ≡ whole
+  ended uncoded none =
+      sym (with_arguments-good values)
+      ∙ sym (ap (λ cs. with_arguments values (arguments_of cs (length values + 1) [])) uncoded)
+      ∙ sym (ap (λ ts. with_arguments values (arguments_of codes (length values + 1) ts)) none)
+      ∙ begun.same
 
-  pub ends_missing : index ≡ length words → 0 < arity - index → Bad (index + 1) ≡ arguments_of arity 1 (texts_of words)
-  ends_missing over some = sym (begun.same ∙ ap (with_arguments values) (missing (arity - index) (index + 1) _ (none_left over) some) ∙ with_arguments-bad values (index + 1))
+-- the same at an index of both lists
+module _ (codes : List ℕ) (words : List (Bor (List ℕ))) (values : List ℕ) (index position : ℕ) (blank : Bor (List ℕ)) (whole : Arguments)
+    (begun : Begun values (drop index codes) (texts_of (drop index words)) whole) (within : index < length words) where
+  pub too_many_at : index ≡ length codes → Bad (length values + 1) ≡ whole
+  too_many_at over = too_many values (drop index codes) (texts_of (drop index words)) whole begun _ _ (word_at words index blank within) (no_code codes index over)
 
-  pub ends_good : index ≡ length words → arity - index ≡ 0 → Good values ≡ arguments_of arity 1 (texts_of words)
-  ends_good over none = sym (begun.same ∙ ap (with_arguments values) (whole (arity - index) (index + 1) _ (none_left over) none) ∙ with_arguments-good values)
+  module _ (coded : index < length codes) (same : position ≡ index) where
+    argument_at : (o : _) → argument_of (get_or codes position 0) (get_or words index blank).now ≡ o → argument_of (get_or codes index 0) (get_or words index blank).now ≡ o
+    argument_at o is = sym (ap (λ n. argument_of (get_or codes n 0) (get_or words index blank).now) same) ∙ is
+
+    pub bad_at : argument_of (get_or codes position 0) (get_or words index blank).now ≡ None → Bad (length values + 1) ≡ whole
+    bad_at bad = bad_word values (drop index codes) (texts_of (drop index words)) whole begun _ _ _ _ (code_at codes index coded) (word_at words index blank within) (argument_at None bad)
+
+    pub good_at : (value : ℕ) → argument_of (get_or codes position 0) (get_or words index blank).now ≡ Some value →
+        Begun (values ++ value ∷ []) (drop (index + 1) codes) (texts_of (drop (index + 1) words)) whole
+    good_at value good = good_word values (drop index codes) (texts_of (drop index words)) whole begun _ _ _ _ (code_at codes index coded) (word_at words index blank within) value (argument_at (Some value) good)

@@ -1,10 +1,8 @@
--- A buffer that is filled from a source, front by front.
+-- A text that grows by what a source gives.
 use Rattle.std.proofs.Common.{◌≡◌, ℕ, ◌+◌, ◌≤◌, List, [], ◌++◌, length, take, Option, Some, None, refl, sym, ap, ◌∙◌, append_assoc, subst, arith, length-append}
-use Rattle.std.proofs.lemmas.List.{take-append-le, length-take-le}
-use Rattle.std.proofs.Math.Seq.{take-append-add}
-use borrow.Rule.Slice.PartMut.{put_mid, post_of}
 use Rattle.tl_base.specs.Outside.{with_front}
 use Rattle.terrac.specs.Answer.{TookAtMost}
+use Rattle.terrac.specs.Delivery.{Gathered}
 
 -- nothing stood before what is left
 pub with_front-none : (left : Option (List ℕ)) → left ≡ with_front [] left
@@ -16,31 +14,29 @@ pub with_front-both : (a b : List ℕ) (left : Option (List ℕ)) → with_front
 with_front-both a b None = refl
 with_front-both a b (Some bytes) = ap Some (sym (append_assoc a b bytes))
 
--- the first bytes of a buffer are what a source gave so far
-pub record Filled (buffer : List ℕ) (count : ℕ) (old new : Option (List ℕ)) : Type 0 where
-  pub within : count ≤ length buffer
-  pub front : old ≡ with_front (take count buffer) new
+-- a text that is all that was taken from a source so far
+pub record Grown (most : ℕ) (text : List ℕ) (old new : Option (List ℕ)) : Type 0 where
+  pub within : length text ≤ most
+  pub front : old ≡ with_front text new
 
-pub filled_nothing : (buffer : List ℕ) (left : Option (List ℕ)) → Filled buffer 0 left left
-filled_nothing buffer left = record { within = omega arith; front = with_front-none left }
+pub grown_nothing : (most : ℕ) (left : Option (List ℕ)) → Grown most [] left left
+grown_nothing most left = record { within = omega arith; front = with_front-none left }
 
--- the next bytes came into the part behind the first
-pub filled_more : (buffer part : List ℕ) (count size more : ℕ) (old mid new : Option (List ℕ)) →
-    Filled buffer count old mid → more ≤ length part → mid ≡ with_front (take more part) new →
-    Filled (put_mid count size buffer part) (count + more) old new
-filled_more buffer part count size more old mid new filled few front =
-    let post : List ℕ = post_of count size buffer in
-    let long : length (take count buffer) ≡ count = length-take-le count buffer filled.within in
-    let joined : take (count + more) (take count buffer ++ (part ++ post)) ≡ take count buffer ++ take more part =
-    subst (λ (n : ℕ). take (n + more) (take count buffer ++ (part ++ post)) ≡ take count buffer ++ take more part) long
-    (take-append-add (take count buffer) (part ++ post) more ∙ ap (λ back. take count buffer ++ back) (take-append-le more part post few)) in
-    record {
-      within = omega (arith, length-append (take count buffer) (part ++ post), length-append part post, long);
-      front =
-          filled.front ∙ ap (with_front (take count buffer)) front ∙ with_front-both (take count buffer) (take more part) new
-          ∙ ap (λ bytes. with_front bytes new) (sym joined);
-    }
+-- with what one more read gave
+pub grown_more : (most room : ℕ) (text longer : List ℕ) (old mid new : Option (List ℕ)) → Grown most text old mid → length text + room ≤ most →
+    Gathered room text longer mid new → Grown most longer old new
+grown_more most room text longer old mid new grown fits gathered = record {
+  within = omega (arith, fits, gathered.few, ap length gathered.added, length-append text gathered.part);
+  front =
+      grown.front ∙ ap (with_front text) gathered.front ∙ with_front-both text gathered.part new
+      ∙ ap (λ bytes. with_front bytes new) (sym gathered.added);
+}
 
--- what was read so far is no more than the buffer holds
-pub filled_bound : (buffer : List ℕ) (count most : ℕ) (old new : Option (List ℕ)) → Filled buffer count old new → count ≤ most → TookAtMost most old new
-filled_bound buffer count most old new filled few = (take count buffer, omega (arith, length-take-le count buffer filled.within), filled.front)
+-- what was taken before, and what was taken then
+pub grown_bound : (most room : ℕ) (text : List ℕ) (old mid new : Option (List ℕ)) → Grown most text old mid → length text + room ≤ most →
+    TookAtMost room mid new → TookAtMost most old new
+grown_bound most room text old mid new grown fits took =
+    (text ++ took.0, omega (arith, fits, took.1, length-append text took.0), grown.front ∙ ap (with_front text) took.2 ∙ with_front-both text took.0 new)
+
+pub grown_took : (most : ℕ) (text : List ℕ) (old new : Option (List ℕ)) → Grown most text old new → TookAtMost most old new
+grown_took most text old new grown = (text, grown.within, grown.front)

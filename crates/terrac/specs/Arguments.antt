@@ -1,8 +1,9 @@
 -- The arguments of a run.
-use Rattle.std.specs.Prelude.{ℕ, zero, suc, Bool, ◌+◌, ◌-◌, ◌*◌, ◌%◌, ◌^◌, List, [], ◌∷◌, length, drop, Option, Some, None, if◌then◌else◌, ◌&&◌, nat_le, nat_lt}
+use Rattle.std.specs.Prelude.{ℕ, Bool, ◌+◌, ◌-◌, ◌*◌, ◌^◌, List, [], ◌∷◌, length, drop, Option, Some, None, option_and_then, if◌then◌else◌, ◌&&◌, ◌==◌, nat_le, nat_lt, false, codes}
 use Rattle.std.specs.List.{list_all}
 use Rattle.std.specs.Char.{is_ascii_digit}
-use Rattle.terrac.specs.Words.{begins_with_dash}
+use Rattle.std.specs.Str.{bytes_eq}
+use Rattle.elf_image.specs.Calls.{word_above, word_below}
 
 -- the number that begins with this one and goes on with these decimal digits
 abbrev pub digits_onto : ℕ → List ℕ → ℕ
@@ -21,18 +22,28 @@ below_64_bits number = if nat_lt number (2 ^ 64) then Some number else None
 abbrev pub is_number : List ℕ → Bool
 is_number digits = list_all is_ascii_digit digits && (nat_le 1 (length digits) && nat_le (length digits) 20)
 
--- the word of an int64 from 0 up
-abbrev pub from_digits : List ℕ → Option ℕ
-from_digits digits = if is_number digits && nat_lt (number_of digits) (2 ^ 63) then Some (number_of digits) else None
+-- the number of such digits, where it has 64 bits at most
+abbrev pub size_of : List ℕ → Option ℕ
+size_of digits = if is_number digits then below_64_bits (number_of digits) else None
 
--- the word, in two's complement, of an int64 from 0 down
-abbrev pub from_negated_digits : List ℕ → Option ℕ
-from_negated_digits digits =
-    if is_number digits && nat_le (number_of digits) (2 ^ 63) then Some ((2 ^ 64 - number_of digits) % 2 ^ 64) else None
+-- a word that begins with `-`
+abbrev pub begins_with_dash : List ℕ → Bool
+begins_with_dash [] = false
+begins_with_dash (byte ∷ bytes) = byte == 45
 
--- The 64-bit word of an argument: an optional `-` and 1 to 20 decimal digits with a value from -2^63 to 2^63 - 1. None where it is bad.
-abbrev pub argument_of : List ℕ → Option ℕ
-argument_of text = if begins_with_dash text then from_negated_digits (drop 1 text) else from_digits text
+-- `true` or `false`
+abbrev pub bool_word : List ℕ → Option ℕ
+bool_word text = if bytes_eq text (codes "true") then Some 1 else (if bytes_eq text (codes "false") then Some 0 else None)
+
+-- an optional `-` and 1 to 20 decimal digits, with a value in the range of the type of this code
+abbrev pub number_word : ℕ → List ℕ → Option ℕ
+number_word code text =
+    if begins_with_dash text then option_and_then (word_below code) (size_of (drop 1 text))
+    else option_and_then (word_above code) (size_of text)
+
+-- The 64-bit word of an argument for a parameter of the type of this code, whose code for bool is 9. None where it is bad.
+abbrev pub argument_of : ℕ → List ℕ → Option ℕ
+argument_of code text = if code == 9 then bool_word text else number_word code text
 
 -- the arguments as words, or the least position at which a word is bad, missing or one too many
 pub data Arguments : Type 0 where
@@ -47,10 +58,10 @@ abbrev pub then_arguments : Option ℕ → ℕ → Arguments → Arguments
 then_arguments None position others = Bad position
 then_arguments (Some value) position others = with_argument value others
 
--- the arguments for so many parameters, of words that begin at this position
-abbrev pub arguments_of : ℕ → ℕ → List (List ℕ) → Arguments
-arguments_of zero position [] = Good []
-arguments_of zero position (word ∷ words) = Bad position
-arguments_of (suc arity) position [] = Bad position
-arguments_of (suc arity) position (word ∷ words) =
-    then_arguments (argument_of word) position (arguments_of arity (position + 1) words)
+-- the arguments for parameters of the types of these codes, of words that begin at this position
+abbrev pub arguments_of : List ℕ → ℕ → List (List ℕ) → Arguments
+arguments_of [] position [] = Good []
+arguments_of [] position (word ∷ words) = Bad position
+arguments_of (code ∷ codes) position [] = Bad position
+arguments_of (code ∷ codes) position (word ∷ words) =
+    then_arguments (argument_of code word) position (arguments_of codes (position + 1) words)

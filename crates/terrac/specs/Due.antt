@@ -1,5 +1,5 @@
 -- What is due to the caller: the status, and what `out` and `notes` take.
-use Rattle.std.specs.Prelude.{ℕ, ◌-◌, ◌^◌, ◌<◌, ◌≤◌, List, [], ◌∷◌, ◌++◌, length, Option, Some, None, if◌then◌else◌, nat_lt, codes}
+use Rattle.std.specs.Prelude.{ℕ, ◌≡◌, ◌<◌, ◌≤◌, List, [], ◌∷◌, ◌++◌, length, replicate, Option, Some, None, if◌then◌else◌, codes}
 use Rattle.std.specs.Str.{bytes_eq}
 use Rattle.std.specs.Fmt.{decimal}
 use Rattle.std.specs.declared.io.ErrorKind.{ErrorKind}
@@ -10,12 +10,13 @@ use Rattle.tl_lex.specs.declared.SyntaxKind.{SyntaxKind}
 use Rattle.tl_lex.specs.declared.SyntaxKind.TheVariants.{BadByte, OpenText, BadEscape, BadNumber, NameTooLong, TextTooLong, TooDeep, Ambiguous, Unexpected, TooLong, NotUtf8}
 use Rattle.tl_tree.specs.Tree.{Tree}
 use Rattle.tl_tree.specs.Texts.{Reads, Refuses}
+use Rattle.elf_image.specs.Calls.{result_text}
 use Rattle.first_form.specs.Formula.{SourceFunction}
 use Rattle.first_form.specs.Form.{function_of}
 use Rattle.first_meaning.specs.Meaning.{meaning}
 use Rattle.terrac.specs.declared.status.Status.{Status}
 use Rattle.terrac.specs.declared.status.Status.TheVariants as statuses
-use Rattle.terrac.specs.Words.{Job}
+use Rattle.terrac.specs.Words.{Call}
 use Rattle.terrac.specs.Arguments.{Arguments, Good, Bad, arguments_of}
 
 pub record Due : Type 0 where
@@ -31,18 +32,36 @@ line text = text ++ 10 ∷ []
 abbrev pub refused : Status → List ℕ → Due
 refused status text = record { status = status; out = []; notes = line text }
 
--- a 64-bit word as the decimal number that it stands for in two's complement
-abbrev pub signed_text : ℕ → List ℕ
-signed_text value = if nat_lt value (2 ^ 63) then decimal value else 45 ∷ decimal (2 ^ 64 - value)
+-- what is due behind bytes that were written to `out`
+abbrev pub after : List ℕ → Due → Due
+after printed due = record { status = due.status; out = printed ++ due.out; notes = due.notes }
 
--- the line of a result
-abbrev pub due_of_value : ℕ → Due
-due_of_value value = record { status = statuses.Ok; out = line (codes "result " ++ signed_text value); notes = [] }
+-- a place, as line and number of the token on it
+abbrev pub place_text : Place → List ℕ
+place_text place = decimal place.line ++ codes ":" ++ decimal place.word
+
+-- the line of a result, whose type has this code
+abbrev pub due_of_result : ℕ → ℕ → Due
+due_of_result code word = record { status = statuses.Ok; out = line (codes "result " ++ result_text code word); notes = [] }
+
+abbrev pub due_of_bad_argument : ℕ → Due
+due_of_bad_argument position = refused (statuses.BadArgument position) (codes "bad argument " ++ decimal position)
+
+abbrev pub due_of_no_entry : List ℕ → Due
+due_of_no_entry entry = refused statuses.NoEntry (codes "no entry " ++ entry)
+
+-- words that `clap` refuses: a line, and then its own text
+abbrev pub due_of_usage : List ℕ → Due
+due_of_usage text = record { status = statuses.Usage; out = []; notes = line (codes "usage") ++ text }
+
+-- the type code of int64
+abbrev pub int64 : ℕ
+int64 = 4
 
 -- for a function that is called with these arguments
 abbrev pub due_of_arguments : SourceFunction → Arguments → Due
-due_of_arguments function (Bad position) = refused (statuses.BadArgument position) (codes "bad argument " ++ decimal position)
-due_of_arguments function (Good values) = due_of_value (meaning function.body values)
+due_of_arguments function (Bad position) = due_of_bad_argument position
+due_of_arguments function (Good values) = due_of_result int64 (meaning function.body values)
 
 -- ---- how a source reads
 
@@ -94,22 +113,21 @@ kind_name NotUtf8 = codes "NotUtf8"
 -- for a source that is refused
 abbrev pub due_of_syntax : SyntaxKind → Place → Due
 due_of_syntax kind place =
-    refused (statuses.Syntax kind place) (codes "syntax " ++ kind_name kind ++ codes " at " ++ decimal place.line ++ codes ":" ++ decimal place.word)
+    refused (statuses.Syntax kind place) (codes "syntax " ++ kind_name kind ++ codes " at " ++ place_text place)
 
--- for a job on a source that reads so
-abbrev pub due_of_job : Job → Reading → Due
-due_of_job job (IsRefused kind place) = due_of_syntax kind place
-due_of_job job IsOther = refused statuses.NotBuilt (codes "not built")
-due_of_job job (IsFunction function) =
-    if bytes_eq job.entry function.name then due_of_arguments function (arguments_of function.arity 1 job.arguments)
-    else refused statuses.NoEntry (codes "no entry " ++ job.entry)
+-- for a call on a source that reads so
+abbrev pub due_of_call : Call → Reading → Due
+due_of_call call (IsRefused kind place) = due_of_syntax kind place
+due_of_call call IsOther = refused statuses.NotBuilt (codes "not built")
+due_of_call call (IsFunction function) =
+    if bytes_eq call.entry function.name then due_of_arguments function (arguments_of (replicate function.arity int64) 1 call.arguments)
+    else due_of_no_entry call.entry
 
--- for words that name this job, or none
-abbrev pub due_of : Option Job → Reading → Due
-due_of None reading = refused statuses.Usage (codes "usage")
-due_of (Some job) reading = due_of_job job reading
+-- for a call on the bytes of a source
+abbrev pub IsSourceDue : Call → List ℕ → Due → Type 0
+IsSourceDue call bytes due = (reading : Reading) × IsReadAs bytes reading × (due ≡ due_of_call call reading)
 
 -- for words that could not be collected: memory ran out, or a word is no UTF-8, which names nothing
 abbrev pub due_of_unread : ErrorKind → Due
 due_of_unread OutOfMemory = refused statuses.NoMemory (codes "no memory")
-due_of_unread _ = refused statuses.Usage (codes "usage")
+due_of_unread _ = due_of_usage []

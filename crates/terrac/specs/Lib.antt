@@ -1,11 +1,22 @@
-pub mod Code
-pub mod Codes
+-- The promise. A reader can stop here.
+-- the words, and the job that they name
 pub mod Words
+-- the words of arguments
 pub mod Arguments
+-- what is due for `run`, and the lines
 pub mod Due
+-- what is due for `exec`
+pub mod Exec
+-- the numbers of statuses
+pub mod Codes
+-- what is owed and delivered, whatever the source and the sinks do
 pub mod Answer
+-- what is answered where nothing fails
 pub mod Call
+-- Views of the code, which private contracts cite.
 pub mod JobView
 pub mod DueView
-pub mod Delivery
 pub mod FormView
+pub mod Delivery
+pub mod Ending
+pub mod Code

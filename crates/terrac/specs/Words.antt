@@ -1,36 +1,94 @@
--- What the words of a command line ask for.
-use Rattle.std.specs.Prelude.{ℕ, Bool, false, List, [], ◌∷◌, Option, Some, None, option_map, if◌then◌else◌, ◌==◌, codes}
+-- What the words of a command line ask for, by what `clap` says of a simple command: which words it takes, and what it makes of them.
+use Rattle.std.specs.Prelude.{ℕ, ◌≡◌, ◌^◌, Bool, ◌&&◌, nat_lt, List, [], ◌∷◌, length, Option, Some, None, unwrap_or, if◌then◌else◌, true, codes}
+use Rattle.std.specs.List.{list_all}
+use Rattle.std.specs.Char.{digit_value}
 use Rattle.std.specs.Str.{bytes_eq}
+use Rattle.std.specs.Str.Parse.{digits_value, without_leading_plus}
+use Rattle.clap.specs.Words.{App, Row, Rule, Shape, Text, all_of, fault_of, first_of, new_app, new_rule, subcommand_of, takes, with_rule, with_subcommand}
+use Rattle.clap.specs.Simple.{new_shape}
+use Rattle.clap.specs.Walk.{is_empty}
+use Rattle.clap.specs.declared.builder.action.ArgAction.TheVariants.{Append}
+use Rattle.clap.specs.declared.builder.value_parser.ValueParser.TheVariants as parsers
 
--- the word `--`
-abbrev pub is_separator : List ℕ → Bool
-is_separator word = bytes_eq word (codes "--")
+-- ---- the command line
 
--- a word that begins with `-`
-abbrev pub begins_with_dash : List ℕ → Bool
-begins_with_dash [] = false
-begins_with_dash (byte ∷ bytes) = byte == 45
+-- ENTRY: one value, required
+abbrev pub entry_rule : Rule
+entry_rule = record (new_rule (codes "ENTRY")) { required = true }
 
--- The words without the first `--`. None where a word before it begins with `-`.
-abbrev pub positionals_of : List (List ℕ) → Option (List (List ℕ))
-positionals_of [] = Some []
-positionals_of (word ∷ words) =
-    if is_separator word then Some words
-    else (if begins_with_dash word then None else option_map (λ others. word ∷ others) (positionals_of words))
+-- ARG..: the last positional, with any number of values
+abbrev pub arguments_rule : Rule
+arguments_rule = record (new_rule (codes "ARG")) { action = Some Append }
 
--- to run this entry with these arguments
-pub record Job : Type 0 where
-  pub entry : List ℕ
-  pub arguments : List (List ℕ)
+-- --steps: a number from 1 to 1,000,000,000,000, at most once, and 100,000,000 where it isn't given
+abbrev pub steps_rule : Rule
+steps_rule = record (new_rule (codes "steps")) {
+  long = Some (codes "steps");
+  value_names = 1;
+  parser = Some (parsers.Unsigned 1 1000000000000);
+  defaults = codes "100000000" ∷ [];
+}
 
-abbrev pub job_of_positionals : Option (List (List ℕ)) → Option Job
-job_of_positionals None = None
-job_of_positionals (Some []) = None
-job_of_positionals (Some (entry ∷ arguments)) = Some (record { entry = entry; arguments = arguments })
+-- run ENTRY ARG..
+abbrev pub run_command : App
+run_command = with_rule (with_rule (new_app (codes "run")) entry_rule) arguments_rule
 
--- the job that the words name: the program's own name, `run`, an entry and its arguments
-abbrev pub job_of : List (List ℕ) → Option Job
-job_of [] = None
-job_of (program ∷ []) = None
-job_of (program ∷ command ∷ words) =
-    if bytes_eq command (codes "run") then job_of_positionals (positionals_of words) else None
+-- exec ENTRY ARG.., with its option
+abbrev pub exec_command : App
+exec_command = with_rule (with_rule (with_rule (new_app (codes "exec")) steps_rule) entry_rule) arguments_rule
+
+-- the program without a command
+abbrev pub program : App
+program = record { top = record (new_shape (codes "terrac")) { subcommand_required = true }; subs = [] }
+
+-- the program requires one of its commands
+abbrev pub command_line : App
+command_line = with_subcommand (with_subcommand program run_command.top) exec_command.top
+
+-- ---- the job
+
+-- a call of an entry with arguments
+pub record Call : Type 0 where
+  pub entry : Text
+  pub arguments : List Text
+
+-- to run an entry of a source; to run an entry of an image for at most so many steps
+pub data Job : Type 0 where
+  Run : (call : Call) → Job
+  Exec : (call : Call) (steps : ℕ) → Job
+
+-- What is required or has a default is always there, and a number is one in its range; these definitions say something of other
+-- rows as well.
+abbrev pub text_or_none : Option Text → Text
+text_or_none found = unwrap_or found []
+
+abbrev pub is_numeral : Text → Bool
+is_numeral digits = nat_lt 0 (length digits) && (list_all (λ digit. nat_lt (digit_value digit) 10) digits && nat_lt (digits_value 10 digits) (2 ^ 64))
+
+abbrev pub number_or_zero : Text → ℕ
+number_or_zero text =
+    if is_numeral (without_leading_plus text) then digits_value 10 (without_leading_plus text) else 0
+
+abbrev pub call_of : List Row → Call
+call_of rows = record {
+  entry = text_or_none (first_of (codes "ENTRY") rows);
+  arguments = unwrap_or (all_of (codes "ARG") rows) [];
+}
+
+abbrev pub steps_of : List Row → ℕ
+steps_of rows = number_or_zero (text_or_none (first_of (codes "steps") rows))
+
+-- the job of a command with what was found for its arguments
+abbrev pub job_of_command : Option (Text × List Row) → Job
+job_of_command None = Run (call_of [])
+job_of_command (Some found) =
+    if bytes_eq found.0 (codes "exec") then Exec (call_of found.1) (steps_of found.1) else Run (call_of found.1)
+
+-- the job that the words name, the program's own name first: none exactly where `clap` refuses them
+unfoldable pub job_of : List Text → Option Job
+job_of words =
+    if is_empty (fault_of command_line words) then Some (job_of_command (subcommand_of command_line words)) else None
+
+-- the words are ones of which `clap` says that a simple command takes them
+unfoldable pub AreTaken : List Text → Type 0
+AreTaken words = takes command_line words ≡ true

@@ -1,13 +1,17 @@
 // The arguments of a run.
 
-ghost use Rattle.std.specs.Prelude.{◌≡◌, ℕ, ◌+◌, ◌-◌, ◌*◌, ◌≤◌, IfOk, IsTrue};
+ghost use Rattle.std.specs.Prelude.{◌≡◌, ℕ, ◌+◌, ◌-◌, ◌*◌, ◌≤◌, length, IfOk, IsTrue};
 ghost use Rattle.std.specs.List.{list_all};
 ghost use Rattle.std.specs.Char.{is_ascii_digit};
-ghost use Rattle.terrac.specs.Arguments.{number_of, is_number, from_digits, from_negated_digits, below_64_bits, argument_of, arguments_of};
+ghost use Rattle.terrac.specs.Arguments.{number_of, is_number, size_of, below_64_bits, bool_word, number_word, argument_of, arguments_of};
 ghost use Rattle.terrac.specs.JobView.{texts_of, shown_arguments, HasCount};
 
+use elf_image::{word_above, word_below};
 use std::alloc::Global;
 use tl_base::NoMemory;
+
+/// The type code of bool.
+const BOOL: u8 = 9;
 
 /// The arguments as 64-bit words, or the least position, from 1, at which a word is bad, missing or one too many.
 #[derive(Drop)]
@@ -16,64 +20,70 @@ pub(crate) enum Arguments {
     Bad(u64),
 }
 
-/// The arguments for so many parameters.
+/// The arguments for parameters of the types of these codes.
 pub(crate) fn arguments_of(
     alloc: Global,
+    codes: &[u8],
     words: &[&str],
-    arity: usize,
 ) -> Result<Arguments, NoMemory>
-    ensures value { IfOk result (λ arguments. shown_arguments arguments ≡ arguments_of arity 1 (texts_of words.now)) }
-    ensures count { IfOk result (λ arguments. HasCount arity arguments) }
+    ensures value { IfOk result (λ arguments. shown_arguments arguments ≡ arguments_of codes.now 1 (texts_of words.now)) }
+    ensures count { IfOk result (λ arguments. HasCount (length codes.now) arguments) }
 {
     let mut values = Vec::new(alloc);
     for word in words {
-        if values.len() == arity {
-            return Ok(Arguments::Bad(arity as u64 + 1));
+        let position = values.len();
+        if position == codes.len() {
+            return Ok(Arguments::Bad(position as u64 + 1));
         }
-        match argument(word) {
+        match argument(codes[position], word) {
             Some(value) => values.push(value)?,
-            None => return Ok(Arguments::Bad(values.len() as u64 + 1)),
+            None => return Ok(Arguments::Bad(position as u64 + 1)),
         }
     }
-    if values.len() < arity {
+    if values.len() < codes.len() {
         return Ok(Arguments::Bad(values.len() as u64 + 1));
     }
     Ok(Arguments::Good(values))
 }
 
-/// The word of an argument, an int64 in decimal; `None` where it is bad.
-fn argument(text: &str) -> Option<u64>
-    ensures { result ≡ argument_of text.now }
+/// The word of an argument for a parameter of the type of this code; `None` where it is bad.
+fn argument(code: u8, text: &str) -> Option<u64>
+    ensures { result ≡ argument_of code text.now }
 {
-    match text.as_bytes() {
-        [b'-', digits @ ..] => from_negated_digits(digits),
-        digits => from_digits(digits),
+    match code {
+        BOOL => bool_word(text),
+        _ => number_word(code, text.as_bytes()),
     }
 }
 
-/// The word of an int64 from 0 up.
-fn from_digits(digits: &[u8]) -> Option<u64>
-    ensures { result ≡ from_digits digits.now }
+fn bool_word(text: &str) -> Option<u64>
+    ensures { result ≡ bool_word text.now }
 {
-    if !is_number(digits) {
-        return None;
-    }
-    match number_of(digits) {
-        Some(number) if number < 1 << 63 => Some(number),
+    match text {
+        "true" => Some(1),
+        "false" => Some(0),
         _ => None,
     }
 }
 
-/// The word, in two's complement, of an int64 from 0 down.
-fn from_negated_digits(digits: &[u8]) -> Option<u64>
-    ensures { result ≡ from_negated_digits digits.now }
+/// The word of a number: an optional `-` and decimal digits.
+fn number_word(code: u8, text: &[u8]) -> Option<u64>
+    ensures { result ≡ number_word code text.now }
 {
-    if !is_number(digits) {
-        return None;
+    match text {
+        [b'-', digits @ ..] => word_below(code, size_of(digits)?),
+        digits => word_above(code, size_of(digits)?),
     }
-    match number_of(digits) {
-        Some(number) if number <= 1 << 63 => Some(number.wrapping_neg()),
-        _ => None,
+}
+
+/// The number of 1 to 20 decimal digits, where it has 64 bits at most.
+fn size_of(digits: &[u8]) -> Option<u64>
+    ensures { result ≡ size_of digits.now }
+{
+    if is_number(digits) {
+        number_of(digits)
+    } else {
+        None
     }
 }
 

@@ -1,6 +1,6 @@
 // What is due goes out.
 
-ghost use Rattle.std.specs.Prelude.{◌≡◌, ◌≢◌, ◌<◌, ◌≤◌, ◌⊎◌, ℕ, List, Option, codes};
+ghost use Rattle.std.specs.Prelude.{◌≡◌, ◌≢◌, ◌<◌, ◌≤◌, ◌⊎◌, ℕ, List, [], Option, codes};
 ghost use Rattle.tl_base.specs.Outside.{IsRisen};
 ghost use Rattle.terrac.specs.Answer.{Delivers, TakesFront};
 ghost use Rattle.terrac.specs.Due.{line};
@@ -20,7 +20,8 @@ pub(crate) fn deliver<K: Sink, N: Sink>(due: &Due, out: &mut K, notes: &mut N) -
     ensures fault { result ≡ statuses.WriteFault → IsRisen (K.faults out.old) (K.faults out.new) ⊎ IsRisen (N.faults notes.old) (N.faults notes.new) }
     ensures out_rose { K.faults out.old < K.faults out.new → result ≡ statuses.WriteFault }
     ensures notes_rose { N.faults notes.old < N.faults notes.new → result ≡ statuses.WriteFault }
-    ensures quiet_out { result ≢ statuses.Ok → result ≢ statuses.WriteFault → out.new ≡ out.old }
+    ensures quiet_out { (shown_due due.now).out ≡ [] → out.new ≡ out.old }
+    ensures kept { (result ≡ due.now.status) ⊎ (result ≡ statuses.WriteFault) }
     ensures quiet_notes { result ≡ statuses.Ok → notes.new ≡ notes.old }
 {
     match due.status {
@@ -36,6 +37,7 @@ fn deliver_result<K: Sink, N: Sink>(line: &[u8], out: &mut K, notes: &mut N) -> 
     ensures out_rose { K.faults out.old < K.faults out.new → result ≡ statuses.WriteFault }
     ensures notes_rose { N.faults notes.old < N.faults notes.new → result ≡ statuses.WriteFault }
     ensures ends { (result ≡ statuses.Ok) ⊎ (result ≡ statuses.WriteFault) }
+    ensures quiet_out { line.now ≡ [] → out.new ≡ out.old }
     ensures quiet_notes { result ≡ statuses.Ok → notes.new ≡ notes.old }
 {
     match write_piece(out, line) {
@@ -51,6 +53,7 @@ fn deliver_refusal<N: Sink>(status: Status, line: &[u8], notes: &mut N) -> Statu
     ensures delivers { (out : Option (List ℕ)) → Delivers (due_with status line.now) result out out (N.taken notes.old) (N.taken notes.new) }
     ensures fault { result ≡ statuses.WriteFault → IsRisen (N.faults notes.old) (N.faults notes.new) }
     ensures no_result { result ≢ statuses.Ok }
+    ensures kept { (result ≡ status) ⊎ (result ≡ statuses.WriteFault) }
     ensures notes_rose { N.faults notes.old < N.faults notes.new → result ≡ statuses.WriteFault }
 {
     match write_piece(notes, line) {
@@ -60,7 +63,7 @@ fn deliver_refusal<N: Sink>(status: Status, line: &[u8], notes: &mut N) -> Statu
 }
 
 /// Tries the line `write fault`, once.
-fn write_fault<N: Sink>(notes: &mut N) -> Status
+pub(crate) fn write_fault<N: Sink>(notes: &mut N) -> Status
     ensures status { result ≡ statuses.WriteFault }
     ensures front { TakesFront (line (codes "write fault")) (N.taken notes.old) (N.taken notes.new) }
     ensures never_falls { N.faults notes.old ≤ N.faults notes.new }

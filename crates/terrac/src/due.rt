@@ -29,3 +29,12 @@ pub(crate) struct Due {
     pub status: Status,
     pub line: Line,
 }
+
+/// How a command ends.
+#[derive(Drop)]
+pub(crate) enum Ended {
+    /// What `out` took is a front of what is due, and this is the rest.
+    Due(Due),
+    /// `out` failed.
+    WriteFault,
+}

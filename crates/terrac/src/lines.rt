@@ -1,31 +1,28 @@
 // The lines that a call may owe.
 
-ghost use Rattle.std.specs.Prelude.{◌≡◌, ◌≢◌, ◌++◌, IfOk, codes};
-ghost use Rattle.std.specs.Fmt.{decimal};
-ghost use Rattle.terrac.specs.Due.{refused, due_of_value, due_of_syntax, kind_name};
+ghost use Rattle.std.specs.Prelude.{◌≡◌, ◌≢◌, [], ◌++◌, IfOk, codes, string_bytes};
+ghost use Rattle.terrac.specs.Due.{refused, due_of_result, due_of_syntax, due_of_no_entry, due_of_bad_argument, due_of_usage, kind_name};
+ghost use Rattle.terrac.specs.Exec.{due_of_bad_image, due_of_fault, due_of_machine_fault, fault_text, image_fault_text, machine_fault_text};
 ghost use Rattle.terrac.specs.DueView.{shown_due};
 ghost use Rattle.terrac.specs.declared.status.Status.TheVariants as statuses;
 
 use crate::due::{Due, Line};
-use crate::status::Status;
+use crate::status::{FaultKind, ImageFault, Status};
+use elf_image::{ImageError, result_text};
+use rv_machine::MachineKind;
 use std::alloc::Global;
 use tl_base::{NoMemory, Place};
 use tl_lex::SyntaxKind;
 
-/// The result line of a 64-bit word, an int64 in two's complement.
-pub(crate) fn value_due(alloc: Global, value: u64) -> Result<Due, NoMemory>
-    ensures due { IfOk result (λ due. shown_due due ≡ due_of_value value) }
+/// The result line of a word, whose type has this code.
+pub(crate) fn result_due(alloc: Global, code: u8, word: u64) -> Result<Due, NoMemory>
+    ensures due { IfOk result (λ due. shown_due due ≡ due_of_result code word) }
     ensures status { IfOk result (λ due. due.status ≡ statuses.Ok) }
 {
-    let line = if value < 1 << 63 {
-        format!(in alloc; "result {value}\n")?
-    } else {
-        let magnitude = value.wrapping_neg();
-        format!(in alloc; "result -{magnitude}\n")?
-    };
+    let text = result_text(alloc, code, word)?;
     Ok(Due {
         status: Status::Ok,
-        line: Line::Made(line),
+        line: Line::Made(format!(in alloc; "result {text}\n")?),
     })
 }
 
@@ -64,7 +61,7 @@ pub(crate) fn syntax_due(alloc: Global, kind: SyntaxKind, place: Place) -> Resul
 
 /// The refusal of an entry that the source doesn't have.
 pub(crate) fn no_entry_due(alloc: Global, entry: &str) -> Result<Due, NoMemory>
-    ensures due { IfOk result (λ due. shown_due due ≡ refused statuses.NoEntry (codes "no entry " ++ entry.now)) }
+    ensures due { IfOk result (λ due. shown_due due ≡ due_of_no_entry entry.now) }
     ensures status { IfOk result (λ due. due.status ≡ statuses.NoEntry) }
 {
     Ok(Due {
@@ -75,7 +72,7 @@ pub(crate) fn no_entry_due(alloc: Global, entry: &str) -> Result<Due, NoMemory>
 
 /// The refusal of the word at a position.
 pub(crate) fn bad_argument_due(alloc: Global, number: u64) -> Result<Due, NoMemory>
-    ensures due { IfOk result (λ due. shown_due due ≡ refused (statuses.BadArgument number) (codes "bad argument " ++ decimal number)) }
+    ensures due { IfOk result (λ due. shown_due due ≡ due_of_bad_argument number) }
     ensures status { IfOk result (λ due. due.status ≡ statuses.BadArgument number) }
 {
     Ok(Due {
@@ -84,9 +81,20 @@ pub(crate) fn bad_argument_due(alloc: Global, number: u64) -> Result<Due, NoMemo
     })
 }
 
-/// The refusal of words that name no job.
-pub(crate) fn usage_due() -> Due
-    ensures due { shown_due result ≡ refused statuses.Usage (codes "usage") }
+/// The refusal of words that name no job, with this text.
+pub(crate) fn usage_due(text: String) -> Due
+    ensures due { shown_due result ≡ record { status = statuses.Usage; out = []; notes = string_bytes text } }
+    ensures status { result.status ≡ statuses.Usage }
+{
+    Due {
+        status: Status::Usage,
+        line: Line::Made(text),
+    }
+}
+
+/// The refusal of words that could not be read.
+pub(crate) fn bare_usage_due() -> Due
+    ensures due { shown_due result ≡ due_of_usage [] }
     ensures status { result.status ≡ statuses.Usage }
 {
     Due {
@@ -126,4 +134,95 @@ pub(crate) fn no_memory_due() -> Due
         status: Status::NoMemory,
         line: Line::Fixed("no memory\n"),
     }
+}
+
+/// The refusal of a run that isn't over after its steps.
+pub(crate) fn unfinished_due() -> Due
+    ensures due { shown_due result ≡ refused statuses.Unfinished (codes "unfinished") }
+    ensures status { result.status ≡ statuses.Unfinished }
+{
+    Due {
+        status: Status::Unfinished,
+        line: Line::Fixed("unfinished\n"),
+    }
+}
+
+/// The name of a test of the format, with the offset of a field.
+fn image_fault_text(alloc: Global, fault: ImageFault) -> Result<String, NoMemory>
+    ensures { IfOk result (λ text. string_bytes text ≡ image_fault_text fault) }
+{
+    let name = match fault {
+        ImageFault::TooLong => "TooLong",
+        ImageFault::Refused(ImageError::Short) => "Short",
+        ImageFault::Refused(ImageError::BadMagic) => "BadMagic",
+        ImageFault::Refused(ImageError::BadField(offset)) => {
+            return Ok(format!(in alloc; "BadField {offset}")?);
+        }
+        ImageFault::Refused(ImageError::Overlap) => "Overlap",
+        ImageFault::Refused(ImageError::BadSymbol) => "BadSymbol",
+        ImageFault::Refused(ImageError::NoMemory) => "NoMemory",
+    };
+    Ok(String::from_str(alloc, name)?)
+}
+
+/// The refusal of bytes that are no image.
+pub(crate) fn bad_image_due(alloc: Global, fault: ImageFault) -> Result<Due, NoMemory>
+    ensures due { IfOk result (λ due. shown_due due ≡ due_of_bad_image fault) }
+    ensures status { IfOk result (λ due. due.status ≡ statuses.BadImage fault) }
+{
+    let text = image_fault_text(alloc, fault)?;
+    Ok(Due {
+        status: Status::BadImage { fault },
+        line: Line::Made(format!(in alloc; "bad image {text}\n")?),
+    })
+}
+
+fn fault_text(kind: FaultKind) -> &'static str
+    ensures { result.now ≡ fault_text kind }
+{
+    match kind {
+        FaultKind::BadAddress => "BadAddress",
+        FaultKind::DivZero => "DivZero",
+        FaultKind::StackFull => "StackFull",
+        FaultKind::CallDepth => "CallDepth",
+        FaultKind::NoReturn => "NoReturn",
+    }
+}
+
+/// The end of a run by a fault of the program.
+pub(crate) fn fault_due(alloc: Global, kind: FaultKind, place: Place) -> Result<Due, NoMemory>
+    ensures due { IfOk result (λ due. shown_due due ≡ due_of_fault kind place) }
+    ensures status { IfOk result (λ due. due.status ≡ statuses.Fault kind place) }
+{
+    let name = fault_text(kind);
+    let line = place.line;
+    let word = place.word;
+    Ok(Due {
+        status: Status::Fault { kind, place },
+        line: Line::Made(format!(in alloc; "fault {name} at {line}:{word}\n")?),
+    })
+}
+
+fn machine_fault_text(kind: MachineKind) -> &'static str
+    ensures { result.now ≡ machine_fault_text kind }
+{
+    match kind {
+        MachineKind::IllegalWord => "IllegalWord",
+        MachineKind::BadFetch => "BadFetch",
+        MachineKind::BadAccess => "BadAccess",
+        MachineKind::BadCall => "BadCall",
+        MachineKind::Break => "Break",
+    }
+}
+
+/// The end of a run by a fault of the machine.
+pub(crate) fn machine_fault_due(alloc: Global, kind: MachineKind, pc: u64) -> Result<Due, NoMemory>
+    ensures due { IfOk result (λ due. shown_due due ≡ due_of_machine_fault kind pc) }
+    ensures status { IfOk result (λ due. due.status ≡ statuses.MachineFault kind pc) }
+{
+    let name = machine_fault_text(kind);
+    Ok(Due {
+        status: Status::MachineFault { kind, pc },
+        line: Line::Made(format!(in alloc; "machine fault {name} at {pc}\n")?),
+    })
 }

@@ -8,6 +8,7 @@ mod arguments;
 mod code;
 mod delivery;
 mod due;
+mod exec;
 mod form;
 mod lines;
 mod reading;
@@ -27,7 +28,7 @@ ghost use Rattle.terrac.specs.declared.status.Status.TheVariants as statuses;
 
 use delivery::deliver;
 use due::Due;
-use lines::{no_memory_due, usage_due};
+use lines::{bare_usage_due, no_memory_due};
 use standard::{StdSink, StdSource};
 use std::io::ErrorKind;
 use std::process::ExitCode;
@@ -61,6 +62,6 @@ fn unread_words_due(kind: ErrorKind) -> Due
 {
     match kind {
         ErrorKind::OutOfMemory => no_memory_due(),
-        _ => usage_due(),
+        _ => bare_usage_due(),
     }
 }

@@ -1,12 +1,13 @@
 // The source, read to its end.
 
-ghost use Rattle.std.specs.Prelude.{◌≡◌, ◌≤◌, ◌⊎◌, length, take, IfOk, OnOk, OnErr, Err};
+ghost use Rattle.std.specs.Prelude.{◌≡◌, ◌+◌, ◌<◌, ◌≤◌, ◌⊎◌, length, Ok, IfOk, OnOk, OnErr, Err};
 ghost use Rattle.tl_base.specs.Outside.{with_front, IsAtEnd, IsRisen};
 ghost use Rattle.terrac.specs.Answer.{TookAtMost};
+ghost use Rattle.terrac.specs.Delivery.{Gathered};
 ghost use Rattle.terrac.specs.declared.reading.ReadError.TheVariants as errors;
 
 use std::alloc::Global;
-use tl_base::{Failed, NoMemory, Source};
+use tl_base::{NoMemory, Source};
 
 /// Why a source was not read.
 #[derive(Clone, Copy, PartialEq, Eq, Debug)]
@@ -39,34 +40,44 @@ pub(crate) fn read_source<S: Source>(
     ensures unread { result ≡ Err errors.Unread → IsRisen (S.faults source.old) (S.faults source.new) }
     ensures no_memory { result ≡ Err errors.NoMemory → S.faults source.new ≡ S.faults source.old }
 {
-    let Ok(mut buffer) = vec![in alloc; 0u8; most] else {
-        return Err(ReadError::NoMemory);
-    };
-    match fill(source, &mut buffer) {
-        Ok(count) => {
-            buffer.truncate(count);
-            Ok(buffer)
+    let mut chunk = new_chunk(alloc)?;
+    let mut text = Vec::new(alloc);
+    'reads: while text.len() < most {
+        let room = chunk.len().min(most - text.len());
+        if read_more(source, &mut chunk[..room], &mut text)? == 0 {
+            break;
         }
-        Err(Failed) => Err(ReadError::Unread),
     }
+    Ok(text)
 }
 
-/// Fills a buffer from a source, until it is full or the source is at its end. Answers how many bytes were read.
-fn fill<S: Source>(source: &mut S, buffer: &mut [u8]) -> Result<usize, Failed>
-    ensures within { IfOk result (λ count. count ≤ length buffer.new) }
-    ensures text { IfOk result (λ count. S.left source.old ≡ with_front (take count buffer.new) (S.left source.new)) }
-    ensures whole { IfOk result (λ count. (count ≡ length buffer.new) ⊎ IsAtEnd (S.left source.new)) }
-    ensures bound { TookAtMost (length buffer.new) (S.left source.old) (S.left source.new) }
-    ensures quiet { OnOk result (S.faults source.new ≡ S.faults source.old) }
-    ensures failed { OnErr result (IsRisen (S.faults source.old) (S.faults source.new)) }
+/// What a read fills: 64 KiB.
+fn new_chunk(alloc: Global) -> Result<Vec<u8>, NoMemory>
+    ensures { IfOk result (λ chunk. 0 < length chunk.items) }
 {
-    let mut count = 0;
-    'reads: while count < buffer.len() {
-        match source.read(&mut buffer[count..]) {
-            Ok(0) => break,
-            Ok(more) => count += more,
-            Err(Failed) => return Err(Failed),
-        }
+    let chunk = vec![in alloc; 0u8; 65_536]?;
+    Ok(chunk)
+}
+
+/// Reads once, and puts what came behind the text. Answers how many bytes came: none at the end of the source.
+fn read_more<S: Source>(
+    source: &mut S,
+    chunk: &mut [u8],
+    text: &mut Vec<u8>,
+) -> Result<usize, ReadError>
+    ensures text { OnOk result (Gathered (length chunk.old) text.old.items text.new.items (S.left source.old) (S.left source.new)) }
+    ensures count { IfOk result (λ count. length text.new.items ≡ length text.old.items + count) }
+    ensures end { result ≡ Ok 0 → 0 < length chunk.old → IsAtEnd (S.left source.new) }
+    ensures bound { TookAtMost (length chunk.old) (S.left source.old) (S.left source.new) }
+    ensures quiet { OnOk result (S.faults source.new ≡ S.faults source.old) }
+    ensures unread { result ≡ Err errors.Unread → IsRisen (S.faults source.old) (S.faults source.new) }
+    ensures no_memory { result ≡ Err errors.NoMemory → S.faults source.new ≡ S.faults source.old }
+{
+    let Ok(count) = source.read(chunk) else {
+        return Err(ReadError::Unread);
+    };
+    match text.extend_from_slice(&chunk[..count]) {
+        Ok(()) => Ok(count),
+        Err(_) => Err(ReadError::NoMemory),
     }
-    Ok(count)
 }

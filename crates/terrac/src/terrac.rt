@@ -2,12 +2,13 @@
 
 ghost use Rattle.std.specs.Prelude.{◌≡◌, ◌≢◌, ◌<◌, ◌⊎◌, None, map, string_bytes};
 ghost use Rattle.tl_base.specs.Outside.{IsRisen};
-ghost use Rattle.terrac.specs.Words.{job_of};
-ghost use Rattle.terrac.specs.Answer.{Answers, TookAtMost};
-ghost use Rattle.terrac.specs.Call.{AnswersExactly};
+ghost use Rattle.terrac.specs.Words.{job_of, AreTaken};
+ghost use Rattle.terrac.specs.Answer.{Answers, TookAtMost, most_read};
+ghost use Rattle.terrac.specs.Call.{AnswersExactly, OneDue};
 ghost use Rattle.terrac.specs.declared.status.Status.TheVariants as statuses;
 
-use crate::delivery::deliver;
+use crate::delivery::{deliver, write_fault};
+use crate::due::Ended;
 use crate::run::run;
 use crate::status::Status;
 use std::alloc::Global;
@@ -28,9 +29,10 @@ pub fn terrac<S: Source, K: Sink, N: Sink>(
         (IsRisen (N.faults notes.old) (N.faults notes.new))
         result (K.taken out.old) (K.taken out.new) (N.taken notes.old) (N.taken notes.new) }
 
-    // Whatever the source and the sinks do, the sinks took what was owed, or fronts of it and of the line of a write fault.
+    // Whatever the source and the sinks do, the sinks took what was owed, or fronts of it and of the line of a write fault; `out`
+    // isn't called where nothing is due to it.
     ensures answers { Answers (map string_bytes words.now) (S.left source.old) (IsRisen (S.faults source.old) (S.faults source.new))
-        result (K.taken out.old) (K.taken out.new) (N.taken notes.old) (N.taken notes.new) }
+        result (K.taken out.old) (K.taken out.new) (N.taken notes.old) (N.taken notes.new) (out.new ≡ out.old) }
 
     // A fault comes only where that object's count rose.
     ensures read_fault { result ≡ statuses.ReadFault → IsRisen (S.faults source.old) (S.faults source.new) }
@@ -43,14 +45,21 @@ pub fn terrac<S: Source, K: Sink, N: Sink>(
     ensures out_rose { K.faults out.old < K.faults out.new → result ≡ statuses.WriteFault }
     ensures notes_rose { N.faults notes.old < N.faults notes.new → result ≡ statuses.WriteFault }
 
-    // A sink that nothing is due to isn't called, and words that name no job leave the source as it is.
-    ensures quiet_out { result ≢ statuses.Ok → result ≢ statuses.WriteFault → out.new ≡ out.old }
-    ensures quiet_notes { result ≡ statuses.Ok → notes.new ≡ notes.old }
+    // Words that `clap` takes are no bad usage; words that name no job leave the source as it is; a result leaves `notes` as it is.
+    ensures taken { AreTaken (map string_bytes words.now) → result ≢ statuses.Usage }
     ensures untouched { job_of (map string_bytes words.now) ≡ None → source.new ≡ source.old }
+    ensures quiet_notes { result ≡ statuses.Ok → notes.new ≡ notes.old }
 
-    // No more than one byte past the limit of a source is read.
-    ensures bound { TookAtMost 1048577 (S.left source.old) (S.left source.new) }
+    // No more than one byte past the limit of a source or an image is read.
+    ensures bound { TookAtMost (most_read (job_of (map string_bytes words.now))) (S.left source.old) (S.left source.new) }
 {
-    let due = run(alloc, words, source, out);
-    deliver(&due, out, notes)
+    match run(alloc, words, source, out) {
+        Ended::Due(due) => deliver(&due, out, notes),
+        Ended::WriteFault => write_fault(notes),
+    }
 }
+
+/// A job on some bytes has one thing due, so that [`terrac`]'s answer is the only one.
+pub fn one_due()
+    ensures { OneDue }
+{}

@@ -7,6 +7,8 @@ use std::process::Abort;
 use std::test::Fail;
 use tl_base::{MemSink, MemSource};
 
+mod images;
+
 const ADD: &str = "terra add(a : int64, b : int64) : int64 return a + b end";
 
 const POLYNOMIAL: &str = "terra p(a : int64) : int64 return (a - 3LL) * a + 2LL end";
@@ -70,11 +72,19 @@ fn check_bytes(
     let bytes = bytes.to_vec(alloc)?;
     let mut source = MemSource::new(bytes, faults.step.max(1), faults.reads.to_vec(alloc)?);
     let mut out = MemSink::new(alloc, faults.room, faults.outs.to_vec(alloc)?)?;
-    let mut notes = MemSink::new(alloc, 100, faults.notes.to_vec(alloc)?)?;
+    let mut notes = MemSink::new(alloc, 4_096, faults.notes.to_vec(alloc)?)?;
     let status = terrac(alloc, &words, &mut source, &mut out, &mut notes);
     let source = row.source;
     assert!(rt; out.bytes() == row.out.as_bytes(), "out of {source}");
-    assert!(rt; notes.bytes() == row.notes.as_bytes(), "notes of {source}");
+    if row.code == 2 {
+        // Behind the line comes the text of `clap`.
+        assert!(rt;
+            notes.bytes().starts_with(row.notes.as_bytes()),
+            "notes of {source}"
+        );
+    } else {
+        assert!(rt; notes.bytes() == row.notes.as_bytes(), "notes of {source}");
+    }
     assert_eq!(rt; status.code(), row.code, "{source}");
     Ok(())
 }

@@ -1,10 +1,12 @@
-use Rattle.std.proofs.Common.{◌≡◌, ◌≤◌, vec_len}
+use Rattle.std.proofs.Common.{◌≡◌, ◌≤◌, drop, length, vec_len}
+use Rattle.terrac.specs.Arguments.{arguments_of}
+use Rattle.terrac.specs.JobView.{texts_of}
 use Rattle.terrac.proofs.ArgumentSteps.{Begun}
 use Rattle.terrac.proofs.arguments.arguments_of.Given as goal
 
 abbrev pub invariant-loop-word : goal.invariant-loop-word
 invariant-loop-word l = record {
   count : vec_len l.values ≡ l.word-index;
-  few : l.word-index ≤ l.arity;
-  begun : Begun l.arity l.words l.values.items l.word-index;
+  few : l.word-index ≤ length l.codes;
+  begun : Begun l.values.items (drop l.word-index l.codes) (texts_of (drop l.word-index l.words)) (arguments_of l.codes 1 (texts_of l.words));
 }
