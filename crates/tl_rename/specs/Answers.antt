@@ -1,6 +1,5 @@
 -- What a use's path is.
-use Rattle.std.specs.Prelude.{ℕ, zero, suc, List, [], ◌∷◌, ◌++◌, Option, Some, None}
-use Rattle.tl_base.specs.declared.ids.NodeId.{NodeId}
+use Rattle.std.specs.Prelude.{ℕ, zero, suc, List, [], ◌∷◌, ◌++◌, Option}
 use Rattle.tl_tree.specs.Code.{Items}
 use Rattle.tl_tree.specs.Scopes.{Found, binder}
 

@@ -1,6 +1,5 @@
 -- What the code reads of a node is what the definition says is within it.
-use Rattle.std.specs.Prelude.{List, [], ◌∷◌, ◌++◌}
-use Rattle.tl_base.specs.declared.ids.NodeId.{NodeId}
+use Rattle.std.specs.Prelude.{◌++◌}
 use Rattle.tl_rename.specs.declared.within.Inside.{Inside}
 use Rattle.tl_tree.specs.Scopes.{Within}
 

@@ -1,5 +1,5 @@
 // Lists of nodes.
-ghost use Rattle.std.specs.Prelude.{◌≡◌, [], ◌∷◌, ◌++◌, OnOk};
+ghost use Rattle.std.specs.Prelude.{◌≡◌, [], ◌∷◌, ◌++◌, OnOk, length};
 ghost use Rattle.tl_tree.specs.Code.{if_any};
 
 use std::alloc::Global;
@@ -62,6 +62,13 @@ impl Ids {
             Some(id) => self.push(id),
             None => Ok(()),
         }
+    }
+
+    /// How many nodes.
+    pub fn len(&self) -> usize
+        ensures { result ≡ length self.now }
+    {
+        self.ids.len()
     }
 
     /// The nodes.

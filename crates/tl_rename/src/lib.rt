@@ -2,9 +2,9 @@
 #![tactic(auto)]
 
 mod ids;
+mod search;
+pub mod slots;
+mod standing;
 mod within;
-//pub mod slots;
-//mod standing;
-//mod search;
 
-//pub use slots::{Slots, resolve};
+pub use slots::{Slots, resolve};

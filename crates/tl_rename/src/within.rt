@@ -9,7 +9,9 @@ ghost use Rattle.tl_rename.specs.Lists.{within_of, and_more};
 use crate::ids::Ids;
 use std::alloc::Global;
 use tl_base::{NoMemory, NodeId};
-use tl_tree::{Expression, Node, NodeList, Piece, Statement, TerraExpression, TerraStatement, Tree};
+use tl_tree::{
+    Expression, Node, NodeList, Piece, Statement, TerraExpression, TerraStatement, Tree,
+};
 
 /// Is the node a name?
 pub fn is_name(tree: &Tree, n: NodeId) -> bool
@@ -55,14 +57,22 @@ fn path_use(tree: &Tree, path: NodeId) -> Option<NodeId>
 fn push_if_name(list: &mut Ids, tree: &Tree, n: NodeId) -> Result<(), NoMemory>
     ensures { OnOk result (list.new ≡ list.old ++ scopes.if_name (items_of tree.now) n) }
 {
-    if is_name(tree, n) { list.push(n) } else { Ok(()) }
+    if is_name(tree, n) {
+        list.push(n)
+    } else {
+        Ok(())
+    }
 }
 
 /// Adds the node unless it is a name.
 fn push_unless_name(list: &mut Ids, tree: &Tree, n: NodeId) -> Result<(), NoMemory>
     ensures { OnOk result (list.new ≡ list.old ++ scopes.unless_name (items_of tree.now) n) }
 {
-    if is_name(tree, n) { Ok(()) } else { list.push(n) }
+    if is_name(tree, n) {
+        Ok(())
+    } else {
+        list.push(n)
+    }
 }
 
 /// Adds the name of a parameter or of a variable.
@@ -250,9 +260,8 @@ impl Inside {
     {
         let around = &mut self.around;
         match e {
-            TerraExpression::Unary(_, a) | TerraExpression::Paren(a) | TerraExpression::Escape(a) => {
-                around.push(*a)
-            }
+            TerraExpression::Unary(_, a) | TerraExpression::Paren(a) | TerraExpression::Escape(a) =>
+                { around.push(*a) }
             TerraExpression::Binary(_, a, b) | TerraExpression::Index(a, b) => {
                 around.push_all(&[*a, *b])
             }
