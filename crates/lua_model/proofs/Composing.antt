@@ -22,6 +22,8 @@ use Rattle.lua_table.specs.LuaState.{LuaState}
 use Rattle.lua_model.specs.declared.scope.Scope.{Scope}
 use Rattle.lua_model.specs.declared.job.Job.{Job}
 use Rattle.lua_model.specs.declared.job.Job.TheVariants as jobs
+use Rattle.lua_model.specs.declared.job.Caller.{Caller}
+use Rattle.lua_model.specs.declared.job.Caller.TheVariants.{ByNode, ByOther}
 use Rattle.lua_model.specs.declared.end.End.{End}
 use Rattle.lua_model.specs.declared.end.End.TheVariants.{One, Many, Fell, Broke, Returned, Raised}
 use Rattle.lua_model.specs.declared.question.LuaQuestion.{LuaQuestion}
@@ -65,9 +67,6 @@ use Rattle.lua_model.specs.Calls.{
   ask_library,
   call_library,
   call_handler,
-  Caller,
-  ByNode,
-  ByOther,
   call_lua,
   call,
 }
@@ -246,12 +245,12 @@ pub run_function :
 run_function f items c vs place go passes s l =
     let function = function_at items c.function in
     let block = statements_at items function.block in
-    let scope = called_scope function vs place s.world in
+    let scope = called_scope function c vs place s.world in
     let t : State LuaState = state (called_state function c vs s.world) s.left in
     let k : End → LuaCourse = λ r. run f (go r) in
     deepen_then f place (λ w. Write (called_state function c vs w) (statements block
-    (called_scope function vs place w) [] (λ r. leave (returned r) go)))
-    (λ w. Write (called_state function c vs w) (statements block (called_scope function vs place w) [] (λ r. leave
+    (called_scope function c vs place w) [] (λ r. leave (returned r) go)))
+    (λ w. Write (called_state function c vs w) (statements block (called_scope function c vs place w) [] (λ r. leave
     (returned r) Give))) go passes s l
     (run_statements f block scope [] (λ r. leave (returned r) go) t l
     ∙ then_twice (run f (statements block scope [] Give) t l) (λ r. run f (leave (returned r) go)) (λ r. run f

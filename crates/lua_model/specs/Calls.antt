@@ -10,12 +10,14 @@ use Rattle.lua_value.specs.declared.value.Value.TheVariants as values
 use Rattle.lua_value.specs.Values.{kind_of}
 use Rattle.lua_table.specs.declared.env.Closure.{Closure}
 use Rattle.lua_table.specs.LuaState.{LuaState}
-use Rattle.lua_table.specs.Heap.{next_env, with_env, closure_at, deeper, shallower}
+use Rattle.lua_table.specs.Heap.{next_env, next_cell, with_env, closure_at, deeper, shallower}
 use Rattle.lua_table.specs.Metatables.{handler_at}
 use Rattle.lua_table.specs.Cells.{declare_all, with_cells}
 use Rattle.lua_ops.specs.declared.fault.Fault.TheVariants as faults
 use Rattle.lua_model.specs.declared.scope.Scope.{Scope}
 use Rattle.lua_model.specs.declared.job.Job.TheVariants as jobs
+use Rattle.lua_model.specs.declared.job.Caller.{Caller}
+use Rattle.lua_model.specs.declared.job.Caller.TheVariants.{ByNode, ByOther}
 use Rattle.lua_model.specs.declared.end.End.{End}
 use Rattle.lua_model.specs.declared.end.End.TheVariants.{Many, Fell, Broke, Returned}
 use Rattle.lua_model.specs.declared.question.LuaQuestion.TheVariants.{Library}
@@ -43,17 +45,20 @@ parameter_count function = if function.method then length function.names + 1 els
 abbrev pub extras : Parts → List Value → List Value
 extras function vs = if function.variadic then drop (parameter_count function) vs else []
 
--- the heap in a call: its environment has the parameters, and behind their cells are those of `...`
-abbrev pub called_state : Parts → Closure → List Value → LuaState → LuaState
-called_state function c vs s =
-    let entered = with_env (deeper s) c.function (Some c.env) in
-    with_cells (extras function vs) (declare_all (parameter_count function) (next_env s) vs entered)
+-- the heap in a call, whose environment has the parameters
+abbrev pub declared_state : Parts → Closure → List Value → LuaState → LuaState
+declared_state function c vs s =
+    declare_all (parameter_count function) (next_env s) vs (with_env (deeper s) c.function (Some c.env))
 
-abbrev pub called_scope : Parts → List Value → Place → LuaState → Scope
-called_scope function vs place s =
+-- the values of `...` stand in the cells after those
+abbrev pub called_state : Parts → Closure → List Value → LuaState → LuaState
+called_state function c vs s = with_cells (extras function vs) (declared_state function c vs s)
+
+abbrev pub called_scope : Parts → Closure → List Value → Place → LuaState → Scope
+called_scope function c vs place s =
     record {
       env = next_env s;
-      extra = record { 0 = length s.cells + parameter_count function };
+      extra = next_cell (declared_state function c vs s);
       count = length (extras function vs);
       call = Some place;
     }
@@ -70,7 +75,7 @@ call_function items c vs place go =
     let function = function_at items c.function in
     deepen place (λ s.
     Write (called_state function c vs s)
-    (statements (statements_at items function.block) (called_scope function vs place s) []
+    (statements (statements_at items function.block) (called_scope function c vs place s) []
     (λ r. leave (returned r) go)))
 
 abbrev pub call_closure : Items → ClosureId → List Value → Place → (End → LuaPlan) → LuaPlan
@@ -95,10 +100,7 @@ call_handler (values.Closure c) vs place outer go otherwise = Do (jobs.Callback 
 call_handler (values.Library f) vs place outer go otherwise = call_library f vs place outer go
 call_handler v vs place outer go otherwise = otherwise
 
--- who calls: a node of Lua code, which has paid, or a function of the library, an event or Terra code
-pub data Caller : Type 0 where
-  ByNode ByOther : Caller
-
+-- a call of a function of Lua code: what is no node pays for it
 abbrev pub call_lua : Items → Caller → ClosureId → List Value → Place → (End → LuaPlan) → LuaPlan
 call_lua items ByNode c vs place go = call_closure items c vs place go
 call_lua items ByOther c vs place go = Do (jobs.Callback c vs place) go

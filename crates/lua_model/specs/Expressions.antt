@@ -17,8 +17,9 @@ use Rattle.lua_table.specs.Heap.{next_closure, with_closure}
 use Rattle.lua_table.specs.Cells.{local_value, values_from}
 use Rattle.lua_model.specs.declared.scope.Scope.{Scope}
 use Rattle.lua_model.specs.declared.end.End.TheVariants.{Many}
+use Rattle.lua_model.specs.declared.job.Caller.TheVariants.{ByNode}
 use Rattle.lua_model.specs.Plans.{LuaPlan, give, on_one, value_of, values_of, with_text_of, whole, specialise}
-use Rattle.lua_model.specs.Calls.{call, ByNode}
+use Rattle.lua_model.specs.Calls.{call}
 use Rattle.lua_model.specs.Fields.{read, globals}
 use Rattle.lua_model.specs.Operators.{binary_plan, unary_plan}
 use Rattle.lua_model.specs.Tables.{table_plan}

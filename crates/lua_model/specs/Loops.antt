@@ -42,8 +42,9 @@ use Rattle.lua_model.specs.declared.job.Loop.TheVariants as loops
 use Rattle.lua_model.specs.declared.job.Job.TheVariants as jobs
 use Rattle.lua_model.specs.declared.end.End.{End}
 use Rattle.lua_model.specs.declared.end.End.TheVariants.{One, Many, Fell, Broke, Returned, Raised}
+use Rattle.lua_model.specs.declared.job.Caller.TheVariants.{ByNode}
 use Rattle.lua_model.specs.Plans.{LuaPlan, within, on_all, value_of, values_of, statements, entering, raise}
-use Rattle.lua_model.specs.Calls.{call, ByNode}
+use Rattle.lua_model.specs.Calls.{call}
 
 -- a loop is over
 abbrev pub over : List Value → LuaPlan

@@ -17,8 +17,9 @@ use Rattle.lua_model.specs.declared.end.LuaEnd.{LuaEnd}
 use Rattle.lua_model.specs.declared.end.LuaEnd.TheVariants as ends
 use Rattle.lua_model.specs.declared.question.LuaQuestion.{LuaQuestion}
 use Rattle.lua_model.specs.declared.question.LuaAnswer.{LuaAnswer}
-use Rattle.lua_model.specs.Plans.{LuaPlan, scope_at, give, fell, value_of, statements}
-use Rattle.lua_model.specs.Calls.{call, ByOther, call_closure}
+use Rattle.lua_model.specs.declared.job.Caller.TheVariants.{ByOther}
+use Rattle.lua_model.specs.Plans.{LuaPlan, scope_at, give, alone, fell, value_of, statements}
+use Rattle.lua_model.specs.Calls.{call, call_closure}
 use Rattle.lua_model.specs.Fields.{read, store}
 use Rattle.lua_model.specs.Expressions.{node_plan}
 use Rattle.lua_model.specs.Assignments.{target_plan}
@@ -47,13 +48,13 @@ chunk_plan items =
 abbrev pub first_plan : Items → LuaJob → LuaPlan
 first_plan items tasks.Chunk = chunk_plan items
 first_plan items (tasks.Call f vs place) = call items ByOther f vs place (Some place) Give
-first_plan items (tasks.Expr n env) = value_of n (scope_at env) give
+first_plan items (tasks.Expr n env) = value_of n (scope_at env) alone
 first_plan items (tasks.Emitted n env) = block_plan items n (scope_at env) Give
-first_plan items (tasks.Index v text place) = read v (values.Text text) place None give
+first_plan items (tasks.Index v text place) = read v (values.Text text) place None alone
 
--- how it ends: statements with what they emitted
+-- how it ends: statements with what they emitted. Nothing that is asked for ends with `One`
 abbrev pub close : End → LuaEnd
-close (One v) = ends.Done (v ∷ [])
+close (One v) = ends.Done []
 close (Many vs) = ends.Done vs
 close (Fell out) = ends.Done out
 close (Broke out) = ends.Done out

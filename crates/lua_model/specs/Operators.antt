@@ -25,8 +25,9 @@ use Rattle.lua_ops.specs.declared.outcome.Outcome.TheVariants as outcomes
 use Rattle.lua_ops.specs.declared.outcome.Handler.{Handler}
 use Rattle.lua_ops.specs.Outcomes.{arith_outcome, compare_outcome, concat_outcome, concat_store}
 use Rattle.lua_model.specs.declared.scope.Scope.{Scope}
+use Rattle.lua_model.specs.declared.job.Caller.TheVariants.{ByOther}
 use Rattle.lua_model.specs.Plans.{LuaPlan, give, on_one, value_of, text_units, whole, raise}
-use Rattle.lua_model.specs.Calls.{call, ByOther, ask_library}
+use Rattle.lua_model.specs.Calls.{call, ask_library}
 
 -- ---- handlers
 

@@ -58,6 +58,10 @@ within scope env = record scope { env = env }
 abbrev pub give : Value → LuaPlan
 give v = Give (One v)
 
+-- gives a value as a list of values, as what is asked for does
+abbrev pub alone : Value → LuaPlan
+alone v = Give (Many (v ∷ []))
+
 -- a statement ends and emitted nothing
 abbrev pub fell : LuaPlan
 fell = Give (Fell [])

@@ -30,6 +30,13 @@ pub enum Loop {
     Listed(EnvId, Value, Value, Value),
 }
 
+/// Who calls a value: a node of Lua code, which has paid, or a function of the library, an event or Terra code.
+#[derive(Clone, Copy, Debug)]
+pub enum Caller {
+    ByNode,
+    ByOther,
+}
+
 /// What pays one unit before it is done. All else is part of one of these.
 #[derive(Debug, Drop)]
 pub enum Job {

@@ -11,6 +11,6 @@ pub mod question;
 pub mod scope;
 
 pub use end::{End, LuaEnd};
-pub use job::{Job, Loop, LuaJob};
+pub use job::{Caller, Job, Loop, LuaJob};
 pub use question::{LuaAnswer, LuaQuestion};
 pub use scope::Scope;
