@@ -23,7 +23,8 @@ IsDue (Some (Exec call steps)) bytes due = IsExecDue call steps bytes due
 -- what is due, unless memory runs out: then `out` takes a front of it, and `notes` the line that says so
 pub data IsDueOrCut (Is : Due → Type 0) (due : Due) : Type 0 where
   IsWhole : Is due → IsDueOrCut Is due
-  IsCut : (whole : Due) → Is whole → IsFront due.out whole.out → due.status ≡ statuses.NoMemory → due.notes ≡ line (codes "no memory") → IsDueOrCut Is due
+  IsCut : (whole : Due) → Is whole → IsFront due.out whole.out → due.status ≡ statuses.NoMemory
+      → due.notes ≡ line (codes "no memory") → IsDueOrCut Is due
 
 -- What is owed for a job: what is due on the bytes that the source has left; the line of a read that failed, where there is a job
 -- and the source's count of faults rose; or that of want of memory, which is free.
@@ -71,7 +72,9 @@ pub record Delivers (due : Due) (status : Status) (out_old out_new notes_old not
   pub notes_took : notes_new ≡ with_back notes_old notes
 
 -- What a call answers: something was owed, and that was delivered. A sink that nothing is due to stays the same.
-pub record Answers (words : List (List ℕ)) (left : Option (List ℕ)) (Rose : Type 0) (status : Status) (out_old out_new notes_old notes_new : Option (List ℕ)) (SameOut : Type 0) : Type 0 where
+pub record Answers
+    (words : List (List ℕ)) (left : Option (List ℕ)) (Rose : Type 0) (status : Status)
+    (out_old out_new notes_old notes_new : Option (List ℕ)) (SameOut : Type 0) : Type 0 where
   pub due : Due
   pub owed : Owed (job_of words) left Rose due
   pub delivered : Delivers due status out_old out_new notes_old notes_new

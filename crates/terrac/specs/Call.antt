@@ -7,13 +7,17 @@ use Rattle.terrac.specs.Due.{Due}
 use Rattle.terrac.specs.Answer.{IsDue, GivesDue}
 
 -- the status and the bytes are those of something that is due
-pub record AnswersDue (words : List (List ℕ)) (bytes : List ℕ) (status : Status) (out_old out_new notes_old notes_new : Option (List ℕ)) : Type 0 where
+pub record AnswersDue
+    (words : List (List ℕ)) (bytes : List ℕ) (status : Status)
+    (out_old out_new notes_old notes_new : Option (List ℕ)) : Type 0 where
   pub due : Due
   pub is_due : IsDue (job_of words) bytes due
   pub gives : GivesDue due status out_old out_new notes_old notes_new
 
 -- Where the source tells its bytes and no count rose, the answer is exactly what is due, want of memory aside.
-abbrev pub AnswersExactly : List (List ℕ) → Option (List ℕ) → (RoseSource RoseOut RoseNotes : Type 0) → Status → (out_old out_new notes_old notes_new : Option (List ℕ)) → Type 0
+abbrev pub AnswersExactly :
+    List (List ℕ) → Option (List ℕ) → (RoseSource RoseOut RoseNotes : Type 0) → Status →
+    (out_old out_new notes_old notes_new : Option (List ℕ)) → Type 0
 AnswersExactly words left RoseSource RoseOut RoseNotes status out_old out_new notes_old notes_new =
     (bytes : List ℕ) → left ≡ Some bytes →
     (RoseSource → ⊥) → (RoseOut → ⊥) → (RoseNotes → ⊥) → status ≢ statuses.NoMemory →

@@ -105,5 +105,7 @@ IsCallDue image call steps (Some symbol) due = IsRunDue image symbol steps (argu
 -- for bytes: too many of them; none that are an image; or the image that they are
 pub data IsExecDue (call : Call) (steps : ℕ) (bytes : List ℕ) (due : Due) : Type 0 where
   IsLong : longest_image < length bytes → due ≡ due_of_bad_image TooLong → IsExecDue call steps bytes due
-  IsBad : (error : ImageError) → length bytes ≤ longest_image → BadBytes bytes error → due ≡ due_of_bad_image (Refused error) → IsExecDue call steps bytes due
-  IsImage : (image : Image) → length bytes ≤ longest_image → Loads bytes image → IsCallDue image call steps (symbol_named call.entry image.exports) due → IsExecDue call steps bytes due
+  IsBad : (error : ImageError) → length bytes ≤ longest_image → BadBytes bytes error
+      → due ≡ due_of_bad_image (Refused error) → IsExecDue call steps bytes due
+  IsImage : (image : Image) → length bytes ≤ longest_image → Loads bytes image
+      → IsCallDue image call steps (symbol_named call.entry image.exports) due → IsExecDue call steps bytes due

@@ -63,7 +63,9 @@ abbrev pub text_or_none : Option Text → Text
 text_or_none found = unwrap_or found []
 
 abbrev pub is_numeral : Text → Bool
-is_numeral digits = nat_lt 0 (length digits) && (list_all (λ digit. nat_lt (digit_value digit) 10) digits && nat_lt (digits_value 10 digits) (2 ^ 64))
+is_numeral digits =
+    nat_lt 0 (length digits)
+    && (list_all (λ digit. nat_lt (digit_value digit) 10) digits && nat_lt (digits_value 10 digits) (2 ^ 64))
 
 abbrev pub number_or_zero : Text → ℕ
 number_or_zero text =
