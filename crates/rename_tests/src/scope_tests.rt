@@ -15,17 +15,37 @@ type Finds = Option<(u32, u32, u32)>;
 /// A text of one line, the word at which a name stands in it, and what the name finds.
 static ROWS: [(&str, u32, Finds); 42] = [
     // a local's scope begins after its statement
-    ("local function f() return x end local x = 5 print(f())", 7, None),
-    ("local function f() return x end local x = 5 print(f())", 15, Some((0, 0, 3))),
+    (
+        "local function f() return x end local x = 5 print(f())",
+        7,
+        None,
+    ),
+    (
+        "local function f() return x end local x = 5 print(f())",
+        15,
+        Some((0, 0, 3)),
+    ),
     ("local x = x", 4, None),
     ("local x = 1 local x = x return x", 8, Some((0, 0, 2))),
     ("local x = 1 local x = x return x", 10, Some((0, 1, 6))),
     ("local a, a = 1, a print(a)", 8, None),
     ("local a, a = 1, a print(a)", 11, Some((0, 1, 4))),
     ("do local x = 1 end return x", 8, None),
-    ("local x = 1 while x do if x then x = 2 end end", 6, Some((0, 0, 2))),
-    ("local x = 1 while x do if x then x = 2 end end", 9, Some((1, 0, 2))),
-    ("local x = 1 while x do if x then x = 2 end end", 11, Some((2, 0, 2))),
+    (
+        "local x = 1 while x do if x then x = 2 end end",
+        6,
+        Some((0, 0, 2)),
+    ),
+    (
+        "local x = 1 while x do if x then x = 2 end end",
+        9,
+        Some((1, 0, 2)),
+    ),
+    (
+        "local x = 1 while x do if x then x = 2 end end",
+        11,
+        Some((2, 0, 2)),
+    ),
     // what sees itself
     ("local function f() return f end", 7, Some((1, 0, 3))),
     ("local struct S { a : &S }", 8, Some((0, 0, 3))),
@@ -36,29 +56,93 @@ static ROWS: [(&str, u32, Finds); 42] = [
     ("for i = i, 2 do end", 4, None),
     ("for i = 1, 2 do local j = i end", 11, Some((0, 0, 2))),
     ("for k, v in k do local k = v return k end", 6, None),
-    ("for k, v in k do local k = v return k end", 11, Some((0, 1, 4))),
-    ("for k, v in k do local k = v return k end", 13, Some((0, 2, 9))),
+    (
+        "for k, v in k do local k = v return k end",
+        11,
+        Some((0, 1, 4)),
+    ),
+    (
+        "for k, v in k do local k = v return k end",
+        13,
+        Some((0, 2, 9)),
+    ),
     // parameters
-    ("local function f(f, a, a) return f, a end", 12, Some((0, 0, 5))),
-    ("local function f(f, a, a) return f, a end", 14, Some((0, 2, 9))),
-    ("local x = 1 terra f(x : x) : x return x end", 10, Some((0, 0, 2))),
-    ("local x = 1 terra f(x : x) : x return x end", 13, Some((0, 0, 2))),
-    ("local x = 1 terra f(x : x) : x return x end", 15, Some((0, 0, 8))),
+    (
+        "local function f(f, a, a) return f, a end",
+        12,
+        Some((0, 0, 5)),
+    ),
+    (
+        "local function f(f, a, a) return f, a end",
+        14,
+        Some((0, 2, 9)),
+    ),
+    (
+        "local x = 1 terra f(x : x) : x return x end",
+        10,
+        Some((0, 0, 2)),
+    ),
+    (
+        "local x = 1 terra f(x : x) : x return x end",
+        13,
+        Some((0, 0, 2)),
+    ),
+    (
+        "local x = 1 terra f(x : x) : x return x end",
+        15,
+        Some((0, 0, 8)),
+    ),
     // an implicit `self`
     ("function t:g(a) return a end", 9, Some((0, 1, 6))),
-    ("function t:g(a) return self, function() return self end end", 9, Some((0, 0, 0))),
-    ("function t:g(a) return self, function() return self end end", 15, Some((1, 0, 0))),
-    ("function t:m() function t:n() return self end return self end", 14, Some((0, 0, 0))),
-    ("function t:m() function t:n() return self end return self end", 17, Some((0, 0, 0))),
+    (
+        "function t:g(a) return self, function() return self end end",
+        9,
+        Some((0, 0, 0)),
+    ),
+    (
+        "function t:g(a) return self, function() return self end end",
+        15,
+        Some((1, 0, 0)),
+    ),
+    (
+        "function t:m() function t:n() return self end return self end",
+        14,
+        Some((0, 0, 0)),
+    ),
+    (
+        "function t:m() function t:n() return self end return self end",
+        17,
+        Some((0, 0, 0)),
+    ),
     ("function t.g() return self end", 8, None),
-    ("local self = 1 function t:m() return self end return self", 12, Some((0, 0, 0))),
-    ("local self = 1 function t:m() return self end return self", 15, Some((0, 0, 2))),
+    (
+        "local self = 1 function t:m() return self end return self",
+        12,
+        Some((0, 0, 0)),
+    ),
+    (
+        "local self = 1 function t:m() return self end return self",
+        15,
+        Some((0, 0, 2)),
+    ),
     ("terra S:m(x : int) return self end", 11, Some((0, 0, 0))),
     // Terra code in Lua code, and Lua code in it
     ("q = quote var a = 1 in a end", 9, Some((0, 0, 5))),
-    ("q = quote var a = 1 escape local b = a emit b end in a end", 12, Some((1, 0, 5))),
-    ("q = quote var a = 1 escape local b = a emit b end in a end", 14, Some((0, 0, 10))),
-    ("q = quote var a = 1 escape local b = a emit b end in a end", 17, Some((0, 0, 5))),
+    (
+        "q = quote var a = 1 escape local b = a emit b end in a end",
+        12,
+        Some((1, 0, 5)),
+    ),
+    (
+        "q = quote var a = 1 escape local b = a emit b end in a end",
+        14,
+        Some((0, 0, 10)),
+    ),
+    (
+        "q = quote var a = 1 escape local b = a emit b end in a end",
+        17,
+        Some((0, 0, 5)),
+    ),
     ("terra f() var [s] = 1 return s end", 12, None),
     ("terra f() var s : s = s return s end", 8, None),
     ("terra f() var s : s = s return s end", 12, Some((0, 0, 6))),
@@ -97,7 +181,11 @@ fn found(rt: &impl Abort, alloc: Global, text: &str, word: u32) -> Result<Finds,
     Ok(match slots.binder(n) {
         Some(binder) => {
             assert_eq!(rt; path, Some((binder.depth, binder.position)));
-            Some((binder.depth, binder.position, word_of(&tree, binder.declaration)))
+            Some((
+                binder.depth,
+                binder.position,
+                word_of(&tree, binder.declaration),
+            ))
         }
         None => {
             assert_eq!(rt; path, None);
