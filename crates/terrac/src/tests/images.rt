@@ -97,11 +97,10 @@ fn five(rt: HostRuntime) -> Result<(), Fail> {
     for row in &rows {
         check_bytes(&rt, alloc, &file, row, &NO_FAULTS)?;
     }
-    let front = row(&["exec", "five"], "", "bad image Short\n", 10);
-    check_bytes(&rt, alloc, &file[..63], &front, &NO_FAULTS)
+    Ok(())
 }
 
-// Each front of a file is refused.
+// Each front of a file is refused, and one that has no room for the header as Short.
 #[test]
 fn cut_images(rt: HostRuntime) -> Result<(), Fail> {
     let alloc = rt.alloc();
@@ -115,6 +114,9 @@ fn cut_images(rt: HostRuntime) -> Result<(), Fail> {
         assert_eq!(rt; status.code(), 10, "{length}");
         assert!(rt; out.bytes().is_empty(), "{length}");
         assert!(rt; notes.bytes().starts_with(b"bad image "), "{length}");
+        if length < 64 {
+            assert_eq!(rt; notes.bytes(), b"bad image Short\n".as_slice(), "{length}");
+        }
     }
     Ok(())
 }
