@@ -1,0 +1,9 @@
+-- How frames go on, and the language of a tree.
+pub mod Frames
+-- What the steps do.
+pub mod Steps
+-- Where the uses of locals find their cells.
+pub mod Slots
+-- The values in ends.
+pub mod Ends
+pub mod Texts

@@ -1,0 +1,131 @@
+// Constructors of tables (Lua 5.1 manual, section 2.5.7).
+
+ghost use Rattle.std.specs.Prelude.{◌≡◌, ℕ, IfOk, OnOk};
+ghost use Rattle.tl_tree.specs.Arena.{items_of};
+ghost use Rattle.lua_table.specs.Keeping.{KeepsHeap};
+ghost use Rattle.lua_model.specs.Tables as plans;
+ghost use Rattle.lua_eval.specs.Frames.{fields_from, with_field};
+ghost use Rattle.lua_eval.specs.Steps.{Goes};
+
+use crate::code::name;
+use crate::fields::text_value;
+use crate::frame::{AllFrame, FieldFrame, LuaFrame, OneFrame, TableFrame};
+use crate::operators::whole;
+use crate::raise::{LuaStep, raise};
+use lua_model::{End, Job, Scope};
+use lua_ops::Fault;
+use lua_table::Heap;
+use lua_value::Value;
+use tl_base::{Budget, NoMemory, NodeId, Place, Step, TableId};
+use tl_tree::{Node, Piece, Tree};
+
+/// Stores values under the numbers from one on, as far as these are in the profile.
+pub fn store_values(heap: &mut Heap, table: TableId, from: u64, values: &[Value]) -> Result<(), NoMemory>
+    ensures ok { OnOk result (heap.new ≡ plans.with_values table from values.now heap.old) }
+    ensures kept { OnOk result (KeepsHeap heap.old heap.new) }
+{
+    let mut at = from;
+    'values: for value in values {
+        let key = whole(at);
+        if !key.is_nil() {
+            heap.store(table, key, *value)?;
+        }
+        at = at.saturating_add(1);
+    }
+    Ok(())
+}
+
+#[tactic(auto, using(tl_base::proofs::Steps::pushes))]
+/// Evaluates and stores the fields that are left.
+pub fn fields<'a>(
+    tree: &'a Tree<'a>,
+    frames: &mut Vec<LuaFrame<'a>>,
+    rest: &'a [NodeId],
+    table: TableId,
+    next: u64,
+    place: Place,
+    scope: Scope,
+) -> Result<LuaStep, NoMemory> {
+    let Some((first, rest)) = rest.split_first() else {
+        return Ok(Step::Return(End::One(Value::Table(table))));
+    };
+    let frame = TableFrame {
+        table,
+        next,
+        rest,
+        place,
+        scope,
+    };
+    match tree.node(*first) {
+        Node::Piece(Piece::NamedField(name, value)) => {
+            frames.push(LuaFrame::One(OneFrame::Field(frame, FieldFrame::Named(*name))))?;
+            Ok(Step::Enter(Job::Expression(*value, scope)))
+        }
+        Node::Piece(Piece::KeyedField(key, value)) => {
+            frames.push(LuaFrame::One(OneFrame::Field(frame, FieldFrame::Key(*value))))?;
+            Ok(Step::Enter(Job::Expression(*key, scope)))
+        }
+        _ => {
+            if rest.is_empty() {
+                frames.push(LuaFrame::All(AllFrame::LastField(frame)))?;
+            } else {
+                frames.push(LuaFrame::One(OneFrame::Field(frame, FieldFrame::Next)))?;
+            }
+            Ok(Step::Enter(Job::Expression(*first, scope)))
+        }
+    }
+}
+
+#[tactic(auto, using(tl_base::proofs::Steps::pushes))]
+/// Stores a field under a key, and goes on with the fields behind it.
+fn store_field<'a>(
+    tree: &'a Tree<'a>,
+    frames: &mut Vec<LuaFrame<'a>>,
+    heap: &mut Heap,
+    budget: &mut Budget,
+    frame: TableFrame<'a>,
+    key: Value,
+    value: Value,
+) -> Result<LuaStep, NoMemory> {
+    if key.is_nil() {
+        let step = raise(heap, budget, frame.place, Fault::NilKey)?;
+        return Ok(step);
+    }
+    heap.store(frame.table, key, value)?;
+    let step = fields(tree, frames, frame.rest, frame.table, frame.next, frame.place, frame.scope)?;
+    Ok(step)
+}
+
+#[tactic(auto, using(tl_base::proofs::Steps::pushes))]
+/// Goes on with a field, of which something was evaluated.
+pub fn with_field<'a>(
+    tree: &'a Tree<'a>,
+    frames: &mut Vec<LuaFrame<'a>>,
+    heap: &mut Heap,
+    budget: &mut Budget,
+    frame: TableFrame<'a>,
+    wait: FieldFrame,
+    value: Value,
+) -> Result<LuaStep, NoMemory> {
+    match wait {
+        FieldFrame::Next => {
+            store_values(heap, frame.table, frame.next, &[value])?;
+            let next = frame.next.saturating_add(1);
+            let step = fields(tree, frames, frame.rest, frame.table, next, frame.place, frame.scope)?;
+            Ok(step)
+        }
+        FieldFrame::Named(node) => {
+            let key = text_value(heap, name(tree, node).as_bytes())?;
+            let step = store_field(tree, frames, heap, budget, frame, key, value)?;
+            Ok(step)
+        }
+        FieldFrame::Key(node) => {
+            frames.push(LuaFrame::One(OneFrame::Field(frame, FieldFrame::Under(value))))?;
+            Ok(Step::Enter(Job::Expression(node, frame.scope)))
+        }
+        FieldFrame::Under(key) => {
+            let step = store_field(tree, frames, heap, budget, frame, key, value)?;
+            Ok(step)
+        }
+    }
+}
