@@ -7,3 +7,5 @@ pub mod Slots
 -- The values in ends.
 pub mod Ends
 pub mod Texts
+-- What remains of an evaluation that is suspended.
+pub mod Rest
