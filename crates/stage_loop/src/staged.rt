@@ -1,5 +1,10 @@
 // The layers as one stage: Lua code, and the functions of the library that it calls.
 
+ghost use Rattle.std.specs.Prelude.{◌≡◌, false};
+ghost use Rattle.tl_tree.specs.Arena.{items_of};
+ghost use Rattle.lua_table.specs.Keeping.{KeepsHeap};
+ghost use Rattle.stage_loop.specs.Staged.{task_of};
+
 use crate::library;
 use lua_eval::Lua;
 use lua_model::{LuaAnswer, LuaEnd, LuaJob, LuaQuestion};
@@ -23,7 +28,9 @@ pub enum Task {
 }
 
 /// The layer that answers a question of Lua code.
-fn task_of(question: LuaQuestion) -> Task {
+fn task_of(question: LuaQuestion) -> Task
+    ensures { result ≡ task_of question }
+{
     match question {
         LuaQuestion::Library(call) => Task::Library(call),
         LuaQuestion::Specialise(_, _) => Task::Specialise,
@@ -41,6 +48,9 @@ pub enum Staged<'a> {
 }
 
 impl Layer for Staged<'_> {
+    ghost use Rattle.lua_eval.specs.Frames.{is_go};
+    ghost use Rattle.stage_loop.specs.Staged.{staged_rest, StagedFits};
+
     type World = Heap;
 
     type Question = Task;
@@ -48,6 +58,14 @@ impl Layer for Staged<'_> {
     type Answer = LuaAnswer;
 
     type End = LuaEnd;
+
+    ghost rest = { staged_rest };
+
+    ghost fits = { StagedFits };
+
+    ghost follows = { λ question s next. is_go next.answer ≡ false };
+
+    ghost keeps = { KeepsHeap };
 
     fn resume(
         &mut self,
@@ -83,6 +101,9 @@ pub struct LuaStage<'a> {
 }
 
 impl<'a> Stages for LuaStage<'a> {
+    ghost use Rattle.lua_table.proofs.Keeping.{keeps_itself, keeps_then};
+    ghost use Rattle.stage_loop.specs.Staged.{lua_stage, ends_follow};
+
     type World = Heap;
 
     type Question = Task;
@@ -92,6 +113,14 @@ impl<'a> Stages for LuaStage<'a> {
     type End = LuaEnd;
 
     type Staged = Staged<'a>;
+
+    ghost stage = { λ stages. lua_stage (items_of stages.tree.now) };
+
+    ghost ends_follow = { λ stages question asked now end kept paid. ends_follow end };
+
+    ghost keeps_self = { keeps_itself };
+
+    ghost keeps_on = { keeps_then };
 
     fn start(&self, alloc: Global, question: Task) -> Staged<'a> {
         match question {
