@@ -49,7 +49,7 @@ fn main(rt: HostRuntime) -> io::Result<ExitCode> {
     rt.stdout().write_all(outcome.printed.bytes())?;
     if shows {
         let paid = budget - outcome.left;
-        eprintln!(&rt; "units {paid}")?;
+        println!(&rt; "units {paid}")?;
     }
     match outcome.end {
         End::Done => Ok(ExitCode::from(0)),
