@@ -34,7 +34,12 @@ fn print(heap: &mut Heap, budget: &mut Budget, args: &[Value]) -> Result<LibTurn
 }
 
 /// Gives the name of a value's kind, which is a text that is made.
-fn type_of(heap: &mut Heap, budget: &mut Budget, args: &[Value], place: Place) -> Result<LibTurn, NoMemory> {
+fn type_of(
+    heap: &mut Heap,
+    budget: &mut Budget,
+    args: &[Value],
+    place: Place,
+) -> Result<LibTurn, NoMemory> {
     let Some(value) = args.first() else {
         return bad_argument(heap, budget, place, 1, "type");
     };

@@ -84,7 +84,10 @@ impl Layer for Staged<'_> {
                 LibTurn::Raise(value, place) => Ok(Turn::End(LuaEnd::Raised(value, place))),
                 LibTurn::Spent => Ok(Turn::Spent),
                 // No function that is there asks.
-                LibTurn::CallBack { .. } | LibTurn::Check { .. } | LibTurn::Layout { .. } | LibTurn::TypeText { .. } => {
+                LibTurn::CallBack { .. }
+                | LibTurn::Check { .. }
+                | LibTurn::Layout { .. }
+                | LibTurn::TypeText { .. } => {
                     Ok(Turn::End(LuaEnd::Done(Values::new(heap.allocator()))))
                 }
             },

@@ -16,10 +16,7 @@ use tl_tree::Tree;
 pub enum End {
     Done,
     /// By an error: its text, and the place of what raised it.
-    Raised {
-        text: Text2,
-        place: Place,
-    },
+    Raised { text: Text2, place: Place },
     /// Before a payment above what was left of the budget.
     Spent,
 }
@@ -52,8 +49,17 @@ pub fn stage(alloc: Global, tree: &Tree<'_>, units: u64) -> Result<Outcome, NoMe
     let slots = resolve(alloc, tree)?;
     let mut heap = opening(alloc)?;
     let mut budget = Budget::new(units);
-    let stages = LuaStage { tree, slots: &slots };
-    let end = match run(alloc, &stages, Task::Evaluate(LuaJob::Chunk), &mut heap, &mut budget)? {
+    let stages = LuaStage {
+        tree,
+        slots: &slots,
+    };
+    let end = match run(
+        alloc,
+        &stages,
+        Task::Evaluate(LuaJob::Chunk),
+        &mut heap,
+        &mut budget,
+    )? {
         Staging::Spent => End::Spent,
         Staging::Ends(LuaEnd::Done(_)) => End::Done,
         Staging::Ends(LuaEnd::Raised(value, place)) => End::Raised {
