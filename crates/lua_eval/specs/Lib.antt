@@ -7,3 +7,5 @@ pub mod Slots
 -- The values in ends.
 pub mod Ends
 pub mod Texts
+-- The numbers of a numeric `for`.
+pub mod Numbers

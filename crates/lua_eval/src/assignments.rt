@@ -1,16 +1,17 @@
 // Assignments, and what defines functions (Lua 5.1 manual, sections 2.4.3 and 2.5.9).
 
-ghost use Rattle.std.specs.Prelude.{◌≡◌, ◌+◌, ◌*◌, [], ◌∷◌, ◌++◌, IfOk, OnOk};
+ghost use Rattle.std.specs.Prelude.{◌≡◌, ℕ, ◌+◌, ◌*◌, [], ◌∷◌, ◌++◌, IfOk, OnOk};
 ghost use Rattle.tl_tree.specs.Arena.{items_of};
 ghost use Rattle.tl_tree.specs.Nodes.{item_at};
-ghost use Rattle.tl_tree.specs.Code.{if_any};
+ghost use Rattle.tl_tree.specs.Code.{Items, if_any};
+ghost use Rattle.lua_table.specs.LuaState.{LuaState};
 ghost use Rattle.lua_table.specs.Keeping.{KeepsHeap};
 ghost use Rattle.lua_model.specs.Plans.{fell};
 ghost use Rattle.lua_model.specs.Assignments as plans;
 ghost use Rattle.lua_table.specs.Cells.{nth_value};
 ghost use Rattle.lua_eval.specs.Slots.{ArePaths};
-ghost use Rattle.lua_eval.specs.Frames.{targets_plan, define_name};
-ghost use Rattle.lua_eval.specs.Steps.{Goes};
+ghost use Rattle.lua_eval.specs.Frames.{targets_plan, define_name, with_target};
+ghost use Rattle.lua_eval.specs.Steps.{Goes, Does};
 
 use crate::cells::set_local;
 use crate::code::{name, name_place};
@@ -252,7 +253,11 @@ pub fn define<'a>(
     method: Option<NodeId>,
     function: NodeId,
     scope: Scope,
-) -> Result<LuaStep, NoMemory> {
+) -> Result<LuaStep, NoMemory>
+    ensures means { IfOk result (λ step. (items : Items) (s : LuaState) (left : ℕ) →
+        Goes items frames.old.items (plans.define items (names.now ++ if_any method) function scope) s left
+        frames.new.items step s left) }
+{
     match names.split_first() {
         None => match method {
             Some(last) => {
@@ -273,7 +278,10 @@ pub fn define<'a>(
 }
 
 /// Gives the object and the key of a target.
-pub fn held(heap: &Heap, object: Value, key: Value) -> Result<LuaStep, NoMemory> {
+pub fn held(heap: &Heap, object: Value, key: Value) -> Result<LuaStep, NoMemory>
+    ensures means { IfOk result (λ step. (items : Items) (s : LuaState) (left : ℕ) →
+        Does items (plans.held object key) s left step s left) }
+{
     let values = two(heap.allocator(), object, key)?;
     Ok(Step::Return(End::Many(values)))
 }
@@ -287,7 +295,12 @@ pub fn with_target<'a>(
     budget: &mut Budget,
     frame: TargetFrame<'a>,
     value: Value,
-) -> Result<LuaStep, NoMemory> {
+) -> Result<LuaStep, NoMemory>
+    ensures means { IfOk result (λ step.
+        Goes (items_of tree.now) frames.old.items (with_target (items_of tree.now) frame.entry value)
+        heap.old budget.old frames.new.items step heap.new budget.new) }
+    ensures kept { OnOk result (KeepsHeap heap.old heap.new) }
+{
     match frame {
         TargetFrame::Object(key, scope) => {
             frames.push(LuaFrame::One(OneFrame::Target(TargetFrame::Key(value))))?;

@@ -1,6 +1,7 @@
 // Locals and their cells.
 
-ghost use Rattle.std.specs.Prelude.{◌≡◌, ◌-◌, drop, IfOk, OnOk};
+ghost use Rattle.std.specs.Prelude.{◌≡◌, ◌+◌, IfOk, OnOk};
+ghost use Rattle.lua_table.specs.Heap.{cell_at};
 ghost use Rattle.lua_table.specs.Keeping.{KeepsHeap};
 ghost use Rattle.lua_table.specs.Cells.{env_out, local_cell, local_value, with_local, declare, declare_all, with_cells, values_from};
 
@@ -78,6 +79,7 @@ pub fn declare_all(heap: &mut Heap, count: usize, env: EnvId, values: &[Value]) 
 }
 
 /// Puts values into fresh cells.
+#[tactic(auto, using(crate::proofs::Declaring::cells_next, crate::proofs::Declaring::cells_end, lua_table::proofs::Keeping::keeps_cell, lua_table::proofs::Keeping::keeps_then))]
 pub fn with_cells(heap: &mut Heap, values: &[Value]) -> Result<(), NoMemory>
     ensures ok { OnOk result (heap.new ≡ with_cells values.now heap.old) }
     ensures kept { OnOk result (KeepsHeap heap.old heap.new) }
@@ -88,15 +90,27 @@ pub fn with_cells(heap: &mut Heap, values: &[Value]) -> Result<(), NoMemory>
     Ok(())
 }
 
+/// What the cell holds that is so many behind another.
+#[tactic(auto, using(crate::proofs::Declaring::past_cells))]
+fn cell_behind(heap: &Heap, cell: CellId, more: u64) -> Value
+    ensures { result ≡ cell_at heap.now (record { 0 = cell.0 + more }) }
+{
+    // Past the last cell there are none.
+    let end = heap.next_cell();
+    if end.0.saturating_sub(more) <= cell.0 {
+        return Value::Nil;
+    }
+    heap.cell(CellId(cell.0 + more))
+}
+
 /// What so many cells hold, from one on.
+#[tactic(auto, using(crate::proofs::Declaring::values_more))]
 pub fn values_from(heap: &Heap, cell: CellId, count: u64) -> Result<Values, NoMemory>
     ensures { IfOk result (λ values. values ≡ values_from heap.now cell count) }
 {
     let mut values = Values::new(heap.allocator());
-    let mut at = cell.0;
-    'cells: for _ in 0..count {
-        values.push(heap.cell(CellId(at)))?;
-        at = at.wrapping_add(1);
+    'cells: for i in 0..count {
+        values.push(cell_behind(heap, cell, i))?;
     }
     Ok(values)
 }

@@ -2,11 +2,13 @@
 
 ghost use Rattle.std.specs.Prelude.{◌≡◌, ℕ, IfOk, OnOk};
 ghost use Rattle.tl_tree.specs.Arena.{items_of};
+ghost use Rattle.tl_tree.specs.Code.{Items};
 ghost use Rattle.tl_tree.specs.Nodes.{item_at};
+ghost use Rattle.lua_table.specs.LuaState.{LuaState};
 ghost use Rattle.lua_table.specs.Keeping.{KeepsHeap};
 ghost use Rattle.lua_model.specs.Expressions as plans;
 ghost use Rattle.lua_eval.specs.Slots.{ArePaths};
-ghost use Rattle.lua_eval.specs.Frames.{with_value, with_call};
+ghost use Rattle.lua_eval.specs.Frames.{with_left, with_value, with_call};
 ghost use Rattle.lua_eval.specs.Steps.{Goes};
 
 use crate::cells::{local, values_from};
@@ -166,24 +168,31 @@ fn with_left<'a>(
     place: Place,
     scope: Scope,
     value: Value,
-) -> Result<LuaStep, NoMemory> {
-    let frame = match op {
+) -> Result<LuaStep, NoMemory>
+    ensures means { IfOk result (λ step. (items : Items) (s : LuaState) (left : ℕ) →
+        Goes items frames.old.items (with_left items op right place scope value) s left frames.new.items step s left) }
+{
+    match op {
         BinaryOperator::And => {
             if !value.is_true() {
                 return Ok(Step::Return(End::One(value)));
             }
-            ValueFrame::First
+            frames.push(LuaFrame::One(OneFrame::Value(ValueFrame::First)))?;
+            Ok(Step::Enter(Job::Expression(right, scope)))
         }
         BinaryOperator::Or => {
             if value.is_true() {
                 return Ok(Step::Return(End::One(value)));
             }
-            ValueFrame::First
+            frames.push(LuaFrame::One(OneFrame::Value(ValueFrame::First)))?;
+            Ok(Step::Enter(Job::Expression(right, scope)))
         }
-        _ => ValueFrame::Right(op, value, place, scope.call),
-    };
-    frames.push(LuaFrame::One(OneFrame::Value(frame)))?;
-    Ok(Step::Enter(Job::Expression(right, scope)))
+        _ => {
+            let frame = ValueFrame::Right(op, value, place, scope.call);
+            frames.push(LuaFrame::One(OneFrame::Value(frame)))?;
+            Ok(Step::Enter(Job::Expression(right, scope)))
+        }
+    }
 }
 
 #[tactic(auto, using(tl_base::proofs::Steps::pushes))]

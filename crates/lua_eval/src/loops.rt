@@ -1,11 +1,14 @@
 // Loops (Lua 5.1 manual, sections 2.4.4 and 2.4.5).
 
-ghost use Rattle.std.specs.Prelude.{◌≡◌, ℕ, IfOk, OnOk};
+ghost use Rattle.std.specs.Prelude.{◌≡◌, ℕ, pos, IfOk, OnOk};
 ghost use Rattle.tl_tree.specs.Arena.{items_of};
 ghost use Rattle.tl_tree.specs.Code.{Items};
 ghost use Rattle.lua_table.specs.LuaState.{LuaState};
 ghost use Rattle.lua_table.specs.Keeping.{KeepsHeap};
-ghost use Rattle.lua_model.specs.Plans.{within};
+ghost use Rattle.tl_tree.specs.Nodes.{item_at};
+ghost use Rattle.lua_ops.specs.Outcomes.{operand};
+ghost use Rattle.lua_model.specs.Plans.{within, value_of};
+ghost use Rattle.lua_eval.specs.Numbers.{number_in, numbers_in};
 ghost use Rattle.lua_model.specs.Loops as plans;
 ghost use Rattle.lua_eval.specs.Frames.{first_count, next_turn, with_loop};
 ghost use Rattle.lua_eval.specs.Steps.{Goes, Does};
@@ -68,7 +71,11 @@ pub fn listed(
     state: Value,
     values: &[Value],
     out: Values,
-) -> Result<LuaStep, NoMemory> {
+) -> Result<LuaStep, NoMemory>
+    ensures means { IfOk result (λ step. (items : Items) (left : ℕ) →
+        Does items (plans.listed node names.now scope function state values.now out) heap.old left step heap.new left) }
+    ensures kept { OnOk result (KeepsHeap heap.old heap.new) }
+{
     let (control, _) = split_values(values);
     if control.is_nil() {
         return Ok(Step::Return(End::Fell(out)));
@@ -80,7 +87,9 @@ pub fn listed(
 }
 
 /// The number that a value is in arithmetic, or the fault of a `for` whose part it is.
-fn number(heap: &Heap, value: Value, missing: Fault) -> Result<Number, Fault> {
+fn number(heap: &Heap, value: Value, missing: Fault) -> Result<Number, Fault>
+    ensures { result ≡ number_in (operand heap.now value) missing }
+{
     match operand(heap, &value) {
         Ok(number) => Ok(number),
         Err(Fault::Arithmetic(_)) => Err(missing),
@@ -89,7 +98,9 @@ fn number(heap: &Heap, value: Value, missing: Fault) -> Result<Number, Fault> {
 }
 
 /// The numbers of a `for`, in their order, or the first fault.
-fn numbers(heap: &Heap, first: Value, limit: Value, step: Value) -> Result<(Number, Number, Number), Fault> {
+fn numbers(heap: &Heap, first: Value, limit: Value, step: Value) -> Result<(Number, Number, Number), Fault>
+    ensures { result ≡ numbers_in (operand heap.now first) (operand heap.now limit) (operand heap.now step) }
+{
     let first = number(heap, first, Fault::ForInitial)?;
     let limit = number(heap, limit, Fault::ForLimit)?;
     let step = number(heap, step, Fault::ForStep)?;
@@ -106,7 +117,11 @@ pub fn first_count(
     step: Value,
     place: Place,
     scope: Scope,
-) -> Result<LuaStep, NoMemory> {
+) -> Result<LuaStep, NoMemory>
+    ensures means { IfOk result (λ next. (items : Items) →
+        Does items (first_count node first limit step place scope) heap.old budget.old next heap.new budget.new) }
+    ensures kept { OnOk result (KeepsHeap heap.old heap.new) }
+{
     match numbers(heap, first, limit, step) {
         Ok((first, limit, step)) => {
             let out = Values::new(heap.allocator());
@@ -119,14 +134,24 @@ pub fn first_count(
     }
 }
 
-/// Begins a turn of a numeric `for`, unless its variable is past the limit.
-fn count(node: NodeId, scope: Scope, at: Number, limit: Number, step: Number, out: Values) -> LuaStep {
-    let runs = if step.get() > 0 {
+/// Holds where a numeric `for` has a turn with this number: a step above zero runs up to the limit, and any other one down
+/// to it.
+fn runs(at: Number, limit: Number, step: Number) -> bool
+    ensures { result ≡ plans.runs at limit step }
+{
+    if step.get() > 0 {
         at.get() <= limit.get()
     } else {
         limit.get() <= at.get()
-    };
-    if runs {
+    }
+}
+
+/// Begins a turn of a numeric `for`, unless its variable is past the limit.
+fn count(node: NodeId, scope: Scope, at: Number, limit: Number, step: Number, out: Values) -> LuaStep
+    ensures { (items : Items) (s : LuaState) (left : ℕ) →
+        Does items (plans.count node scope at limit step out) s left result s left }
+{
+    if runs(at, limit, step) {
         Step::Enter(Job::Turn(node, scope, Loop::Counted(at, limit, step), out))
     } else {
         Step::Return(End::Fell(out))
@@ -141,7 +166,11 @@ pub fn with_loop<'a>(
     budget: &mut Budget,
     frame: LoopFrame,
     value: Value,
-) -> Result<LuaStep, NoMemory> {
+) -> Result<LuaStep, NoMemory>
+    ensures means { IfOk result (λ step. (items : Items) →
+        Goes items frames.old.items (with_loop frame value) heap.old budget.old frames.new.items step heap.new budget.new) }
+    ensures kept { OnOk result (KeepsHeap heap.old heap.new) }
+{
     match frame {
         LoopFrame::While(node, scope, out) => {
             if value.is_true() {
@@ -177,7 +206,9 @@ pub fn with_loop<'a>(
 }
 
 /// The number 1.
-fn one() -> Value {
+fn one() -> Value
+    ensures { result ≡ Value.Number (pos 1) }
+{
     match Number::new(1) {
         Some(one) => Value::Number(one),
         None => Value::Nil,
@@ -191,7 +222,11 @@ fn test<'a>(
     frame: LoopFrame,
     condition: NodeId,
     scope: Scope,
-) -> Result<LuaStep, NoMemory> {
+) -> Result<LuaStep, NoMemory>
+    ensures means { IfOk result (λ step. (items : Items) (s : LuaState) (left : ℕ) →
+        Goes items frames.old.items (value_of condition scope (λ v. with_loop frame v)) s left
+        frames.new.items step s left) }
+{
     frames.push(LuaFrame::One(OneFrame::Loop(frame)))?;
     Ok(Step::Enter(Job::Expression(condition, scope)))
 }
@@ -207,7 +242,8 @@ pub fn while_test<'a>(
     ensures means { IfOk result (λ step. (items : Items) (s : LuaState) (left : ℕ) →
         Goes items frames.old.items (plans.while_test node condition scope out) s left frames.new.items step s left) }
 {
-    test(frames, LoopFrame::While(node, scope, out), condition, scope)
+    let step = test(frames, LoopFrame::While(node, scope, out), condition, scope)?;
+    Ok(step)
 }
 
 #[tactic(auto, using(tl_base::proofs::Steps::pushes))]
@@ -257,7 +293,13 @@ pub fn turn<'a>(
     scope: Scope,
     turn: Loop,
     out: Values,
-) -> Result<LuaStep, NoMemory> {
+) -> Result<LuaStep, NoMemory>
+    ensures means { IfOk result (λ step. (left : ℕ) →
+        Goes (items_of tree.now) frames.old.items
+        (plans.turn_plan (items_of tree.now) (item_at (items_of tree.now) node) node scope turn out)
+        heap.old left frames.new.items step heap.new left) }
+    ensures kept { OnOk result (KeepsHeap heap.old heap.new) }
+{
     match tree.node(node) {
         Node::Statement(place, statement) => {
             let step = turn_of(tree, frames, heap, statement, node, *place, scope, turn, out)?;
@@ -278,27 +320,38 @@ fn turn_of<'a>(
     scope: Scope,
     turn: Loop,
     out: Values,
-) -> Result<LuaStep, NoMemory> {
+) -> Result<LuaStep, NoMemory>
+    ensures means { IfOk result (λ step. (left : ℕ) →
+        Goes (items_of tree.now) frames.old.items
+        (plans.turn_of (items_of tree.now) statement.now node place scope turn out)
+        heap.old left frames.new.items step heap.new left) }
+    ensures kept { OnOk result (KeepsHeap heap.old heap.new) }
+{
     match (turn, statement) {
         (Loop::While, Statement::While(condition, block)) => {
             let env = heap.new_env(*block, Some(scope.env))?;
             let next = TurnFrame::While(*condition);
-            turn_block(tree, frames, *block, node, scope, within(scope, env), next, out)
+            let step = turn_block(tree, frames, *block, node, scope, within(scope, env), next, out)?;
+            Ok(step)
         }
         (Loop::Repeat, Statement::Repeat(block, condition)) => {
             let env = heap.new_env(node, Some(scope.env))?;
             let inner = within(scope, env);
-            turn_block(tree, frames, *block, node, scope, inner, TurnFrame::Repeat(*condition, inner), out)
+            let next = TurnFrame::Repeat(*condition, inner);
+            let step = turn_block(tree, frames, *block, node, scope, inner, next, out)?;
+            Ok(step)
         }
-        (Loop::Counted(at, limit, step), Statement::NumericFor(_, _, _, _, block)) => {
+        (Loop::Counted(at, limit, by), Statement::NumericFor(_, _, _, _, block)) => {
             let env = heap.new_env(node, Some(scope.env))?;
             declare(heap, env, Value::Number(at))?;
-            let next = TurnFrame::Counted(at, limit, step);
-            turn_block(tree, frames, *block, node, scope, within(scope, env), next, out)
+            let next = TurnFrame::Counted(at, limit, by);
+            let step = turn_block(tree, frames, *block, node, scope, within(scope, env), next, out)?;
+            Ok(step)
         }
         (Loop::Listed(env, function, state, control), Statement::GenericFor(names, _, block)) => {
             let next = TurnFrame::Listed(names.as_slice(), place, function, state, control);
-            turn_block(tree, frames, *block, node, scope, within(scope, env), next, out)
+            let step = turn_block(tree, frames, *block, node, scope, within(scope, env), next, out)?;
+            Ok(step)
         }
         _ => Ok(Step::Return(End::Fell(out))),
     }
@@ -315,7 +368,13 @@ fn turn_block<'a>(
     inner: Scope,
     next: TurnFrame<'a>,
     out: Values,
-) -> Result<LuaStep, NoMemory> {
+) -> Result<LuaStep, NoMemory>
+    ensures means { IfOk result (λ step. (s : LuaState) (left : ℕ) →
+        Goes (items_of tree.now) frames.old.items
+        (plans.turn_block (items_of tree.now) block inner out
+            (λ all. next_turn (items_of tree.now) node scope next.entry all))
+        s left frames.new.items step s left) }
+{
     frames.push(LuaFrame::Turn(node, scope, next))?;
     let step = statements(frames, block_statements(tree, block), inner, out)?;
     Ok(step)

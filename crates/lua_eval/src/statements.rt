@@ -4,8 +4,12 @@ ghost use Rattle.std.specs.Prelude.{◌≡◌, ℕ, IfOk, OnOk};
 ghost use Rattle.tl_tree.specs.Arena.{items_of};
 ghost use Rattle.tl_tree.specs.Nodes.{item_at};
 ghost use Rattle.tl_base.specs.Plan.{Give};
+ghost use Rattle.tl_tree.specs.Code.{arm_condition, arm_block};
+ghost use Rattle.lua_table.specs.LuaState.{LuaState};
 ghost use Rattle.lua_table.specs.Keeping.{KeepsHeap};
+ghost use Rattle.lua_model.specs.Assignments.{target_plan};
 ghost use Rattle.lua_model.specs.Statements as plans;
+ghost use Rattle.lua_eval.specs.Frames.{with_statement};
 ghost use Rattle.lua_eval.specs.Slots.{ArePaths};
 ghost use Rattle.lua_eval.specs.Steps.{Goes};
 
@@ -53,7 +57,12 @@ fn arms<'a>(
     rest: &'a [NodeId],
     otherwise: Option<NodeId>,
     scope: Scope,
-) -> Result<LuaStep, NoMemory> {
+) -> Result<LuaStep, NoMemory>
+    ensures means { IfOk result (λ step. (left : ℕ) →
+        Goes (items_of tree.now) frames.old.items (plans.arms_plan (items_of tree.now) rest.now otherwise scope)
+        heap.old left frames.new.items step heap.new left) }
+    ensures kept { OnOk result (KeepsHeap heap.old heap.new) }
+{
     match rest.split_first() {
         None => match otherwise {
             Some(node) => {
@@ -72,7 +81,10 @@ fn arms<'a>(
 }
 
 /// The condition and the block of an arm.
-fn arm(tree: &Tree<'_>, node: NodeId) -> (NodeId, NodeId) {
+fn arm(tree: &Tree<'_>, node: NodeId) -> (NodeId, NodeId)
+    ensures condition { result.0 ≡ arm_condition (item_at (items_of tree.now) node) }
+    ensures block { result.1 ≡ arm_block (item_at (items_of tree.now) node) }
+{
     match tree.node(node) {
         Node::Piece(Piece::Arm(condition, block)) => (*condition, *block),
         _ => (NodeId(0), NodeId(0)),
@@ -87,19 +99,25 @@ pub fn with_statement<'a>(
     heap: &mut Heap,
     frame: StatementFrame<'a>,
     value: Value,
-) -> Result<LuaStep, NoMemory> {
+) -> Result<LuaStep, NoMemory>
+    ensures means { IfOk result (λ step. (left : ℕ) →
+        Goes (items_of tree.now) frames.old.items (with_statement (items_of tree.now) frame.entry value)
+        heap.old left frames.new.items step heap.new left) }
+    ensures kept { OnOk result (KeepsHeap heap.old heap.new) }
+{
     match frame {
         StatementFrame::Emit => {
             let out = one(heap.allocator(), value)?;
             Ok(Step::Return(End::Fell(out)))
         }
         StatementFrame::Arm(node, rest, otherwise, scope) => {
-            let step = if value.is_true() {
-                block(tree, frames, heap, node, scope)?
+            if value.is_true() {
+                let step = block(tree, frames, heap, node, scope)?;
+                Ok(step)
             } else {
-                arms(tree, frames, heap, rest, otherwise, scope)?
-            };
-            Ok(step)
+                let step = arms(tree, frames, heap, rest, otherwise, scope)?;
+                Ok(step)
+            }
         }
     }
 }
@@ -231,7 +249,12 @@ pub fn target<'a>(
     heap: &Heap,
     node: NodeId,
     scope: Scope,
-) -> Result<LuaStep, NoMemory> {
+) -> Result<LuaStep, NoMemory>
+    ensures means { IfOk result (λ step. (s : LuaState) (left : ℕ) →
+        Goes (items_of tree.now) frames.old.items
+        (target_plan (items_of tree.now) (item_at (items_of tree.now) node) scope) s left
+        frames.new.items step s left) }
+{
     match tree.node(node) {
         Node::Expression(_, Expression::Index(object, key)) => {
             frames.push(LuaFrame::One(OneFrame::Target(TargetFrame::Object(*key, scope))))?;
@@ -241,6 +264,9 @@ pub fn target<'a>(
             frames.push(LuaFrame::One(OneFrame::Target(TargetFrame::Select(*name))))?;
             Ok(Step::Enter(Job::Expression(*object, scope)))
         }
-        _ => held(heap, Value::Nil, Value::Nil),
+        _ => {
+            let step = held(heap, Value::Nil, Value::Nil)?;
+            Ok(step)
+        }
     }
 }

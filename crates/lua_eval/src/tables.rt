@@ -2,7 +2,9 @@
 
 ghost use Rattle.std.specs.Prelude.{◌≡◌, ℕ, IfOk, OnOk};
 ghost use Rattle.tl_tree.specs.Arena.{items_of};
+ghost use Rattle.lua_table.specs.LuaState.{LuaState};
 ghost use Rattle.lua_table.specs.Keeping.{KeepsHeap};
+ghost use Rattle.lua_model.specs.Fields.{store_raw};
 ghost use Rattle.lua_model.specs.Tables as plans;
 ghost use Rattle.lua_eval.specs.Frames.{fields_from, with_field};
 ghost use Rattle.lua_eval.specs.Steps.{Goes};
@@ -45,7 +47,11 @@ pub fn fields<'a>(
     next: u64,
     place: Place,
     scope: Scope,
-) -> Result<LuaStep, NoMemory> {
+) -> Result<LuaStep, NoMemory>
+    ensures means { IfOk result (λ step. (s : LuaState) (left : ℕ) →
+        Goes (items_of tree.now) frames.old.items
+        (plans.fields (items_of tree.now) rest.now table next place scope) s left frames.new.items step s left) }
+{
     let Some((first, rest)) = rest.split_first() else {
         return Ok(Step::Return(End::One(Value::Table(table))));
     };
@@ -86,7 +92,14 @@ fn store_field<'a>(
     frame: TableFrame<'a>,
     key: Value,
     value: Value,
-) -> Result<LuaStep, NoMemory> {
+) -> Result<LuaStep, NoMemory>
+    ensures means { IfOk result (λ step.
+        Goes (items_of tree.now) frames.old.items
+        (store_raw frame.entry.table key value frame.entry.place
+            (fields_from (items_of tree.now) frame.entry frame.entry.next))
+        heap.old budget.old frames.new.items step heap.new budget.new) }
+    ensures kept { OnOk result (KeepsHeap heap.old heap.new) }
+{
     if key.is_nil() {
         let step = raise(heap, budget, frame.place, Fault::NilKey)?;
         return Ok(step);
@@ -106,7 +119,12 @@ pub fn with_field<'a>(
     frame: TableFrame<'a>,
     wait: FieldFrame,
     value: Value,
-) -> Result<LuaStep, NoMemory> {
+) -> Result<LuaStep, NoMemory>
+    ensures means { IfOk result (λ step.
+        Goes (items_of tree.now) frames.old.items (with_field (items_of tree.now) frame.entry wait value)
+        heap.old budget.old frames.new.items step heap.new budget.new) }
+    ensures kept { OnOk result (KeepsHeap heap.old heap.new) }
+{
     match wait {
         FieldFrame::Next => {
             store_values(heap, frame.table, frame.next, &[value])?;
