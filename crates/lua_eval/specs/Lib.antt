@@ -9,3 +9,5 @@ pub mod Ends
 pub mod Texts
 -- The numbers of a numeric `for`.
 pub mod Numbers
+-- What remains of an evaluation that is suspended.
+pub mod Rest

@@ -19,12 +19,12 @@ use crate::fields::{GLOBALS, read, store, text_value};
 use crate::frame::{AllFrame, LuaFrame, OneFrame, TargetFrame, Then};
 use crate::lists::{list, nth};
 use crate::raise::LuaStep;
-use crate::slots::Slots;
 use crate::values::two;
 use lua_model::{End, Job, Scope};
 use lua_table::{Closure, Heap};
 use lua_value::{Value, Values};
 use tl_base::{Budget, NoMemory, NodeId, Step};
+use tl_rename::Slots;
 use tl_tree::{Node, Tree};
 
 #[tactic(auto, using(tl_base::proofs::Steps::pushes))]

@@ -18,7 +18,6 @@ use crate::frame::{CallFrame, LuaFrame, OneFrame, Then, ValueFrame};
 use crate::lists::list;
 use crate::operators::{operate, operate_one, whole};
 use crate::raise::LuaStep;
-use crate::slots::Slots;
 use crate::tables::fields;
 use crate::values::one;
 use lua_model::{End, Job, LuaQuestion, Scope};
@@ -26,6 +25,7 @@ use lua_table::{Closure, Heap};
 use lua_value::{Value, Values};
 use tl_base::{Budget, NoMemory, NodeId, Place, Step};
 use tl_lex::literal_value;
+use tl_rename::Slots;
 use tl_tree::{BinaryOperator, Expression, Node, Tree, numeral_value};
 
 #[tactic(auto, using(tl_base::proofs::Steps::pushes))]

@@ -10,13 +10,13 @@ pub mod fields;
 pub mod frame;
 pub mod lists;
 pub mod loops;
+pub mod lua;
 pub mod machine;
 pub mod operators;
 pub mod raise;
-pub mod slots;
 pub mod statements;
 pub mod tables;
 pub mod values;
 
 pub use frame::LuaFrame;
-pub use slots::Slots;
+pub use lua::Lua;

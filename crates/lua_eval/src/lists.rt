@@ -14,11 +14,11 @@ use crate::cells::declare_all;
 use crate::frame::{AllFrame, ListFrame, LuaFrame, OneFrame, Then};
 use crate::loops::list_next;
 use crate::raise::LuaStep;
-use crate::slots::Slots;
 use lua_model::{Caller, End, Job, Scope};
 use lua_table::Heap;
 use lua_value::{Value, Values};
 use tl_base::{Budget, NoMemory, NodeId, Step};
+use tl_rename::Slots;
 use tl_tree::Tree;
 
 /// A value of a list, or nil.

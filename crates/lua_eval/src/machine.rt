@@ -16,7 +16,6 @@ use crate::frame::{AllFrame, LuaFrame, OneFrame, TurnFrame, ValueFrame};
 use crate::lists::{list, with_list};
 use crate::loops::{listed, next_turn, turn, with_loop};
 use crate::raise::LuaStep;
-use crate::slots::Slots;
 use crate::statements::{block, statement, target, with_statement};
 use crate::tables::{store_values, with_field};
 use crate::values::{all_in, append, one, one_in};
@@ -24,12 +23,13 @@ use lua_model::{Caller, End, Job, LuaAnswer, LuaEnd, LuaJob, LuaQuestion, Scope}
 use lua_table::Heap;
 use lua_value::{Value, Values};
 use std::alloc::Global;
-use tl_base::{Budget, CellId, EnvId, Layer, Machine, NoMemory, NodeId, Step, Suspended, Turn};
+use tl_base::{Budget, CellId, EnvId, Machine, NoMemory, NodeId, Step};
+use tl_rename::Slots;
 use tl_tree::Tree;
 
 /// The steps of the evaluation of Lua code.
 #[derive(Drop)]
-struct Steps<'a> {
+pub(crate) struct Steps<'a> {
     alloc: Global,
     tree: &'a Tree<'a>,
     slots: &'a Slots,
@@ -176,6 +176,16 @@ fn returned(heap: &Heap, end: End) -> End {
         End::Returned(values, _) => End::Many(values),
         End::Fell(_) | End::Broke(_) => End::Many(Values::new(heap.allocator())),
         other => other,
+    }
+}
+
+impl<'a> Steps<'a> {
+    /// The steps over a tree, whose uses of locals have these slots.
+    pub(crate) fn new(alloc: Global, tree: &'a Tree<'a>, slots: &'a Slots) -> Steps<'a>
+        requires { ArePaths (items_of tree.now) slots.now }
+        ensures { result.tree.now ≡ tree.now }
+    {
+        Steps { alloc, tree, slots }
     }
 }
 

@@ -21,12 +21,12 @@ use crate::frame::{AllFrame, LoopFrame, LuaFrame, OneFrame, StatementFrame, Targ
 use crate::lists::list;
 use crate::loops::{while_test, within};
 use crate::raise::LuaStep;
-use crate::slots::Slots;
 use crate::values::one;
 use lua_model::{End, Job, Loop, LuaQuestion, Scope};
 use lua_table::{Closure, Heap};
 use lua_value::{Value, Values};
 use tl_base::{Budget, NoMemory, NodeId, Place, Step};
+use tl_rename::Slots;
 use tl_tree::{Expression, Node, Piece, Statement, Tree};
 
 /// Executes a block as a statement of its own.
