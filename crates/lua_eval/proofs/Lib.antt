@@ -1,3 +1,5 @@
 pub mod Below
+pub mod Calling
 pub mod Declaring
 pub mod Named
+pub mod Operands

@@ -7,6 +7,10 @@ pub mod Slots
 -- The values in ends.
 pub mod Ends
 pub mod Texts
+-- The environment of a call in progress.
+pub mod Calls
+-- The operands of an operator.
+pub mod Operands
 -- The numbers of a numeric `for`.
 pub mod Numbers
 -- What remains of an evaluation that is suspended.

@@ -15,7 +15,7 @@ ghost use Rattle.lua_eval.specs.Steps.{Goes, Does};
 
 use crate::cells::set_local;
 use crate::code::{name, name_place};
-use crate::fields::{GLOBALS, read, store, text_value};
+use crate::fields::{GLOBALS, read_named, store, store_named, text_value};
 use crate::frame::{AllFrame, LuaFrame, OneFrame, TargetFrame, Then};
 use crate::lists::{list, nth};
 use crate::raise::LuaStep;
@@ -99,13 +99,15 @@ pub fn stores<'a>(
 }
 
 /// The object and the key of a target.
+#[tactic(auto, using(std::proofs::lemmas::List::get_or_past))]
 fn held_at(held: &[Value], at: usize) -> (Value, Value)
-    ensures { result ≡ (nth_value held.now (2 * at), nth_value held.now (2 * at + 1)) }
+    ensures object { result.0 ≡ nth_value held.now (2 * at) }
+    ensures key { result.1 ≡ nth_value held.now (2 * at + 1) }
 {
-    match at.checked_mul(2) {
-        Some(first) if first < held.len() => (nth(held, first), nth(held, first + 1)),
-        _ => (Value::Nil, Value::Nil),
+    if at >= held.len() {
+        return (Value::Nil, Value::Nil);
     }
+    (nth(held, 2 * at), nth(held, 2 * at + 1))
 }
 
 #[tactic(auto, using(tl_base::proofs::Steps::pushes))]
@@ -136,9 +138,8 @@ fn store_target<'a>(
                 Ok(Step::Return(End::Fell(Values::new(heap.allocator()))))
             }
             None => {
-                let key = text_value(heap, text.as_bytes())?;
                 let globals = Value::Table(GLOBALS);
-                let step = store(frames, heap, budget, globals, key, value, *place, scope.call)?;
+                let step = store_named(frames, heap, budget, globals, text.as_bytes(), value, *place, scope.call)?;
                 Ok(step)
             }
         },
@@ -208,11 +209,10 @@ pub fn define_in<'a>(
                 let step = define_last(tree, frames, heap, budget, *first, function, scope, object)?;
                 return Ok(step);
             }
-            let key = text_value(heap, name(tree, *first).as_bytes())?;
             frames.push(LuaFrame::One(OneFrame::Target(TargetFrame::Path(rest, method, function, scope))))?;
             let place = name_place(tree, *first);
-            let step = read(frames, heap, budget, object, key, place, scope.call)?;
-            Ok(step)
+            let found = read_named(frames, heap, budget, object, name(tree, *first).as_bytes(), place, scope.call)?;
+            Ok(found)
         }
     }
 }
@@ -238,9 +238,9 @@ fn define_last<'a>(
         function,
         env: scope.env,
     })?;
-    let key = text_value(heap, name(tree, last).as_bytes())?;
     let place = name_place(tree, last);
-    let step = store(frames, heap, budget, object, key, Value::Closure(made), place, scope.call)?;
+    let value = Value::Closure(made);
+    let step = store_named(frames, heap, budget, object, name(tree, last).as_bytes(), value, place, scope.call)?;
     Ok(step)
 }
 

@@ -1,6 +1,6 @@
 // Calls (Lua 5.1 manual, section 2.5.8).
 
-ghost use Rattle.std.specs.Prelude.{◌≡◌, ◌<◌, ℕ, [], ◌∷◌, nat_lt, drop, codes, if◌then◌else◌, IfOk, OnOk};
+ghost use Rattle.std.specs.Prelude.{◌≡◌, ◌+◌, ◌<◌, ℕ, [], ◌∷◌, length, nat_lt, drop, codes, if◌then◌else◌, IfOk, OnOk};
 ghost use Rattle.tl_tree.specs.Arena.{items_of};
 ghost use Rattle.tl_tree.specs.Code.{Items};
 ghost use Rattle.lua_value.specs.Values.{kind_of};
@@ -10,17 +10,18 @@ ghost use Rattle.lua_table.specs.Metatables.{handler_at};
 ghost use Rattle.lua_model.specs.Plans.{statements, raise};
 ghost use Rattle.std.specs.Bool.{OnTrue};
 ghost use Rattle.lua_model.specs.Calls.{most_calls, call, call_closure, call_library, call_handler};
+ghost use Rattle.lua_eval.specs.Calls.{entered_state, entered_scope};
 ghost use Rattle.lua_eval.specs.Steps.{Goes};
 ghost use Rattle.tl_base.specs.Plan.{Give};
 
 use crate::cells::{declare_all, with_cells};
-use crate::code::{block_statements, function_parts};
+use crate::code::{Parts, block_statements, function_parts};
 use crate::frame::LuaFrame;
 use crate::raise::{LuaStep, raise};
 use crate::values::with_first;
 use lua_model::{Caller, End, Job, LuaQuestion, Scope};
 use lua_ops::{Fault, handler_of};
-use lua_table::{Heap, LibCall};
+use lua_table::{Closure, Heap, LibCall};
 use lua_value::{Kind, Value, Values};
 use tl_base::{Budget, ClosureId, NoMemory, NodeId, Place, Step};
 use tl_tree::Tree;
@@ -66,16 +67,27 @@ pub fn call_library<'a>(
         heap.old budget.old frames.new.items step heap.new budget.new) }
     ensures kept { OnOk result (KeepsHeap heap.old heap.new) }
 {
-    if !may_call(heap) {
+    if may_call(heap) {
+        heap.begin_call();
+        frames.push(LuaFrame::Library)?;
+        Ok(Step::Stop(LuaQuestion::Library(call)))
+    } else {
         let step = raise(heap, budget, call.place, Fault::StackOverflow)?;
-        return Ok(step);
+        Ok(step)
     }
-    heap.begin_call();
-    frames.push(LuaFrame::Library)?;
-    Ok(Step::Stop(LuaQuestion::Library(call)))
 }
 
-#[tactic(auto, using(tl_base::proofs::Steps::pushes))]
+/// How many declarations a function has before its block.
+fn parameter_count(parts: &Parts<'_>) -> usize
+    ensures { result ≡ if parts.now.method then length parts.now.names.now + 1 else length parts.now.names.now }
+{
+    if parts.method {
+        parts.names.len() + 1
+    } else {
+        parts.names.len()
+    }
+}
+
 /// Calls a function of Lua code.
 pub fn call_closure<'a>(
     tree: &'a Tree<'a>,
@@ -91,32 +103,47 @@ pub fn call_closure<'a>(
         heap.old budget.old frames.new.items step heap.new budget.new) }
     ensures kept { OnOk result (KeepsHeap heap.old heap.new) }
 {
-    if !may_call(heap) {
-        let step = raise(heap, budget, place, Fault::StackOverflow)?;
-        return Ok(step);
-    }
-    let closure = heap.closure(closure);
-    let parts = function_parts(tree, closure.function);
-    let count = if parts.method {
-        parts.names.len() + 1
+    if may_call(heap) {
+        let code = heap.closure(closure);
+        let parts = function_parts(tree, code.function);
+        heap.begin_call();
+        let scope = enter_call(heap, &code, &parts, args.as_slice(), place)?;
+        frames.push(LuaFrame::Function)?;
+        let none = Values::new(heap.allocator());
+        let entered = statements(frames, block_statements(tree, parts.block), scope, none)?;
+        Ok(entered)
     } else {
-        parts.names.len()
-    };
-    heap.begin_call();
-    let env = heap.new_env(closure.function, Some(closure.env))?;
-    declare_all(heap, count, env, args.as_slice())?;
+        let step = raise(heap, budget, place, Fault::StackOverflow)?;
+        Ok(step)
+    }
+}
+
+/// Makes the environment of a call in progress, with the parameters, and puts the values of `...` into cells.
+fn enter_call(
+    heap: &mut Heap,
+    code: &Closure,
+    parts: &Parts<'_>,
+    args: &[Value],
+    place: Place,
+) -> Result<Scope, NoMemory>
+    ensures scope { IfOk result (λ scope. scope ≡ entered_scope parts.now.method parts.now.names.now parts.now.variadic
+        code.now args.now place heap.old) }
+    ensures heap { OnOk result (heap.new ≡ entered_state parts.now.method parts.now.names.now parts.now.variadic
+        code.now args.now heap.old) }
+    ensures kept { OnOk result (KeepsHeap heap.old heap.new) }
+{
+    let count = parameter_count(parts);
+    let env = heap.new_env(code.function, Some(code.env))?;
+    declare_all(heap, count, env, args)?;
     let extra = heap.next_cell();
-    let more = extras(args.as_slice(), parts.variadic, count);
+    let more = extras(args, parts.variadic, count);
     with_cells(heap, more)?;
-    let scope = Scope {
+    Ok(Scope {
         env,
         extra,
         count: more.len() as u64,
         call: Some(place),
-    };
-    frames.push(LuaFrame::Function)?;
-    let step = statements(frames, block_statements(tree, parts.block), scope, Values::new(heap.allocator()))?;
-    Ok(step)
+    })
 }
 
 /// The values of `...`.

@@ -13,7 +13,7 @@ ghost use Rattle.lua_eval.specs.Steps.{Goes};
 
 use crate::cells::{local, values_from};
 use crate::code::name;
-use crate::fields::{GLOBALS, read, text_value};
+use crate::fields::{GLOBALS, read, read_named, text_value};
 use crate::frame::{CallFrame, LuaFrame, OneFrame, Then, ValueFrame};
 use crate::lists::list;
 use crate::operators::{operate, operate_one, whole};
@@ -53,9 +53,8 @@ pub fn node<'a>(
                 Ok(Step::Return(End::One(value)))
             }
             None => {
-                let key = text_value(heap, text.as_bytes())?;
                 let globals = Value::Table(GLOBALS);
-                let step = read(frames, heap, budget, globals, key, *place, scope.call)?;
+                let step = read_named(frames, heap, budget, globals, text.as_bytes(), *place, scope.call)?;
                 Ok(step)
             }
         },
@@ -242,8 +241,7 @@ pub fn with_value<'a>(
             Ok(step)
         }
         ValueFrame::Select(node, place, outer) => {
-            let key = text_value(heap, name(tree, node).as_bytes())?;
-            let step = read(frames, heap, budget, value, key, place, outer)?;
+            let step = read_named(frames, heap, budget, value, name(tree, node).as_bytes(), place, outer)?;
             Ok(step)
         }
     }
@@ -274,11 +272,10 @@ pub fn with_call<'a>(
             Ok(step)
         }
         CallFrame::Method(node, arguments, place, scope) => {
-            let key = text_value(heap, name(tree, node).as_bytes())?;
             let frame = CallFrame::MethodOf(value, arguments, place, scope);
             frames.push(LuaFrame::One(OneFrame::Call(frame)))?;
-            let step = read(frames, heap, budget, value, key, place, scope.call)?;
-            Ok(step)
+            let found = read_named(frames, heap, budget, value, name(tree, node).as_bytes(), place, scope.call)?;
+            Ok(found)
         }
         CallFrame::MethodOf(object, arguments, place, scope) => {
             let first = one(heap.allocator(), object)?;

@@ -4,7 +4,8 @@ ghost use Rattle.std.specs.Prelude.{◌≡◌, ℕ, IfOk, OnOk};
 ghost use Rattle.tl_tree.specs.Code.{Items};
 ghost use Rattle.lua_value.specs.Values.{kind_of};
 ghost use Rattle.lua_table.specs.Keeping.{KeepsHeap};
-ghost use Rattle.lua_model.specs.Plans.{give, fell};
+ghost use Rattle.lua_model.specs.Plans.{give, fell, on_one, on_all, with_text_of};
+ghost use Rattle.lua_model.specs.Calls.{call_library};
 ghost use Rattle.lua_model.specs.Fields.{read, read_table, read_by, read_terra, type_function, store, store_table, store_by, store_raw};
 ghost use Rattle.lua_eval.specs.Steps.{Goes, Does};
 ghost use Rattle.lua_eval.specs.Texts.{text_value, text_state};
@@ -38,6 +39,42 @@ pub fn text_value(heap: &mut Heap, bytes: &[u8]) -> Result<Value, NoMemory>
     Ok(Value::Text(id))
 }
 
+/// Calls a function of the library, and takes one value.
+fn value_by_library<'a>(
+    frames: &mut Vec<LuaFrame<'a>>,
+    heap: &mut Heap,
+    budget: &mut Budget,
+    call: LibCall,
+) -> Result<LuaStep, NoMemory>
+    ensures means { IfOk result (λ step. (items : Items) →
+        Goes items frames.old.items
+        (call_library call.function call.args call.place call.outer (λ r. on_one r give))
+        heap.old budget.old frames.new.items step heap.new budget.new) }
+    ensures kept { OnOk result (KeepsHeap heap.old heap.new) }
+{
+    frames.push(LuaFrame::One(OneFrame::Value(ValueFrame::First)))?;
+    let step = call_library(frames, heap, budget, call)?;
+    Ok(step)
+}
+
+/// Calls a function of the library, and drops its values.
+fn done_by_library<'a>(
+    frames: &mut Vec<LuaFrame<'a>>,
+    heap: &mut Heap,
+    budget: &mut Budget,
+    call: LibCall,
+) -> Result<LuaStep, NoMemory>
+    ensures means { IfOk result (λ step. (items : Items) →
+        Goes items frames.old.items
+        (call_library call.function call.args call.place call.outer (λ r. on_all r (λ vs. fell)))
+        heap.old budget.old frames.new.items step heap.new budget.new) }
+    ensures kept { OnOk result (KeepsHeap heap.old heap.new) }
+{
+    frames.push(LuaFrame::All(AllFrame::Done))?;
+    let step = call_library(frames, heap, budget, call)?;
+    Ok(step)
+}
+
 #[tactic(auto, using(tl_base::proofs::Steps::pushes))]
 /// Reads what a handler says, where the raw value of a table is absent.
 fn read_by<'a>(
@@ -64,19 +101,29 @@ fn read_by<'a>(
         }
         Value::Library(function) => {
             let args = two(heap.allocator(), Value::Table(table), key)?;
-            frames.push(LuaFrame::One(OneFrame::Value(ValueFrame::First)))?;
             let call = LibCall {
                 function,
                 args,
                 place,
                 outer,
             };
-            let step = call_library(frames, heap, budget, call)?;
+            let step = value_by_library(frames, heap, budget, call)?;
             Ok(step)
         }
-        object => {
+        Value::Boolean(_)
+        | Value::Number(_)
+        | Value::Text(_)
+        | Value::Table(_)
+        | Value::TerraFunction(_)
+        | Value::TerraType(_)
+        | Value::Quote(_)
+        | Value::Symbol(_)
+        | Value::Macro(_)
+        | Value::Global(_)
+        | Value::Constant(_)
+        | Value::Primitive(_) => {
             frames.push(LuaFrame::One(OneFrame::Value(ValueFrame::First)))?;
-            Ok(Step::Enter(Job::Read(object, key, place, outer)))
+            Ok(Step::Enter(Job::Read(handler, key, place, outer)))
         }
     }
 }
@@ -179,8 +226,8 @@ pub fn read<'a>(
             let step = read_terra(frames, heap, LibFn::Field, object, key, place, outer)?;
             Ok(step)
         }
-        other => {
-            let step = raise(heap, budget, place, Fault::Index(other.kind()))?;
+        Value::Nil | Value::Boolean(_) | Value::Number(_) | Value::Closure(_) | Value::Library(_) => {
+            let step = raise(heap, budget, place, Fault::Index(object.kind()))?;
             Ok(step)
         }
     }
@@ -237,19 +284,29 @@ fn store_by<'a>(
         }
         Value::Library(function) => {
             let args = three(heap.allocator(), Value::Table(table), key, value)?;
-            frames.push(LuaFrame::All(AllFrame::Done))?;
             let call = LibCall {
                 function,
                 args,
                 place,
                 outer,
             };
-            let step = call_library(frames, heap, budget, call)?;
+            let step = done_by_library(frames, heap, budget, call)?;
             Ok(step)
         }
-        object => {
+        Value::Boolean(_)
+        | Value::Number(_)
+        | Value::Text(_)
+        | Value::Table(_)
+        | Value::TerraFunction(_)
+        | Value::TerraType(_)
+        | Value::Quote(_)
+        | Value::Symbol(_)
+        | Value::Macro(_)
+        | Value::Global(_)
+        | Value::Constant(_)
+        | Value::Primitive(_) => {
             frames.push(LuaFrame::All(AllFrame::Done))?;
-            Ok(Step::Enter(Job::Store(object, key, value, place, outer)))
+            Ok(Step::Enter(Job::Store(handler, key, value, place, outer)))
         }
     }
 }
@@ -307,4 +364,45 @@ pub fn store<'a>(
             Ok(step)
         }
     }
+}
+
+/// Reads under a name.
+pub fn read_named<'a>(
+    frames: &mut Vec<LuaFrame<'a>>,
+    heap: &mut Heap,
+    budget: &mut Budget,
+    object: Value,
+    name: &[u8],
+    place: Place,
+    outer: Option<Place>,
+) -> Result<LuaStep, NoMemory>
+    ensures means { IfOk result (λ step. (items : Items) →
+        Goes items frames.old.items (with_text_of name.now (λ key. read object key place outer give))
+        heap.old budget.old frames.new.items step heap.new budget.new) }
+    ensures kept { OnOk result (KeepsHeap heap.old heap.new) }
+{
+    let key = text_value(heap, name)?;
+    let step = read(frames, heap, budget, object, key, place, outer)?;
+    Ok(step)
+}
+
+/// Stores under a name.
+pub fn store_named<'a>(
+    frames: &mut Vec<LuaFrame<'a>>,
+    heap: &mut Heap,
+    budget: &mut Budget,
+    object: Value,
+    name: &[u8],
+    value: Value,
+    place: Place,
+    outer: Option<Place>,
+) -> Result<LuaStep, NoMemory>
+    ensures means { IfOk result (λ step. (items : Items) →
+        Goes items frames.old.items (with_text_of name.now (λ key. store object key value place outer fell))
+        heap.old budget.old frames.new.items step heap.new budget.new) }
+    ensures kept { OnOk result (KeepsHeap heap.old heap.new) }
+{
+    let key = text_value(heap, name)?;
+    let step = store(frames, heap, budget, object, key, value, place, outer)?;
+    Ok(step)
 }

@@ -10,6 +10,7 @@ ghost use Rattle.lua_table.specs.LuaState.{LuaState};
 ghost use Rattle.lua_eval.specs.Frames.{with_value};
 ghost use Rattle.lua_eval.specs.Steps.{Goes, Does};
 ghost use Rattle.tl_tree.specs.Code.{Items};
+ghost use Rattle.lua_eval.specs.Operands.{operands_in};
 
 use crate::calls::call;
 use crate::frame::{LuaFrame, OneFrame, ValueFrame};
@@ -35,18 +36,23 @@ pub fn whole(number: u64) -> Value
     }
 }
 
-/// The operands with which a handler of two is called.
-fn operands(heap: &Heap, handler: Handler, a: Value, b: Value) -> Result<Values, NoMemory>
-    ensures { IfOk result (λ values. values ≡ plans.operands_of handler (a ∷ b ∷ [])) }
+/// The operands with which a handler is called.
+#[tactic(auto, using(crate::proofs::Operands::alone_either))]
+fn operands(heap: &Heap, handler: Handler, a: Value, b: Option<Value>) -> Result<Values, NoMemory>
+    ensures { IfOk result (λ values. values ≡ plans.operands_of handler (operands_in a b)) }
 {
-    if handler.swapped {
-        two(heap.allocator(), b, a)
-    } else {
-        two(heap.allocator(), a, b)
+    match b {
+        None => one(heap.allocator(), a),
+        Some(b) => {
+            if handler.swapped {
+                two(heap.allocator(), b, a)
+            } else {
+                two(heap.allocator(), a, b)
+            }
+        }
     }
 }
 
-#[tactic(auto, using(tl_base::proofs::Steps::pushes))]
 /// Calls the handler of an operator, whose operands these are, below a frame that takes its answer.
 fn handle<'a>(
     tree: &'a Tree<'a>,
@@ -72,6 +78,37 @@ fn handle<'a>(
 }
 
 #[tactic(auto, using(tl_base::proofs::Steps::pushes))]
+/// Goes on with what an operator gives: its result, the first value of its handler's answer, or its fault.
+fn settle<'a>(
+    tree: &'a Tree<'a>,
+    frames: &mut Vec<LuaFrame<'a>>,
+    heap: &mut Heap,
+    budget: &mut Budget,
+    outcome: Outcome,
+    a: Value,
+    b: Option<Value>,
+    place: Place,
+    outer: Option<Place>,
+) -> Result<LuaStep, NoMemory>
+    ensures means { IfOk result (λ step.
+        Goes (items_of tree.now) frames.old.items (plans.settle (items_of tree.now) outcome (operands_in a b) place outer)
+        heap.old budget.old frames.new.items step heap.new budget.new) }
+    ensures kept { OnOk result (KeepsHeap heap.old heap.new) }
+{
+    match outcome {
+        Outcome::Value(value) => Ok(Step::Return(End::One(value))),
+        Outcome::Raise(fault) => {
+            let step = raise(heap, budget, place, fault)?;
+            Ok(step)
+        }
+        Outcome::Meta(handler) => {
+            let args = operands(heap, handler, a, b)?;
+            let called = handle(tree, frames, heap, budget, ValueFrame::First, handler, args, place, outer)?;
+            Ok(called)
+        }
+    }
+}
+
 /// What an operator of arithmetic gives.
 fn arith<'a>(
     tree: &'a Tree<'a>,
@@ -89,21 +126,11 @@ fn arith<'a>(
         heap.old budget.old frames.new.items step heap.new budget.new) }
     ensures kept { OnOk result (KeepsHeap heap.old heap.new) }
 {
-    match lua_ops::arith::arith(heap, op, a, b)? {
-        Outcome::Value(value) => Ok(Step::Return(End::One(value))),
-        Outcome::Raise(fault) => {
-            let step = raise(heap, budget, place, fault)?;
-            Ok(step)
-        }
-        Outcome::Meta(handler) => {
-            let args = operands(heap, handler, a, b)?;
-            let step = handle(tree, frames, heap, budget, ValueFrame::First, handler, args, place, outer)?;
-            Ok(step)
-        }
-    }
+    let outcome = lua_ops::arith::arith(heap, op, a, b)?;
+    let step = settle(tree, frames, heap, budget, outcome, a, Some(b), place, outer)?;
+    Ok(step)
 }
 
-#[tactic(auto, using(tl_base::proofs::Steps::pushes))]
 /// What unary minus gives.
 fn minus<'a>(
     tree: &'a Tree<'a>,
@@ -119,18 +146,9 @@ fn minus<'a>(
         heap.old budget.old frames.new.items step heap.new budget.new) }
     ensures kept { OnOk result (KeepsHeap heap.old heap.new) }
 {
-    match lua_ops::arith::arith(heap, Arithmetic::Minus, a, a)? {
-        Outcome::Value(value) => Ok(Step::Return(End::One(value))),
-        Outcome::Raise(fault) => {
-            let step = raise(heap, budget, place, fault)?;
-            Ok(step)
-        }
-        Outcome::Meta(handler) => {
-            let args = one(heap.allocator(), a)?;
-            let step = handle(tree, frames, heap, budget, ValueFrame::First, handler, args, place, outer)?;
-            Ok(step)
-        }
-    }
+    let outcome = lua_ops::arith::arith(heap, Arithmetic::Minus, a, Value::Nil)?;
+    let step = settle(tree, frames, heap, budget, outcome, a, None, place, outer)?;
+    Ok(step)
 }
 
 /// The length of a text; of any other value it is 0.
@@ -160,26 +178,43 @@ fn concat<'a>(
         heap.old budget.old frames.new.items step heap.new budget.new) }
     ensures kept { OnOk result (KeepsHeap heap.old heap.new) }
 {
-    match lua_ops::concat::concat(heap, a, b)? {
+    let outcome = lua_ops::concat::concat(heap, a, b)?;
+    let step = joined(tree, frames, heap, budget, outcome, a, b, place, outer)?;
+    Ok(step)
+}
+
+#[tactic(auto, using(tl_base::proofs::Steps::payments))]
+/// Goes on with what `..` gives.
+fn joined<'a>(
+    tree: &'a Tree<'a>,
+    frames: &mut Vec<LuaFrame<'a>>,
+    heap: &mut Heap,
+    budget: &mut Budget,
+    outcome: Outcome,
+    a: Value,
+    b: Value,
+    place: Place,
+    outer: Option<Place>,
+) -> Result<LuaStep, NoMemory>
+    ensures means { IfOk result (λ step.
+        Goes (items_of tree.now) frames.old.items (plans.joined (items_of tree.now) outcome (a ∷ b ∷ []) place outer)
+        heap.old budget.old frames.new.items step heap.new budget.new) }
+    ensures kept { OnOk result (KeepsHeap heap.old heap.new) }
+{
+    match outcome {
         Outcome::Value(value) => {
             if !budget.pay(text_units(text_length(heap, value))) {
                 return Ok(Step::Spent);
             }
             Ok(Step::Return(End::One(value)))
         }
-        Outcome::Raise(fault) => {
-            let step = raise(heap, budget, place, fault)?;
-            Ok(step)
-        }
-        Outcome::Meta(handler) => {
-            let args = operands(heap, handler, a, b)?;
-            let step = handle(tree, frames, heap, budget, ValueFrame::First, handler, args, place, outer)?;
+        Outcome::Raise(_) | Outcome::Meta(_) => {
+            let step = settle(tree, frames, heap, budget, outcome, a, Some(b), place, outer)?;
             Ok(step)
         }
     }
 }
 
-#[tactic(auto, using(tl_base::proofs::Steps::pushes))]
 /// What a comparison gives.
 fn compare<'a>(
     tree: &'a Tree<'a>,
@@ -197,17 +232,39 @@ fn compare<'a>(
         heap.old budget.old frames.new.items step heap.new budget.new) }
     ensures kept { OnOk result (KeepsHeap heap.old heap.new) }
 {
-    match lua_ops::compare::compare(heap, op, a, b)? {
-        Outcome::Value(value) => Ok(Step::Return(End::One(value))),
-        Outcome::Raise(fault) => {
-            let step = raise(heap, budget, place, fault)?;
+    let outcome = lua_ops::compare::compare(heap, op, a, b)?;
+    let step = compared(tree, frames, heap, budget, outcome, a, b, place, outer)?;
+    Ok(step)
+}
+
+#[tactic(auto, using(tl_base::proofs::Steps::pushes))]
+/// Goes on with what a comparison gives.
+fn compared<'a>(
+    tree: &'a Tree<'a>,
+    frames: &mut Vec<LuaFrame<'a>>,
+    heap: &mut Heap,
+    budget: &mut Budget,
+    outcome: Outcome,
+    a: Value,
+    b: Value,
+    place: Place,
+    outer: Option<Place>,
+) -> Result<LuaStep, NoMemory>
+    ensures means { IfOk result (λ step.
+        Goes (items_of tree.now) frames.old.items (plans.compared (items_of tree.now) outcome (a ∷ b ∷ []) place outer)
+        heap.old budget.old frames.new.items step heap.new budget.new) }
+    ensures kept { OnOk result (KeepsHeap heap.old heap.new) }
+{
+    match outcome {
+        Outcome::Value(_) | Outcome::Raise(_) => {
+            let step = settle(tree, frames, heap, budget, outcome, a, Some(b), place, outer)?;
             Ok(step)
         }
         Outcome::Meta(handler) => {
-            let args = operands(heap, handler, a, b)?;
+            let args = operands(heap, handler, a, Some(b))?;
             let frame = ValueFrame::Answer(handler);
-            let step = handle(tree, frames, heap, budget, frame, handler, args, place, outer)?;
-            Ok(step)
+            let called = handle(tree, frames, heap, budget, frame, handler, args, place, outer)?;
+            Ok(called)
         }
     }
 }
