@@ -76,8 +76,8 @@ scope_of_parts items c vs place s method variadic names ns parts =
 
 -- a call of a function of Lua code begins
 pub closure_called : (items : Items) (fs pushed fs2 : List LuaFrame) (s t s2 : LuaState) (left left2 : ℕ) (step : LuaStep)
-    (id : ClosureId) (c : Closure) (vs : List Value) (place : Place) (scope : Scope) (method variadic : Bool) (names ns : List NodeId)
-    → nat_lt s.calls most_calls ≡ true → c ≡ closure_at s id
+    (id : ClosureId) (c : Closure) (vs : List Value) (place : Place) (scope : Scope) (method variadic : Bool) (names ns : List NodeId) (out : List Value)
+    → nat_lt s.calls most_calls ≡ true → out ≡ [] → c ≡ closure_at s id
     → method ≡ (function_at items c.function).method
     → names ≡ (function_at items c.function).names
     → variadic ≡ (function_at items c.function).variadic
@@ -85,20 +85,21 @@ pub closure_called : (items : Items) (fs pushed fs2 : List LuaFrame) (s t s2 : L
     → scope ≡ entered_scope method names variadic c vs place (deeper s)
     → t ≡ entered_state method names variadic c vs (deeper s)
     → pushed ≡ fs ++ frames.Function ∷ []
-    → Goes items pushed (statements ns scope [] Give) t left fs2 step s2 left2
+    → Goes items pushed (statements ns scope out Give) t left fs2 step s2 left2
     → Goes items fs (call_closure items id vs place Give) s left fs2 step s2 left2
-closure_called items fs pushed fs2 s t s2 left left2 step id c vs place scope method variadic names ns few is m n v b scope_is heap_is pushed_is g =
+closure_called items fs pushed fs2 s t s2 left left2 step id c vs place scope method variadic names ns out few none is m n v b scope_is heap_is pushed_is g =
     let function = function_at items c.function in
     let parts : ArePartsOf items c.function method variadic names ns =
     record { method_is = m; names_are = n; variadic_is = v; block_is = b } in
     let goes_on : End → LuaPlan = λ r. leave (returned r) Give in
-    let inner = statements_below items fs pushed fs2 frames.Function t s2 left left2 step ns scope [] pushed_is g in
-    let placed : statements (statements_at items function.block) (called_scope function c vs place s) [] goes_on ≡ statements ns scope [] goes_on =
+    let inner = statements_below items fs pushed fs2 frames.Function t s2 left left2 step ns scope out pushed_is g in
+    let placed : statements (statements_at items function.block) (called_scope function c vs place s) [] goes_on ≡ statements ns scope out goes_on =
     ap (λ (l : List NodeId). statements l (called_scope function c vs place s) [] goes_on) (sym b)
-    ∙ ap (λ (sc : Scope). statements ns sc [] goes_on) (sym (scope_is ∙ scope_of_parts items c vs place s method variadic names ns parts)) in
+    ∙ ap (λ (sc : Scope). statements ns sc [] goes_on) (sym (scope_is ∙ scope_of_parts items c vs place s method variadic names ns parts))
+    ∙ ap (λ (o : List Value). statements ns scope o goes_on) (sym none) in
     let at : Goes items fs (begun items c vs place s) s left fs2 step s2 left2 =
     moved items fs fs2 (statements (statements_at items function.block) (called_scope function c vs place s) [] goes_on)
-    (statements ns scope [] goes_on) (called_state function c vs s) t s2 left left2 step placed
+    (statements ns scope out goes_on) (called_state function c vs s) t s2 left left2 step placed
     (sym (heap_is ∙ state_of_parts items c vs s method variadic names ns parts)) inner in
     chosen items fs fs2 (nat_lt s.calls most_calls) true (begun items (closure_at s id) vs place s) (raise place StackOverflow)
     s s2 left left2 step few

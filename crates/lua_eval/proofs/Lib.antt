@@ -1,5 +1,9 @@
 pub mod Below
 pub mod Calling
+pub mod Counting
 pub mod Declaring
+pub mod Doing
+pub mod Fielding
+pub mod Listing
 pub mod Named
 pub mod Operands

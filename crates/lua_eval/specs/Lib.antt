@@ -9,6 +9,10 @@ pub mod Ends
 pub mod Texts
 -- The environment of a call in progress.
 pub mod Calls
+-- The fields of a constructor.
+pub mod Fields
+-- Paths of function definitions.
+pub mod Paths
 -- The operands of an operator.
 pub mod Operands
 -- The numbers of a numeric `for`.

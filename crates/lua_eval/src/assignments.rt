@@ -10,6 +10,7 @@ ghost use Rattle.lua_model.specs.Plans.{fell};
 ghost use Rattle.lua_model.specs.Assignments as plans;
 ghost use Rattle.lua_table.specs.Cells.{nth_value};
 ghost use Rattle.lua_eval.specs.Slots.{ArePaths};
+ghost use Rattle.lua_eval.specs.Paths.{is_end};
 ghost use Rattle.lua_eval.specs.Frames.{targets_plan, define_name, with_target};
 ghost use Rattle.lua_eval.specs.Steps.{Goes, Does};
 
@@ -177,6 +178,13 @@ pub fn define_name<'a>(
     Ok(step)
 }
 
+/// Holds where nothing is left of a path.
+fn is_end(rest: &[NodeId], method: Option<NodeId>) -> bool
+    ensures { result ≡ is_end (rest.now ++ if_any method) }
+{
+    rest.is_empty() && method.is_none()
+}
+
 #[tactic(auto, using(tl_base::proofs::Steps::pushes))]
 /// Goes on in a path, of which an object was read, and the names and the method are behind it.
 pub fn define_in<'a>(
@@ -205,7 +213,7 @@ pub fn define_in<'a>(
             None => Ok(Step::Return(End::Fell(Values::new(heap.allocator())))),
         },
         Some((first, rest)) => {
-            if rest.is_empty() && method.is_none() {
+            if is_end(rest, method) {
                 let step = define_last(tree, frames, heap, budget, *first, function, scope, object)?;
                 return Ok(step);
             }
@@ -267,7 +275,7 @@ pub fn define<'a>(
             None => Ok(Step::Return(End::Fell(Values::new(heap.allocator())))),
         },
         Some((first, rest)) => {
-            if rest.is_empty() && method.is_none() {
+            if is_end(rest, method) {
                 frames.push(LuaFrame::All(AllFrame::Name(*first, function, scope)))?;
                 return Ok(Step::Enter(Job::Target(*first, scope)));
             }

@@ -62,18 +62,15 @@ pub fn list<'a>(
                 values,
                 then,
             };
-            frames.push(item_frame(frame))?;
-            Ok(Step::Enter(Job::Expression(*first, scope)))
+            // The last one gives all its values, and any other one gives one.
+            if rest.is_empty() {
+                frames.push(LuaFrame::All(AllFrame::Last(frame)))?;
+                Ok(Step::Enter(Job::Expression(*first, scope)))
+            } else {
+                frames.push(LuaFrame::One(OneFrame::Item(frame)))?;
+                Ok(Step::Enter(Job::Expression(*first, scope)))
+            }
         }
-    }
-}
-
-/// The frame of an expression of a list: one with others behind it gives one value, and the last one gives all.
-fn item_frame<'a>(frame: ListFrame<'a>) -> LuaFrame<'a> {
-    if frame.rest.is_empty() {
-        LuaFrame::All(AllFrame::Last(frame))
-    } else {
-        LuaFrame::One(OneFrame::Item(frame))
     }
 }
 

@@ -33,7 +33,6 @@ pub fn within(scope: Scope, env: EnvId) -> Scope
     Scope { env, ..scope }
 }
 
-#[tactic(auto, using(tl_base::proofs::Steps::pushes))]
 /// Calls the iterator of a generic `for`.
 pub fn list_next<'a>(
     tree: &'a Tree<'a>,
@@ -327,37 +326,116 @@ fn turn_of<'a>(
         heap.old left frames.new.items step heap.new left) }
     ensures kept { OnOk result (KeepsHeap heap.old heap.new) }
 {
-    match (turn, statement) {
-        (Loop::While, Statement::While(condition, block)) => {
+    match turn {
+        Loop::While => {
+            let step = while_turn(tree, frames, heap, statement, node, scope, out)?;
+            Ok(step)
+        }
+        Loop::Repeat => {
+            let step = repeat_turn(tree, frames, heap, statement, node, scope, out)?;
+            Ok(step)
+        }
+        Loop::Counted(at, limit, by) => {
+            let step = numeric_turn(tree, frames, heap, statement, node, scope, at, limit, by, out)?;
+            Ok(step)
+        }
+        Loop::Listed(env, function, state, control) => match statement {
+            Statement::GenericFor(names, _, block) => {
+                let next = TurnFrame::Listed(names.as_slice(), place, function, state, control);
+                let step = turn_block(tree, frames, *block, node, scope, within(scope, env), next, out)?;
+                Ok(step)
+            }
+            _ => Ok(Step::Return(End::Fell(out))),
+        },
+    }
+}
+
+#[tactic(auto, using(tl_base::proofs::Steps::pushes))]
+fn while_turn<'a>(
+    tree: &'a Tree<'a>,
+    frames: &mut Vec<LuaFrame<'a>>,
+    heap: &mut Heap,
+    statement: &'a Statement,
+    node: NodeId,
+    scope: Scope,
+    out: Values,
+) -> Result<LuaStep, NoMemory>
+    ensures means { IfOk result (λ step. (left : ℕ) →
+        Goes (items_of tree.now) frames.old.items
+        (plans.while_turn (items_of tree.now) statement.now node scope out)
+        heap.old left frames.new.items step heap.new left) }
+    ensures kept { OnOk result (KeepsHeap heap.old heap.new) }
+{
+    match statement {
+        Statement::While(condition, block) => {
             let env = heap.new_env(*block, Some(scope.env))?;
             let next = TurnFrame::While(*condition);
-            let step = turn_block(tree, frames, *block, node, scope, within(scope, env), next, out)?;
-            Ok(step)
-        }
-        (Loop::Repeat, Statement::Repeat(block, condition)) => {
-            let env = heap.new_env(node, Some(scope.env))?;
-            let inner = within(scope, env);
-            let next = TurnFrame::Repeat(*condition, inner);
-            let step = turn_block(tree, frames, *block, node, scope, inner, next, out)?;
-            Ok(step)
-        }
-        (Loop::Counted(at, limit, by), Statement::NumericFor(_, _, _, _, block)) => {
-            let env = heap.new_env(node, Some(scope.env))?;
-            declare(heap, env, Value::Number(at))?;
-            let next = TurnFrame::Counted(at, limit, by);
-            let step = turn_block(tree, frames, *block, node, scope, within(scope, env), next, out)?;
-            Ok(step)
-        }
-        (Loop::Listed(env, function, state, control), Statement::GenericFor(names, _, block)) => {
-            let next = TurnFrame::Listed(names.as_slice(), place, function, state, control);
-            let step = turn_block(tree, frames, *block, node, scope, within(scope, env), next, out)?;
-            Ok(step)
+            let begun = turn_block(tree, frames, *block, node, scope, within(scope, env), next, out)?;
+            Ok(begun)
         }
         _ => Ok(Step::Return(End::Fell(out))),
     }
 }
 
 #[tactic(auto, using(tl_base::proofs::Steps::pushes))]
+fn repeat_turn<'a>(
+    tree: &'a Tree<'a>,
+    frames: &mut Vec<LuaFrame<'a>>,
+    heap: &mut Heap,
+    statement: &'a Statement,
+    node: NodeId,
+    scope: Scope,
+    out: Values,
+) -> Result<LuaStep, NoMemory>
+    ensures means { IfOk result (λ step. (left : ℕ) →
+        Goes (items_of tree.now) frames.old.items
+        (plans.repeat_turn (items_of tree.now) statement.now node scope out)
+        heap.old left frames.new.items step heap.new left) }
+    ensures kept { OnOk result (KeepsHeap heap.old heap.new) }
+{
+    match statement {
+        Statement::Repeat(block, condition) => {
+            let env = heap.new_env(node, Some(scope.env))?;
+            let inner = within(scope, env);
+            let next = TurnFrame::Repeat(*condition, inner);
+            let begun = turn_block(tree, frames, *block, node, scope, inner, next, out)?;
+            Ok(begun)
+        }
+        _ => Ok(Step::Return(End::Fell(out))),
+    }
+}
+
+#[tactic(auto, using(tl_base::proofs::Steps::pushes))]
+fn numeric_turn<'a>(
+    tree: &'a Tree<'a>,
+    frames: &mut Vec<LuaFrame<'a>>,
+    heap: &mut Heap,
+    statement: &'a Statement,
+    node: NodeId,
+    scope: Scope,
+    at: Number,
+    limit: Number,
+    by: Number,
+    out: Values,
+) -> Result<LuaStep, NoMemory>
+    ensures means { IfOk result (λ step. (left : ℕ) →
+        Goes (items_of tree.now) frames.old.items
+        (plans.numeric_turn (items_of tree.now) statement.now node scope at limit by out)
+        heap.old left frames.new.items step heap.new left) }
+    ensures kept { OnOk result (KeepsHeap heap.old heap.new) }
+{
+    match statement {
+        Statement::NumericFor(_, _, _, _, block) => {
+            let env = heap.new_env(node, Some(scope.env))?;
+            declare(heap, env, Value::Number(at))?;
+            let next = TurnFrame::Counted(at, limit, by);
+            let begun = turn_block(tree, frames, *block, node, scope, within(scope, env), next, out)?;
+            Ok(begun)
+        }
+        _ => Ok(Step::Return(End::Fell(out))),
+    }
+}
+
 /// Executes a block in a turn.
 fn turn_block<'a>(
     tree: &'a Tree<'a>,

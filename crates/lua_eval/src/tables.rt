@@ -6,6 +6,9 @@ ghost use Rattle.lua_table.specs.LuaState.{LuaState};
 ghost use Rattle.lua_table.specs.Keeping.{KeepsHeap};
 ghost use Rattle.lua_model.specs.Fields.{store_raw};
 ghost use Rattle.lua_model.specs.Tables as plans;
+ghost use Rattle.tl_tree.specs.Code.{Items};
+ghost use Rattle.tl_tree.specs.Nodes.{item_of};
+ghost use Rattle.lua_eval.specs.Fields.{kind_of_field, field_by};
 ghost use Rattle.lua_eval.specs.Frames.{fields_from, with_field};
 ghost use Rattle.lua_eval.specs.Steps.{Goes};
 
@@ -29,15 +32,38 @@ pub fn store_values(heap: &mut Heap, table: TableId, from: u64, values: &[Value]
     let mut at = from;
     'values: for value in values {
         let key = whole(at);
-        if !key.is_nil() {
-            heap.store(table, key, *value)?;
+        // From here on all numbers are out of the profile.
+        if key.is_nil() {
+            return Ok(());
         }
-        at = at.saturating_add(1);
+        heap.store(table, key, *value)?;
+        at += 1;
     }
     Ok(())
 }
 
-#[tactic(auto, using(tl_base::proofs::Steps::pushes))]
+/// What a field is.
+#[derive(Clone, Copy, Debug)]
+pub enum FieldKind {
+    /// With a name and a value.
+    Named(NodeId, NodeId),
+    /// With a key and a value.
+    Keyed(NodeId, NodeId),
+    /// A value alone.
+    Listed,
+}
+
+/// What the field is that a node is.
+fn field_kind(node: &Node<'_>) -> FieldKind
+    ensures { result ≡ kind_of_field (item_of node.now) }
+{
+    match node {
+        Node::Piece(Piece::NamedField(name, value)) => FieldKind::Named(*name, *value),
+        Node::Piece(Piece::KeyedField(key, value)) => FieldKind::Keyed(*key, *value),
+        _ => FieldKind::Listed,
+    }
+}
+
 /// Evaluates and stores the fields that are left.
 pub fn fields<'a>(
     tree: &'a Tree<'a>,
@@ -52,32 +78,51 @@ pub fn fields<'a>(
         Goes (items_of tree.now) frames.old.items
         (plans.fields (items_of tree.now) rest.now table next place scope) s left frames.new.items step s left) }
 {
-    let Some((first, rest)) = rest.split_first() else {
-        return Ok(Step::Return(End::One(Value::Table(table))));
-    };
-    let frame = TableFrame {
-        table,
-        next,
-        rest,
-        place,
-        scope,
-    };
-    match tree.node(*first) {
-        Node::Piece(Piece::NamedField(name, value)) => {
-            frames.push(LuaFrame::One(OneFrame::Field(frame, FieldFrame::Named(*name))))?;
-            Ok(Step::Enter(Job::Expression(*value, scope)))
+    match rest.split_first() {
+        None => Ok(Step::Return(End::One(Value::Table(table)))),
+        Some((first, more)) => {
+            let frame = TableFrame {
+                table,
+                next,
+                rest: more,
+                place,
+                scope,
+            };
+            let kind = field_kind(tree.node(*first));
+            let step = field(frames, *first, frame, kind)?;
+            Ok(step)
         }
-        Node::Piece(Piece::KeyedField(key, value)) => {
-            frames.push(LuaFrame::One(OneFrame::Field(frame, FieldFrame::Key(*value))))?;
-            Ok(Step::Enter(Job::Expression(*key, scope)))
+    }
+}
+
+#[tactic(auto, using(tl_base::proofs::Steps::pushes))]
+/// Evaluates and stores a field, and those behind it.
+fn field<'a>(
+    frames: &mut Vec<LuaFrame<'a>>,
+    node: NodeId,
+    frame: TableFrame<'a>,
+    kind: FieldKind,
+) -> Result<LuaStep, NoMemory>
+    ensures means { IfOk result (λ step. (items : Items) (s : LuaState) (left : ℕ) →
+        Goes items frames.old.items (field_by items kind node frame.entry) s left frames.new.items step s left) }
+{
+    match kind {
+        FieldKind::Named(name, value) => {
+            frames.push(LuaFrame::One(OneFrame::Field(frame, FieldFrame::Named(name))))?;
+            Ok(Step::Enter(Job::Expression(value, frame.scope)))
         }
-        _ => {
-            if rest.is_empty() {
+        FieldKind::Keyed(key, value) => {
+            frames.push(LuaFrame::One(OneFrame::Field(frame, FieldFrame::Key(value))))?;
+            Ok(Step::Enter(Job::Expression(key, frame.scope)))
+        }
+        FieldKind::Listed => {
+            if frame.rest.is_empty() {
                 frames.push(LuaFrame::All(AllFrame::LastField(frame)))?;
+                Ok(Step::Enter(Job::Expression(node, frame.scope)))
             } else {
                 frames.push(LuaFrame::One(OneFrame::Field(frame, FieldFrame::Next)))?;
+                Ok(Step::Enter(Job::Expression(node, frame.scope)))
             }
-            Ok(Step::Enter(Job::Expression(*first, scope)))
         }
     }
 }
@@ -128,7 +173,10 @@ pub fn with_field<'a>(
     match wait {
         FieldFrame::Next => {
             store_values(heap, frame.table, frame.next, &[value])?;
-            let next = frame.next.saturating_add(1);
+            // No tree has so many fields.
+            let Some(next) = frame.next.checked_add(1) else {
+                return Err(NoMemory);
+            };
             let step = fields(tree, frames, frame.rest, frame.table, next, frame.place, frame.scope)?;
             Ok(step)
         }

@@ -1,0 +1,39 @@
+-- The numbers of a numeric `for`, and the operators that choose by themselves.
+use Rattle.std.proofs.Common.{◌≡◌, ℤ, refl, absurd}
+use Rattle.std.specs.Prelude.{Result, Ok, Err}
+use Rattle.tl_base.specs.declared.ids.NodeId.{NodeId}
+use Rattle.tl_base.specs.declared.place.Place.{Place}
+use Rattle.tl_tree.specs.declared.node.BinaryOperator.{BinaryOperator}
+use Rattle.tl_tree.specs.declared.node.BinaryOperator.TheVariants as binary
+use Rattle.tl_tree.specs.Code.{Items}
+use Rattle.lua_value.specs.declared.value.Value.{Value}
+use Rattle.lua_ops.specs.declared.fault.Fault.{Fault}
+use Rattle.lua_ops.specs.declared.fault.Fault.TheVariants as faults
+use Rattle.lua_model.specs.declared.scope.Scope.{Scope}
+use Rattle.lua_model.specs.Plans.{LuaPlan, value_of, raise}
+use Rattle.lua_model.specs.Operators.{operate}
+use Rattle.lua_model.specs.Loops.{on_number}
+use Rattle.lua_eval.specs.Frames.{with_left}
+use Rattle.lua_eval.specs.Numbers.{numbers_in}
+
+abbrev pub by_numbers : Result (ℤ × ℤ × ℤ) Fault → Place → (ℤ → ℤ → ℤ → LuaPlan) → LuaPlan
+by_numbers (Ok (i, l, d)) place go = go i l d
+by_numbers (Err fault) place go = raise place fault
+
+-- all three numbers, or the first fault
+pub numbers_are : (first limit step : Result ℤ Fault) (place : Place) (go : ℤ → ℤ → ℤ → LuaPlan)
+    → on_number first faults.ForInitial place (λ i. on_number limit faults.ForLimit place (λ l.
+        on_number step faults.ForStep place (λ d. go i l d)))
+    ≡ by_numbers (numbers_in first limit step) place go
+numbers_are (Ok i) (Ok l) (Ok d) place go = refl
+numbers_are (Ok i) (Ok l) (Err fault) place go = refl
+numbers_are (Ok i) (Err fault) step place go = refl
+numbers_are (Err fault) limit step place go = refl
+
+-- an operator that evaluates both operands
+pub left_other : (items : Items) (op : BinaryOperator) (right : NodeId) (place : Place) (scope : Scope) (v : Value)
+    → (op ≡ binary.And → ⊥) → (op ≡ binary.Or → ⊥)
+    → with_left items op right place scope v ≡ value_of right scope (λ b. operate items op v b place scope.call)
+left_other items binary.And right place scope v not_and not_or = absurd (not_and refl)
+left_other items binary.Or right place scope v not_and not_or = absurd (not_or refl)
+left_other items op right place scope v not_and not_or = refl
