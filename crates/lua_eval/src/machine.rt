@@ -1,10 +1,16 @@
 // The machine: how tasks and jobs begin, and how frames go on.
 
-ghost use Rattle.std.specs.Prelude.{◌≡◌, List, IfOk, OnOk, true, false};
+ghost use Rattle.std.specs.Prelude.{◌≡◌, ℕ, List, IfOk, OnOk, true, false};
+ghost use Rattle.tl_base.specs.Plan.{Give};
+ghost use Rattle.tl_tree.specs.Code.{Items};
+ghost use Rattle.lua_table.specs.LuaState.{LuaState};
+ghost use Rattle.lua_model.specs.Plans.{scope_at, on_fell, statements};
+ghost use Rattle.lua_model.specs.Calls.{returned};
+ghost use Rattle.lua_model.specs.Loops.{after_turn};
 ghost use Rattle.tl_tree.specs.Arena.{items_of};
 ghost use Rattle.lua_table.specs.Keeping.{KeepsHeap};
 ghost use Rattle.lua_eval.specs.Slots.{ArePaths};
-ghost use Rattle.lua_eval.specs.Frames.{lua_rules, with_one, with_all, is_go};
+ghost use Rattle.lua_eval.specs.Frames.{lua_rules, with_one, with_all, next_turn, is_go};
 ghost use Rattle.lua_eval.specs.Steps.{Goes};
 
 use crate::assignments::{define_name, stores, targets, with_target};
@@ -37,7 +43,9 @@ pub(crate) struct Steps<'a> {
 }
 
 /// A scope that no function was called for.
-fn scope_at(env: EnvId) -> Scope {
+fn scope_at(env: EnvId) -> Scope
+    ensures { result ≡ scope_at env }
+{
     Scope {
         env,
         extra: CellId(0),
@@ -64,17 +72,36 @@ fn with_one<'a>(
     ensures kept { OnOk result (KeepsHeap heap.old heap.new) }
 {
     match frame {
-        OneFrame::Value(frame) => with_value(tree, frames, heap, budget, frame, value),
+        OneFrame::Value(frame) => {
+            let step = with_value(tree, frames, heap, budget, frame, value)?;
+            Ok(step)
+        }
         OneFrame::Item(frame) => {
             let mut values = frame.values;
             values.push(value)?;
-            list(tree, slots, frames, heap, budget, frame.rest, frame.scope, values, frame.then)
+            let step = list(tree, slots, frames, heap, budget, frame.rest, frame.scope, values, frame.then)?;
+            Ok(step)
         }
-        OneFrame::Call(frame) => with_call(tree, slots, frames, heap, budget, frame, value),
-        OneFrame::Field(frame, wait) => with_field(tree, frames, heap, budget, frame, wait, value),
-        OneFrame::Target(frame) => with_target(tree, frames, heap, budget, frame, value),
-        OneFrame::Loop(frame) => with_loop(frames, heap, budget, frame, value),
-        OneFrame::Statement(frame) => with_statement(tree, frames, heap, frame, value),
+        OneFrame::Call(frame) => {
+            let step = with_call(tree, slots, frames, heap, budget, frame, value)?;
+            Ok(step)
+        }
+        OneFrame::Field(frame, wait) => {
+            let step = with_field(tree, frames, heap, budget, frame, wait, value)?;
+            Ok(step)
+        }
+        OneFrame::Target(frame) => {
+            let step = with_target(tree, frames, heap, budget, frame, value)?;
+            Ok(step)
+        }
+        OneFrame::Loop(frame) => {
+            let step = with_loop(frames, heap, budget, frame, value)?;
+            Ok(step)
+        }
+        OneFrame::Statement(frame) => {
+            let step = with_statement(tree, frames, heap, frame, value)?;
+            Ok(step)
+        }
     }
 }
 
@@ -99,7 +126,8 @@ fn with_all<'a>(
         AllFrame::Last(frame) => {
             let mut values = frame.values;
             append(&mut values, more.as_slice())?;
-            with_list(tree, slots, frames, heap, budget, frame.scope, values, frame.then)
+            let step = with_list(tree, slots, frames, heap, budget, frame.scope, values, frame.then)?;
+            Ok(step)
         }
         AllFrame::LastField(frame) => {
             store_values(heap, frame.table, frame.next, more.as_slice())?;
@@ -108,21 +136,26 @@ fn with_all<'a>(
         AllFrame::Target(rest, all, values, scope, before) => {
             let mut held = before;
             append(&mut held, more.as_slice())?;
-            targets(tree, slots, frames, heap, budget, rest, all, values, scope, held)
+            let step = targets(tree, slots, frames, heap, budget, rest, all, values, scope, held)?;
+            Ok(step)
         }
         AllFrame::Stores(all, scope, held, values, left) => {
-            stores(tree, slots, frames, heap, budget, all, scope, held, values, left)
+            let step = stores(tree, slots, frames, heap, budget, all, scope, held, values, left)?;
+            Ok(step)
         }
         AllFrame::Name(name, function, scope) => {
-            define_name(tree, slots, frames, heap, budget, name, function, scope)
+            let step = define_name(tree, slots, frames, heap, budget, name, function, scope)?;
+            Ok(step)
         }
         AllFrame::Listed(node, names, scope, function, state, out) => {
-            listed(heap, node, names, scope, function, state, more.as_slice(), out)
+            let step = listed(heap, node, names, scope, function, state, more.as_slice(), out)?;
+            Ok(step)
         }
         AllFrame::Done => Ok(Step::Return(End::Fell(Values::new(heap.allocator())))),
     }
 }
 
+#[tactic(auto, using(tl_base::proofs::Steps::pushes))]
 /// Goes on behind a turn of a loop, whose block ended so.
 fn after_turn<'a>(
     tree: &'a Tree<'a>,
@@ -133,15 +166,27 @@ fn after_turn<'a>(
     scope: Scope,
     frame: TurnFrame<'a>,
     end: End,
-) -> Result<LuaStep, NoMemory> {
-    let out = match end {
-        End::Fell(out) => out,
-        End::Broke(out) => return Ok(Step::Return(End::Fell(out))),
-        End::Returned(values, out) => return Ok(Step::Return(End::Returned(values, out))),
-        End::Raised(value, place) => return Ok(Step::Return(End::Raised(value, place))),
-        End::One(_) | End::Many(_) => Values::new(heap.allocator()),
-    };
-    next_turn(tree, frames, heap, budget, node, scope, frame, out)
+) -> Result<LuaStep, NoMemory>
+    ensures means { IfOk result (λ step.
+        Goes (items_of tree.now) frames.old.items
+        (after_turn end (λ out. next_turn (items_of tree.now) node scope frame.entry out))
+        heap.old budget.old frames.new.items step heap.new budget.new) }
+    ensures kept { OnOk result (KeepsHeap heap.old heap.new) }
+{
+    match end {
+        End::Fell(out) => {
+            let step = next_turn(tree, frames, heap, budget, node, scope, frame, out)?;
+            Ok(step)
+        }
+        End::Broke(out) => Ok(Step::Return(End::Fell(out))),
+        End::Returned(values, out) => Ok(Step::Return(End::Returned(values, out))),
+        End::Raised(value, place) => Ok(Step::Return(End::Raised(value, place))),
+        End::One(_) | End::Many(_) => {
+            let none = Values::new(heap.allocator());
+            let step = next_turn(tree, frames, heap, budget, node, scope, frame, none)?;
+            Ok(step)
+        }
+    }
 }
 
 #[tactic(auto, using(tl_base::proofs::Steps::pushes))]
@@ -152,26 +197,38 @@ fn after_statement<'a>(
     scope: Scope,
     before: Values,
     end: End,
-) -> Result<LuaStep, NoMemory> {
+) -> Result<LuaStep, NoMemory>
+    ensures means { IfOk result (λ step. (items : Items) (s : LuaState) (left : ℕ) →
+        Goes items frames.old.items (on_fell end before Give (λ all. statements rest.now scope all Give)) s left
+        frames.new.items step s left) }
+{
     let mut out = before;
     match end {
-        End::Fell(more) => append(&mut out, more.as_slice())?,
+        End::Fell(more) => {
+            append(&mut out, more.as_slice())?;
+            let step = statements(frames, rest, scope, out)?;
+            Ok(step)
+        }
         End::Broke(more) => {
             append(&mut out, more.as_slice())?;
-            return Ok(Step::Return(End::Broke(out)));
+            Ok(Step::Return(End::Broke(out)))
         }
         End::Returned(values, more) => {
             append(&mut out, more.as_slice())?;
-            return Ok(Step::Return(End::Returned(values, out)));
+            Ok(Step::Return(End::Returned(values, out)))
         }
-        End::Raised(value, place) => return Ok(Step::Return(End::Raised(value, place))),
-        End::One(_) | End::Many(_) => {}
+        End::Raised(value, place) => Ok(Step::Return(End::Raised(value, place))),
+        End::One(_) | End::Many(_) => {
+            let step = statements(frames, rest, scope, out)?;
+            Ok(step)
+        }
     }
-    statements(frames, rest, scope, out)
 }
 
 /// What a call gives when the block of its function ended so.
-fn returned(heap: &Heap, end: End) -> End {
+fn returned(heap: &Heap, end: End) -> End
+    ensures { result ≡ returned end }
+{
     match end {
         End::Returned(values, _) => End::Many(values),
         End::Fell(_) | End::Broke(_) => End::Many(Values::new(heap.allocator())),
@@ -232,20 +289,26 @@ impl<'a> Machine for Steps<'a> {
                 let env = heap.new_env(root, None)?;
                 let list = block_statements(self.tree, root);
                 let none = Values::new(heap.allocator());
-                statements(frames, list, scope_at(env), none)
+                let begun = statements(frames, list, scope_at(env), none)?;
+                Ok(begun)
             }
             LuaJob::Call(function, args, place) => {
                 let by = Caller::ByOther;
-                call(self.tree, frames, heap, budget, by, function, args, place, Some(place))
+                let step = call(self.tree, frames, heap, budget, by, function, args, place, Some(place))?;
+                Ok(step)
             }
             LuaJob::Expr(node, env) => {
                 frames.push(LuaFrame::One(OneFrame::Value(ValueFrame::Alone)))?;
                 Ok(Step::Enter(Job::Expression(node, scope_at(env))))
             }
-            LuaJob::Emitted(node, env) => block(self.tree, frames, heap, node, scope_at(env)),
+            LuaJob::Emitted(node, env) => {
+                let step = block(self.tree, frames, heap, node, scope_at(env))?;
+                Ok(step)
+            }
             LuaJob::Index(object, text, place) => {
                 frames.push(LuaFrame::One(OneFrame::Value(ValueFrame::Alone)))?;
-                read(frames, heap, budget, object, Value::Text(text), place, None)
+                let found = read(frames, heap, budget, object, Value::Text(text), place, None)?;
+                Ok(found)
             }
         }
     }
@@ -259,16 +322,33 @@ impl<'a> Machine for Steps<'a> {
         job: Job,
     ) -> Result<LuaStep, NoMemory> {
         match job {
-            Job::Expression(id, scope) => node(self.tree, self.slots, frames, heap, budget, id, scope),
-            Job::Statement(id, scope) => statement(self.tree, self.slots, frames, heap, budget, id, scope),
-            Job::Target(id, scope) => target(self.tree, frames, heap, id, scope),
-            Job::Turn(id, scope, kind, out) => turn(self.tree, frames, heap, id, scope, kind, out),
-            Job::Callback(closure, args, place) => {
-                call_closure(self.tree, frames, heap, budget, closure, args, place)
+            Job::Expression(id, scope) => {
+                let step = node(self.tree, self.slots, frames, heap, budget, id, scope)?;
+                Ok(step)
             }
-            Job::Read(object, key, place, outer) => read(frames, heap, budget, object, key, place, outer),
+            Job::Statement(id, scope) => {
+                let step = statement(self.tree, self.slots, frames, heap, budget, id, scope)?;
+                Ok(step)
+            }
+            Job::Target(id, scope) => {
+                let step = target(self.tree, frames, heap, id, scope)?;
+                Ok(step)
+            }
+            Job::Turn(id, scope, kind, out) => {
+                let step = turn(self.tree, frames, heap, id, scope, kind, out)?;
+                Ok(step)
+            }
+            Job::Callback(closure, args, place) => {
+                let step = call_closure(self.tree, frames, heap, budget, closure, args, place)?;
+                Ok(step)
+            }
+            Job::Read(object, key, place, outer) => {
+                let step = read(frames, heap, budget, object, key, place, outer)?;
+                Ok(step)
+            }
             Job::Store(object, key, value, place, outer) => {
-                store(frames, heap, budget, object, key, value, place, outer)
+                let step = store(frames, heap, budget, object, key, value, place, outer)?;
+                Ok(step)
             }
         }
     }
@@ -285,13 +365,18 @@ impl<'a> Machine for Steps<'a> {
         match frame {
             LuaFrame::One(frame) => match end {
                 End::Raised(value, place) => Ok(Step::Return(End::Raised(value, place))),
-                end => with_one(self.tree, self.slots, frames, heap, budget, frame, one_in(&end)),
+                end => {
+                    let value = one_in(&end);
+                    let step = with_one(self.tree, self.slots, frames, heap, budget, frame, value)?;
+                    Ok(step)
+                }
             },
             LuaFrame::All(frame) => match end {
                 End::Raised(value, place) => Ok(Step::Return(End::Raised(value, place))),
                 end => {
                     let values = all_in(self.alloc, end)?;
-                    with_all(self.tree, self.slots, frames, heap, budget, frame, values)
+                    let step = with_all(self.tree, self.slots, frames, heap, budget, frame, values)?;
+                    Ok(step)
                 }
             },
             LuaFrame::Library => {
@@ -303,9 +388,13 @@ impl<'a> Machine for Steps<'a> {
                 Ok(Step::Return(returned(heap, end)))
             }
             LuaFrame::Turn(node, scope, kind) => {
-                after_turn(self.tree, frames, heap, budget, node, scope, kind, end)
+                let step = after_turn(self.tree, frames, heap, budget, node, scope, kind, end)?;
+                Ok(step)
             }
-            LuaFrame::Block(rest, scope, out) => after_statement(frames, rest, scope, out, end),
+            LuaFrame::Block(rest, scope, out) => {
+                let step = after_statement(frames, rest, scope, out, end)?;
+                Ok(step)
+            }
         }
     }
 
