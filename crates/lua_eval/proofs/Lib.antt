@@ -5,5 +5,6 @@ pub mod Declaring
 pub mod Doing
 pub mod Fielding
 pub mod Listing
+pub mod Making
 pub mod Named
 pub mod Operands
