@@ -81,7 +81,7 @@ text_goes items fs fs2 bytes go s t s2 left left2 step v e h g =
 pub below : (items : Items) (fs pushed fs2 : List LuaFrame) (f : LuaFrame) (p q : LuaPlan) (s s2 : LuaState) (left left2 : ℕ) (step : LuaStep)
     → pushed ≡ fs ++ f ∷ []
     → ((later : List LuaGiven) → run (jobs_of items) p (state s left) later
-        ≡ then_do (run (jobs_of items) q (state s left) later) (λ r. run (jobs_of items) (after items f r)))
+    ≡ then_do (run (jobs_of items) q (state s left) later) (λ r. run (jobs_of items) (after items f r)))
     → Goes items pushed q s left fs2 step s2 left2 → Goes items fs p s left fs2 step s2 left2
 below items fs pushed fs2 f p q s s2 left left2 step is split g = λ later.
     ap (plug (lua_rules items) fs) (split later)
@@ -125,8 +125,8 @@ pub read_below : (items : Items) (fs pushed fs2 : List LuaFrame) (f : LuaFrame) 
 read_below items fs pushed fs2 f s s2 left left2 step object key place outer go is same g =
     below items fs pushed fs2 f (read object key place outer go) (read object key place outer give) s s2 left left2 step is
     (λ later. run_read (jobs_of items) object key place outer go (state s left) later
-        ∙ ap (λ (k : End → LuaCourse). then_do (run (jobs_of items) (read object key place outer give) (state s left) later) k)
-        (one_frame items f go same)) g
+    ∙ ap (λ (k : End → LuaCourse). then_do (run (jobs_of items) (read object key place outer give) (state s left) later) k)
+    (one_frame items f go same)) g
 
 -- reads under a name
 pub named_below : (items : Items) (fs pushed fs2 : List LuaFrame) (f : LuaFrame) (s s2 : LuaState) (left left2 : ℕ) (step : LuaStep)
@@ -138,10 +138,10 @@ named_below items fs pushed fs2 f s s2 left left2 step object bytes place outer 
     below items fs pushed fs2 f (with_text_of bytes (λ key. read object key place outer go))
     (with_text_of bytes (λ key. read object key place outer give)) s s2 left left2 step is
     (λ later. with_text_then (jobs_of items) bytes (λ key. read object key place outer go)
-        (λ key. read object key place outer give) (λ r. run (jobs_of items) (on_one r go))
-        (λ key t l. run_read (jobs_of items) object key place outer go t l) (state s left) later
-        ∙ ap (λ (k : End → LuaCourse). then_do (run (jobs_of items) (with_text_of bytes (λ key. read object key place outer give)) (state s left) later) k)
-        (one_frame items f go same)) g
+    (λ key. read object key place outer give) (λ r. run (jobs_of items) (on_one r go))
+    (λ key t l. run_read (jobs_of items) object key place outer go t l) (state s left) later
+    ∙ ap (λ (k : End → LuaCourse). then_do (run (jobs_of items) (with_text_of bytes (λ key. read object key place outer give)) (state s left) later) k)
+    (one_frame items f go same)) g
 
 -- statements of a block
 pub statements_below : (items : Items) (fs pushed fs2 : List LuaFrame) (f : LuaFrame) (s s2 : LuaState) (left left2 : ℕ) (step : LuaStep)
@@ -183,5 +183,5 @@ target_below items fs pushed fs2 f s s2 left left2 step item n scope object key 
     below items fs pushed fs2 f (store_target items item n scope object key v rest)
     (store_target items item n scope object key v fell) s s2 left left2 step is
     (λ later. store_target_then (jobs_of items) items item n scope object key v rest (state s left) later
-        ∙ ap (λ (k : End → LuaCourse). then_do (run (jobs_of items) (store_target items item n scope object key v fell) (state s left) later) k)
-        (fun_ext (λ r. ap (run (jobs_of items)) (sym (same r))))) g
+    ∙ ap (λ (k : End → LuaCourse). then_do (run (jobs_of items) (store_target items item n scope object key v fell) (state s left) later) k)
+    (fun_ext (λ r. ap (run (jobs_of items)) (sym (same r))))) g

@@ -23,7 +23,7 @@ by_numbers (Err fault) place go = raise place fault
 -- all three numbers, or the first fault
 pub numbers_are : (first limit step : Result ℤ Fault) (place : Place) (go : ℤ → ℤ → ℤ → LuaPlan)
     → on_number first faults.ForInitial place (λ i. on_number limit faults.ForLimit place (λ l.
-        on_number step faults.ForStep place (λ d. go i l d)))
+    on_number step faults.ForStep place (λ d. go i l d)))
     ≡ by_numbers (numbers_in first limit step) place go
 numbers_are (Ok i) (Ok l) (Ok d) place go = refl
 numbers_are (Ok i) (Ok l) (Err fault) place go = refl

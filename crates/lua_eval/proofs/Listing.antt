@@ -44,14 +44,14 @@ field_last table next n (m ∷ ns) scope go none = absurd (omega arith)
 pub define_in_by : (items : Items) (n : NodeId) (ns : List NodeId) (function : NodeId) (scope : Scope) (object : Value)
     → define_in items (n ∷ ns) function scope object
     ≡ (if is_end ns then define_in items (n ∷ []) function scope object
-        else with_text_of (name_at items n) (λ key. read object key (place_at items n) scope.call (λ next. define_in items ns function scope next)))
+    else with_text_of (name_at items n) (λ key. read object key (place_at items n) scope.call (λ next. define_in items ns function scope next)))
 define_in_by items n [] function scope object = refl
 define_in_by items n (m ∷ ns) function scope object = refl
 
 pub define_by : (items : Items) (n : NodeId) (ns : List NodeId) (function : NodeId) (scope : Scope)
     → define items (n ∷ ns) function scope
     ≡ (if is_end ns then Do (jobs.Target n scope) (λ r. on_all r (λ us. define_name items n function scope))
-        else value_of n scope (λ object. define_in items ns function scope object))
+    else value_of n scope (λ object. define_in items ns function scope object))
 define_by items n [] function scope = refl
 define_by items n (m ∷ ns) function scope = refl
 

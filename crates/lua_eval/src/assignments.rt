@@ -95,7 +95,9 @@ pub fn stores<'a>(
     let value = nth(values.as_slice(), at);
     let (object, key) = held_at(held.as_slice(), at);
     frames.push(LuaFrame::All(AllFrame::Stores(targets, scope, held, values, left - 1)))?;
-    let step = store_target(tree, slots, frames, heap, budget, target, scope, object, key, value)?;
+    let step = store_target(
+        tree, slots, frames, heap, budget, target, scope, object, key, value,
+    )?;
     Ok(step)
 }
 
@@ -140,7 +142,16 @@ fn store_target<'a>(
             }
             None => {
                 let globals = Value::Table(GLOBALS);
-                let step = store_named(frames, heap, budget, globals, text.as_bytes(), value, *place, scope.call)?;
+                let step = store_named(
+                    frames,
+                    heap,
+                    budget,
+                    globals,
+                    text.as_bytes(),
+                    value,
+                    *place,
+                    scope.call,
+                )?;
                 Ok(step)
             }
         },
@@ -174,7 +185,18 @@ pub fn define_name<'a>(
         env: scope.env,
     })?;
     let value = Value::Closure(made);
-    let step = store_target(tree, slots, frames, heap, budget, target, scope, Value::Nil, Value::Nil, value)?;
+    let step = store_target(
+        tree,
+        slots,
+        frames,
+        heap,
+        budget,
+        target,
+        scope,
+        Value::Nil,
+        Value::Nil,
+        value,
+    )?;
     Ok(step)
 }
 
@@ -214,12 +236,24 @@ pub fn define_in<'a>(
         },
         Some((first, rest)) => {
             if is_end(rest, method) {
-                let step = define_last(tree, frames, heap, budget, *first, function, scope, object)?;
+                let step = define_last(
+                    tree, frames, heap, budget, *first, function, scope, object,
+                )?;
                 return Ok(step);
             }
-            frames.push(LuaFrame::One(OneFrame::Target(TargetFrame::Path(rest, method, function, scope))))?;
+            frames.push(LuaFrame::One(OneFrame::Target(TargetFrame::Path(
+                rest, method, function, scope,
+            ))))?;
             let place = name_place(tree, *first);
-            let found = read_named(frames, heap, budget, object, name(tree, *first).as_bytes(), place, scope.call)?;
+            let found = read_named(
+                frames,
+                heap,
+                budget,
+                object,
+                name(tree, *first).as_bytes(),
+                place,
+                scope.call,
+            )?;
             Ok(found)
         }
     }
@@ -248,7 +282,16 @@ fn define_last<'a>(
     })?;
     let place = name_place(tree, last);
     let value = Value::Closure(made);
-    let step = store_named(frames, heap, budget, object, name(tree, last).as_bytes(), value, place, scope.call)?;
+    let step = store_named(
+        frames,
+        heap,
+        budget,
+        object,
+        name(tree, last).as_bytes(),
+        value,
+        place,
+        scope.call,
+    )?;
     Ok(step)
 }
 
@@ -279,7 +322,9 @@ pub fn define<'a>(
                 frames.push(LuaFrame::All(AllFrame::Name(*first, function, scope)))?;
                 return Ok(Step::Enter(Job::Target(*first, scope)));
             }
-            frames.push(LuaFrame::One(OneFrame::Target(TargetFrame::Path(rest, method, function, scope))))?;
+            frames.push(LuaFrame::One(OneFrame::Target(TargetFrame::Path(
+                rest, method, function, scope,
+            ))))?;
             Ok(Step::Enter(Job::Expression(*first, scope)))
         }
     }
@@ -324,7 +369,9 @@ pub fn with_target<'a>(
             Ok(step)
         }
         TargetFrame::Path(rest, method, function, scope) => {
-            let step = define_in(tree, frames, heap, budget, rest, method, function, scope, value)?;
+            let step = define_in(
+                tree, frames, heap, budget, rest, method, function, scope, value,
+            )?;
             Ok(step)
         }
     }

@@ -65,7 +65,12 @@ pub fn declare(heap: &mut Heap, env: EnvId, value: Value) -> Result<(), NoMemory
 
 /// Declares so many locals with these values, and nil where there are no more.
 #[tactic(auto, using(crate::proofs::Declaring::declare_next, lua_table::proofs::Keeping::keeps_then))]
-pub fn declare_all(heap: &mut Heap, count: usize, env: EnvId, values: &[Value]) -> Result<(), NoMemory>
+pub fn declare_all(
+    heap: &mut Heap,
+    count: usize,
+    env: EnvId,
+    values: &[Value],
+) -> Result<(), NoMemory>
     ensures ok { OnOk result (heap.new ≡ declare_all count env values.now heap.old) }
     ensures kept { OnOk result (KeepsHeap heap.old heap.new) }
 {

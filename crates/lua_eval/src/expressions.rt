@@ -54,7 +54,15 @@ pub fn node<'a>(
             }
             None => {
                 let globals = Value::Table(GLOBALS);
-                let step = read_named(frames, heap, budget, globals, text.as_bytes(), *place, scope.call)?;
+                let step = read_named(
+                    frames,
+                    heap,
+                    budget,
+                    globals,
+                    text.as_bytes(),
+                    *place,
+                    scope.call,
+                )?;
                 Ok(step)
             }
         },
@@ -151,7 +159,10 @@ fn evaluate<'a>(
             frames.push(LuaFrame::One(OneFrame::Call(frame)))?;
             Ok(Step::Enter(Job::Expression(*object, scope)))
         }
-        Expression::Terra(_) | Expression::Struct(_) | Expression::Quote(_) | Expression::Backtick(_) => {
+        Expression::Terra(_)
+        | Expression::Struct(_)
+        | Expression::Quote(_)
+        | Expression::Backtick(_) => {
             frames.push(LuaFrame::One(OneFrame::Value(ValueFrame::First)))?;
             Ok(Step::Stop(LuaQuestion::Specialise(node, scope.env)))
         }
@@ -241,7 +252,15 @@ pub fn with_value<'a>(
             Ok(step)
         }
         ValueFrame::Select(node, place, outer) => {
-            let step = read_named(frames, heap, budget, value, name(tree, node).as_bytes(), place, outer)?;
+            let step = read_named(
+                frames,
+                heap,
+                budget,
+                value,
+                name(tree, node).as_bytes(),
+                place,
+                outer,
+            )?;
             Ok(step)
         }
     }
@@ -268,19 +287,31 @@ pub fn with_call<'a>(
         CallFrame::Function(arguments, place, scope) => {
             let none = Values::new(heap.allocator());
             let then = Then::Call(value, place);
-            let step = list(tree, slots, frames, heap, budget, arguments, scope, none, then)?;
+            let step = list(
+                tree, slots, frames, heap, budget, arguments, scope, none, then,
+            )?;
             Ok(step)
         }
         CallFrame::Method(node, arguments, place, scope) => {
             let frame = CallFrame::MethodOf(value, arguments, place, scope);
             frames.push(LuaFrame::One(OneFrame::Call(frame)))?;
-            let found = read_named(frames, heap, budget, value, name(tree, node).as_bytes(), place, scope.call)?;
+            let found = read_named(
+                frames,
+                heap,
+                budget,
+                value,
+                name(tree, node).as_bytes(),
+                place,
+                scope.call,
+            )?;
             Ok(found)
         }
         CallFrame::MethodOf(object, arguments, place, scope) => {
             let first = one(heap.allocator(), object)?;
             let then = Then::Call(value, place);
-            let step = list(tree, slots, frames, heap, budget, arguments, scope, first, then)?;
+            let step = list(
+                tree, slots, frames, heap, budget, arguments, scope, first, then,
+            )?;
             Ok(step)
         }
     }

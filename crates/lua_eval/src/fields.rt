@@ -226,10 +226,11 @@ pub fn read<'a>(
             let step = read_terra(frames, heap, LibFn::Field, object, key, place, outer)?;
             Ok(step)
         }
-        Value::Nil | Value::Boolean(_) | Value::Number(_) | Value::Closure(_) | Value::Library(_) => {
-            let step = raise(heap, budget, place, Fault::Index(object.kind()))?;
-            Ok(step)
-        }
+        Value::Nil | Value::Boolean(_) | Value::Number(_) | Value::Closure(_) | Value::Library(_) =>
+            {
+                let step = raise(heap, budget, place, Fault::Index(object.kind()))?;
+                Ok(step)
+            }
     }
 }
 
@@ -329,7 +330,9 @@ fn store_table<'a>(
 {
     if heap.get(table, key).is_nil() {
         let handler = handler_of(heap, &Value::Table(table), "__newindex");
-        let step = store_by(frames, heap, budget, handler, table, key, value, place, outer)?;
+        let step = store_by(
+            frames, heap, budget, handler, table, key, value, place, outer,
+        )?;
         Ok(step)
     } else {
         let step = store_raw(heap, budget, table, key, value, place)?;

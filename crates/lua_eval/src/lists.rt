@@ -94,7 +94,17 @@ pub fn with_list<'a>(
 {
     match then {
         Then::Call(function, place) => {
-            let step = call(tree, frames, heap, budget, Caller::ByNode, function, values, place, scope.call)?;
+            let step = call(
+                tree,
+                frames,
+                heap,
+                budget,
+                Caller::ByNode,
+                function,
+                values,
+                place,
+                scope.call,
+            )?;
             Ok(step)
         }
         Then::Return => Ok(Step::Return(End::Returned(values, Values::new(heap.allocator())))),
@@ -104,14 +114,19 @@ pub fn with_list<'a>(
         }
         Then::Assign(targets, held) => {
             let left = targets.len() as u64;
-            let step = stores(tree, slots, frames, heap, budget, targets, scope, held, values, left)?;
+            let step = stores(
+                tree, slots, frames, heap, budget, targets, scope, held, values, left,
+            )?;
             Ok(step)
         }
         Then::Listed(node, names, place) => {
             let values = values.as_slice();
             let (function, state, control) = (nth(values, 0), nth(values, 1), nth(values, 2));
             let out = Values::new(heap.allocator());
-            let step = list_next(tree, frames, heap, budget, node, names, place, scope, function, state, control, out)?;
+            let step = list_next(
+                tree, frames, heap, budget, node, names, place, scope, function, state, control,
+                out,
+            )?;
             Ok(step)
         }
     }

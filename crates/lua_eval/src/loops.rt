@@ -56,7 +56,17 @@ pub fn list_next<'a>(
 {
     let args = two(heap.allocator(), state, control)?;
     frames.push(LuaFrame::All(AllFrame::Listed(node, names, scope, function, state, out)))?;
-    let step = call(tree, frames, heap, budget, Caller::ByNode, function, args, place, scope.call)?;
+    let step = call(
+        tree,
+        frames,
+        heap,
+        budget,
+        Caller::ByNode,
+        function,
+        args,
+        place,
+        scope.call,
+    )?;
     Ok(step)
 }
 
@@ -97,7 +107,12 @@ fn number(heap: &Heap, value: Value, missing: Fault) -> Result<Number, Fault>
 }
 
 /// The numbers of a `for`, in their order, or the first fault.
-fn numbers(heap: &Heap, first: Value, limit: Value, step: Value) -> Result<(Number, Number, Number), Fault>
+fn numbers(
+    heap: &Heap,
+    first: Value,
+    limit: Value,
+    step: Value,
+) -> Result<(Number, Number, Number), Fault>
     ensures { result ≡ numbers_in (operand heap.now first) (operand heap.now limit) (operand heap.now step) }
 {
     let first = number(heap, first, Fault::ForInitial)?;
@@ -146,7 +161,14 @@ fn runs(at: Number, limit: Number, step: Number) -> bool
 }
 
 /// Begins a turn of a numeric `for`, unless its variable is past the limit.
-fn count(node: NodeId, scope: Scope, at: Number, limit: Number, step: Number, out: Values) -> LuaStep
+fn count(
+    node: NodeId,
+    scope: Scope,
+    at: Number,
+    limit: Number,
+    step: Number,
+    out: Values,
+) -> LuaStep
     ensures { (items : Items) (s : LuaState) (left : ℕ) →
         Does items (plans.count node scope at limit step out) s left result s left }
 {
@@ -186,11 +208,15 @@ pub fn with_loop<'a>(
             }
         }
         LoopFrame::Initial(node, limit, step, place, scope) => {
-            frames.push(LuaFrame::One(OneFrame::Loop(LoopFrame::Limit(node, value, step, place, scope))))?;
+            frames.push(LuaFrame::One(OneFrame::Loop(LoopFrame::Limit(
+                node, value, step, place, scope,
+            ))))?;
             Ok(Step::Enter(Job::Expression(limit, scope)))
         }
         LoopFrame::Limit(node, first, Some(step), place, scope) => {
-            frames.push(LuaFrame::One(OneFrame::Loop(LoopFrame::Step(node, first, value, place, scope))))?;
+            frames.push(LuaFrame::One(OneFrame::Loop(LoopFrame::Step(
+                node, first, value, place, scope,
+            ))))?;
             Ok(Step::Enter(Job::Expression(step, scope)))
         }
         LoopFrame::Limit(node, first, None, place, scope) => {
@@ -268,7 +294,12 @@ pub fn next_turn<'a>(
             Ok(step)
         }
         TurnFrame::Repeat(condition, inner) => {
-            let step = test(frames, LoopFrame::Repeat(node, scope, out), condition, inner)?;
+            let step = test(
+                frames,
+                LoopFrame::Repeat(node, scope, out),
+                condition,
+                inner,
+            )?;
             Ok(step)
         }
         TurnFrame::Counted(at, limit, step) => match Number::new(at.get() + step.get()) {
@@ -276,7 +307,10 @@ pub fn next_turn<'a>(
             None => Ok(Step::Return(End::Fell(out))),
         },
         TurnFrame::Listed(names, place, function, state, control) => {
-            let step = list_next(tree, frames, heap, budget, node, names, place, scope, function, state, control, out)?;
+            let step = list_next(
+                tree, frames, heap, budget, node, names, place, scope, function, state, control,
+                out,
+            )?;
             Ok(step)
         }
     }
@@ -301,7 +335,9 @@ pub fn turn<'a>(
 {
     match tree.node(node) {
         Node::Statement(place, statement) => {
-            let step = turn_of(tree, frames, heap, statement, node, *place, scope, turn, out)?;
+            let step = turn_of(
+                tree, frames, heap, statement, node, *place, scope, turn, out,
+            )?;
             Ok(step)
         }
         _ => Ok(Step::Return(End::Fell(out))),
@@ -336,13 +372,24 @@ fn turn_of<'a>(
             Ok(step)
         }
         Loop::Counted(at, limit, by) => {
-            let step = numeric_turn(tree, frames, heap, statement, node, scope, at, limit, by, out)?;
+            let step = numeric_turn(
+                tree, frames, heap, statement, node, scope, at, limit, by, out,
+            )?;
             Ok(step)
         }
         Loop::Listed(env, function, state, control) => match statement {
             Statement::GenericFor(names, _, block) => {
                 let next = TurnFrame::Listed(names.as_slice(), place, function, state, control);
-                let step = turn_block(tree, frames, *block, node, scope, within(scope, env), next, out)?;
+                let step = turn_block(
+                    tree,
+                    frames,
+                    *block,
+                    node,
+                    scope,
+                    within(scope, env),
+                    next,
+                    out,
+                )?;
                 Ok(step)
             }
             _ => Ok(Step::Return(End::Fell(out))),
@@ -370,7 +417,16 @@ fn while_turn<'a>(
         Statement::While(condition, block) => {
             let env = heap.new_env(*block, Some(scope.env))?;
             let next = TurnFrame::While(*condition);
-            let begun = turn_block(tree, frames, *block, node, scope, within(scope, env), next, out)?;
+            let begun = turn_block(
+                tree,
+                frames,
+                *block,
+                node,
+                scope,
+                within(scope, env),
+                next,
+                out,
+            )?;
             Ok(begun)
         }
         _ => Ok(Step::Return(End::Fell(out))),
@@ -429,7 +485,16 @@ fn numeric_turn<'a>(
             let env = heap.new_env(node, Some(scope.env))?;
             declare(heap, env, Value::Number(at))?;
             let next = TurnFrame::Counted(at, limit, by);
-            let begun = turn_block(tree, frames, *block, node, scope, within(scope, env), next, out)?;
+            let begun = turn_block(
+                tree,
+                frames,
+                *block,
+                node,
+                scope,
+                within(scope, env),
+                next,
+                out,
+            )?;
             Ok(begun)
         }
         _ => Ok(Step::Return(End::Fell(out))),
@@ -450,7 +515,7 @@ fn turn_block<'a>(
     ensures means { IfOk result (λ step. (s : LuaState) (left : ℕ) →
         Goes (items_of tree.now) frames.old.items
         (plans.turn_block (items_of tree.now) block inner out
-            (λ all. next_turn (items_of tree.now) node scope next.entry all))
+        (λ all. next_turn (items_of tree.now) node scope next.entry all))
         s left frames.new.items step s left) }
 {
     frames.push(LuaFrame::Turn(node, scope, next))?;

@@ -14,8 +14,8 @@ ghost use Rattle.lua_eval.specs.Frames.{lua_rules, with_one, with_all, next_turn
 ghost use Rattle.lua_eval.specs.Steps.{Goes};
 
 use crate::assignments::{define_name, stores, targets, with_target};
-use crate::code::block_statements;
 use crate::calls::{call, call_closure, statements};
+use crate::code::block_statements;
 use crate::expressions::{node, with_call, with_value};
 use crate::fields::{read, store};
 use crate::frame::{AllFrame, LuaFrame, OneFrame, TurnFrame, ValueFrame};
@@ -79,7 +79,17 @@ fn with_one<'a>(
         OneFrame::Item(frame) => {
             let mut values = frame.values;
             values.push(value)?;
-            let step = list(tree, slots, frames, heap, budget, frame.rest, frame.scope, values, frame.then)?;
+            let step = list(
+                tree,
+                slots,
+                frames,
+                heap,
+                budget,
+                frame.rest,
+                frame.scope,
+                values,
+                frame.then,
+            )?;
             Ok(step)
         }
         OneFrame::Call(frame) => {
@@ -126,7 +136,16 @@ fn with_all<'a>(
         AllFrame::Last(frame) => {
             let mut values = frame.values;
             append(&mut values, more.as_slice())?;
-            let step = with_list(tree, slots, frames, heap, budget, frame.scope, values, frame.then)?;
+            let step = with_list(
+                tree,
+                slots,
+                frames,
+                heap,
+                budget,
+                frame.scope,
+                values,
+                frame.then,
+            )?;
             Ok(step)
         }
         AllFrame::LastField(frame) => {
@@ -136,11 +155,15 @@ fn with_all<'a>(
         AllFrame::Target(rest, all, values, scope, before) => {
             let mut held = before;
             append(&mut held, more.as_slice())?;
-            let step = targets(tree, slots, frames, heap, budget, rest, all, values, scope, held)?;
+            let step = targets(
+                tree, slots, frames, heap, budget, rest, all, values, scope, held,
+            )?;
             Ok(step)
         }
         AllFrame::Stores(all, scope, held, values, left) => {
-            let step = stores(tree, slots, frames, heap, budget, all, scope, held, values, left)?;
+            let step = stores(
+                tree, slots, frames, heap, budget, all, scope, held, values, left,
+            )?;
             Ok(step)
         }
         AllFrame::Name(name, function, scope) => {
@@ -148,7 +171,16 @@ fn with_all<'a>(
             Ok(step)
         }
         AllFrame::Listed(node, names, scope, function, state, out) => {
-            let step = listed(heap, node, names, scope, function, state, more.as_slice(), out)?;
+            let step = listed(
+                heap,
+                node,
+                names,
+                scope,
+                function,
+                state,
+                more.as_slice(),
+                out,
+            )?;
             Ok(step)
         }
         AllFrame::Done => Ok(Step::Return(End::Fell(Values::new(heap.allocator())))),
@@ -294,7 +326,17 @@ impl<'a> Machine for Steps<'a> {
             }
             LuaJob::Call(function, args, place) => {
                 let by = Caller::ByOther;
-                let step = call(self.tree, frames, heap, budget, by, function, args, place, Some(place))?;
+                let step = call(
+                    self.tree,
+                    frames,
+                    heap,
+                    budget,
+                    by,
+                    function,
+                    args,
+                    place,
+                    Some(place),
+                )?;
                 Ok(step)
             }
             LuaJob::Expr(node, env) => {
@@ -375,7 +417,9 @@ impl<'a> Machine for Steps<'a> {
                 End::Raised(value, place) => Ok(Step::Return(End::Raised(value, place))),
                 end => {
                     let values = all_in(self.alloc, end)?;
-                    let step = with_all(self.tree, self.slots, frames, heap, budget, frame, values)?;
+                    let step = with_all(
+                        self.tree, self.slots, frames, heap, budget, frame, values,
+                    )?;
                     Ok(step)
                 }
             },

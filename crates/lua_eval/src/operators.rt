@@ -68,12 +68,22 @@ fn handle<'a>(
     ensures means { IfOk result (λ step.
         Goes (items_of tree.now) frames.old.items
         (call (items_of tree.now) Caller.ByOther handler.function args place outer
-            (λ r. on_one r (λ v. with_value (items_of tree.now) frame v)))
+        (λ r. on_one r (λ v. with_value (items_of tree.now) frame v)))
         heap.old budget.old frames.new.items step heap.new budget.new) }
     ensures kept { OnOk result (KeepsHeap heap.old heap.new) }
 {
     frames.push(LuaFrame::One(OneFrame::Value(frame)))?;
-    let step = call(tree, frames, heap, budget, Caller::ByOther, handler.function, args, place, outer)?;
+    let step = call(
+        tree,
+        frames,
+        heap,
+        budget,
+        Caller::ByOther,
+        handler.function,
+        args,
+        place,
+        outer,
+    )?;
     Ok(step)
 }
 
@@ -103,7 +113,17 @@ fn settle<'a>(
         }
         Outcome::Meta(handler) => {
             let args = operands(heap, handler, a, b)?;
-            let called = handle(tree, frames, heap, budget, ValueFrame::First, handler, args, place, outer)?;
+            let called = handle(
+                tree,
+                frames,
+                heap,
+                budget,
+                ValueFrame::First,
+                handler,
+                args,
+                place,
+                outer,
+            )?;
             Ok(called)
         }
     }
@@ -127,7 +147,17 @@ fn arith<'a>(
     ensures kept { OnOk result (KeepsHeap heap.old heap.new) }
 {
     let outcome = lua_ops::arith::arith(heap, op, a, b)?;
-    let step = settle(tree, frames, heap, budget, outcome, a, Some(b), place, outer)?;
+    let step = settle(
+        tree,
+        frames,
+        heap,
+        budget,
+        outcome,
+        a,
+        Some(b),
+        place,
+        outer,
+    )?;
     Ok(step)
 }
 
@@ -209,7 +239,17 @@ fn joined<'a>(
             Ok(Step::Return(End::One(value)))
         }
         Outcome::Raise(_) | Outcome::Meta(_) => {
-            let step = settle(tree, frames, heap, budget, outcome, a, Some(b), place, outer)?;
+            let step = settle(
+                tree,
+                frames,
+                heap,
+                budget,
+                outcome,
+                a,
+                Some(b),
+                place,
+                outer,
+            )?;
             Ok(step)
         }
     }
@@ -257,13 +297,25 @@ fn compared<'a>(
 {
     match outcome {
         Outcome::Value(_) | Outcome::Raise(_) => {
-            let step = settle(tree, frames, heap, budget, outcome, a, Some(b), place, outer)?;
+            let step = settle(
+                tree,
+                frames,
+                heap,
+                budget,
+                outcome,
+                a,
+                Some(b),
+                place,
+                outer,
+            )?;
             Ok(step)
         }
         Outcome::Meta(handler) => {
             let args = operands(heap, handler, a, Some(b))?;
             let frame = ValueFrame::Answer(handler);
-            let called = handle(tree, frames, heap, budget, frame, handler, args, place, outer)?;
+            let called = handle(
+                tree, frames, heap, budget, frame, handler, args, place, outer,
+            )?;
             Ok(called)
         }
     }
@@ -313,25 +365,146 @@ pub fn operate<'a>(
             let args = two(heap.allocator(), a, b)?;
             ask(frames, LibFn::FunctionType, args, place, outer)?
         }
-        BinaryOperator::Less => compare(tree, frames, heap, budget, Comparison::Less, a, b, place, outer)?,
-        BinaryOperator::Greater => compare(tree, frames, heap, budget, Comparison::Greater, a, b, place, outer)?,
-        BinaryOperator::LessEqual => compare(tree, frames, heap, budget, Comparison::LessEqual, a, b, place, outer)?,
+        BinaryOperator::Less => compare(
+            tree,
+            frames,
+            heap,
+            budget,
+            Comparison::Less,
+            a,
+            b,
+            place,
+            outer,
+        )?,
+        BinaryOperator::Greater => compare(
+            tree,
+            frames,
+            heap,
+            budget,
+            Comparison::Greater,
+            a,
+            b,
+            place,
+            outer,
+        )?,
+        BinaryOperator::LessEqual => compare(
+            tree,
+            frames,
+            heap,
+            budget,
+            Comparison::LessEqual,
+            a,
+            b,
+            place,
+            outer,
+        )?,
         BinaryOperator::GreaterEqual => {
-            compare(tree, frames, heap, budget, Comparison::GreaterEqual, a, b, place, outer)?
+            compare(
+                tree,
+                frames,
+                heap,
+                budget,
+                Comparison::GreaterEqual,
+                a,
+                b,
+                place,
+                outer,
+            )?
         }
-        BinaryOperator::NotEqual => compare(tree, frames, heap, budget, Comparison::NotEqual, a, b, place, outer)?,
-        BinaryOperator::Equal => compare(tree, frames, heap, budget, Comparison::Equal, a, b, place, outer)?,
+        BinaryOperator::NotEqual => compare(
+            tree,
+            frames,
+            heap,
+            budget,
+            Comparison::NotEqual,
+            a,
+            b,
+            place,
+            outer,
+        )?,
+        BinaryOperator::Equal => compare(
+            tree,
+            frames,
+            heap,
+            budget,
+            Comparison::Equal,
+            a,
+            b,
+            place,
+            outer,
+        )?,
         BinaryOperator::Concatenate => concat(tree, frames, heap, budget, a, b, place, outer)?,
-        BinaryOperator::Add => arith(tree, frames, heap, budget, Arithmetic::Add, a, b, place, outer)?,
-        BinaryOperator::Subtract => arith(tree, frames, heap, budget, Arithmetic::Subtract, a, b, place, outer)?,
-        BinaryOperator::Multiply => arith(tree, frames, heap, budget, Arithmetic::Multiply, a, b, place, outer)?,
-        BinaryOperator::Divide => arith(tree, frames, heap, budget, Arithmetic::Divide, a, b, place, outer)?,
-        BinaryOperator::Modulo => arith(tree, frames, heap, budget, Arithmetic::Remainder, a, b, place, outer)?,
-        BinaryOperator::Power => arith(tree, frames, heap, budget, Arithmetic::Power, a, b, place, outer)?,
+        BinaryOperator::Add => arith(
+            tree,
+            frames,
+            heap,
+            budget,
+            Arithmetic::Add,
+            a,
+            b,
+            place,
+            outer,
+        )?,
+        BinaryOperator::Subtract => arith(
+            tree,
+            frames,
+            heap,
+            budget,
+            Arithmetic::Subtract,
+            a,
+            b,
+            place,
+            outer,
+        )?,
+        BinaryOperator::Multiply => arith(
+            tree,
+            frames,
+            heap,
+            budget,
+            Arithmetic::Multiply,
+            a,
+            b,
+            place,
+            outer,
+        )?,
+        BinaryOperator::Divide => arith(
+            tree,
+            frames,
+            heap,
+            budget,
+            Arithmetic::Divide,
+            a,
+            b,
+            place,
+            outer,
+        )?,
+        BinaryOperator::Modulo => arith(
+            tree,
+            frames,
+            heap,
+            budget,
+            Arithmetic::Remainder,
+            a,
+            b,
+            place,
+            outer,
+        )?,
+        BinaryOperator::Power => arith(
+            tree,
+            frames,
+            heap,
+            budget,
+            Arithmetic::Power,
+            a,
+            b,
+            place,
+            outer,
+        )?,
         // These are no operators of Lua code.
-        BinaryOperator::Or | BinaryOperator::And | BinaryOperator::ShiftLeft | BinaryOperator::ShiftRight => {
-            Step::Return(End::One(Value::Nil))
-        }
+        BinaryOperator::Or
+        | BinaryOperator::And
+        | BinaryOperator::ShiftLeft
+        | BinaryOperator::ShiftRight => { Step::Return(End::One(Value::Nil)) }
     };
     Ok(step)
 }
@@ -374,7 +547,12 @@ pub fn operate_one<'a>(
 }
 
 /// The length of a text or a table.
-fn length(heap: &mut Heap, budget: &mut Budget, value: Value, place: Place) -> Result<LuaStep, NoMemory>
+fn length(
+    heap: &mut Heap,
+    budget: &mut Budget,
+    value: Value,
+    place: Place,
+) -> Result<LuaStep, NoMemory>
     ensures means { IfOk result (λ step. (items : Items) →
         Does items (plans.length_plan value place) heap.old budget.old step heap.new budget.new) }
     ensures kept { OnOk result (KeepsHeap heap.old heap.new) }

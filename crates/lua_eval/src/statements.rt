@@ -44,7 +44,12 @@ pub fn block<'a>(
 {
     let env = heap.new_env(block, Some(scope.env))?;
     let none = Values::new(heap.allocator());
-    let step = statements(frames, block_statements(tree, block), within(scope, env), none)?;
+    let step = statements(
+        frames,
+        block_statements(tree, block),
+        within(scope, env),
+        none,
+    )?;
     Ok(step)
 }
 
@@ -142,7 +147,9 @@ pub fn statement<'a>(
 {
     match tree.node(node) {
         Node::Statement(place, statement) => {
-            let step = execute(tree, slots, frames, heap, budget, statement, node, *place, scope)?;
+            let step = execute(
+                tree, slots, frames, heap, budget, statement, node, *place, scope,
+            )?;
             Ok(step)
         }
         _ => Ok(Step::Return(End::Fell(Values::new(heap.allocator())))),
@@ -172,7 +179,9 @@ fn execute<'a>(
     match statement {
         Statement::Assign(all, values) => {
             let (all, values) = (all.as_slice(), values.as_slice());
-            let step = targets(tree, slots, frames, heap, budget, all, all, values, scope, none)?;
+            let step = targets(
+                tree, slots, frames, heap, budget, all, all, values, scope, none,
+            )?;
             Ok(step)
         }
         Statement::Call(call) => {
@@ -199,7 +208,17 @@ fn execute<'a>(
         }
         Statement::GenericFor(names, values, _) => {
             let then = Then::Listed(node, names.as_slice(), place);
-            let step = list(tree, slots, frames, heap, budget, values.as_slice(), scope, none, then)?;
+            let step = list(
+                tree,
+                slots,
+                frames,
+                heap,
+                budget,
+                values.as_slice(),
+                scope,
+                none,
+                then,
+            )?;
             Ok(step)
         }
         Statement::Function(path, _) => {
@@ -217,7 +236,17 @@ fn execute<'a>(
         }
         Statement::Local(names, values) => {
             let then = Then::Local(names.as_slice());
-            let step = list(tree, slots, frames, heap, budget, values.as_slice(), scope, none, then)?;
+            let step = list(
+                tree,
+                slots,
+                frames,
+                heap,
+                budget,
+                values.as_slice(),
+                scope,
+                none,
+                then,
+            )?;
             Ok(step)
         }
         Statement::Emit(value) => {
@@ -225,7 +254,17 @@ fn execute<'a>(
             Ok(Step::Enter(Job::Expression(*value, scope)))
         }
         Statement::Return(values) => {
-            let step = list(tree, slots, frames, heap, budget, values.as_slice(), scope, none, Then::Return)?;
+            let step = list(
+                tree,
+                slots,
+                frames,
+                heap,
+                budget,
+                values.as_slice(),
+                scope,
+                none,
+                Then::Return,
+            )?;
             Ok(step)
         }
         Statement::Break => Ok(Step::Return(End::Broke(none))),

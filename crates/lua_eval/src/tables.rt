@@ -25,7 +25,12 @@ use tl_base::{Budget, NoMemory, NodeId, Place, Step, TableId};
 use tl_tree::{Node, Piece, Tree};
 
 /// Stores values under the numbers from one on, as far as these are in the profile.
-pub fn store_values(heap: &mut Heap, table: TableId, from: u64, values: &[Value]) -> Result<(), NoMemory>
+pub fn store_values(
+    heap: &mut Heap,
+    table: TableId,
+    from: u64,
+    values: &[Value],
+) -> Result<(), NoMemory>
     ensures ok { OnOk result (heap.new ≡ plans.with_values table from values.now heap.old) }
     ensures kept { OnOk result (KeepsHeap heap.old heap.new) }
 {
@@ -141,7 +146,7 @@ fn store_field<'a>(
     ensures means { IfOk result (λ step.
         Goes (items_of tree.now) frames.old.items
         (store_raw frame.entry.table key value frame.entry.place
-            (fields_from (items_of tree.now) frame.entry frame.entry.next))
+        (fields_from (items_of tree.now) frame.entry frame.entry.next))
         heap.old budget.old frames.new.items step heap.new budget.new) }
     ensures kept { OnOk result (KeepsHeap heap.old heap.new) }
 {
@@ -150,7 +155,15 @@ fn store_field<'a>(
         return Ok(step);
     }
     heap.store(frame.table, key, value)?;
-    let step = fields(tree, frames, frame.rest, frame.table, frame.next, frame.place, frame.scope)?;
+    let step = fields(
+        tree,
+        frames,
+        frame.rest,
+        frame.table,
+        frame.next,
+        frame.place,
+        frame.scope,
+    )?;
     Ok(step)
 }
 
@@ -177,7 +190,15 @@ pub fn with_field<'a>(
             let Some(next) = frame.next.checked_add(1) else {
                 return Err(NoMemory);
             };
-            let step = fields(tree, frames, frame.rest, frame.table, next, frame.place, frame.scope)?;
+            let step = fields(
+                tree,
+                frames,
+                frame.rest,
+                frame.table,
+                next,
+                frame.place,
+                frame.scope,
+            )?;
             Ok(step)
         }
         FieldFrame::Named(node) => {
