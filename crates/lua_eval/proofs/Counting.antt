@@ -11,7 +11,7 @@ use Rattle.lua_ops.specs.declared.fault.Fault.{Fault}
 use Rattle.lua_ops.specs.declared.fault.Fault.TheVariants as faults
 use Rattle.lua_model.specs.declared.scope.Scope.{Scope}
 use Rattle.lua_model.specs.Plans.{LuaPlan, value_of, raise}
-use Rattle.lua_model.specs.Operators.{operate}
+use Rattle.lua_model.specs.Operators.{operate, binary_plan}
 use Rattle.lua_model.specs.Loops.{on_number}
 use Rattle.lua_eval.specs.Frames.{with_left}
 use Rattle.lua_eval.specs.Numbers.{numbers_in}
@@ -37,3 +37,10 @@ pub left_other : (items : Items) (op : BinaryOperator) (right : NodeId) (place :
 left_other items binary.And right place scope v not_and not_or = absurd (not_and refl)
 left_other items binary.Or right place scope v not_and not_or = absurd (not_or refl)
 left_other items op right place scope v not_and not_or = refl
+
+-- an operator between two expressions goes on with the left one's value
+pub binary_is : (items : Items) (op : BinaryOperator) (left right : NodeId) (place : Place) (scope : Scope)
+    → binary_plan items op left right place scope ≡ value_of left scope (λ v. with_left items op right place scope v)
+binary_is items binary.And left right place scope = refl
+binary_is items binary.Or left right place scope = refl
+binary_is items op left right place scope = refl

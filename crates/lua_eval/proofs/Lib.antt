@@ -3,8 +3,11 @@ pub mod Calling
 pub mod Counting
 pub mod Declaring
 pub mod Doing
+pub mod Ending
 pub mod Fielding
+pub mod Keeping
 pub mod Listing
 pub mod Making
 pub mod Named
+pub mod Numbering
 pub mod Operands

@@ -6,6 +6,8 @@ ghost use Rattle.tl_tree.specs.Code.{Items};
 ghost use Rattle.tl_tree.specs.Nodes.{item_at};
 ghost use Rattle.lua_table.specs.LuaState.{LuaState};
 ghost use Rattle.lua_table.specs.Keeping.{KeepsHeap};
+ghost use Rattle.tl_tree.specs.Numbers.{value_of};
+ghost use Rattle.lua_model.specs.Plans.{whole};
 ghost use Rattle.lua_model.specs.Expressions as plans;
 ghost use Rattle.lua_eval.specs.Slots.{ArePaths};
 ghost use Rattle.lua_eval.specs.Frames.{with_left, with_value, with_call};
@@ -81,7 +83,10 @@ pub fn node<'a>(
 }
 
 /// The value of a numeral.
-fn numeral(text: &str) -> Value {
+#[tactic(auto, using(crate::proofs::Numbering::unfit_is_nil))]
+fn numeral(text: &str) -> Value
+    ensures { result ≡ whole (value_of text.now) }
+{
     match numeral_value(text) {
         Some(number) => whole(number),
         None => Value::Nil,

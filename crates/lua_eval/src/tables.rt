@@ -24,6 +24,7 @@ use lua_value::Value;
 use tl_base::{Budget, NoMemory, NodeId, Place, Step, TableId};
 use tl_tree::{Node, Piece, Tree};
 
+#[tactic(auto, using(crate::proofs::Numbering::stored_next, crate::proofs::Numbering::full_is_within))]
 /// Stores values under the numbers from one on, as far as these are in the profile.
 pub fn store_values(
     heap: &mut Heap,

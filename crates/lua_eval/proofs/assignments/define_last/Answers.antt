@@ -1,3 +1,5 @@
+use Rattle.lua_table.proofs.Keeping.{keeps_closure}
+use Rattle.lua_eval.proofs.Keeping.{keeps_by}
 use Rattle.std.proofs.Common.{ℕ, List, refl, sym, ap, ◌∙◌}
 use Rattle.tl_base.specs.declared.place.Place.{Place}
 use Rattle.tl_tree.specs.Arena.{items_of}
@@ -28,3 +30,7 @@ returns-in_ok-step-clause-means c =
     (sym (c.as_bytes.ensures ∙ c.name.ensures))
     ∙ ap (λ (at : Place). with_text_of c.as_bytes.result.now (λ key. store a.object key made at a.scope.call fell)) (sym c.name_place-place.ensures))
     refl (c.in_ok-step.ensures.means items))
+
+pub returns-in_ok-step-clause-kept : goal.returns-in_ok-step-clause-kept
+returns-in_ok-step-clause-kept c =
+    keeps_by c.args.heap.now c.new_closure-made.new.self _ c.store_named-step.new.heap c.in_ok-made.ensures.ok (keeps_closure c.args.heap.now _) c.in_ok-step.ensures.kept

@@ -1,3 +1,4 @@
+use Rattle.lua_eval.proofs.Keeping.{keeps_by, keeps_concat}
 use Rattle.std.proofs.Common.{◌≡◌, [], ◌∷◌, sym, ap}
 use Rattle.tl_tree.specs.Arena.{items_of}
 use Rattle.lua_ops.specs.declared.outcome.Outcome.{Outcome}
@@ -17,3 +18,8 @@ returns-in_ok-step-clause-means c =
     (concat_store a.heap.now a.a a.b) c.concat-outcome.new.heap c.joined-step.new.heap a.budget.now c.joined-step.new.budget c.in_ok-step.step
     (ap (λ (o : Outcome). joined items o (a.a ∷ a.b ∷ []) a.place a.outer) (sym c.in_ok-outcome.ensures.outcome))
     (sym c.in_ok-outcome.ensures.store) c.in_ok-step.ensures.means
+
+pub returns-in_ok-step-clause-kept : goal.returns-in_ok-step-clause-kept
+returns-in_ok-step-clause-kept c =
+    keeps_by c.args.heap.now c.concat-outcome.new.heap (concat_store c.args.heap.now c.args.a c.args.b) c.joined-step.new.heap
+    c.in_ok-outcome.ensures.store (keeps_concat c.args.heap.now c.args.a c.args.b) c.in_ok-step.ensures.kept
