@@ -1,5 +1,5 @@
 -- The numbers of a numeric `for`, and the operators that choose by themselves.
-use Rattle.std.proofs.Common.{◌≡◌, ℤ, refl, absurd}
+use Rattle.std.proofs.Common.{◌≡◌, ℤ, refl}
 use Rattle.std.specs.Prelude.{Result, Ok, Err}
 use Rattle.tl_base.specs.declared.ids.NodeId.{NodeId}
 use Rattle.tl_base.specs.declared.place.Place.{Place}

@@ -1,5 +1,5 @@
 -- How what waits for values goes on with an end that isn't raised.
-use Rattle.std.proofs.Common.{◌≡◌, true, false, refl, absurd}
+use Rattle.std.proofs.Common.{◌≡◌, true, false, refl}
 use Rattle.tl_base.specs.declared.place.Place.{Place}
 use Rattle.lua_value.specs.declared.value.Value.{Value}
 use Rattle.std.proofs.Common.{List}

@@ -119,6 +119,7 @@ pub fn call_closure<'a>(
 }
 
 /// Makes the environment of a call in progress, with the parameters, and puts the values of `...` into cells.
+#[tactic(auto, using(lua_table::proofs::Keeping::keeps_env, lua_table::proofs::Keeping::keeps_then))]
 fn enter_call(
     heap: &mut Heap,
     code: &Closure,

@@ -1,3 +1,6 @@
+use Rattle.lua_table.specs.Heap.{deeper}
+use Rattle.lua_table.proofs.Keeping.{keeps_deeper}
+use Rattle.lua_eval.proofs.Keeping.{keeps_by}
 use Rattle.std.proofs.Common.{sym, ap, ◌∙◌}
 use Rattle.tl_base.specs.declared.ids.NodeId.{NodeId}
 use Rattle.tl_tree.specs.Arena.{items_of}
@@ -26,3 +29,8 @@ returns-in_ok-step-clause-means c =
     let items = items_of a.tree.now in
     closure_refused items a.frames.now.items a.heap.now c.raise-step.new.heap a.budget.now c.raise-step.new.budget
     c.in_ok-step.step a.closure a.args a.place (sym c.may_call.ensures.same ∙ c.if-may_call.false) (c.in_ok-step.ensures.means items)
+
+pub returns-in_ok-entered-clause-kept : goal.returns-in_ok-entered-clause-kept
+returns-in_ok-entered-clause-kept c =
+    keeps_by c.args.heap.now c.begin_call.new.self (deeper c.args.heap.now) c.enter_call-scope.new.heap
+    c.begin_call.ensures (keeps_deeper c.args.heap.now) c.in_ok-scope.ensures.kept
