@@ -1,7 +1,7 @@
 use Rattle.std.proofs.Common.{◌≡◌, [], ◌∷◌, ap}
 use Rattle.tl_tree.specs.Arena.{items_of}
 use Rattle.lua_value.specs.declared.value.Value.TheVariants.{Nil}
-use Rattle.lua_ops.specs.declared.outcome.Arithmetic.TheVariants.{Minus}
+use Rattle.lua_ops.specs.declared.operator.Arithmetic.TheVariants.{Minus}
 use Rattle.lua_ops.specs.declared.outcome.Outcome.{Outcome}
 use Rattle.lua_ops.specs.Outcomes.{arith_outcome}
 use Rattle.lua_model.specs.Operators.{settle}
