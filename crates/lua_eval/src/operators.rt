@@ -42,12 +42,17 @@ fn operands(heap: &Heap, handler: Handler, a: Value, b: Option<Value>) -> Result
     ensures { IfOk result (λ values. values ≡ plans.operands_of handler (operands_in a b)) }
 {
     match b {
-        None => one(heap.allocator(), a),
+        None => {
+            let values = one(heap.allocator(), a)?;
+            Ok(values)
+        }
         Some(b) => {
             if handler.swapped {
-                two(heap.allocator(), b, a)
+                let values = two(heap.allocator(), b, a)?;
+                Ok(values)
             } else {
-                two(heap.allocator(), a, b)
+                let values = two(heap.allocator(), a, b)?;
+                Ok(values)
             }
         }
     }
