@@ -17,7 +17,7 @@ use Rattle.lua_eval.specs.Frames.{with_left}
 use Rattle.lua_eval.specs.Numbers.{numbers_in}
 
 abbrev pub by_numbers : Result (ℤ × ℤ × ℤ) Fault → Place → (ℤ → ℤ → ℤ → LuaPlan) → LuaPlan
-by_numbers (Ok (i, l, d)) place go = go i l d
+by_numbers (Ok all) place go = go all.0 all.1 all.2
 by_numbers (Err fault) place go = raise place fault
 
 -- all three numbers, or the first fault
