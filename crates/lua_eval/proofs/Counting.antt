@@ -1,5 +1,5 @@
 -- The numbers of a numeric `for`, and the operators that choose by themselves.
-use Rattle.std.proofs.Common.{◌≡◌, ℤ, refl}
+use Rattle.std.proofs.Common.{◌≡◌, ℕ, ℤ, List, [], refl, sym, ap, ◌∙◌}
 use Rattle.std.specs.Prelude.{Result, Ok, Err}
 use Rattle.tl_base.specs.declared.ids.NodeId.{NodeId}
 use Rattle.tl_base.specs.declared.place.Place.{Place}
@@ -12,8 +12,13 @@ use Rattle.lua_ops.specs.declared.fault.Fault.TheVariants as faults
 use Rattle.lua_model.specs.declared.scope.Scope.{Scope}
 use Rattle.lua_model.specs.Plans.{LuaPlan, value_of, raise}
 use Rattle.lua_model.specs.Operators.{operate, binary_plan}
-use Rattle.lua_model.specs.Loops.{on_number}
-use Rattle.lua_eval.specs.Frames.{with_left}
+use Rattle.lua_model.specs.Loops.{on_number, count}
+use Rattle.lua_ops.specs.Outcomes.{operand}
+use Rattle.lua_table.specs.LuaState.{LuaState}
+use Rattle.lua_eval.specs.declared.frame.LuaFrame.{LuaFrame}
+use Rattle.lua_eval.specs.Frames.{with_left, first_count}
+use Rattle.lua_eval.specs.Steps.{LuaStep, Goes}
+use Rattle.lua_eval.proofs.Below.{moved}
 use Rattle.lua_eval.specs.Numbers.{numbers_in}
 
 abbrev pub by_numbers : Result (ℤ × ℤ × ℤ) Fault → Place → (ℤ → ℤ → ℤ → LuaPlan) → LuaPlan
@@ -44,3 +49,18 @@ pub binary_is : (items : Items) (op : BinaryOperator) (left right : NodeId) (pla
 binary_is items binary.And left right place scope = refl
 binary_is items binary.Or left right place scope = refl
 binary_is items op left right place scope = refl
+
+-- the first turn of a numeric `for`, by what its three values are
+pub first_count_goes : (items : Items) (fs fs2 : List LuaFrame) (n : NodeId) (a b c : Value) (place : Place) (scope : Scope)
+    (s s2 : LuaState) (left left2 : ℕ) (step : LuaStep) (found : Result (ℤ × ℤ × ℤ) Fault)
+    → found ≡ numbers_in (operand s a) (operand s b) (operand s c)
+    → Goes items fs (by_numbers found place (λ i l d. count n scope i l d [])) s left fs2 step s2 left2
+    → Goes items fs (first_count n a b c place scope) s left fs2 step s2 left2
+first_count_goes items fs fs2 n a b c place scope s s2 left left2 step found found_is g =
+    let go : ℤ → ℤ → ℤ → LuaPlan = λ i l d. count n scope i l d [] in
+    moved items fs fs2
+    (on_number (operand s a) faults.ForInitial place (λ i. on_number (operand s b) faults.ForLimit place (λ l.
+    on_number (operand s c) faults.ForStep place (λ d. go i l d))))
+    (by_numbers found place go) s s s2 left left2 step
+    (numbers_are (operand s a) (operand s b) (operand s c) place go
+    ∙ ap (λ (f : Result (ℤ × ℤ × ℤ) Fault). by_numbers f place go) (sym found_is)) refl g

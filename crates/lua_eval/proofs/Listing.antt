@@ -1,5 +1,5 @@
 -- Lists of nodes that are evaluated in their order, where some are behind the first, and stores in targets.
-use Rattle.std.proofs.Common.{◌≡◌, ℕ, zero, suc, ◌+◌, ◌-◌, ◌*◌, ◌<◌, List, [], ◌∷◌, ◌++◌, length, refl, ap, arith}
+use Rattle.std.proofs.Common.{◌≡◌, ℕ, zero, suc, ◌+◌, ◌-◌, ◌*◌, ◌<◌, List, [], ◌∷◌, ◌++◌, length, refl, sym, ap, ◌∙◌, arith}
 use Rattle.std.specs.Prelude.{if◌then◌else◌}
 use Rattle.tl_base.specs.declared.ids.NodeId.{NodeId}
 use Rattle.tl_base.specs.declared.ids.TableId.{TableId}
@@ -67,3 +67,17 @@ pub stores_next : (items : Items) (ns : List NodeId) (scope : Scope) (us vs : Li
     ≡ store_target items (item_at items (node_in ns (left - 1))) (node_in ns (left - 1)) scope (nth_value us (2 * (left - 1)))
     (nth_value us (2 * (left - 1) + 1)) (nth_value vs (left - 1)) (stores items ns scope us vs (left - 1))
 stores_next items ns scope us vs left some = stores_suc items ns scope us vs left (left - 1) (omega arith)
+
+-- the same, where the target, its object, its key and its value are known by equations
+pub stores_at : (items : Items) (ns : List NodeId) (scope : Scope) (us vs : List Value) (left : ℕ) (n : NodeId) (object key v : Value)
+    → 0 < left → n ≡ node_in ns (left - 1) → object ≡ nth_value us (2 * (left - 1)) → key ≡ nth_value us (2 * (left - 1) + 1)
+    → v ≡ nth_value vs (left - 1)
+    → stores items ns scope us vs left ≡ store_target items (item_at items n) n scope object key v (stores items ns scope us vs (left - 1))
+stores_at items ns scope us vs left n object key v some n_is object_is key_is v_is =
+    let rest = stores items ns scope us vs (left - 1) in
+    let i = left - 1 in
+    stores_next items ns scope us vs left some
+    ∙ ap (λ (m : NodeId). store_target items (item_at items m) m scope (nth_value us (2 * i)) (nth_value us (2 * i + 1)) (nth_value vs i) rest) (sym n_is)
+    ∙ ap (λ (o : Value). store_target items (item_at items n) n scope o (nth_value us (2 * i + 1)) (nth_value vs i) rest) (sym object_is)
+    ∙ ap (λ (k : Value). store_target items (item_at items n) n scope object k (nth_value vs i) rest) (sym key_is)
+    ∙ ap (λ (w : Value). store_target items (item_at items n) n scope object key w rest) (sym v_is)

@@ -3,7 +3,7 @@
 ghost use Rattle.std.specs.Prelude.{◌≡◌, ℕ, ◌+◌, ◌*◌, [], ◌∷◌, ◌++◌, IfOk, OnOk};
 ghost use Rattle.tl_tree.specs.Arena.{items_of};
 ghost use Rattle.tl_tree.specs.Nodes.{item_at};
-ghost use Rattle.tl_tree.specs.Code.{Items, if_any};
+ghost use Rattle.tl_tree.specs.Code.{Items, if_any, node_in};
 ghost use Rattle.lua_table.specs.LuaState.{LuaState};
 ghost use Rattle.lua_table.specs.Keeping.{KeepsHeap};
 ghost use Rattle.lua_model.specs.Plans.{fell};
@@ -88,17 +88,24 @@ pub fn stores<'a>(
         return Ok(Step::Return(End::Fell(Values::new(heap.allocator()))));
     }
     let at = (left - 1) as usize;
-    let target = match targets.get(at) {
-        Some(target) => *target,
-        None => NodeId(0),
-    };
+    let target = node_in(targets, at);
     let value = nth(values.as_slice(), at);
-    let (object, key) = held_at(held.as_slice(), at);
+    let pair = held_at(held.as_slice(), at);
     frames.push(LuaFrame::All(AllFrame::Stores(targets, scope, held, values, left - 1)))?;
     let step = store_target(
-        tree, slots, frames, heap, budget, target, scope, object, key, value,
+        tree, slots, frames, heap, budget, target, scope, pair.0, pair.1, value,
     )?;
     Ok(step)
+}
+
+/// A node of a list, or the first of the tree.
+fn node_in(nodes: &[NodeId], at: usize) -> NodeId
+    ensures { result ≡ node_in nodes.now at }
+{
+    match nodes.get(at) {
+        Some(node) => *node,
+        None => NodeId(0),
+    }
 }
 
 /// The object and the key of a target.
