@@ -8,6 +8,7 @@ use std::io::{self, Read, Write};
 use std::process::ExitCode;
 use tl_lex::LONGEST_TEXT;
 use tl_parse::parse;
+use tl_tree::Tree;
 
 /// The word behind `--budget`, or the budget where none is given.
 fn budget_of(rt: &HostRuntime) -> io::Result<u64> {
@@ -18,6 +19,21 @@ fn budget_of(rt: &HostRuntime) -> io::Result<u64> {
         }
     }
     Ok(last)
+}
+
+/// Writes how a staging with so many units ends, how much it prints, and what is left.
+fn show_again(rt: &HostRuntime, tree: &Tree<'_>, units: u64) -> io::Result<()> {
+    let Ok(outcome) = stage(rt.alloc(), tree, units) else {
+        return eprintln!(rt; "no memory");
+    };
+    let end = match outcome.end {
+        End::Done => "done",
+        End::Spent => "spent",
+        End::Raised { .. } => "raised",
+    };
+    let printed = outcome.printed.bytes().len();
+    let left = outcome.left;
+    println!(rt; "again {end} {printed} {left}")
 }
 
 fn main(rt: HostRuntime) -> io::Result<ExitCode> {
@@ -48,8 +64,12 @@ fn main(rt: HostRuntime) -> io::Result<ExitCode> {
     };
     rt.stdout().write_all(outcome.printed.bytes())?;
     if shows {
-        let paid = budget - outcome.left;
-        eprintln!(&rt; "units {paid}")?;
+        let paid = budget.saturating_sub(outcome.left);
+        println!(&rt; "units {paid}")?;
+        show_again(&rt, &tree, paid)?;
+        if paid > 0 {
+            show_again(&rt, &tree, paid - 1)?;
+        }
     }
     match outcome.end {
         End::Done => Ok(ExitCode::from(0)),
