@@ -242,28 +242,50 @@ pub fn define_in<'a>(
             None => Ok(Step::Return(End::Fell(Values::new(heap.allocator())))),
         },
         Some((first, rest)) => {
-            if is_end(rest, method) {
-                let step = define_last(
-                    tree, frames, heap, budget, *first, function, scope, object,
-                )?;
-                return Ok(step);
-            }
-            frames.push(LuaFrame::One(OneFrame::Target(TargetFrame::Path(
-                rest, method, function, scope,
-            ))))?;
-            let place = name_place(tree, *first);
-            let found = read_named(
-                frames,
-                heap,
-                budget,
-                object,
-                name(tree, *first).as_bytes(),
-                place,
-                scope.call,
+            let step = define_next(
+                tree, frames, heap, budget, *first, rest, method, function, scope, object,
             )?;
-            Ok(found)
+            Ok(step)
         }
     }
+}
+
+/// Goes on in a path at a name, which is the last one or is read.
+fn define_next<'a>(
+    tree: &'a Tree<'a>,
+    frames: &mut Vec<LuaFrame<'a>>,
+    heap: &mut Heap,
+    budget: &mut Budget,
+    first: NodeId,
+    rest: &'a [NodeId],
+    method: Option<NodeId>,
+    function: NodeId,
+    scope: Scope,
+    object: Value,
+) -> Result<LuaStep, NoMemory>
+    ensures means { IfOk result (λ step.
+        Goes (items_of tree.now) frames.old.items
+        (plans.define_in (items_of tree.now) (first ∷ (rest.now ++ if_any method)) function scope object)
+        heap.old budget.old frames.new.items step heap.new budget.new) }
+    ensures kept { OnOk result (KeepsHeap heap.old heap.new) }
+{
+    if is_end(rest, method) {
+        let step = define_last(tree, frames, heap, budget, first, function, scope, object)?;
+        return Ok(step);
+    }
+    frames.push(LuaFrame::One(OneFrame::Target(TargetFrame::Path(rest, method, function, scope))))?;
+    let place = name_place(tree, first);
+    let text = name(tree, first);
+    let found = read_named(
+        frames,
+        heap,
+        budget,
+        object,
+        text.as_bytes(),
+        place,
+        scope.call,
+    )?;
+    Ok(found)
 }
 
 /// Stores the function of a node under the last name of a path.
