@@ -1,5 +1,5 @@
 -- Names by the paths of their declarations.
-use Rattle.std.proofs.Common.{◌≡◌, ℕ, List, refl, Option, Some, None}
+use Rattle.std.proofs.Common.{◌≡◌, ℕ, List, refl, sym, ap, ◌∙◌, Option, Some, None}
 use Rattle.tl_base.specs.declared.place.Place.{Place}
 use Rattle.tl_base.specs.Plan.{Read, Write}
 use Rattle.tl_tree.specs.Scopes.{Found}
@@ -31,3 +31,14 @@ pub stored_by_path : (b : Option Found) (text : List ℕ) (place : Place) (scope
     → store_name b text place scope v rest ≡ store_by_path (path_of b) text place scope v rest
 stored_by_path (Some found) text place scope v rest = refl
 stored_by_path None text place scope v rest = refl
+
+-- the same, where the path is known by an equation
+pub name_known : (b : Option Found) (path : Option (ℕ × ℕ)) (text : List ℕ) (place : Place) (scope : Scope)
+    → path ≡ path_of b → name_plan b text place scope ≡ name_by path text place scope
+name_known b path text place scope e =
+    named_by_path b text place scope ∙ ap (λ (p : Option (ℕ × ℕ)). name_by p text place scope) (sym e)
+
+pub store_known : (b : Option Found) (path : Option (ℕ × ℕ)) (text : List ℕ) (place : Place) (scope : Scope) (v : Value) (rest : LuaPlan)
+    → path ≡ path_of b → store_name b text place scope v rest ≡ store_by_path path text place scope v rest
+store_known b path text place scope v rest e =
+    stored_by_path b text place scope v rest ∙ ap (λ (p : Option (ℕ × ℕ)). store_by_path p text place scope v rest) (sym e)
