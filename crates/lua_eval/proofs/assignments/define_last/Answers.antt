@@ -27,7 +27,7 @@ returns-in_ok-step-clause-means c =
     (with_text_of c.as_bytes.result.now (λ key. store a.object key made c.name_place-place.result a.scope.call fell))
     c.new_closure-made.new.self c.new_closure-made.new.self c.store_named-step.new.heap a.budget.now c.store_named-step.new.budget c.in_ok-step.step
     (ap (λ (bytes : List ℕ). with_text_of bytes (λ key. store a.object key made (place_at items a.last) a.scope.call fell))
-    (sym (c.as_bytes.ensures ∙ c.name.ensures))
+    (sym (c.as_bytes.ensures.value ∙ c.name.ensures))
     ∙ ap (λ (at : Place). with_text_of c.as_bytes.result.now (λ key. store a.object key made at a.scope.call fell)) (sym c.name_place-place.ensures))
     refl (c.in_ok-step.ensures.means items))
 

@@ -26,7 +26,7 @@ returns-in_ok-found-in-Method-clause-means c =
     let found = c.in_ok-found-in-Method.found in
     rw m.is (moved items fs fs2 (with_text_of (name_at items m.node) (λ key. read a.value key m.place m.scope.call go))
     (with_text_of bytes (λ key. read a.value key m.place m.scope.call go)) a.heap.now a.heap.now heap a.budget.now left found
-    (ap (λ (bs : List ℕ). with_text_of bs (λ key. read a.value key m.place m.scope.call go)) (sym (c.as_bytes.ensures ∙ c.name.ensures))) refl
+    (ap (λ (bs : List ℕ). with_text_of bs (λ key. read a.value key m.place m.scope.call go)) (sym (c.as_bytes.ensures.value ∙ c.name.ensures))) refl
     (named_below items fs c.push.new.self.items fs2 (frames.One (ones.Call (of_call.MethodOf a.value m.arguments m.place m.scope)))
     a.heap.now heap a.budget.now left found a.value bytes m.place m.scope.call go c.in_ok-push-in-Method.ensures.items (λ r. refl)
     (c.in_ok-found-in-Method.ensures.means items)))
