@@ -1,6 +1,7 @@
 -- Lists of nodes that are evaluated in their order, where some are behind the first, and stores in targets.
 use Rattle.std.proofs.Common.{◌≡◌, ℕ, zero, suc, ◌+◌, ◌-◌, ◌*◌, ◌<◌, List, [], ◌∷◌, ◌++◌, length, refl, sym, ap, ◌∙◌, arith}
-use Rattle.std.specs.Prelude.{if◌then◌else◌}
+use Rattle.std.proofs.lemmas.Bool.Decides.{nat_tests}
+use Rattle.std.specs.Prelude.{true, false, ◌==◌, if◌then◌else◌}
 use Rattle.tl_base.specs.declared.ids.NodeId.{NodeId}
 use Rattle.tl_base.specs.declared.ids.TableId.{TableId}
 use Rattle.tl_base.specs.Plan.{Do}
@@ -81,3 +82,21 @@ stores_at items ns scope us vs left n object key v some n_is object_is key_is v_
     ∙ ap (λ (o : Value). store_target items (item_at items n) n scope o (nth_value us (2 * i + 1)) (nth_value vs i) rest) (sym object_is)
     ∙ ap (λ (k : Value). store_target items (item_at items n) n scope object k (nth_value vs i) rest) (sym key_is)
     ∙ ap (λ (w : Value). store_target items (item_at items n) n scope object key w rest) (sym v_is)
+
+-- what tests of lists tell
+pub some_of : (ns : List NodeId) → (length ns == 0) ≡ false → 0 < length ns
+some_of ns e = grind (arith, nat_tests)
+
+pub none_of : (ns : List NodeId) → (length ns == 0) ≡ true → length ns ≡ 0
+none_of ns e = grind (arith, nat_tests)
+
+not_zero : (n : ℕ) → false ≡ (suc n == 0)
+not_zero n = grind (arith, nat_tests)
+
+pub end_after : (ns : List NodeId) (n : NodeId) → is_end (ns ++ n ∷ []) ≡ false
+end_after [] n = refl
+end_after (m ∷ ns) n = refl
+
+pub end_of : (ns : List NodeId) → is_end (ns ++ []) ≡ (length ns == 0)
+end_of [] = refl
+end_of (m ∷ ns) = not_zero (length ns)

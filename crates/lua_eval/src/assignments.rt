@@ -208,10 +208,14 @@ pub fn define_name<'a>(
 }
 
 /// Holds where nothing is left of a path.
+#[tactic(auto, using(crate::proofs::Listing::end_after, crate::proofs::Listing::end_of))]
 fn is_end(rest: &[NodeId], method: Option<NodeId>) -> bool
     ensures { result ≡ is_end (rest.now ++ if_any method) }
 {
-    rest.is_empty() && method.is_none()
+    match method {
+        Some(_) => false,
+        None => rest.is_empty(),
+    }
 }
 
 #[tactic(auto, using(tl_base::proofs::Steps::pushes))]
