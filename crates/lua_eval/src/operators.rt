@@ -10,7 +10,7 @@ ghost use Rattle.lua_table.specs.LuaState.{LuaState};
 ghost use Rattle.lua_eval.specs.Frames.{with_value};
 ghost use Rattle.lua_eval.specs.Steps.{Goes, Does};
 ghost use Rattle.tl_tree.specs.Code.{Items};
-ghost use Rattle.lua_eval.specs.Operands.{operands_in};
+ghost use Rattle.lua_eval.specs.Operands.{operands_in, operation_of, operate_by};
 
 use crate::calls::call;
 use crate::frame::{LuaFrame, OneFrame, ValueFrame};
@@ -348,6 +348,45 @@ fn ask<'a>(
     })))
 }
 
+/// What an operator does with its two operands.
+#[derive(Clone, Copy, Debug)]
+pub enum Operation {
+    Calculates(Arithmetic),
+    Compares(Comparison),
+    /// It makes a text of both.
+    Joins,
+    /// It asks for the type of the functions from one type to another.
+    MakesType,
+    /// It is no operator of Lua code.
+    Nothing,
+}
+
+/// What an operator does with its two operands.
+fn operation(op: BinaryOperator) -> Operation
+    ensures { result ≡ operation_of op }
+{
+    match op {
+        BinaryOperator::Arrow => Operation::MakesType,
+        BinaryOperator::Less => Operation::Compares(Comparison::Less),
+        BinaryOperator::Greater => Operation::Compares(Comparison::Greater),
+        BinaryOperator::LessEqual => Operation::Compares(Comparison::LessEqual),
+        BinaryOperator::GreaterEqual => Operation::Compares(Comparison::GreaterEqual),
+        BinaryOperator::NotEqual => Operation::Compares(Comparison::NotEqual),
+        BinaryOperator::Equal => Operation::Compares(Comparison::Equal),
+        BinaryOperator::Concatenate => Operation::Joins,
+        BinaryOperator::Add => Operation::Calculates(Arithmetic::Add),
+        BinaryOperator::Subtract => Operation::Calculates(Arithmetic::Subtract),
+        BinaryOperator::Multiply => Operation::Calculates(Arithmetic::Multiply),
+        BinaryOperator::Divide => Operation::Calculates(Arithmetic::Divide),
+        BinaryOperator::Modulo => Operation::Calculates(Arithmetic::Remainder),
+        BinaryOperator::Power => Operation::Calculates(Arithmetic::Power),
+        BinaryOperator::Or
+        | BinaryOperator::And
+        | BinaryOperator::ShiftLeft
+        | BinaryOperator::ShiftRight => { Operation::Nothing }
+    }
+}
+
 /// What an operator between two values gives.
 pub fn operate<'a>(
     tree: &'a Tree<'a>,
@@ -365,153 +404,57 @@ pub fn operate<'a>(
         heap.old budget.old frames.new.items step heap.new budget.new) }
     ensures kept { OnOk result (KeepsHeap heap.old heap.new) }
 {
-    let step = match op {
-        BinaryOperator::Arrow => {
-            let args = two(heap.allocator(), a, b)?;
-            ask(frames, LibFn::FunctionType, args, place, outer)?
-        }
-        BinaryOperator::Less => compare(
-            tree,
-            frames,
-            heap,
-            budget,
-            Comparison::Less,
-            a,
-            b,
-            place,
-            outer,
-        )?,
-        BinaryOperator::Greater => compare(
-            tree,
-            frames,
-            heap,
-            budget,
-            Comparison::Greater,
-            a,
-            b,
-            place,
-            outer,
-        )?,
-        BinaryOperator::LessEqual => compare(
-            tree,
-            frames,
-            heap,
-            budget,
-            Comparison::LessEqual,
-            a,
-            b,
-            place,
-            outer,
-        )?,
-        BinaryOperator::GreaterEqual => {
-            compare(
-                tree,
-                frames,
-                heap,
-                budget,
-                Comparison::GreaterEqual,
-                a,
-                b,
-                place,
-                outer,
-            )?
-        }
-        BinaryOperator::NotEqual => compare(
-            tree,
-            frames,
-            heap,
-            budget,
-            Comparison::NotEqual,
-            a,
-            b,
-            place,
-            outer,
-        )?,
-        BinaryOperator::Equal => compare(
-            tree,
-            frames,
-            heap,
-            budget,
-            Comparison::Equal,
-            a,
-            b,
-            place,
-            outer,
-        )?,
-        BinaryOperator::Concatenate => concat(tree, frames, heap, budget, a, b, place, outer)?,
-        BinaryOperator::Add => arith(
-            tree,
-            frames,
-            heap,
-            budget,
-            Arithmetic::Add,
-            a,
-            b,
-            place,
-            outer,
-        )?,
-        BinaryOperator::Subtract => arith(
-            tree,
-            frames,
-            heap,
-            budget,
-            Arithmetic::Subtract,
-            a,
-            b,
-            place,
-            outer,
-        )?,
-        BinaryOperator::Multiply => arith(
-            tree,
-            frames,
-            heap,
-            budget,
-            Arithmetic::Multiply,
-            a,
-            b,
-            place,
-            outer,
-        )?,
-        BinaryOperator::Divide => arith(
-            tree,
-            frames,
-            heap,
-            budget,
-            Arithmetic::Divide,
-            a,
-            b,
-            place,
-            outer,
-        )?,
-        BinaryOperator::Modulo => arith(
-            tree,
-            frames,
-            heap,
-            budget,
-            Arithmetic::Remainder,
-            a,
-            b,
-            place,
-            outer,
-        )?,
-        BinaryOperator::Power => arith(
-            tree,
-            frames,
-            heap,
-            budget,
-            Arithmetic::Power,
-            a,
-            b,
-            place,
-            outer,
-        )?,
-        // These are no operators of Lua code.
-        BinaryOperator::Or
-        | BinaryOperator::And
-        | BinaryOperator::ShiftLeft
-        | BinaryOperator::ShiftRight => { Step::Return(End::One(Value::Nil)) }
-    };
+    let step = operate_by(
+        tree,
+        frames,
+        heap,
+        budget,
+        operation(op),
+        a,
+        b,
+        place,
+        outer,
+    )?;
     Ok(step)
+}
+
+#[tactic(auto, using(tl_base::proofs::Steps::pushes))]
+fn operate_by<'a>(
+    tree: &'a Tree<'a>,
+    frames: &mut Vec<LuaFrame<'a>>,
+    heap: &mut Heap,
+    budget: &mut Budget,
+    operation: Operation,
+    a: Value,
+    b: Value,
+    place: Place,
+    outer: Option<Place>,
+) -> Result<LuaStep, NoMemory>
+    ensures means { IfOk result (λ step.
+        Goes (items_of tree.now) frames.old.items (operate_by (items_of tree.now) operation a b place outer)
+        heap.old budget.old frames.new.items step heap.new budget.new) }
+    ensures kept { OnOk result (KeepsHeap heap.old heap.new) }
+{
+    match operation {
+        Operation::Calculates(op) => {
+            let step = arith(tree, frames, heap, budget, op, a, b, place, outer)?;
+            Ok(step)
+        }
+        Operation::Compares(op) => {
+            let step = compare(tree, frames, heap, budget, op, a, b, place, outer)?;
+            Ok(step)
+        }
+        Operation::Joins => {
+            let step = concat(tree, frames, heap, budget, a, b, place, outer)?;
+            Ok(step)
+        }
+        Operation::MakesType => {
+            let args = two(heap.allocator(), a, b)?;
+            let step = ask(frames, LibFn::FunctionType, args, place, outer)?;
+            Ok(step)
+        }
+        Operation::Nothing => Ok(Step::Return(End::One(Value::Nil))),
+    }
 }
 
 #[tactic(auto, using(tl_base::proofs::Steps::pushes))]
