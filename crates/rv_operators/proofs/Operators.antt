@@ -1,0 +1,205 @@
+-- What each sequence computes, operator by operator.
+use Rattle.std.proofs.Common.{◌≡◌, ◌≢◌, ℕ, ◌+◌, ◌-◌, ◌*◌, ◌/◌, ◌%◌, ◌^◌, ◌<◌, Bool, true, false, not, List, [], ◌∷◌, Option, Some, None, refl, sym, ap, ◌∙◌, subst, ⊎_elim, arith}
+use Rattle.std.specs.Prelude.{if◌then◌else◌, nat_eq, nat_lt, bit_and, bit_or, bit_xor}
+use Rattle.std.proofs.lemmas.Bool.{cases_eq, eq-eqb, ne_eqb}
+use Rattle.std.proofs.lemmas.Nat.{or_lt, xor_lt}
+use Rattle.rv_isa.specs.declared.instr.Instr.{Instr}
+use Rattle.rv_isa.specs.declared.instr.Instr.TheVariants.{Addiw, RegisterImmediate, RegisterRegister, RegisterRegisterWord}
+use Rattle.rv_isa.specs.declared.operation.ImmediateOp.TheVariants as immediates
+use Rattle.rv_isa.specs.declared.operation.RegisterOp.TheVariants as ops
+use Rattle.rv_isa.specs.declared.operation.RegisterWordOp.TheVariants as word_ops
+use Rattle.rv_machine.specs.Word.{low, difference, extended_word}
+use Rattle.rv_machine.specs.Machine.{State}
+use Rattle.rv_machine.specs.Arithmetic.{flag, quotient_unsigned, remainder_unsigned}
+use Rattle.terra_words.specs.declared.words.Width.{Width}
+use Rattle.terra_words.specs.declared.words.BinaryOperator.{BinaryOperator}
+use Rattle.terra_words.specs.declared.words.BinaryOperator.TheVariants.{Add, Subtract, Multiply, Divide, Modulo, Xor, And, Or, ShiftLeft, ShiftRight, Equal, NotEqual, Less, LessEqual, Greater, GreaterEqual}
+use Rattle.terra_words.specs.Words.{applied, divides}
+use Rattle.rv_operators.specs.Claims.{Computes}
+use Rattle.rv_operators.specs.Codes.{x0, x5, x6, one_immediate, zero_immediate, comparison, of_64_bits, of_32_bits, code_of}
+use Rattle.rv_operators.proofs.Sequences.{one, two}
+use Rattle.rv_operators.proofs.Values.{width, wrapped-64, wrapped-32, mixed, and-small, divided, left-over, equal-words, other-words, turned, difference-32, added-nothing}
+
+-- 64 bits
+add-64 : (sg : Bool) → Computes (RegisterRegister ops.Add x5 x5 x6 ∷ []) (width sg 64) Add
+unfolding applied
+add-64 sg s x y d = one _ s (low (s.registers 5 + s.registers 6)) _ refl (sym (wrapped-64 sg (s.registers 5 + s.registers 6)))
+
+subtract-64 : (sg : Bool) → Computes (RegisterRegister ops.Sub x5 x5 x6 ∷ []) (width sg 64) Subtract
+unfolding applied difference
+subtract-64 sg s x y d = one _ s (difference (s.registers 5) (s.registers 6)) _ refl (sym (wrapped-64 sg (s.registers 5 + (2 ^ 64 - s.registers 6))))
+
+multiply-64 : (sg : Bool) → Computes (RegisterRegister ops.Mul x5 x5 x6 ∷ []) (width sg 64) Multiply
+unfolding applied
+multiply-64 sg s x y d = one _ s (low (s.registers 5 * s.registers 6)) _ refl (sym (wrapped-64 sg (s.registers 5 * s.registers 6)))
+
+divide-64 : Computes (RegisterRegister ops.Divu x5 x5 x6 ∷ []) (width false 64) Divide
+unfolding applied
+divide-64 s x y d = one _ s (quotient_unsigned (s.registers 5) (s.registers 6)) _ refl (divided (s.registers 5) (s.registers 6) x (d refl))
+
+modulo-64 : Computes (RegisterRegister ops.Remu x5 x5 x6 ∷ []) (width false 64) Modulo
+unfolding applied
+modulo-64 s x y d = one _ s (remainder_unsigned (s.registers 5) (s.registers 6)) _ refl (left-over (s.registers 5) (s.registers 6) y (d refl))
+
+xor-64 : (sg : Bool) → Computes (RegisterRegister ops.Xor x5 x5 x6 ∷ []) (width sg 64) Xor
+unfolding applied
+xor-64 sg s x y d = one _ s (bit_xor (s.registers 5) (s.registers 6)) _ refl (mixed (bit_xor (s.registers 5) (s.registers 6)) sg (xor_lt 64 (s.registers 5) (s.registers 6) x y))
+
+and-64 : (sg : Bool) → Computes (RegisterRegister ops.And x5 x5 x6 ∷ []) (width sg 64) And
+unfolding applied
+and-64 sg s x y d = one _ s (bit_and (s.registers 5) (s.registers 6)) _ refl (mixed (bit_and (s.registers 5) (s.registers 6)) sg (and-small (s.registers 5) (s.registers 6) x))
+
+or-64 : (sg : Bool) → Computes (RegisterRegister ops.Or x5 x5 x6 ∷ []) (width sg 64) Or
+unfolding applied
+or-64 sg s x y d = one _ s (bit_or (s.registers 5) (s.registers 6)) _ refl (mixed (bit_or (s.registers 5) (s.registers 6)) sg (or_lt 64 (s.registers 5) (s.registers 6) x y))
+
+-- 32 bits with a sign
+add-32 : Computes (RegisterRegisterWord word_ops.Addw x5 x5 x6 ∷ []) (width true 32) Add
+unfolding applied
+add-32 s x y d = one _ s (extended_word (s.registers 5 + s.registers 6)) _ refl (wrapped-32 (s.registers 5 + s.registers 6))
+
+subtract-32 : Computes (RegisterRegisterWord word_ops.Subw x5 x5 x6 ∷ []) (width true 32) Subtract
+unfolding applied
+subtract-32 s x y d = one _ s (extended_word (difference (s.registers 5) (s.registers 6))) _ refl (difference-32 (s.registers 5) (s.registers 6))
+
+multiply-32 : Computes (RegisterRegisterWord word_ops.Mulw x5 x5 x6 ∷ []) (width true 32) Multiply
+unfolding applied
+multiply-32 s x y d = one _ s (extended_word (s.registers 5 * s.registers 6)) _ refl (wrapped-32 (s.registers 5 * s.registers 6))
+
+xor-32 : Computes (RegisterRegister ops.Xor x5 x5 x6 ∷ Addiw x5 x5 zero_immediate ∷ []) (width true 32) Xor
+unfolding applied
+xor-32 s x y d = two _ _ s (bit_xor (s.registers 5) (s.registers 6)) (extended_word (bit_xor (s.registers 5) (s.registers 6) + 0)) _ refl refl (added-nothing (bit_xor (s.registers 5) (s.registers 6)))
+
+and-32 : Computes (RegisterRegister ops.And x5 x5 x6 ∷ Addiw x5 x5 zero_immediate ∷ []) (width true 32) And
+unfolding applied
+and-32 s x y d = two _ _ s (bit_and (s.registers 5) (s.registers 6)) (extended_word (bit_and (s.registers 5) (s.registers 6) + 0)) _ refl refl (added-nothing (bit_and (s.registers 5) (s.registers 6)))
+
+or-32 : Computes (RegisterRegister ops.Or x5 x5 x6 ∷ Addiw x5 x5 zero_immediate ∷ []) (width true 32) Or
+unfolding applied
+or-32 s x y d = two _ _ s (bit_or (s.registers 5) (s.registers 6)) (extended_word (bit_or (s.registers 5) (s.registers 6) + 0)) _ refl refl (added-nothing (bit_or (s.registers 5) (s.registers 6)))
+
+-- comparisons, at any number of bits
+equal-is : (w : Width) → Computes (RegisterRegister ops.Sub x5 x5 x6 ∷ RegisterImmediate immediates.Sltiu x5 x5 one_immediate ∷ []) w Equal
+unfolding applied
+equal-is w s x y d = two _ _ s (difference (s.registers 5) (s.registers 6)) (flag (nat_lt (difference (s.registers 5) (s.registers 6)) 1)) _ refl refl (equal-words (s.registers 5) (s.registers 6) x y)
+
+not-equal-is : (w : Width) → Computes (RegisterRegister ops.Sub x5 x5 x6 ∷ RegisterRegister ops.Sltu x5 x0 x5 ∷ []) w NotEqual
+unfolding applied
+not-equal-is w s x y d = two _ _ s (difference (s.registers 5) (s.registers 6)) (flag (nat_lt 0 (difference (s.registers 5) (s.registers 6)))) _ refl refl (other-words (s.registers 5) (s.registers 6) x y)
+
+less-is : (bits : ℕ) → Computes (RegisterRegister ops.Sltu x5 x5 x6 ∷ []) (width false bits) Less
+unfolding applied
+less-is bits s x y d = one _ s (flag (nat_lt (s.registers 5) (s.registers 6))) _ refl refl
+
+less-equal-is : (bits : ℕ) → Computes (RegisterRegister ops.Sltu x5 x6 x5 ∷ RegisterImmediate immediates.Xori x5 x5 one_immediate ∷ []) (width false bits) LessEqual
+unfolding applied
+less-equal-is bits s x y d = two _ _ s (flag (nat_lt (s.registers 6) (s.registers 5))) (bit_xor (flag (nat_lt (s.registers 6) (s.registers 5))) 1) _ refl refl (turned (nat_lt (s.registers 6) (s.registers 5)))
+
+greater-is : (bits : ℕ) → Computes (RegisterRegister ops.Sltu x5 x6 x5 ∷ []) (width false bits) Greater
+unfolding applied
+greater-is bits s x y d = one _ s (flag (nat_lt (s.registers 6) (s.registers 5))) _ refl refl
+
+greater-equal-is : (bits : ℕ) → Computes (RegisterRegister ops.Sltu x5 x5 x6 ∷ RegisterImmediate immediates.Xori x5 x5 one_immediate ∷ []) (width false bits) GreaterEqual
+unfolding applied
+greater-equal-is bits s x y d = two _ _ s (flag (nat_lt (s.registers 5) (s.registers 6))) (bit_xor (flag (nat_lt (s.registers 5) (s.registers 6))) 1) _ refl refl (turned (nat_lt (s.registers 5) (s.registers 6)))
+
+-- the sequence that the table names
+the-code : (a code : List Instr) (w : Width) (op : BinaryOperator) → Some a ≡ Some code → Computes a w op → Computes code w op
+the-code a code w op e h = let same : a ≡ code = cc in subst (λ c. Computes c w op) same h
+
+no-code : (code : List Instr) (w : Width) (op : BinaryOperator) → None ≡ Some code → Computes code w op
+no-code code w op e = cc
+
+compares : (sg : Bool) (bits : ℕ) (op : BinaryOperator) (code : List Instr) → comparison sg op ≡ Some code → Computes code (width sg bits) op
+compares sg bits Equal code e = the-code _ code (width sg bits) Equal e (equal-is (width sg bits))
+compares sg bits NotEqual code e = the-code _ code (width sg bits) NotEqual e (not-equal-is (width sg bits))
+compares false bits Less code e = the-code _ code (width false bits) Less e (less-is bits)
+compares false bits LessEqual code e = the-code _ code (width false bits) LessEqual e (less-equal-is bits)
+compares false bits Greater code e = the-code _ code (width false bits) Greater e (greater-is bits)
+compares false bits GreaterEqual code e = the-code _ code (width false bits) GreaterEqual e (greater-equal-is bits)
+compares true bits Less code e = no-code code (width true bits) Less e
+compares true bits LessEqual code e = no-code code (width true bits) LessEqual e
+compares true bits Greater code e = no-code code (width true bits) Greater e
+compares true bits GreaterEqual code e = no-code code (width true bits) GreaterEqual e
+compares false bits Add code e = no-code code (width false bits) Add e
+compares true bits Add code e = no-code code (width true bits) Add e
+compares false bits Subtract code e = no-code code (width false bits) Subtract e
+compares true bits Subtract code e = no-code code (width true bits) Subtract e
+compares false bits Multiply code e = no-code code (width false bits) Multiply e
+compares true bits Multiply code e = no-code code (width true bits) Multiply e
+compares false bits Divide code e = no-code code (width false bits) Divide e
+compares true bits Divide code e = no-code code (width true bits) Divide e
+compares false bits Modulo code e = no-code code (width false bits) Modulo e
+compares true bits Modulo code e = no-code code (width true bits) Modulo e
+compares false bits Xor code e = no-code code (width false bits) Xor e
+compares true bits Xor code e = no-code code (width true bits) Xor e
+compares false bits And code e = no-code code (width false bits) And e
+compares true bits And code e = no-code code (width true bits) And e
+compares false bits Or code e = no-code code (width false bits) Or e
+compares true bits Or code e = no-code code (width true bits) Or e
+compares false bits ShiftLeft code e = no-code code (width false bits) ShiftLeft e
+compares true bits ShiftLeft code e = no-code code (width true bits) ShiftLeft e
+compares false bits ShiftRight code e = no-code code (width false bits) ShiftRight e
+compares true bits ShiftRight code e = no-code code (width true bits) ShiftRight e
+
+of-64 : (sg : Bool) (op : BinaryOperator) (code : List Instr) → of_64_bits sg op ≡ Some code → Computes code (width sg 64) op
+of-64 sg Add code e = the-code _ code (width sg 64) Add e (add-64 sg)
+of-64 sg Subtract code e = the-code _ code (width sg 64) Subtract e (subtract-64 sg)
+of-64 sg Multiply code e = the-code _ code (width sg 64) Multiply e (multiply-64 sg)
+of-64 false Divide code e = the-code _ code (width false 64) Divide e divide-64
+of-64 true Divide code e = compares true 64 Divide code e
+of-64 false Modulo code e = the-code _ code (width false 64) Modulo e modulo-64
+of-64 true Modulo code e = compares true 64 Modulo code e
+of-64 sg Xor code e = the-code _ code (width sg 64) Xor e (xor-64 sg)
+of-64 sg And code e = the-code _ code (width sg 64) And e (and-64 sg)
+of-64 sg Or code e = the-code _ code (width sg 64) Or e (or-64 sg)
+of-64 sg ShiftLeft code e = compares sg 64 ShiftLeft code e
+of-64 sg ShiftRight code e = compares sg 64 ShiftRight code e
+of-64 sg Equal code e = compares sg 64 Equal code e
+of-64 sg NotEqual code e = compares sg 64 NotEqual code e
+of-64 sg Less code e = compares sg 64 Less code e
+of-64 sg LessEqual code e = compares sg 64 LessEqual code e
+of-64 sg Greater code e = compares sg 64 Greater code e
+of-64 sg GreaterEqual code e = compares sg 64 GreaterEqual code e
+
+of-32 : (op : BinaryOperator) (code : List Instr) → of_32_bits op ≡ Some code → Computes code (width true 32) op
+of-32 Add code e = the-code _ code (width true 32) Add e add-32
+of-32 Subtract code e = the-code _ code (width true 32) Subtract e subtract-32
+of-32 Multiply code e = the-code _ code (width true 32) Multiply e multiply-32
+of-32 Xor code e = the-code _ code (width true 32) Xor e xor-32
+of-32 And code e = the-code _ code (width true 32) And e and-32
+of-32 Or code e = the-code _ code (width true 32) Or e or-32
+of-32 Divide code e = compares true 32 Divide code e
+of-32 Modulo code e = compares true 32 Modulo code e
+of-32 ShiftLeft code e = compares true 32 ShiftLeft code e
+of-32 ShiftRight code e = compares true 32 ShiftRight code e
+of-32 Equal code e = compares true 32 Equal code e
+of-32 NotEqual code e = compares true 32 NotEqual code e
+of-32 Less code e = compares true 32 Less code e
+of-32 LessEqual code e = compares true 32 LessEqual code e
+of-32 Greater code e = compares true 32 Greater code e
+of-32 GreaterEqual code e = compares true 32 GreaterEqual code e
+
+abbrev narrow : Bool → ℕ → BinaryOperator → Option (List Instr)
+narrow sg bits op = if nat_eq bits 32 then (if sg then of_32_bits op else comparison false op) else comparison sg op
+
+of-width : (sg : Bool) (bits : ℕ) (op : BinaryOperator) (code : List Instr) → code_of (width sg bits) op ≡ Some code → Computes code (width sg bits) op
+of-width sg bits op code e =
+    ⊎_elim
+    (λ wide. subst (λ n. Computes code (width sg n) op) (sym wide)
+      (of-64 sg op code (sym (ap (λ b. if b then of_64_bits sg op else narrow sg bits op) (eq-eqb bits 64 wide)) ∙ e)))
+    (λ other.
+      let rest : narrow sg bits op ≡ Some code = sym (ap (λ b. if b then of_64_bits sg op else narrow sg bits op) (ne_eqb bits 64 other)) ∙ e in
+      ⊎_elim
+      (λ half. subst (λ n. Computes code (width sg n) op) (sym half)
+        (signed-or sg (sym (ap (λ b. if b then (if sg then of_32_bits op else comparison false op) else comparison sg op) (eq-eqb bits 32 half)) ∙ rest)))
+      (λ small. compares sg bits op code (sym (ap (λ b. if b then (if sg then of_32_bits op else comparison false op) else comparison sg op) (ne_eqb bits 32 small)) ∙ rest))
+      (cases_eq bits 32))
+    (cases_eq bits 64)
+  where
+    signed-or : (b : Bool) → (if b then of_32_bits op else comparison false op) ≡ Some code → Computes code (width b 32) op
+    signed-or true f = of-32 op code f
+    signed-or false f = compares false 32 op code f
+
+pub computed : (w : Width) (op : BinaryOperator) (code : List Instr) → code_of w op ≡ Some code → Computes code w op
+computed w op code e = of-width w.signed w.bits op code e

@@ -1,0 +1,109 @@
+-- What operators of the machine give, as words of a width.
+use Rattle.std.proofs.Common.{◌≡◌, ◌≢◌, ℕ, zero, suc, ◌+◌, ◌-◌, ◌*◌, ◌/◌, ◌%◌, ◌^◌, ◌<◌, ◌≤◌, Bool, true, false, not, ◌&&◌, cond, eqb, ltb, leb, pos, negsuc, refl, sym, ap, ◌∙◌, ⊎_elim, arith}
+use Rattle.std.specs.Prelude.{if◌then◌else◌, nat_eq, nat_lt, nat_le, bit_and, bit_or, bit_xor}
+use Rattle.std.specs.Int.{w32, w64, cast_signed, cast_unsigned}
+use Rattle.std.proofs.lemmas.Bool.{cases_eq, cases_lt, cases_Bool, eq-eqb, ne_eqb, lt-ltb, le-ltb, le-leb, lt-leb}
+use Rattle.std.proofs.lemmas.Int.{ints}
+use Rattle.std.proofs.lemmas.Nat.{and_le_l, or_lt, xor_lt}
+use Rattle.std.proofs.Math.Nat.{div-le_self, mod-lt}
+use mir.Facts.{to_z-neg}
+use Rattle.terra_words.specs.declared.words.Width.{Width}
+use Rattle.terra_words.specs.Words as words
+use Rattle.terra_words.specs.Words.{wrapped}
+use Rattle.rv_machine.specs.Word.{low, difference, extended_word}
+use Rattle.rv_machine.specs.Arithmetic.{flag, quotient_unsigned, remainder_unsigned}
+
+abbrev pub width : Bool → ℕ → Width
+width signed bits = record { signed = signed; bits = bits }
+
+same-if : (b : Bool) (m k : ℕ) → k ≡ m → (if b then k else m) ≡ m
+same-if true m k e = e
+same-if false m k e = refl
+
+pub wrapped-64 : (sg : Bool) (n : ℕ) → wrapped (width sg 64) n ≡ low n
+unfolding wrapped low
+wrapped-64 sg n = same-if (sg && nat_le (2 ^ 63) (n % 2 ^ 64)) (n % 2 ^ 64) (n % 2 ^ 64 + (2 ^ 64 - 2 ^ 64)) (omega arith)
+
+pub low-small : (n : ℕ) → n < 2 ^ 64 → low n ≡ n
+unfolding low
+low-small n h = omega arith
+
+pub wrapped-small : (sg : Bool) (n : ℕ) → n < 2 ^ 64 → n ≡ wrapped (width sg 64) n
+wrapped-small sg n h = sym (low-small n h) ∙ sym (wrapped-64 sg n)
+
+signed-32 : (l : ℕ) → l < 2 ^ 32 → cast_unsigned w64 (cast_signed w32 l) ≡ (if nat_le (2 ^ 31) l then l + (2 ^ 64 - 2 ^ 32) else l)
+signed-32 l h =
+    ⊎_elim
+    (λ small.
+      let z : cast_signed w32 l ≡ pos l = omega (arith, ints) in
+      ap (λ i. cast_unsigned w64 i) z ∙ sym (ap (λ b. if b then l + (2 ^ 64 - 2 ^ 32) else l) (lt-leb (2 ^ 31) l small)))
+    (λ large.
+      let k : ℕ = 2 ^ 32 - suc l in
+      let e : l ≡ 2 ^ 32 - suc k = omega arith in
+      let z : cast_signed w32 l ≡ negsuc (2 ^ 32 - suc l) = ap (λ n. cast_signed w32 n) e ∙ to_z-neg w32 k (omega arith) in
+      let v : 2 ^ 64 - suc (2 ^ 32 - suc l) ≡ l + (2 ^ 64 - 2 ^ 32) = omega arith in
+      ap (λ i. cast_unsigned w64 i) z ∙ (v ∙ sym (ap (λ b. if b then l + (2 ^ 64 - 2 ^ 32) else l) (le-leb (2 ^ 31) l large))))
+    (cases_lt l (2 ^ 31))
+
+pub wrapped-32 : (n : ℕ) → extended_word n ≡ wrapped (width true 32) n
+unfolding wrapped
+wrapped-32 n = signed-32 (n % 2 ^ 32) (omega arith)
+
+quotient-small : (x y : ℕ) → x < 2 ^ 64 → y ≢ 0 → x / y < 2 ^ 64
+quotient-small x y h n = omega (arith, div-le_self x y)
+
+pub divided : (x y : ℕ) → x < 2 ^ 64 → y ≢ 0 → quotient_unsigned x y ≡ wrapped (width false 64) (x / y)
+unfolding quotient_unsigned
+divided x y h n =
+    let small : x / y < 2 ^ 64 = quotient-small x y h n in
+    ap (λ b. if b then 2 ^ 64 - 1 else x / y) (ne_eqb y 0 n) ∙ wrapped-small false (x / y) small
+
+pub left-over : (x y : ℕ) → y < 2 ^ 64 → y ≢ 0 → remainder_unsigned x y ≡ wrapped (width false 64) (x % y)
+unfolding remainder_unsigned
+left-over x y h n =
+    let some : 0 < y = omega (arith, n) in
+    let below : x % y < y = mod-lt x some in
+    let small : x % y < 2 ^ 64 = omega arith in
+    ap (λ b. if b then x else x % y) (ne_eqb y 0 n) ∙ wrapped-small false (x % y) small
+
+-- a difference is zero where the words are equal
+pub equal-words : (x y : ℕ) → x < 2 ^ 64 → y < 2 ^ 64 → flag (nat_lt (difference x y) 1) ≡ words.flag (nat_eq x y)
+unfolding difference low
+equal-words x y h k =
+    ⊎_elim
+    (λ e. let z : (x + (2 ^ 64 - y)) % 2 ^ 64 < 1 = omega arith in
+      ap flag (lt-ltb ((x + (2 ^ 64 - y)) % 2 ^ 64) 1 z) ∙ ap words.flag (sym (eq-eqb x y e)))
+    (λ n. let z : 1 ≤ (x + (2 ^ 64 - y)) % 2 ^ 64 = omega (arith, n) in
+      ap flag (le-ltb ((x + (2 ^ 64 - y)) % 2 ^ 64) 1 z) ∙ ap words.flag (sym (ne_eqb x y n)))
+    (cases_eq x y)
+
+pub other-words : (x y : ℕ) → x < 2 ^ 64 → y < 2 ^ 64 → flag (nat_lt 0 (difference x y)) ≡ words.flag (not (nat_eq x y))
+unfolding difference low
+other-words x y h k =
+    ⊎_elim
+    (λ e. let z : (x + (2 ^ 64 - y)) % 2 ^ 64 ≤ 0 = omega arith in
+      ap flag (le-ltb 0 ((x + (2 ^ 64 - y)) % 2 ^ 64) z) ∙ ap (λ b. words.flag (not b)) (sym (eq-eqb x y e)))
+    (λ n. let z : 0 < (x + (2 ^ 64 - y)) % 2 ^ 64 = omega (arith, n) in
+      ap flag (lt-ltb 0 ((x + (2 ^ 64 - y)) % 2 ^ 64) z) ∙ ap (λ b. words.flag (not b)) (sym (ne_eqb x y n)))
+    (cases_eq x y)
+
+-- a test turned round
+pub turned : (b : Bool) → bit_xor (flag b) 1 ≡ words.flag (not b)
+turned true = refl
+turned false = refl
+
+pub mixed : (f : ℕ) (sg : Bool) → f < 2 ^ 64 → f ≡ wrapped (width sg 64) f
+mixed f sg h = wrapped-small sg f h
+
+pub and-small : (x y : ℕ) → x < 2 ^ 64 → bit_and x y < 2 ^ 64
+and-small x y h = omega (arith, and_le_l x y)
+
+-- a word that is the same in its low bits
+pub difference-32 : (x y : ℕ) → extended_word (difference x y) ≡ wrapped (width true 32) (x + (2 ^ 64 - y))
+unfolding difference low
+difference-32 x y =
+    let e : (x + (2 ^ 64 - y)) % 2 ^ 64 % 2 ^ 32 ≡ (x + (2 ^ 64 - y)) % 2 ^ 32 = omega arith in
+    ap (λ n. cast_unsigned w64 (cast_signed w32 n)) e ∙ wrapped-32 (x + (2 ^ 64 - y))
+
+pub added-nothing : (n : ℕ) → extended_word (n + 0) ≡ wrapped (width true 32) n
+added-nothing n = let e : n + 0 ≡ n = omega arith in ap extended_word e ∙ wrapped-32 n

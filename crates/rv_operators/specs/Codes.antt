@@ -1,0 +1,69 @@
+-- Which sequence stands for an operator at a width: of x5 and x6, to x5. An operation of 64 bits needs no more than itself, and
+-- one of 32 bits with a sign is an operation of its own, or is extended by ADDIW.
+use Rattle.std.specs.Prelude.{ℕ, pos, Bool, true, false, nat_eq, if◌then◌else◌, List, [], ◌∷◌, ◌++◌, Option, Some, None}
+use Rattle.rv_isa.specs.declared.instr.Instr.{Instr}
+use Rattle.rv_isa.specs.declared.instr.Instr.TheVariants.{Addiw, RegisterImmediate, RegisterRegister, RegisterRegisterWord}
+use Rattle.rv_isa.specs.declared.operation.ImmediateOp.TheVariants as immediates
+use Rattle.rv_isa.specs.declared.operation.RegisterOp.TheVariants as ops
+use Rattle.rv_isa.specs.declared.operation.RegisterWordOp.TheVariants as word_ops
+use Rattle.terra_words.specs.declared.words.Width.{Width}
+use Rattle.terra_words.specs.declared.words.BinaryOperator.{BinaryOperator}
+use Rattle.terra_words.specs.declared.words.BinaryOperator.TheVariants.{Add, Subtract, Multiply, Divide, Modulo, Xor, And, Or, ShiftLeft, ShiftRight, Equal, NotEqual, Less, LessEqual, Greater, GreaterEqual}
+use Rattle.std.proofs.Common.{lit≤}
+use Rattle.rv_isa.specs.declared.operand.Register.{Register}
+use Rattle.rv_isa.specs.declared.operand.Immediate.{Immediate}
+
+-- the first operand and the result, the second operand, and the register that reads as zero
+abbrev pub x5 : Register
+x5 = record { number = 5; in_range = lit≤ tt }
+
+abbrev pub x6 : Register
+x6 = record { number = 6; in_range = lit≤ tt }
+
+abbrev pub x0 : Register
+x0 = record { number = 0; in_range = lit≤ tt }
+
+-- for a test turned round or a test with zero, and for an addition that only extends the sign
+abbrev pub one_immediate : Immediate
+one_immediate = record { value = pos 1; lowest = record { le = tt }; highest = record { le = tt } }
+
+abbrev pub zero_immediate : Immediate
+zero_immediate = record { value = pos 0; lowest = record { le = tt }; highest = record { le = tt } }
+
+-- comparisons, which don't depend on how many bits there are
+abbrev pub comparison : Bool → BinaryOperator → Option (List Instr)
+comparison signed Equal = Some (RegisterRegister ops.Sub x5 x5 x6 ∷ RegisterImmediate immediates.Sltiu x5 x5 one_immediate ∷ [])
+comparison signed NotEqual = Some (RegisterRegister ops.Sub x5 x5 x6 ∷ RegisterRegister ops.Sltu x5 x0 x5 ∷ [])
+comparison false Less = Some (RegisterRegister ops.Sltu x5 x5 x6 ∷ [])
+comparison false LessEqual = Some (RegisterRegister ops.Sltu x5 x6 x5 ∷ RegisterImmediate immediates.Xori x5 x5 one_immediate ∷ [])
+comparison false Greater = Some (RegisterRegister ops.Sltu x5 x6 x5 ∷ [])
+comparison false GreaterEqual = Some (RegisterRegister ops.Sltu x5 x5 x6 ∷ RegisterImmediate immediates.Xori x5 x5 one_immediate ∷ [])
+comparison signed _ = None
+
+-- an operator of 64 bits
+abbrev pub of_64_bits : Bool → BinaryOperator → Option (List Instr)
+of_64_bits signed Add = Some (RegisterRegister ops.Add x5 x5 x6 ∷ [])
+of_64_bits signed Subtract = Some (RegisterRegister ops.Sub x5 x5 x6 ∷ [])
+of_64_bits signed Multiply = Some (RegisterRegister ops.Mul x5 x5 x6 ∷ [])
+of_64_bits false Divide = Some (RegisterRegister ops.Divu x5 x5 x6 ∷ [])
+of_64_bits false Modulo = Some (RegisterRegister ops.Remu x5 x5 x6 ∷ [])
+of_64_bits signed Xor = Some (RegisterRegister ops.Xor x5 x5 x6 ∷ [])
+of_64_bits signed And = Some (RegisterRegister ops.And x5 x5 x6 ∷ [])
+of_64_bits signed Or = Some (RegisterRegister ops.Or x5 x5 x6 ∷ [])
+of_64_bits signed op = comparison signed op
+
+-- an operator of 32 bits with a sign
+abbrev pub of_32_bits : BinaryOperator → Option (List Instr)
+of_32_bits Add = Some (RegisterRegisterWord word_ops.Addw x5 x5 x6 ∷ [])
+of_32_bits Subtract = Some (RegisterRegisterWord word_ops.Subw x5 x5 x6 ∷ [])
+of_32_bits Multiply = Some (RegisterRegisterWord word_ops.Mulw x5 x5 x6 ∷ [])
+of_32_bits Xor = Some (RegisterRegister ops.Xor x5 x5 x6 ∷ Addiw x5 x5 zero_immediate ∷ [])
+of_32_bits And = Some (RegisterRegister ops.And x5 x5 x6 ∷ Addiw x5 x5 zero_immediate ∷ [])
+of_32_bits Or = Some (RegisterRegister ops.Or x5 x5 x6 ∷ Addiw x5 x5 zero_immediate ∷ [])
+of_32_bits op = comparison true op
+
+abbrev pub code_of : Width → BinaryOperator → Option (List Instr)
+code_of w op =
+    if nat_eq w.bits 64 then of_64_bits w.signed op
+    else (if nat_eq w.bits 32 then (if w.signed then of_32_bits op else comparison false op)
+    else comparison w.signed op)
