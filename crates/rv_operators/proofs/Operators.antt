@@ -1,6 +1,6 @@
 -- What each sequence computes, operator by operator.
 use Rattle.std.proofs.Common.{◌≡◌, ◌≢◌, ℕ, ◌+◌, ◌-◌, ◌*◌, ◌/◌, ◌%◌, ◌^◌, ◌<◌, Bool, true, false, not, List, [], ◌∷◌, Option, Some, None, refl, sym, ap, ◌∙◌, subst, ⊎_elim, arith}
-use Rattle.std.specs.Prelude.{if◌then◌else◌, nat_eq, nat_lt, bit_and, bit_or, bit_xor}
+use Rattle.std.specs.Prelude.{if◌then◌else◌, nat_eq, nat_lt, bit_and, bit_or, bit_xor, int_lt}
 use Rattle.std.proofs.lemmas.Bool.{cases_eq, eq-eqb, ne_eqb}
 use Rattle.std.proofs.lemmas.Nat.{or_lt, xor_lt}
 use Rattle.rv_isa.specs.declared.instr.Instr.{Instr}
@@ -8,9 +8,9 @@ use Rattle.rv_isa.specs.declared.instr.Instr.TheVariants.{Addiw, RegisterImmedia
 use Rattle.rv_isa.specs.declared.operation.ImmediateOp.TheVariants as immediates
 use Rattle.rv_isa.specs.declared.operation.RegisterOp.TheVariants as ops
 use Rattle.rv_isa.specs.declared.operation.RegisterWordOp.TheVariants as word_ops
-use Rattle.rv_machine.specs.Word.{low, difference, extended_word}
+use Rattle.rv_machine.specs.Word.{low, difference, signed, extended_word}
 use Rattle.rv_machine.specs.Machine.{State}
-use Rattle.rv_machine.specs.Arithmetic.{flag, quotient_unsigned, remainder_unsigned}
+use Rattle.rv_machine.specs.Arithmetic.{flag, shifted_left, shifted_right, word_shifted_left, quotient_unsigned, remainder_unsigned}
 use Rattle.terra_words.specs.declared.words.Width.{Width}
 use Rattle.terra_words.specs.declared.words.BinaryOperator.{BinaryOperator}
 use Rattle.terra_words.specs.declared.words.BinaryOperator.TheVariants.{Add, Subtract, Multiply, Divide, Modulo, Xor, And, Or, ShiftLeft, ShiftRight, Equal, NotEqual, Less, LessEqual, Greater, GreaterEqual}
@@ -18,7 +18,7 @@ use Rattle.terra_words.specs.Words.{applied, divides}
 use Rattle.rv_operators.specs.Claims.{Computes}
 use Rattle.rv_operators.specs.Codes.{x0, x5, x6, one_immediate, zero_immediate, comparison, of_64_bits, of_32_bits, code_of}
 use Rattle.rv_operators.proofs.Sequences.{one, two}
-use Rattle.rv_operators.proofs.Values.{width, wrapped-64, wrapped-32, mixed, and-small, divided, left-over, equal-words, other-words, turned, difference-32, added-nothing}
+use Rattle.rv_operators.proofs.Values.{width, wrapped-64, wrapped-32, mixed, and-small, divided, left-over, equal-words, other-words, turned, difference-32, added-nothing, signed-less, shifted-small}
 
 -- 64 bits
 add-64 : (sg : Bool) → Computes (RegisterRegister ops.Add x5 x5 x6 ∷ []) (width sg 64) Add
@@ -53,7 +53,19 @@ or-64 : (sg : Bool) → Computes (RegisterRegister ops.Or x5 x5 x6 ∷ []) (widt
 unfolding applied
 or-64 sg s x y d = one _ s (bit_or (s.registers 5) (s.registers 6)) _ refl (mixed (bit_or (s.registers 5) (s.registers 6)) sg (or_lt 64 (s.registers 5) (s.registers 6) x y))
 
+shift-left-64 : (sg : Bool) → Computes (RegisterRegister ops.Sll x5 x5 x6 ∷ []) (width sg 64) ShiftLeft
+unfolding applied shifted_left
+shift-left-64 sg s x y d = one _ s (low (s.registers 5 * 2 ^ (s.registers 6 % 2 ^ 6))) _ refl (sym (wrapped-64 sg (s.registers 5 * 2 ^ (s.registers 6 % 64))))
+
+shift-right-64 : Computes (RegisterRegister ops.Srl x5 x5 x6 ∷ []) (width false 64) ShiftRight
+unfolding applied shifted_right
+shift-right-64 s x y d = one _ s (s.registers 5 / 2 ^ (s.registers 6 % 2 ^ 6)) _ refl (shifted-small (s.registers 5) (s.registers 6 % 64) x)
+
 -- 32 bits with a sign
+shift-left-32 : Computes (RegisterRegisterWord word_ops.Sllw x5 x5 x6 ∷ []) (width true 32) ShiftLeft
+unfolding applied word_shifted_left
+shift-left-32 s x y d = one _ s (extended_word (s.registers 5 * 2 ^ (s.registers 6 % 2 ^ 5))) _ refl (wrapped-32 (s.registers 5 * 2 ^ (s.registers 6 % 32)))
+
 add-32 : Computes (RegisterRegisterWord word_ops.Addw x5 x5 x6 ∷ []) (width true 32) Add
 unfolding applied
 add-32 s x y d = one _ s (extended_word (s.registers 5 + s.registers 6)) _ refl (wrapped-32 (s.registers 5 + s.registers 6))
@@ -103,6 +115,26 @@ greater-equal-is : (bits : ℕ) → Computes (RegisterRegister ops.Sltu x5 x5 x6
 unfolding applied
 greater-equal-is bits s x y d = two _ _ s (flag (nat_lt (s.registers 5) (s.registers 6))) (bit_xor (flag (nat_lt (s.registers 5) (s.registers 6))) 1) _ refl refl (turned (nat_lt (s.registers 5) (s.registers 6)))
 
+signed-less-is : (bits : ℕ) → Computes (RegisterRegister ops.Slt x5 x5 x6 ∷ []) (width true bits) Less
+unfolding applied
+signed-less-is bits s x y d = one _ s (flag (int_lt (signed (s.registers 5)) (signed (s.registers 6)))) _ refl (ap flag (signed-less (s.registers 5) (s.registers 6) x y))
+
+signed-greater-is : (bits : ℕ) → Computes (RegisterRegister ops.Slt x5 x6 x5 ∷ []) (width true bits) Greater
+unfolding applied
+signed-greater-is bits s x y d = one _ s (flag (int_lt (signed (s.registers 6)) (signed (s.registers 5)))) _ refl (ap flag (signed-less (s.registers 6) (s.registers 5) y x))
+
+signed-less-equal-is : (bits : ℕ) → Computes (RegisterRegister ops.Slt x5 x6 x5 ∷ RegisterImmediate immediates.Xori x5 x5 one_immediate ∷ []) (width true bits) LessEqual
+unfolding applied
+signed-less-equal-is bits s x y d =
+    let t = int_lt (signed (s.registers 6)) (signed (s.registers 5)) in
+    two _ _ s (flag t) (bit_xor (flag t) 1) _ refl refl (turned t ∙ ap (λ b. flag (not b)) (signed-less (s.registers 6) (s.registers 5) y x))
+
+signed-greater-equal-is : (bits : ℕ) → Computes (RegisterRegister ops.Slt x5 x5 x6 ∷ RegisterImmediate immediates.Xori x5 x5 one_immediate ∷ []) (width true bits) GreaterEqual
+unfolding applied
+signed-greater-equal-is bits s x y d =
+    let t = int_lt (signed (s.registers 5)) (signed (s.registers 6)) in
+    two _ _ s (flag t) (bit_xor (flag t) 1) _ refl refl (turned t ∙ ap (λ b. flag (not b)) (signed-less (s.registers 5) (s.registers 6) x y))
+
 -- the sequence that the table names
 the-code : (a code : List Instr) (w : Width) (op : BinaryOperator) → Some a ≡ Some code → Computes a w op → Computes code w op
 the-code a code w op e h = let same : a ≡ code = cc in subst (λ c. Computes c w op) same h
@@ -117,10 +149,10 @@ compares false bits Less code e = the-code _ code (width false bits) Less e (les
 compares false bits LessEqual code e = the-code _ code (width false bits) LessEqual e (less-equal-is bits)
 compares false bits Greater code e = the-code _ code (width false bits) Greater e (greater-is bits)
 compares false bits GreaterEqual code e = the-code _ code (width false bits) GreaterEqual e (greater-equal-is bits)
-compares true bits Less code e = no-code code (width true bits) Less e
-compares true bits LessEqual code e = no-code code (width true bits) LessEqual e
-compares true bits Greater code e = no-code code (width true bits) Greater e
-compares true bits GreaterEqual code e = no-code code (width true bits) GreaterEqual e
+compares true bits Less code e = the-code _ code (width true bits) Less e (signed-less-is bits)
+compares true bits LessEqual code e = the-code _ code (width true bits) LessEqual e (signed-less-equal-is bits)
+compares true bits Greater code e = the-code _ code (width true bits) Greater e (signed-greater-is bits)
+compares true bits GreaterEqual code e = the-code _ code (width true bits) GreaterEqual e (signed-greater-equal-is bits)
 compares false bits Add code e = no-code code (width false bits) Add e
 compares true bits Add code e = no-code code (width true bits) Add e
 compares false bits Subtract code e = no-code code (width false bits) Subtract e
@@ -153,8 +185,9 @@ of-64 true Modulo code e = compares true 64 Modulo code e
 of-64 sg Xor code e = the-code _ code (width sg 64) Xor e (xor-64 sg)
 of-64 sg And code e = the-code _ code (width sg 64) And e (and-64 sg)
 of-64 sg Or code e = the-code _ code (width sg 64) Or e (or-64 sg)
-of-64 sg ShiftLeft code e = compares sg 64 ShiftLeft code e
-of-64 sg ShiftRight code e = compares sg 64 ShiftRight code e
+of-64 sg ShiftLeft code e = the-code _ code (width sg 64) ShiftLeft e (shift-left-64 sg)
+of-64 false ShiftRight code e = the-code _ code (width false 64) ShiftRight e shift-right-64
+of-64 true ShiftRight code e = compares true 64 ShiftRight code e
 of-64 sg Equal code e = compares sg 64 Equal code e
 of-64 sg NotEqual code e = compares sg 64 NotEqual code e
 of-64 sg Less code e = compares sg 64 Less code e
@@ -171,7 +204,7 @@ of-32 And code e = the-code _ code (width true 32) And e and-32
 of-32 Or code e = the-code _ code (width true 32) Or e or-32
 of-32 Divide code e = compares true 32 Divide code e
 of-32 Modulo code e = compares true 32 Modulo code e
-of-32 ShiftLeft code e = compares true 32 ShiftLeft code e
+of-32 ShiftLeft code e = the-code _ code (width true 32) ShiftLeft e shift-left-32
 of-32 ShiftRight code e = compares true 32 ShiftRight code e
 of-32 Equal code e = compares true 32 Equal code e
 of-32 NotEqual code e = compares true 32 NotEqual code e
@@ -187,14 +220,14 @@ of-width : (sg : Bool) (bits : ℕ) (op : BinaryOperator) (code : List Instr) �
 of-width sg bits op code e =
     ⊎_elim
     (λ wide. subst (λ n. Computes code (width sg n) op) (sym wide)
-      (of-64 sg op code (sym (ap (λ b. if b then of_64_bits sg op else narrow sg bits op) (eq-eqb bits 64 wide)) ∙ e)))
+    (of-64 sg op code (sym (ap (λ b. if b then of_64_bits sg op else narrow sg bits op) (eq-eqb bits 64 wide)) ∙ e)))
     (λ other.
-      let rest : narrow sg bits op ≡ Some code = sym (ap (λ b. if b then of_64_bits sg op else narrow sg bits op) (ne_eqb bits 64 other)) ∙ e in
-      ⊎_elim
-      (λ half. subst (λ n. Computes code (width sg n) op) (sym half)
-        (signed-or sg (sym (ap (λ b. if b then (if sg then of_32_bits op else comparison false op) else comparison sg op) (eq-eqb bits 32 half)) ∙ rest)))
-      (λ small. compares sg bits op code (sym (ap (λ b. if b then (if sg then of_32_bits op else comparison false op) else comparison sg op) (ne_eqb bits 32 small)) ∙ rest))
-      (cases_eq bits 32))
+    let rest : narrow sg bits op ≡ Some code = sym (ap (λ b. if b then of_64_bits sg op else narrow sg bits op) (ne_eqb bits 64 other)) ∙ e in
+    ⊎_elim
+    (λ half. subst (λ n. Computes code (width sg n) op) (sym half)
+    (signed-or sg (sym (ap (λ b. if b then (if sg then of_32_bits op else comparison false op) else comparison sg op) (eq-eqb bits 32 half)) ∙ rest)))
+    (λ small. compares sg bits op code (sym (ap (λ b. if b then (if sg then of_32_bits op else comparison false op) else comparison sg op) (ne_eqb bits 32 small)) ∙ rest))
+    (cases_eq bits 32))
     (cases_eq bits 64)
   where
     signed-or : (b : Bool) → (if b then of_32_bits op else comparison false op) ≡ Some code → Computes code (width b 32) op

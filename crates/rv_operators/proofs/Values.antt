@@ -1,9 +1,9 @@
 -- What operators of the machine give, as words of a width.
-use Rattle.std.proofs.Common.{◌≡◌, ◌≢◌, ℕ, zero, suc, ◌+◌, ◌-◌, ◌*◌, ◌/◌, ◌%◌, ◌^◌, ◌<◌, ◌≤◌, Bool, true, false, not, ◌&&◌, cond, eqb, ltb, leb, pos, negsuc, refl, sym, ap, ◌∙◌, ⊎_elim, arith}
-use Rattle.std.specs.Prelude.{if◌then◌else◌, nat_eq, nat_lt, nat_le, bit_and, bit_or, bit_xor}
+use Rattle.std.proofs.Common.{◌≡◌, ◌≢◌, ℕ, zero, suc, ◌+◌, ◌-◌, ◌*◌, ◌/◌, ◌%◌, ◌^◌, ◌<◌, ◌≤◌, Bool, true, false, not, ◌&&◌, cond, eqb, ltb, leb, pos, negsuc, ℤ, refl, sym, ap, ◌∙◌, ⊎_elim, arith}
+use Rattle.std.specs.Prelude.{if◌then◌else◌, nat_eq, nat_lt, nat_le, bit_and, bit_or, bit_xor, int_lt}
 use Rattle.std.specs.Int.{w32, w64, cast_signed, cast_unsigned}
 use Rattle.std.proofs.lemmas.Bool.{cases_eq, cases_lt, cases_Bool, eq-eqb, ne_eqb, lt-ltb, le-ltb, le-leb, lt-leb}
-use Rattle.std.proofs.lemmas.Int.{ints}
+use Rattle.std.proofs.lemmas.Int.{ints, to_z_pos}
 use Rattle.std.proofs.lemmas.Nat.{and_le_l, or_lt, xor_lt}
 use Rattle.std.proofs.Math.Nat.{div-le_self, mod-lt}
 use mir.Facts.{to_z-neg}
@@ -35,14 +35,14 @@ signed-32 : (l : ℕ) → l < 2 ^ 32 → cast_unsigned w64 (cast_signed w32 l) �
 signed-32 l h =
     ⊎_elim
     (λ small.
-      let z : cast_signed w32 l ≡ pos l = omega (arith, ints) in
-      ap (λ i. cast_unsigned w64 i) z ∙ sym (ap (λ b. if b then l + (2 ^ 64 - 2 ^ 32) else l) (lt-leb (2 ^ 31) l small)))
+    let z : cast_signed w32 l ≡ pos l = omega (arith, ints) in
+    ap (λ i. cast_unsigned w64 i) z ∙ sym (ap (λ b. if b then l + (2 ^ 64 - 2 ^ 32) else l) (lt-leb (2 ^ 31) l small)))
     (λ large.
-      let k : ℕ = 2 ^ 32 - suc l in
-      let e : l ≡ 2 ^ 32 - suc k = omega arith in
-      let z : cast_signed w32 l ≡ negsuc (2 ^ 32 - suc l) = ap (λ n. cast_signed w32 n) e ∙ to_z-neg w32 k (omega arith) in
-      let v : 2 ^ 64 - suc (2 ^ 32 - suc l) ≡ l + (2 ^ 64 - 2 ^ 32) = omega arith in
-      ap (λ i. cast_unsigned w64 i) z ∙ (v ∙ sym (ap (λ b. if b then l + (2 ^ 64 - 2 ^ 32) else l) (le-leb (2 ^ 31) l large))))
+    let k : ℕ = 2 ^ 32 - suc l in
+    let e : l ≡ 2 ^ 32 - suc k = omega arith in
+    let z : cast_signed w32 l ≡ negsuc (2 ^ 32 - suc l) = ap (λ n. cast_signed w32 n) e ∙ to_z-neg w32 k (omega arith) in
+    let v : 2 ^ 64 - suc (2 ^ 32 - suc l) ≡ l + (2 ^ 64 - 2 ^ 32) = omega arith in
+    ap (λ i. cast_unsigned w64 i) z ∙ (v ∙ sym (ap (λ b. if b then l + (2 ^ 64 - 2 ^ 32) else l) (le-leb (2 ^ 31) l large))))
     (cases_lt l (2 ^ 31))
 
 pub wrapped-32 : (n : ℕ) → extended_word n ≡ wrapped (width true 32) n
@@ -72,9 +72,9 @@ unfolding difference low
 equal-words x y h k =
     ⊎_elim
     (λ e. let z : (x + (2 ^ 64 - y)) % 2 ^ 64 < 1 = omega arith in
-      ap flag (lt-ltb ((x + (2 ^ 64 - y)) % 2 ^ 64) 1 z) ∙ ap words.flag (sym (eq-eqb x y e)))
+    ap flag (lt-ltb ((x + (2 ^ 64 - y)) % 2 ^ 64) 1 z) ∙ ap words.flag (sym (eq-eqb x y e)))
     (λ n. let z : 1 ≤ (x + (2 ^ 64 - y)) % 2 ^ 64 = omega (arith, n) in
-      ap flag (le-ltb ((x + (2 ^ 64 - y)) % 2 ^ 64) 1 z) ∙ ap words.flag (sym (ne_eqb x y n)))
+    ap flag (le-ltb ((x + (2 ^ 64 - y)) % 2 ^ 64) 1 z) ∙ ap words.flag (sym (ne_eqb x y n)))
     (cases_eq x y)
 
 pub other-words : (x y : ℕ) → x < 2 ^ 64 → y < 2 ^ 64 → flag (nat_lt 0 (difference x y)) ≡ words.flag (not (nat_eq x y))
@@ -82,9 +82,9 @@ unfolding difference low
 other-words x y h k =
     ⊎_elim
     (λ e. let z : (x + (2 ^ 64 - y)) % 2 ^ 64 ≤ 0 = omega arith in
-      ap flag (le-ltb 0 ((x + (2 ^ 64 - y)) % 2 ^ 64) z) ∙ ap (λ b. words.flag (not b)) (sym (eq-eqb x y e)))
+    ap flag (le-ltb 0 ((x + (2 ^ 64 - y)) % 2 ^ 64) z) ∙ ap (λ b. words.flag (not b)) (sym (eq-eqb x y e)))
     (λ n. let z : 0 < (x + (2 ^ 64 - y)) % 2 ^ 64 = omega (arith, n) in
-      ap flag (lt-ltb 0 ((x + (2 ^ 64 - y)) % 2 ^ 64) z) ∙ ap (λ b. words.flag (not b)) (sym (ne_eqb x y n)))
+    ap flag (lt-ltb 0 ((x + (2 ^ 64 - y)) % 2 ^ 64) z) ∙ ap (λ b. words.flag (not b)) (sym (ne_eqb x y n)))
     (cases_eq x y)
 
 -- a test turned round
@@ -107,3 +107,46 @@ difference-32 x y =
 
 pub added-nothing : (n : ℕ) → extended_word (n + 0) ≡ wrapped (width true 32) n
 added-nothing n = let e : n + 0 ≡ n = omega arith in ap extended_word e ∙ wrapped-32 n
+
+-- words in order of their signed numbers
+pub signed-less : (x y : ℕ) → x < 2 ^ 64 → y < 2 ^ 64 → int_lt (cast_signed w64 x) (cast_signed w64 y) ≡ nat_lt ((x + 2 ^ 63) % 2 ^ 64) ((y + 2 ^ 63) % 2 ^ 64)
+signed-less x y h k =
+    ⊎_elim
+    (λ a.
+    ⊎_elim
+    (λ b.
+    let m : (x + 2 ^ 63) % 2 ^ 64 ≡ x + 2 ^ 63 = omega arith in
+    let n : (y + 2 ^ 63) % 2 ^ 64 ≡ y + 2 ^ 63 = omega arith in
+    lt-both (to_z_pos w64 x a) (to_z_pos w64 y b) ∙ (same-test x y (x + 2 ^ 63) (y + 2 ^ 63) (λ l. omega arith) (λ l. omega arith)
+    ∙ (ap (λ q. nat_lt q (y + 2 ^ 63)) (sym m) ∙ ap (λ q. nat_lt ((x + 2 ^ 63) % 2 ^ 64) q) (sym n))))
+    (λ b.
+    let l : (y + 2 ^ 63) % 2 ^ 64 ≤ (x + 2 ^ 63) % 2 ^ 64 = omega arith in
+    lt-both (to_z_pos w64 x a) (below-zero y b k) ∙ sym (le-ltb ((x + 2 ^ 63) % 2 ^ 64) ((y + 2 ^ 63) % 2 ^ 64) l))
+    (cases_lt y (2 ^ 63)))
+    (λ a.
+    ⊎_elim
+    (λ b.
+    let l : (x + 2 ^ 63) % 2 ^ 64 < (y + 2 ^ 63) % 2 ^ 64 = omega arith in
+    lt-both (below-zero x a h) (to_z_pos w64 y b) ∙ sym (lt-ltb ((x + 2 ^ 63) % 2 ^ 64) ((y + 2 ^ 63) % 2 ^ 64) l))
+    (λ b.
+    let m : (x + 2 ^ 63) % 2 ^ 64 ≡ x - 2 ^ 63 = omega arith in
+    let n : (y + 2 ^ 63) % 2 ^ 64 ≡ y - 2 ^ 63 = omega arith in
+    lt-both (below-zero x a h) (below-zero y b k) ∙ (same-test (2 ^ 64 - suc y) (2 ^ 64 - suc x) (x - 2 ^ 63) (y - 2 ^ 63) (λ l. omega arith) (λ l. omega arith)
+    ∙ (ap (λ q. nat_lt q (y - 2 ^ 63)) (sym m) ∙ ap (λ q. nat_lt ((x + 2 ^ 63) % 2 ^ 64) q) (sym n))))
+    (cases_lt y (2 ^ 63)))
+    (cases_lt x (2 ^ 63))
+  where
+    lt-both : {p q r t : ℤ} → p ≡ q → r ≡ t → int_lt p r ≡ int_lt q t
+    lt-both {p} {q} {r} {t} e f = ap (λ i. int_lt i r) e ∙ ap (λ i. int_lt q i) f
+
+    below-zero : (n : ℕ) → 2 ^ 63 ≤ n → n < 2 ^ 64 → cast_signed w64 n ≡ negsuc (2 ^ 64 - suc n)
+    below-zero n a l =
+        let e : n ≡ 2 ^ 64 - suc (2 ^ 64 - suc n) = omega arith in
+        ap (λ m. cast_signed w64 m) e ∙ to_z-neg w64 (2 ^ 64 - suc n) (omega arith)
+
+    same-test : (a b c d : ℕ) → (a < b → c < d) → (b ≤ a → d ≤ c) → nat_lt a b ≡ nat_lt c d
+    same-test a b c d f g =
+        ⊎_elim (λ l. lt-ltb a b l ∙ sym (lt-ltb c d (f l))) (λ m. le-ltb a b m ∙ sym (le-ltb c d (g m))) (cases_lt a b)
+
+pub shifted-small : (x n : ℕ) → x < 2 ^ 64 → x / 2 ^ n ≡ wrapped (width false 64) (x / 2 ^ n)
+shifted-small x n h = wrapped-small false (x / 2 ^ n) (omega (arith, div-le_self x (2 ^ n)))
