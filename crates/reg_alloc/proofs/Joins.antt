@@ -15,7 +15,7 @@ missing-falls : (xs : List Bool) (t : ℕ) → t < length xs → at xs t ≡ fal
 missing-falls xs t h e =
     let s = sum_by-set (λ (b : Bool). cond (not b) 1 0) xs t true false h in
     let s' : missing (set xs t true) + 1 ≡ missing xs + 0 =
-        ap (λ b. missing (set xs t true) + cond (not b) 1 0) (sym e) ∙ s in
+    ap (λ b. missing (set xs t true) + cond (not b) 1 0) (sym e) ∙ s in
     omega (arith, s')
 
 pub join-none : (old row : List Bool) → IsJoinedTo old row 0 old false
@@ -47,8 +47,10 @@ join-grows old row mid new t grew h j e f r = record {
     or_last : (b : Bool) → (b || true) ≡ true
     or_last true = refl
     or_last false = refl
+
     missing-less : (a b c : ℕ) → a + 1 ≡ b → b ≤ c → a < c
     missing-less a b c p q = omega arith
+
     no-more : (o w m : List Bool) (i : ℕ) (g : Bool) → IsJoinedTo o w i m g → missing m ≤ missing o
     no-more o w m i g k =
         ⊎_elim
@@ -60,7 +62,7 @@ join-stays : (old row mid new : List Bool) (t : ℕ) (grew : Bool) → t < lengt
     new ≡ mid → (at row t ≡ true → at mid t ≡ true) → IsJoinedTo old row (t + 1) new grew
 join-stays old row mid new t grew h j e f =
     let m : at mid t ≡ (at old t || at row t) =
-        absorbs (at mid t) (at old t) (at row t) (j.above t (omega arith)) f in
+    absorbs (at mid t) (at old t) (at row t) (j.above t (omega arith)) f in
     subst (λ v. IsJoinedTo old row (t + 1) v grew) (sym e) (record {
       long = j.long;
       below = λ k l.

@@ -82,9 +82,9 @@ pub blocks-more : (homes : List (Option Home)) (table : List (List Bool)) (graph
 blocks-more homes table graph i block h e here before c other l g =
     ⊎_elim
     (λ s.
-      let p : Some other ≡ Some block = sym g ∙ (ap (λ n. slice_get graph n) s ∙ (slice_get-get_or graph i block h ∙ ap Some e)) in
-      let q : other ≡ block = cc in
-      subst (λ b. IsBlockRight homes table b) (sym q) here)
+    let p : Some other ≡ Some block = sym g ∙ (ap (λ n. slice_get graph n) s ∙ (slice_get-get_or graph i block h ∙ ap Some e)) in
+    let q : other ≡ block = cc in
+    subst (λ b. IsBlockRight homes table b) (sym q) here)
     (λ o. before c other (omega (arith, o)) g)
     (cases_eq c i)
 
@@ -110,8 +110,8 @@ pub place-fails : (homes : List (Option Home)) (table : List (List Bool)) (block
 place-fails homes table block i m s xs ys zs right e h g w z set answer wrong all =
     let here = all (suc i) (omega arith) in
     let seen : IsRightSet homes zs = subst (λ v. IsRightSet homes v) (sym z)
-        (set-right homes ys (length homes) (λ t. used_from table block (suc i) t) refl
-        (written-set table block i (length homes) s xs ys h g w (subst (λ n. IsSet xs (length homes) (λ t. before_from block n (λ c. in_table table c t) t)) e set)) here) in
+    (set-right homes ys (length homes) (λ t. used_from table block (suc i) t) refl
+    (written-set table block i (length homes) s xs ys h g w (subst (λ n. IsSet xs (length homes) (λ t. before_from block n (λ c. in_table table c t) t)) e set)) here) in
     false≢true (sym wrong ∙ answer.1 seen)
 
 -- the first place of a block is the last that is looked at
@@ -121,10 +121,10 @@ pub block-ends : (homes : List (Option Home)) (table : List (List Bool)) (block 
     (right : Bool) → ((right ≡ true) ↔ IsRightSet homes ys) → ((right ≡ true) ↔ IsBlockRight homes table block)
 block-ends homes table block at xs ys z e set behind right answer =
     let set' : IsSet ys (length homes) (λ t. before_from block 0 (λ c. in_table table c t) t) =
-        subst (λ v. IsSet v (length homes) (λ t. before_from block 0 (λ c. in_table table c t) t)) (sym e)
-        (subst (λ n. IsSet xs (length homes) (λ t. before_from block n (λ c. in_table table c t) t)) z set) in (
+    subst (λ v. IsSet v (length homes) (λ t. before_from block 0 (λ c. in_table table c t) t)) (sym e)
+    (subst (λ n. IsSet xs (length homes) (λ t. before_from block n (λ c. in_table table c t) t)) z set) in (
       λ y. places-all homes table block (right-set homes ys (length homes) (λ t. before_from block 0 (λ c. in_table table c t) t) refl set' (answer.0 y))
-        (λ k l h. behind k (omega (arith, z)) h),
+          (λ k l h. behind k (omega (arith, z)) h),
       λ r. answer.1 (set-right homes ys (length homes) (λ t. before_from block 0 (λ c. in_table table c t) t) refl set' (r 0 (omega arith))),
     )
 

@@ -25,6 +25,7 @@ table-empty graph count table e = subst (λ v. IsTable graph count v) (sym e) (r
         (λ l. get_or-replicate n t false false l)
         (λ g. get_or_past (replicate n false) t false (omega (arith, length-replicate n false)))
         (cases_lt t n)
+
     nothing : (c t : ℕ) → in_table (replicate (length graph) (replicate count false)) c t ≡ false
     nothing c t =
         ⊎_elim
@@ -63,10 +64,13 @@ widened-table graph count b block old new grew g t w = record {
   where
     inside : b < length graph
     inside = slice_get_within graph b block g
+
     within : b < length old
     within = let e = t.blocks in let i = inside in omega arith
+
     here : get_or (set old b w.row) b [] ≡ w.row
     here = get_or-set_same old b w.row [] within
+
     sound-here : (u : ℕ) → in_table new b u ≡ true → IsLive graph b 0 u
     sound-here u h =
         let in-row : at w.row u ≡ true = ap (λ r. at r u) (sym (ap (λ v. get_or v b []) w.new_is ∙ here)) ∙ h in
@@ -137,6 +141,7 @@ table-live graph count table t closed c u h = (
   where
     close : (n : ℕ) (block : FlowBlock) → slice_get graph n ≡ Some block → before_from block 0 (λ m. in_table table m u) u ≡ true → in_table table n u ≡ true
     close n block g b = closed n block g u h b
+
     found : (o : Option FlowBlock) → slice_get graph c ≡ o → (k : ℕ) → read_within graph k c 0 u ≡ true → in_table table c u ≡ true
     found (Some block) g k r = close c block g (live-before graph u (λ m. in_table table m u) close k c 0 r block g)
     found None g zero r = absurd (false≢true r)

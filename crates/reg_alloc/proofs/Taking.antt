@@ -108,49 +108,52 @@ taken-takes homes xs taken new t n short a num free e h = record {
     apart = λ u v l k b c d.
         ⊎_elim
         (λ s.
-          ⊎_elim
-          (λ r. absurd (d (s ∙ sym r)))
-          (λ o. λ q. clash v (omega (arith, o)) c (sym (sym (ap (λ w. slice_get homes w) s) ∙ q)))
-          (cases_eq v t))
+        ⊎_elim
+        (λ r. absurd (d (s ∙ sym r)))
+        (λ o. λ q. clash v (omega (arith, o)) c (sym (sym (ap (λ w. slice_get homes w) s) ∙ q)))
+        (cases_eq v t))
         (λ o.
-          ⊎_elim
-          (λ r. λ q. clash u (omega (arith, o)) b (q ∙ ap (λ w. slice_get homes w) r))
-          (λ p. h.right.apart u v (omega (arith, o)) (omega (arith, p)) b c d)
-          (cases_eq v t))
+        ⊎_elim
+        (λ r. λ q. clash u (omega (arith, o)) b (q ∙ ap (λ w. slice_get homes w) r))
+        (λ p. h.right.apart u v (omega (arith, o)) (omega (arith, p)) b c d)
+        (cases_eq v t))
         (cases_eq u t);
   };
   theirs = λ u m l b q.
       ⊎_elim
       (λ s.
-        let same : Some m ≡ Some n = sym q ∙ (ap (λ w. home_number (length homes) (get_or homes w None)) s ∙ num) in
-        let same' : m ≡ n = cc in
-        subst (λ k. at new k ≡ true) (sym same') (ap (λ v. at v n) e ∙ get_or-set_same taken n true false inside))
+      let same : Some m ≡ Some n = sym q ∙ (ap (λ w. home_number (length homes) (get_or homes w None)) s ∙ num) in
+      let same' : m ≡ n = cc in
+      subst (λ k. at new k ≡ true) (sym same') (ap (λ v. at v n) e ∙ get_or-set_same taken n true false inside))
       (λ o. grown m (h.theirs u m (omega (arith, o)) b q))
       (cases_eq u t);
   no_others = λ m b.
       ⊎_elim
       (λ s. (t, omega arith, a, num ∙ ap Some (sym s)))
       (λ o.
-        let old : at taken m ≡ true = sym (ap (λ v. at v m) e ∙ get_or-set_other taken n m true false o) ∙ b in
-        let r = h.no_others m old in
-        (r.0, omega (arith, r.1), r.2, r.3))
+      let old : at taken m ≡ true = sym (ap (λ v. at v m) e ∙ get_or-set_other taken n m true false o) ∙ b in
+      let r = h.no_others m old in
+      (r.0, omega (arith, r.1), r.2, r.3))
       (cases_eq m n);
 }
   where
     inside : n < length taken
     inside = let b = number-below (length homes) n (get_or homes t None) num in let l = h.long in omega arith
+
     here-is : has_home homes t ≡ true
     here-is = ap (is_some_home (length homes)) (slice_get-get_or homes t None short) ∙ number-home (length homes) n (get_or homes t None) num
+
     grown : (m : ℕ) → at taken m ≡ true → at new m ≡ true
     grown m b =
         ⊎_elim
         (λ s. subst (λ k. at new k ≡ true) (sym s) (ap (λ v. at v n) e ∙ get_or-set_same taken n true false inside))
         (λ o. ap (λ v. at v m) e ∙ get_or-set_other taken n m true false o ∙ b)
         (cases_eq m n)
+
     clash : (v : ℕ) → v < t → at xs v ≡ true → slice_get homes v ≡ slice_get homes t → ⊥
     clash v l b q =
         let p : Some (get_or homes v None) ≡ Some (get_or homes t None) =
-            sym (slice_get-get_or homes v None (omega arith)) ∙ (q ∙ slice_get-get_or homes t None short) in
+        sym (slice_get-get_or homes v None (omega arith)) ∙ (q ∙ slice_get-get_or homes t None short) in
         let p' : get_or homes v None ≡ get_or homes t None = cc in
         let w = h.theirs v n l b (ap (home_number (length homes)) p' ∙ num) in
         false≢true (sym free ∙ w)
@@ -176,6 +179,7 @@ taken-fails homes xs taken new t short = go (at xs t) refl (home_number (length 
   where
     here : slice_get homes t ≡ Some (get_or homes t None)
     here = slice_get-get_or homes t None short
+
     go : (b : Bool) → at xs t ≡ b → (m : Option ℕ) → home_number (length homes) (get_or homes t None) ≡ m →
         TakesIf b (length homes) (get_or homes t None) taken new false → IsTaken homes xs t taken → IsRightSet homes xs → ⊥
     go false e m num k h r = false≢true k.0

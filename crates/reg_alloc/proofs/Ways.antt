@@ -56,10 +56,10 @@ before-live graph b t block begins e sound [] at d h =
     ⊎_elim
     (λ r. live-here graph b at t 0 block e (subst (λ o. at_step block o (λ c. read_within graph 0 c 0 t) (read_within graph 0 b (suc at) t) t ≡ true) (sym n) (or_left (has block.reads t) _ r)))
     (λ a.
-      let p = any-pick begins block.next a in
-      let l = sound p.0 p.2 in
-      live-here graph b at t l.0 block e (subst (λ o. at_step block o (λ c. read_within graph l.0 c 0 t) (read_within graph l.0 b (suc at) t) t ≡ true) (sym n)
-      (or_right (has block.reads t) _ (any-from (λ c. read_within graph l.0 c 0 t) block.next p.0 p.1 l.1))))
+    let p = any-pick begins block.next a in
+    let l = sound p.0 p.2 in
+    live-here graph b at t l.0 block e (subst (λ o. at_step block o (λ c. read_within graph l.0 c 0 t) (read_within graph l.0 b (suc at) t) t ≡ true) (sym n)
+    (or_right (has block.reads t) _ (any-from (λ c. read_within graph l.0 c 0 t) block.next p.0 p.1 l.1))))
     (or_cases (has block.reads t) (list_any begins block.next) h)
   where
     at-end : (xs : List Step) (i : ℕ) → drop i xs ≡ [] → slice_get xs i ≡ None
@@ -71,10 +71,10 @@ before-live graph b t block begins e sound (s ∷ ss) at d h =
     ⊎_elim
     (λ r. live-here graph b at t 0 block e (subst (λ o. at_step block o (λ c. read_within graph 0 c 0 t) (read_within graph 0 b (suc at) t) t ≡ true) (sym g) (or_left (has s.reads t) _ r)))
     (λ a.
-      let p = and_parts (not (is_written s.write t)) (before_steps ss (before_exit block begins t) t) a in
-      let l = before-live graph b t block begins e sound ss (suc at) (rest block.steps at s ss d) p.1 in
-      live-here graph b at t l.0 block e (subst (λ o. at_step block o (λ c. read_within graph l.0 c 0 t) (read_within graph l.0 b (suc at) t) t ≡ true) (sym g)
-      (or_right (has s.reads t) _ (and_from _ _ p.0 l.1))))
+    let p = and_parts (not (is_written s.write t)) (before_steps ss (before_exit block begins t) t) a in
+    let l = before-live graph b t block begins e sound ss (suc at) (rest block.steps at s ss d) p.1 in
+    live-here graph b at t l.0 block e (subst (λ o. at_step block o (λ c. read_within graph l.0 c 0 t) (read_within graph l.0 b (suc at) t) t ≡ true) (sym g)
+    (or_right (has s.reads t) _ (and_from _ _ p.0 l.1))))
     (or_cases (has s.reads t) (not (is_written s.write t) && before_steps ss (before_exit block begins t) t) h)
   where
     at-step : (xs : List Step) (i : ℕ) (x : Step) (ys : List Step) → drop i xs ≡ x ∷ ys → slice_get xs i ≡ Some x
@@ -82,6 +82,7 @@ before-live graph b t block begins e sound (s ∷ ss) at d h =
     at-step [] (suc i) x ys e = cc
     at-step (z ∷ zs) zero x ys e = cc
     at-step (z ∷ zs) (suc i) x ys e = at-step zs i x ys e
+
     rest : (xs : List Step) (i : ℕ) (x : Step) (ys : List Step) → drop i xs ≡ x ∷ ys → drop (suc i) xs ≡ ys
     rest [] zero x ys e = cc
     rest [] (suc i) x ys e = cc
@@ -114,7 +115,7 @@ reached-at graph t begins closed k ih b at block e None g r =
     ∙ ⊎_elim
     (λ x. or_left (has block.reads t) (list_any begins block.next) x)
     (λ x. or_right (has block.reads t) (list_any begins block.next)
-      (any-map (λ c. read_within graph k c 0 t) begins block.next (λ c q. behind graph t begins closed k ih c (slice_get graph c) refl q) x))
+    (any-map (λ c. read_within graph k c 0 t) begins block.next (λ c q. behind graph t begins closed k ih c (slice_get graph c) refl q) x))
     (or_cases (has block.reads t) (list_any (λ c. read_within graph k c 0 t) block.next) r)
 reached-at graph t begins closed k ih b at block e (Some s) g r =
     let d = get-drop block.steps at s g in
@@ -122,9 +123,9 @@ reached-at graph t begins closed k ih b at block e (Some s) g r =
     ∙ ⊎_elim
     (λ x. or_left (has s.reads t) (not (is_written s.write t) && before_from block (suc at) begins t) x)
     (λ x.
-      let p = and_parts (not (is_written s.write t)) (read_within graph k b (suc at) t) x in
-      or_right (has s.reads t) (not (is_written s.write t) && before_from block (suc at) begins t)
-      (and_from (not (is_written s.write t)) (before_from block (suc at) begins t) p.0 (ih b (suc at) p.1 block e)))
+    let p = and_parts (not (is_written s.write t)) (read_within graph k b (suc at) t) x in
+    or_right (has s.reads t) (not (is_written s.write t) && before_from block (suc at) begins t)
+    (and_from (not (is_written s.write t)) (before_from block (suc at) begins t) p.0 (ih b (suc at) p.1 block e)))
     (or_cases (has s.reads t) (not (is_written s.write t) && read_within graph k b (suc at) t) r)
 
 pub live-before : (graph : List FlowBlock) (t : ℕ) (begins : ℕ → Bool) →

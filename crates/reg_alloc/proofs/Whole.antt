@@ -91,11 +91,13 @@ written-below n graph t a b (suc at) h = in-block (slice_get graph b) refl h
     by-write : (w : Option ℕ) → write_below n w ≡ true → is_written w t ≡ true → t < n
     by-write None w e = absurd (false≢true e)
     by-write (Some d) w e = let s = eqb-true d t e in let l = ltb-true d n w in omega (arith, s, l)
+
     in-step : (block : FlowBlock) → block_below n block ≡ true → (o : Option Step) → slice_get block.steps at ≡ o → step_writes o t ≡ true → t < n
     in-step block w None g r = absurd (false≢true r)
     in-step block w (Some s) g r =
         let p = all-at (step_below n) block.steps at s (and_parts (steps_below n block.steps) (all_below n block.reads) w).0 g in
         by-write s.write (and_parts (write_below n s.write) (all_below n s.reads) p).0 r
+
     in-block : (o : Option FlowBlock) → slice_get graph b ≡ o → written_in o at t ≡ true → t < n
     in-block None g r = absurd (false≢true r)
     in-block (Some block) g r = in-step block (all-at (block_below n) graph b block a g) (slice_get block.steps at) refl r
@@ -114,21 +116,39 @@ one-used n graph a = in-block (one-fails (block_below n) graph a)
         ⊎_elim
         (λ w. by-write s.write refl w)
         (λ r.
-          let o = one-above n s.reads r in
-          (b, i, o.0, o.2, inl (1, ap (λ m. at_place m i (λ c. read_within graph 0 c 0 o.0) (read_within graph 0 b (suc i) o.0) o.0) g
-          ∙ (ap (λ m. at_step block m (λ c. read_within graph 0 c 0 o.0) (read_within graph 0 b (suc i) o.0) o.0) h ∙ or_left (has s.reads o.0) _ o.1))))
+        let o = one-above n s.reads r in (
+          b,
+          i,
+          o.0,
+          o.2,
+          inl (
+            1,
+            ap (λ m. at_place m i (λ c. read_within graph 0 c 0 o.0) (read_within graph 0 b (suc i) o.0) o.0) g
+                ∙ (ap (λ m. at_step block m (λ c. read_within graph 0 c 0 o.0) (read_within graph 0 b (suc i) o.0) o.0) h ∙ or_left (has s.reads o.0) _ o.1),
+          ),
+        ))
         (and_cases (write_below n s.write) (all_below n s.reads) f)
       where
         by-write : (w : Option ℕ) → s.write ≡ w → write_below n w ≡ false → (c : ℕ) × (at : ℕ) × (t : ℕ) × (n ≤ t) × InUse graph c at t
         by-write None e q = absurd (true≢false q)
         by-write (Some d) e q =
             (b, suc i, d, ltb-false d n q, inr (ap (λ m. written_in m i d) g ∙ (ap (λ m. step_writes m d) h ∙ (ap (λ m. is_written m d) e ∙ eq-eqb d d refl))))
+
     at-exit : (b : ℕ) (block : FlowBlock) → slice_get graph b ≡ Some block → all_below n block.reads ≡ false → (c : ℕ) × (at : ℕ) × (t : ℕ) × (n ≤ t) × InUse graph c at t
     at-exit b block g f =
         let o = one-above n block.reads f in
-        let i = length block.steps in
-        (b, i, o.0, o.2, inl (1, ap (λ m. at_place m i (λ c. read_within graph 0 c 0 o.0) (read_within graph 0 b (suc i) o.0) o.0) g
-        ∙ (ap (λ m. at_step block m (λ c. read_within graph 0 c 0 o.0) (read_within graph 0 b (suc i) o.0) o.0) (slice_get_past block.steps i (omega arith)) ∙ or_left (has block.reads o.0) _ o.1)))
+        let i = length block.steps in (
+          b,
+          i,
+          o.0,
+          o.2,
+          inl (
+            1,
+            ap (λ m. at_place m i (λ c. read_within graph 0 c 0 o.0) (read_within graph 0 b (suc i) o.0) o.0) g
+                ∙ (ap (λ m. at_step block m (λ c. read_within graph 0 c 0 o.0) (read_within graph 0 b (suc i) o.0) o.0) (slice_get_past block.steps i (omega arith)) ∙ or_left (has block.reads o.0) _ o.1),
+          ),
+        )
+
     in-block : (b : ℕ) × (block : FlowBlock) × (slice_get graph b ≡ Some block) × (block_below n block ≡ false) → (c : ℕ) × (at : ℕ) × (t : ℕ) × (n ≤ t) × InUse graph c at t
     in-block w =
         ⊎_elim
@@ -190,7 +210,7 @@ right-anywhere homes table block r i =
     moved (suc i) t p h =
         let e : slice_get block.steps i ≡ None = slice_get_past block.steps i (omega arith) in
         let d : drop (suc i) block.steps ≡ drop (length block.steps) block.steps =
-            drop_all (suc i) block.steps (omega arith) ∙ sym (drop_all (length block.steps) block.steps (omega arith)) in
+        drop_all (suc i) block.steps (omega arith) ∙ sym (drop_all (length block.steps) block.steps (omega arith)) in
         let h' : before_from block (suc i) (λ c. in_table table c t) t ≡ true = sym (ap (λ o. step_writes o t || before_from block (suc i) (λ c. in_table table c t) t) e) ∙ h in
         or_right (just_written block.steps (length block.steps) t) _
         (sym (ap (λ ss. before_steps ss (before_exit block (λ c. in_table table c t) t) t) d) ∙ h')
@@ -218,9 +238,11 @@ blocks-right code homes table a live all = record {
         no-read : slice_get (graph_of code) b ≡ None → (k : ℕ) → read_within (graph_of code) k b i t ≡ true → ⊥
         no-read g zero h = false≢true h
         no-read g (suc k) h = false≢true (sym (ap (λ o. at_place o i (λ c. read_within (graph_of code) k c 0 t) (read_within (graph_of code) k b (suc i) t) t) g) ∙ h)
+
         no-write : slice_get (graph_of code) b ≡ None → (j : ℕ) → is_just_written (graph_of code) b j t ≡ true → ⊥
         no-write g zero h = false≢true h
         no-write g (suc j) h = false≢true (sym (ap (λ o. written_in o j t) g) ∙ h)
+
         found : (o : Option FlowBlock) → slice_get (graph_of code) b ≡ o → InUse (graph_of code) b i t → (block : FlowBlock) × (slice_get (graph_of code) b ≡ Some block)
         found (Some block) g v = (block, g)
         found None g v = absurd (⊎_elim (λ r. no-read g r.0 r.1) (λ w. no-write g i w) v)
@@ -239,15 +261,15 @@ pub check-ends : (code : Tac) (homes given : List (Option Home)) (first second t
     ((right ≡ true) ↔ IsRight code homes)
 check-ends code homes given first second third table row right eh e1 e2 e3 et a live answer =
     let a' : are_below (length homes) (graph_of code) ≡ true =
-        ap (λ h. are_below (length h) (graph_of code)) (sym eh) ∙ (ap (λ g. are_below (length given) g) (sym e1) ∙ a) in
+    ap (λ h. are_below (length h) (graph_of code)) (sym eh) ∙ (ap (λ g. are_below (length given) g) (sym e1) ∙ a) in
     let live' : IsLiveTable (graph_of code) (length homes) table =
-        subst (λ h. IsLiveTable (graph_of code) (length h) table) eh (subst (λ g. IsLiveTable g (length given) table) e2 live) in
+    subst (λ h. IsLiveTable (graph_of code) (length h) table) eh (subst (λ g. IsLiveTable g (length given) table) e2 live) in
     let to : AreBlocksRight given row third (length third) → AreBlocksRight homes table (graph_of code) (length (graph_of code)) =
-        λ r. subst (λ h. AreBlocksRight h table (graph_of code) (length (graph_of code))) eh
-        (subst (λ t. AreBlocksRight given t (graph_of code) (length (graph_of code))) et (subst (λ g. AreBlocksRight given row g (length g)) e3 r)) in
+    λ r. subst (λ h. AreBlocksRight h table (graph_of code) (length (graph_of code))) eh
+    (subst (λ t. AreBlocksRight given t (graph_of code) (length (graph_of code))) et (subst (λ g. AreBlocksRight given row g (length g)) e3 r)) in
     let from : AreBlocksRight homes table (graph_of code) (length (graph_of code)) → AreBlocksRight given row third (length third) =
-        λ r. subst (λ g. AreBlocksRight given row g (length g)) (sym e3)
-        (subst (λ t. AreBlocksRight given t (graph_of code) (length (graph_of code))) (sym et) (subst (λ h. AreBlocksRight h table (graph_of code) (length (graph_of code))) (sym eh) r)) in
+    λ r. subst (λ g. AreBlocksRight given row g (length g)) (sym e3)
+    (subst (λ t. AreBlocksRight given t (graph_of code) (length (graph_of code))) (sym et) (subst (λ h. AreBlocksRight h table (graph_of code) (length (graph_of code))) (sym eh) r)) in
     (λ y. blocks-right code homes table a' live' (to (answer.0 y)), λ r. answer.1 (from (right-blocks code homes table live' r)))
 
 pub check-fails : (code : Tac) (homes given : List (Option Home)) (first : List FlowBlock) → given ≡ homes → first ≡ graph_of code →
@@ -266,7 +288,7 @@ own-at (suc n) t l =
     ⊎_elim
     (λ s. ap (λ m. get_or (own_slots (suc n)) m None) s ∙ (get_or_push (own_slots n) (Some (Slot n)) None n (own-long n) ∙ ap (λ m. Some (Slot m)) (sym s)))
     (λ o. let k : t < n = omega (arith, o) in
-      get_or_append_left (own_slots n) (Some (Slot n) ∷ []) None t (omega (arith, own-long n)) ∙ own-at n t k)
+    get_or_append_left (own_slots n) (Some (Slot n) ∷ []) None t (omega (arith, own-long n)) ∙ own-at n t k)
     (cases_eq t n)
 
 pub own-right : (code : Tac) (n : ℕ) (homes : List (Option Home)) → homes ≡ own_slots n → are_below n (graph_of code) ≡ true → IsRight code homes

@@ -17,7 +17,9 @@ use tl_base::NoMemory;
 
 /// The first of the registers that calls keep and that hold temporaries, the last, and how many they are.
 const FIRST: u64 = 18;
+
 const LAST: u64 = 27;
+
 const KEPT: usize = 10;
 
 /// The number of a home among all: the slots, and behind them the registers.
@@ -76,7 +78,12 @@ fn is_right_set(alloc: Global, homes: &[Option<Home>], set: &[bool]) -> Result<b
 }
 
 /// Whether the homes are right at each place of a block.
-fn is_right_block(alloc: Global, homes: &[Option<Home>], block: &FlowBlock, table: &[TempSet]) -> Result<bool, NoMemory>
+fn is_right_block(
+    alloc: Global,
+    homes: &[Option<Home>],
+    block: &FlowBlock,
+    table: &[TempSet],
+) -> Result<bool, NoMemory>
     ensures { IfOk result (λ right. (right ≡ true) ↔ IsBlockRight homes.now table.now block.now) }
 {
     let mut live = live_at_exit(alloc, block, table, homes.len())?;
@@ -93,7 +100,12 @@ fn is_right_block(alloc: Global, homes: &[Option<Home>], block: &FlowBlock, tabl
     is_right_set(alloc, homes, live.as_slice())
 }
 
-fn are_right_blocks(alloc: Global, homes: &[Option<Home>], graph: &[FlowBlock], table: &[TempSet]) -> Result<bool, NoMemory>
+fn are_right_blocks(
+    alloc: Global,
+    homes: &[Option<Home>],
+    graph: &[FlowBlock],
+    table: &[TempSet],
+) -> Result<bool, NoMemory>
     ensures { IfOk result (λ right. (right ≡ true) ↔ AreBlocksRight homes.now table.now graph.now (length graph.now)) }
 {
     for block in graph {

@@ -21,7 +21,12 @@ fn join_block(live: &mut TempSet, table: &[TempSet], block: u64)
 }
 
 /// What is live before a block's exit, of so many temporaries.
-pub fn live_at_exit(alloc: Global, block: &FlowBlock, table: &[TempSet], count: usize) -> Result<TempSet, NoMemory>
+pub fn live_at_exit(
+    alloc: Global,
+    block: &FlowBlock,
+    table: &[TempSet],
+    count: usize,
+) -> Result<TempSet, NoMemory>
     ensures { IfOk result (λ live. IsSet live count (λ t. before_exit block.now (λ c. in_table table.now c t) t)) }
 {
     let mut live = TempSet::empty(alloc, count)?;
@@ -33,7 +38,12 @@ pub fn live_at_exit(alloc: Global, block: &FlowBlock, table: &[TempSet], count: 
 }
 
 /// What is live where a block begins, by what is live where those behind it begin.
-fn live_at_begin(alloc: Global, block: &FlowBlock, table: &[TempSet], count: usize) -> Result<TempSet, NoMemory>
+fn live_at_begin(
+    alloc: Global,
+    block: &FlowBlock,
+    table: &[TempSet],
+    count: usize,
+) -> Result<TempSet, NoMemory>
     ensures { IfOk result (λ live. IsSet live count (λ t. before_from block.now 0 (λ c. in_table table.now c t) t)) }
 {
     let mut live = live_at_exit(alloc, block, table, count)?;
@@ -47,7 +57,13 @@ fn live_at_begin(alloc: Global, block: &FlowBlock, table: &[TempSet], count: usi
 }
 
 /// Puts in what is live where a block begins, and says whether something was new.
-fn widen_block(alloc: Global, block: &FlowBlock, table: &mut Vec<TempSet>, b: usize, count: usize) -> Result<bool, NoMemory>
+fn widen_block(
+    alloc: Global,
+    block: &FlowBlock,
+    table: &mut Vec<TempSet>,
+    b: usize,
+    count: usize,
+) -> Result<bool, NoMemory>
     requires { b < length table.old.items }
     ensures { IfOk result (λ grew. IsWidened block.now count b table.old.items table.new.items grew) }
 {
@@ -56,7 +72,12 @@ fn widen_block(alloc: Global, block: &FlowBlock, table: &mut Vec<TempSet>, b: us
 }
 
 /// A round over all blocks, from the last to the first.
-fn widen_all(alloc: Global, graph: &[FlowBlock], table: &mut Vec<TempSet>, count: usize) -> Result<bool, NoMemory>
+fn widen_all(
+    alloc: Global,
+    graph: &[FlowBlock],
+    table: &mut Vec<TempSet>,
+    count: usize,
+) -> Result<bool, NoMemory>
     requires { IsTable graph.now count table.old.items }
     ensures { IfOk result (λ grew. IsRound graph.now count 0 table.old.items table.new.items grew) }
 {
@@ -81,7 +102,11 @@ fn empty_table(alloc: Global, blocks: usize, count: usize) -> Result<Vec<TempSet
 }
 
 /// Which of so many temporaries are live where each block begins.
-pub fn live_at_begins(alloc: Global, graph: &[FlowBlock], count: usize) -> Result<Vec<TempSet>, NoMemory>
+pub fn live_at_begins(
+    alloc: Global,
+    graph: &[FlowBlock],
+    count: usize,
+) -> Result<Vec<TempSet>, NoMemory>
     ensures { IfOk result (λ table. IsLiveTable graph.now count table.items) }
 {
     let mut table = empty_table(alloc, graph.len(), count)?;

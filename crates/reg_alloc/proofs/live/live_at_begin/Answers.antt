@@ -13,7 +13,7 @@ loop-at-preserved c =
     let s = c.index-steps-at.result in (
       omega arith,
       stepped-back block.steps i s c.loop-at.live c.step_back.new.self c.args.count
-      (λ t. before_exit block (λ n. in_table table n t) t)
-      (omega arith) (ap (λ v. get_or v i s) (sym c.as_slice-steps.ensures) ∙ sym c.index-steps-at.is) c.step_back.ensures
-      (subst (λ m. IsSet c.loop-at.live c.args.count (λ t. before_from block m (λ n. in_table table n t) t)) e c.loop-at.invariant.1),
+          (λ t. before_exit block (λ n. in_table table n t) t)
+          (omega arith) (ap (λ v. get_or v i s) (sym c.as_slice-steps.ensures) ∙ sym c.index-steps-at.is) c.step_back.ensures
+          (subst (λ m. IsSet c.loop-at.live c.args.count (λ t. before_from block m (λ n. in_table table n t) t)) e c.loop-at.invariant.1),
     )

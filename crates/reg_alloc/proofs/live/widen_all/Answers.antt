@@ -12,6 +12,6 @@ loop-b-preserved c =
     let inside : b < length c.args.graph.now = omega arith in (
       omega arith,
       subst (λ g. IsRound c.args.graph.now c.args.count b c.args.table.now.items c.widen_block.new.table.items g) (sym c.either-grew.ensures)
-      (round-turn c.args.graph.now c.args.count b c.loop-b.b block c.args.table.now.items c.loop-b.table.items c.widen_block.new.table.items c.loop-b.grew c.in_ok-more.more e
-      (slice_get-get_or c.args.graph.now b block inside ∙ ap Some (sym c.index-graph-b.is)) c.loop-b.invariant.1 c.in_ok-more.ensures),
+          (round-turn c.args.graph.now c.args.count b c.loop-b.b block c.args.table.now.items c.loop-b.table.items c.widen_block.new.table.items c.loop-b.grew c.in_ok-more.more e
+          (slice_get-get_or c.args.graph.now b block inside ∙ ap Some (sym c.index-graph-b.is)) c.loop-b.invariant.1 c.in_ok-more.ensures),
     )
