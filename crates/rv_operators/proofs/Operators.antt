@@ -4,21 +4,23 @@ use Rattle.std.specs.Prelude.{if◌then◌else◌, nat_eq, nat_lt, bit_and, bit_
 use Rattle.std.proofs.lemmas.Bool.{cases_eq, eq-eqb, ne_eqb}
 use Rattle.std.proofs.lemmas.Nat.{or_lt, xor_lt}
 use Rattle.rv_isa.specs.declared.instr.Instr.{Instr}
-use Rattle.rv_isa.specs.declared.instr.Instr.TheVariants.{Addiw, RegisterImmediate, RegisterRegister, RegisterRegisterWord}
+use Rattle.rv_isa.specs.declared.instr.Instr.TheVariants.{Addiw, Shift, RegisterImmediate, RegisterRegister, RegisterRegisterWord}
 use Rattle.rv_isa.specs.declared.operation.ImmediateOp.TheVariants as immediates
+use Rattle.rv_isa.specs.declared.operation.ShiftOp.TheVariants.{Slli, Srli}
+use Rattle.rv_isa.specs.declared.operation.RegisterOp.{RegisterOp}
 use Rattle.rv_isa.specs.declared.operation.RegisterOp.TheVariants as ops
 use Rattle.rv_isa.specs.declared.operation.RegisterWordOp.TheVariants as word_ops
 use Rattle.rv_machine.specs.Word.{low, difference, signed, extended_word}
 use Rattle.rv_machine.specs.Machine.{State}
-use Rattle.rv_machine.specs.Arithmetic.{flag, shifted_left, shifted_right, word_shifted_left, quotient_unsigned, remainder_unsigned}
+use Rattle.rv_machine.specs.Arithmetic.{flag, register_value, shifted_left, shifted_right, word_shifted_left, quotient_unsigned, remainder_unsigned}
 use Rattle.terra_words.specs.declared.words.Width.{Width}
 use Rattle.terra_words.specs.declared.words.BinaryOperator.{BinaryOperator}
 use Rattle.terra_words.specs.declared.words.BinaryOperator.TheVariants.{Add, Subtract, Multiply, Divide, Modulo, Xor, And, Or, ShiftLeft, ShiftRight, Equal, NotEqual, Less, LessEqual, Greater, GreaterEqual}
-use Rattle.terra_words.specs.Words.{applied, divides}
-use Rattle.rv_operators.specs.Claims.{Computes}
-use Rattle.rv_operators.specs.Codes.{x0, x5, x6, one_immediate, zero_immediate, comparison, of_64_bits, of_32_bits, code_of}
-use Rattle.rv_operators.proofs.Sequences.{one, two}
-use Rattle.rv_operators.proofs.Values.{width, wrapped-64, wrapped-32, mixed, and-small, divided, left-over, equal-words, other-words, turned, difference-32, added-nothing, signed-less, shifted-small}
+use Rattle.terra_words.specs.Words.{wrapped, applied, divides}
+use Rattle.rv_operators.specs.Claims.{Computes, Leads}
+use Rattle.rv_operators.specs.Codes.{gap_8, gap_16, gap_32, narrow_unsigned, x0, x5, x6, one_immediate, zero_immediate, comparison, of_64_bits, of_32_bits, code_of}
+use Rattle.rv_operators.proofs.Sequences.{one, two, three}
+use Rattle.rv_operators.proofs.Values.{width, wrapped-64, wrapped-32, mixed, and-small, divided, left-over, equal-words, other-words, turned, difference-32, added-nothing, signed-less, shifted-small, zeros-8, zeros-16, zeros-32, low-8, low-16, low-32, quotient-is, remainder-is}
 
 -- 64 bits
 add-64 : (sg : Bool) → Computes (RegisterRegister ops.Add x5 x5 x6 ∷ []) (width sg 64) Add
@@ -213,26 +215,135 @@ of-32 LessEqual code e = compares true 32 LessEqual code e
 of-32 Greater code e = compares true 32 Greater code e
 of-32 GreaterEqual code e = compares true 32 GreaterEqual code e
 
-abbrev narrow : Bool → ℕ → BinaryOperator → Option (List Instr)
-narrow sg bits op = if nat_eq bits 32 then (if sg then of_32_bits op else comparison false op) else comparison sg op
+-- fewer bits without a sign: what is left of any 64-bit operation whose low bits are right
+unsigned-32 : (op : RegisterOp) (n : State → ℕ) (s : State) →
+    register_value op (s.registers 5) (s.registers 6) % 2 ^ 32 ≡ n s % 2 ^ 32 →
+    Leads (RegisterRegister op x5 x5 x6 ∷ Shift Slli x5 x5 gap_32 ∷ Shift Srli x5 x5 gap_32 ∷ []) s (wrapped (width false 32) (n s))
+unfolding shifted_left shifted_right
+unsigned-32 op n s e =
+    let v = register_value op (s.registers 5) (s.registers 6) in
+    three _ _ _ s v (low (v * 2 ^ 32)) (low (v * 2 ^ 32) / 2 ^ 32) _ refl refl refl (zeros-32 v (n s) e)
 
-of-width : (sg : Bool) (bits : ℕ) (op : BinaryOperator) (code : List Instr) → code_of (width sg bits) op ≡ Some code → Computes code (width sg bits) op
-of-width sg bits op code e =
+narrow-32 : (op : BinaryOperator) (code : List Instr) → narrow_unsigned gap_32 op ≡ Some code → Computes code (width false 32) op
+unfolding applied difference
+narrow-32 Add code e = the-code _ code (width false 32) Add e
+    (λ s x y d. unsigned-32 ops.Add (λ t. t.registers 5 + t.registers 6) s (low-32 (s.registers 5 + s.registers 6)))
+narrow-32 Subtract code e = the-code _ code (width false 32) Subtract e
+    (λ s x y d. unsigned-32 ops.Sub (λ t. t.registers 5 + (2 ^ 64 - t.registers 6)) s (low-32 (s.registers 5 + (2 ^ 64 - s.registers 6))))
+narrow-32 Multiply code e = the-code _ code (width false 32) Multiply e
+    (λ s x y d. unsigned-32 ops.Mul (λ t. t.registers 5 * t.registers 6) s (low-32 (s.registers 5 * s.registers 6)))
+narrow-32 Divide code e = the-code _ code (width false 32) Divide e
+    (λ s x y d. unsigned-32 ops.Divu (λ t. t.registers 5 / t.registers 6) s (ap (λ q. q % 2 ^ 32) (quotient-is (s.registers 5) (s.registers 6) (d refl))))
+narrow-32 Modulo code e = the-code _ code (width false 32) Modulo e
+    (λ s x y d. unsigned-32 ops.Remu (λ t. t.registers 5 % t.registers 6) s (ap (λ q. q % 2 ^ 32) (remainder-is (s.registers 5) (s.registers 6) (d refl))))
+narrow-32 Xor code e = the-code _ code (width false 32) Xor e
+    (λ s x y d. unsigned-32 ops.Xor (λ t. bit_xor (t.registers 5) (t.registers 6)) s refl)
+narrow-32 And code e = the-code _ code (width false 32) And e
+    (λ s x y d. unsigned-32 ops.And (λ t. bit_and (t.registers 5) (t.registers 6)) s refl)
+narrow-32 Or code e = the-code _ code (width false 32) Or e
+    (λ s x y d. unsigned-32 ops.Or (λ t. bit_or (t.registers 5) (t.registers 6)) s refl)
+narrow-32 ShiftLeft code e = compares false 32 ShiftLeft code e
+narrow-32 ShiftRight code e = compares false 32 ShiftRight code e
+narrow-32 Equal code e = compares false 32 Equal code e
+narrow-32 NotEqual code e = compares false 32 NotEqual code e
+narrow-32 Less code e = compares false 32 Less code e
+narrow-32 LessEqual code e = compares false 32 LessEqual code e
+narrow-32 Greater code e = compares false 32 Greater code e
+narrow-32 GreaterEqual code e = compares false 32 GreaterEqual code e
+
+-- fewer bits without a sign: what is left of any 64-bit operation whose low bits are right
+unsigned-16 : (op : RegisterOp) (n : State → ℕ) (s : State) →
+    register_value op (s.registers 5) (s.registers 6) % 2 ^ 16 ≡ n s % 2 ^ 16 →
+    Leads (RegisterRegister op x5 x5 x6 ∷ Shift Slli x5 x5 gap_16 ∷ Shift Srli x5 x5 gap_16 ∷ []) s (wrapped (width false 16) (n s))
+unfolding shifted_left shifted_right
+unsigned-16 op n s e =
+    let v = register_value op (s.registers 5) (s.registers 6) in
+    three _ _ _ s v (low (v * 2 ^ 48)) (low (v * 2 ^ 48) / 2 ^ 48) _ refl refl refl (zeros-16 v (n s) e)
+
+narrow-16 : (op : BinaryOperator) (code : List Instr) → narrow_unsigned gap_16 op ≡ Some code → Computes code (width false 16) op
+unfolding applied difference
+narrow-16 Add code e = the-code _ code (width false 16) Add e
+    (λ s x y d. unsigned-16 ops.Add (λ t. t.registers 5 + t.registers 6) s (low-16 (s.registers 5 + s.registers 6)))
+narrow-16 Subtract code e = the-code _ code (width false 16) Subtract e
+    (λ s x y d. unsigned-16 ops.Sub (λ t. t.registers 5 + (2 ^ 64 - t.registers 6)) s (low-16 (s.registers 5 + (2 ^ 64 - s.registers 6))))
+narrow-16 Multiply code e = the-code _ code (width false 16) Multiply e
+    (λ s x y d. unsigned-16 ops.Mul (λ t. t.registers 5 * t.registers 6) s (low-16 (s.registers 5 * s.registers 6)))
+narrow-16 Divide code e = the-code _ code (width false 16) Divide e
+    (λ s x y d. unsigned-16 ops.Divu (λ t. t.registers 5 / t.registers 6) s (ap (λ q. q % 2 ^ 16) (quotient-is (s.registers 5) (s.registers 6) (d refl))))
+narrow-16 Modulo code e = the-code _ code (width false 16) Modulo e
+    (λ s x y d. unsigned-16 ops.Remu (λ t. t.registers 5 % t.registers 6) s (ap (λ q. q % 2 ^ 16) (remainder-is (s.registers 5) (s.registers 6) (d refl))))
+narrow-16 Xor code e = the-code _ code (width false 16) Xor e
+    (λ s x y d. unsigned-16 ops.Xor (λ t. bit_xor (t.registers 5) (t.registers 6)) s refl)
+narrow-16 And code e = the-code _ code (width false 16) And e
+    (λ s x y d. unsigned-16 ops.And (λ t. bit_and (t.registers 5) (t.registers 6)) s refl)
+narrow-16 Or code e = the-code _ code (width false 16) Or e
+    (λ s x y d. unsigned-16 ops.Or (λ t. bit_or (t.registers 5) (t.registers 6)) s refl)
+narrow-16 ShiftLeft code e = compares false 16 ShiftLeft code e
+narrow-16 ShiftRight code e = compares false 16 ShiftRight code e
+narrow-16 Equal code e = compares false 16 Equal code e
+narrow-16 NotEqual code e = compares false 16 NotEqual code e
+narrow-16 Less code e = compares false 16 Less code e
+narrow-16 LessEqual code e = compares false 16 LessEqual code e
+narrow-16 Greater code e = compares false 16 Greater code e
+narrow-16 GreaterEqual code e = compares false 16 GreaterEqual code e
+
+-- fewer bits without a sign: what is left of any 64-bit operation whose low bits are right
+unsigned-8 : (op : RegisterOp) (n : State → ℕ) (s : State) →
+    register_value op (s.registers 5) (s.registers 6) % 2 ^ 8 ≡ n s % 2 ^ 8 →
+    Leads (RegisterRegister op x5 x5 x6 ∷ Shift Slli x5 x5 gap_8 ∷ Shift Srli x5 x5 gap_8 ∷ []) s (wrapped (width false 8) (n s))
+unfolding shifted_left shifted_right
+unsigned-8 op n s e =
+    let v = register_value op (s.registers 5) (s.registers 6) in
+    three _ _ _ s v (low (v * 2 ^ 56)) (low (v * 2 ^ 56) / 2 ^ 56) _ refl refl refl (zeros-8 v (n s) e)
+
+narrow-8 : (op : BinaryOperator) (code : List Instr) → narrow_unsigned gap_8 op ≡ Some code → Computes code (width false 8) op
+unfolding applied difference
+narrow-8 Add code e = the-code _ code (width false 8) Add e
+    (λ s x y d. unsigned-8 ops.Add (λ t. t.registers 5 + t.registers 6) s (low-8 (s.registers 5 + s.registers 6)))
+narrow-8 Subtract code e = the-code _ code (width false 8) Subtract e
+    (λ s x y d. unsigned-8 ops.Sub (λ t. t.registers 5 + (2 ^ 64 - t.registers 6)) s (low-8 (s.registers 5 + (2 ^ 64 - s.registers 6))))
+narrow-8 Multiply code e = the-code _ code (width false 8) Multiply e
+    (λ s x y d. unsigned-8 ops.Mul (λ t. t.registers 5 * t.registers 6) s (low-8 (s.registers 5 * s.registers 6)))
+narrow-8 Divide code e = the-code _ code (width false 8) Divide e
+    (λ s x y d. unsigned-8 ops.Divu (λ t. t.registers 5 / t.registers 6) s (ap (λ q. q % 2 ^ 8) (quotient-is (s.registers 5) (s.registers 6) (d refl))))
+narrow-8 Modulo code e = the-code _ code (width false 8) Modulo e
+    (λ s x y d. unsigned-8 ops.Remu (λ t. t.registers 5 % t.registers 6) s (ap (λ q. q % 2 ^ 8) (remainder-is (s.registers 5) (s.registers 6) (d refl))))
+narrow-8 Xor code e = the-code _ code (width false 8) Xor e
+    (λ s x y d. unsigned-8 ops.Xor (λ t. bit_xor (t.registers 5) (t.registers 6)) s refl)
+narrow-8 And code e = the-code _ code (width false 8) And e
+    (λ s x y d. unsigned-8 ops.And (λ t. bit_and (t.registers 5) (t.registers 6)) s refl)
+narrow-8 Or code e = the-code _ code (width false 8) Or e
+    (λ s x y d. unsigned-8 ops.Or (λ t. bit_or (t.registers 5) (t.registers 6)) s refl)
+narrow-8 ShiftLeft code e = compares false 8 ShiftLeft code e
+narrow-8 ShiftRight code e = compares false 8 ShiftRight code e
+narrow-8 Equal code e = compares false 8 Equal code e
+narrow-8 NotEqual code e = compares false 8 NotEqual code e
+narrow-8 Less code e = compares false 8 Less code e
+narrow-8 LessEqual code e = compares false 8 LessEqual code e
+narrow-8 Greater code e = compares false 8 Greater code e
+narrow-8 GreaterEqual code e = compares false 8 GreaterEqual code e
+
+-- by the number of bits
+by-sign : (bits : ℕ) (op : BinaryOperator) (code : List Instr) (signed unsigned : Option (List Instr)) →
+    (signed ≡ Some code → Computes code (width true bits) op) → (unsigned ≡ Some code → Computes code (width false bits) op) →
+    (sg : Bool) → (if sg then signed else unsigned) ≡ Some code → Computes code (width sg bits) op
+by-sign bits op code signed unsigned f g true e = f e
+by-sign bits op code signed unsigned f g false e = g e
+
+-- one test of the number of bits
+by-bits : (sg : Bool) (bits n : ℕ) (op : BinaryOperator) (code : List Instr) (here rest : Option (List Instr)) →
+    (here ≡ Some code → Computes code (width sg n) op) → (rest ≡ Some code → Computes code (width sg bits) op) →
+    (if nat_eq bits n then here else rest) ≡ Some code → Computes code (width sg bits) op
+by-bits sg bits n op code here rest f g e =
     ⊎_elim
-    (λ wide. subst (λ n. Computes code (width sg n) op) (sym wide)
-    (of-64 sg op code (sym (ap (λ b. if b then of_64_bits sg op else narrow sg bits op) (eq-eqb bits 64 wide)) ∙ e)))
-    (λ other.
-    let rest : narrow sg bits op ≡ Some code = sym (ap (λ b. if b then of_64_bits sg op else narrow sg bits op) (ne_eqb bits 64 other)) ∙ e in
-    ⊎_elim
-    (λ half. subst (λ n. Computes code (width sg n) op) (sym half)
-    (signed-or sg (sym (ap (λ b. if b then (if sg then of_32_bits op else comparison false op) else comparison sg op) (eq-eqb bits 32 half)) ∙ rest)))
-    (λ small. compares sg bits op code (sym (ap (λ b. if b then (if sg then of_32_bits op else comparison false op) else comparison sg op) (ne_eqb bits 32 small)) ∙ rest))
-    (cases_eq bits 32))
-    (cases_eq bits 64)
-  where
-    signed-or : (b : Bool) → (if b then of_32_bits op else comparison false op) ≡ Some code → Computes code (width b 32) op
-    signed-or true f = of-32 op code f
-    signed-or false f = compares false 32 op code f
+    (λ same. subst (λ m. Computes code (width sg m) op) (sym same) (f (sym (ap (λ b. if b then here else rest) (eq-eqb bits n same)) ∙ e)))
+    (λ other. g (sym (ap (λ b. if b then here else rest) (ne_eqb bits n other)) ∙ e))
+    (cases_eq bits n)
 
 pub computed : (w : Width) (op : BinaryOperator) (code : List Instr) → code_of w op ≡ Some code → Computes code w op
-computed w op code e = of-width w.signed w.bits op code e
+computed w op code e =
+    by-bits w.signed w.bits 64 op code _ _ (of-64 w.signed op code)
+    (by-bits w.signed w.bits 32 op code _ _ (by-sign 32 op code _ _ (of-32 op code) (narrow-32 op code) w.signed)
+    (by-bits w.signed w.bits 16 op code _ _ (by-sign 16 op code _ _ (compares true 16 op code) (narrow-16 op code) w.signed)
+    (by-bits w.signed w.bits 8 op code _ _ (by-sign 8 op code _ _ (compares true 8 op code) (narrow-8 op code) w.signed)
+    (no-code code w op)))) e

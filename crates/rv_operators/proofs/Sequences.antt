@@ -44,3 +44,16 @@ two i j s v w result h k e = record {
   region = refl;
   private = refl;
 }
+
+pub three : (i j k : Instr) (s : State) (v w u result : ℕ) → act i s ≡ GoesOn (next s v) → act j (next s v) ≡ GoesOn (next (next s v) w) →
+    act k (next (next s v) w) ≡ GoesOn (next (next (next s v) w) u) → u ≡ result → Leads (i ∷ j ∷ k ∷ []) s result
+three i j k s v w u result h g f e = record {
+  after = next (next (next s v) w) u;
+  goes = ap (λ m. then_on m (λ t. then_on (act j t) (λ r. then_on (act k r) (λ q. GoesOn q)))) h
+      ∙ (ap (λ m. then_on m (λ r. then_on (act k r) (λ q. GoesOn q))) g ∙ ap (λ m. then_on m (λ q. GoesOn q)) f);
+  gives = e;
+  behind = ap (λ p. low (low (p + 4) + 4)) (low-first s.pc) ∙ (ap (λ p. low (p + 4)) (low-twice s.pc 1 2 refl) ∙ low-twice s.pc 2 3 refl);
+  keeps = λ r five six seven. next-keeps (next (next s v) w) u r five ∙ (next-keeps (next s v) w r five ∙ next-keeps s v r five);
+  region = refl;
+  private = refl;
+}

@@ -150,3 +150,36 @@ signed-less x y h k =
 
 pub shifted-small : (x n : ℕ) → x < 2 ^ 64 → x / 2 ^ n ≡ wrapped (width false 64) (x / 2 ^ n)
 shifted-small x n h = wrapped-small false (x / 2 ^ n) (omega (arith, div-le_self x (2 ^ n)))
+
+-- two shifts leave the low bits
+pub zeros-32 : (v n : ℕ) → v % 2 ^ 32 ≡ n % 2 ^ 32 → low (v * 2 ^ 32) / 2 ^ 32 ≡ wrapped (width false 32) n
+unfolding wrapped low
+zeros-32 v n e = omega (arith, e)
+
+pub zeros-16 : (v n : ℕ) → v % 2 ^ 16 ≡ n % 2 ^ 16 → low (v * 2 ^ 48) / 2 ^ 48 ≡ wrapped (width false 16) n
+unfolding wrapped low
+zeros-16 v n e = omega (arith, e)
+
+pub zeros-8 : (v n : ℕ) → v % 2 ^ 8 ≡ n % 2 ^ 8 → low (v * 2 ^ 56) / 2 ^ 56 ≡ wrapped (width false 8) n
+unfolding wrapped low
+zeros-8 v n e = omega (arith, e)
+
+pub low-32 : (n : ℕ) → low n % 2 ^ 32 ≡ n % 2 ^ 32
+unfolding low
+low-32 n = omega arith
+
+pub low-16 : (n : ℕ) → low n % 2 ^ 16 ≡ n % 2 ^ 16
+unfolding low
+low-16 n = omega arith
+
+pub low-8 : (n : ℕ) → low n % 2 ^ 8 ≡ n % 2 ^ 8
+unfolding low
+low-8 n = omega arith
+
+pub quotient-is : (x y : ℕ) → y ≢ 0 → quotient_unsigned x y ≡ x / y
+unfolding quotient_unsigned
+quotient-is x y n = ap (λ b. if b then 2 ^ 64 - 1 else x / y) (ne_eqb y 0 n)
+
+pub remainder-is : (x y : ℕ) → y ≢ 0 → remainder_unsigned x y ≡ x % y
+unfolding remainder_unsigned
+remainder-is x y n = ap (λ b. if b then x else x % y) (ne_eqb y 0 n)

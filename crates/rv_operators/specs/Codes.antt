@@ -2,8 +2,10 @@
 -- one of 32 bits with a sign is an operation of its own, or is extended by ADDIW.
 use Rattle.std.specs.Prelude.{ℕ, pos, Bool, true, false, nat_eq, if◌then◌else◌, List, [], ◌∷◌, ◌++◌, Option, Some, None}
 use Rattle.rv_isa.specs.declared.instr.Instr.{Instr}
-use Rattle.rv_isa.specs.declared.instr.Instr.TheVariants.{Addiw, RegisterImmediate, RegisterRegister, RegisterRegisterWord}
+use Rattle.rv_isa.specs.declared.instr.Instr.TheVariants.{Addiw, Shift, RegisterImmediate, RegisterRegister, RegisterRegisterWord}
 use Rattle.rv_isa.specs.declared.operation.ImmediateOp.TheVariants as immediates
+use Rattle.rv_isa.specs.declared.operation.ShiftOp.TheVariants.{Slli, Srli}
+use Rattle.rv_isa.specs.declared.operation.RegisterOp.{RegisterOp}
 use Rattle.rv_isa.specs.declared.operation.RegisterOp.TheVariants as ops
 use Rattle.rv_isa.specs.declared.operation.RegisterWordOp.TheVariants as word_ops
 use Rattle.terra_words.specs.declared.words.Width.{Width}
@@ -12,6 +14,7 @@ use Rattle.terra_words.specs.declared.words.BinaryOperator.TheVariants.{Add, Sub
 use Rattle.std.proofs.Common.{lit≤}
 use Rattle.rv_isa.specs.declared.operand.Register.{Register}
 use Rattle.rv_isa.specs.declared.operand.Immediate.{Immediate}
+use Rattle.rv_isa.specs.declared.operand.ShiftCount.{ShiftCount}
 
 -- the first operand and the result, the second operand, and the register that reads as zero
 abbrev pub x5 : Register
@@ -69,8 +72,34 @@ of_32_bits And = Some (RegisterRegister ops.And x5 x5 x6 ∷ Addiw x5 x5 zero_im
 of_32_bits Or = Some (RegisterRegister ops.Or x5 x5 x6 ∷ Addiw x5 x5 zero_immediate ∷ [])
 of_32_bits op = comparison true op
 
+-- the upper bits become zeros by two shifts
+abbrev pub gap_32 : ShiftCount
+gap_32 = record { count = 32; in_range = lit≤ tt }
+
+abbrev pub gap_16 : ShiftCount
+gap_16 = record { count = 48; in_range = lit≤ tt }
+
+abbrev pub gap_8 : ShiftCount
+gap_8 = record { count = 56; in_range = lit≤ tt }
+
+abbrev pub then_zeros : ShiftCount → RegisterOp → Option (List Instr)
+then_zeros gap op = Some (RegisterRegister op x5 x5 x6 ∷ Shift Slli x5 x5 gap ∷ Shift Srli x5 x5 gap ∷ [])
+
+-- an operator of fewer than 64 bits without a sign: that of 64 bits, and zeros
+abbrev pub narrow_unsigned : ShiftCount → BinaryOperator → Option (List Instr)
+narrow_unsigned gap Add = then_zeros gap ops.Add
+narrow_unsigned gap Subtract = then_zeros gap ops.Sub
+narrow_unsigned gap Multiply = then_zeros gap ops.Mul
+narrow_unsigned gap Divide = then_zeros gap ops.Divu
+narrow_unsigned gap Modulo = then_zeros gap ops.Remu
+narrow_unsigned gap Xor = then_zeros gap ops.Xor
+narrow_unsigned gap And = then_zeros gap ops.And
+narrow_unsigned gap Or = then_zeros gap ops.Or
+narrow_unsigned gap op = comparison false op
+
 abbrev pub code_of : Width → BinaryOperator → Option (List Instr)
 code_of w op =
     if nat_eq w.bits 64 then of_64_bits w.signed op
-    else (if nat_eq w.bits 32 then (if w.signed then of_32_bits op else comparison false op)
-    else comparison w.signed op)
+    else (if nat_eq w.bits 32 then (if w.signed then of_32_bits op else narrow_unsigned gap_32 op)
+    else (if nat_eq w.bits 16 then (if w.signed then comparison true op else narrow_unsigned gap_16 op)
+    else (if nat_eq w.bits 8 then (if w.signed then comparison true op else narrow_unsigned gap_8 op) else None)))
