@@ -3,10 +3,9 @@
 use reg_alloc::{Assignment, Home};
 use std::alloc::Global;
 use tac_form::{
-    Block, BlockList, Destination, DestinationList, Edge, Exit, Instruction, InstructionList,
-    Operand, Part, PartList, Signature, SizeList, Spot, Tac, TypeIds,
+    Address, Block, BlockList, Destination, DestinationList, Edge, Exit, Instruction,
+    InstructionList, Operand, Part, PartList, Signature, SizeList, Spot, Tac, TypeIds,
 };
-use tac_form::Address;
 use terra_words::{BinaryOperator, FaultKind, Width};
 use tl_base::{FnId, NoMemory, Place, TypeId};
 
@@ -105,11 +104,7 @@ fn spot(letters: &[u8], place: usize) -> Spot {
 fn exit_of(letters: &[u8]) -> Option<Exit> {
     match letters.get(0) {
         Some(b'j') => Some(Exit::Jump(edge(letters, 1))),
-        Some(b'b') => Some(Exit::Branch(
-            temp(letters, 1),
-            edge(letters, 2),
-            edge(letters, 3),
-        )),
+        Some(b'b') => Some(Exit::Branch(temp(letters, 1), edge(letters, 2), edge(letters, 3))),
         Some(b'r') => Some(Exit::Return(Part::Word(temp(letters, 1)))),
         Some(b'f') => Some(Exit::Fail(FaultKind::NoReturn, HERE)),
         _ => None,

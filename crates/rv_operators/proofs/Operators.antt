@@ -11,16 +11,16 @@ use Rattle.rv_isa.specs.declared.operation.RegisterOp.{RegisterOp}
 use Rattle.rv_isa.specs.declared.operation.RegisterOp.TheVariants as ops
 use Rattle.rv_isa.specs.declared.operation.RegisterWordOp.TheVariants as word_ops
 use Rattle.rv_machine.specs.Word.{low, difference, signed, extended_word}
-use Rattle.rv_machine.specs.Machine.{State}
+use Rattle.rv_machine.specs.Machine.{State, at_with}
 use Rattle.rv_machine.specs.Arithmetic.{flag, register_value, shifted_left, shifted_right, word_shifted_left, quotient_unsigned, remainder_unsigned}
 use Rattle.terra_words.specs.declared.words.Width.{Width}
 use Rattle.terra_words.specs.declared.words.BinaryOperator.{BinaryOperator}
 use Rattle.terra_words.specs.declared.words.BinaryOperator.TheVariants.{Add, Subtract, Multiply, Divide, Modulo, Xor, And, Or, ShiftLeft, ShiftRight, Equal, NotEqual, Less, LessEqual, Greater, GreaterEqual}
 use Rattle.terra_words.specs.Words.{wrapped, applied, divides}
 use Rattle.rv_operators.specs.Claims.{Computes, Leads}
-use Rattle.rv_operators.specs.Codes.{gap_8, gap_16, gap_32, narrow_unsigned, x0, x5, x6, one_immediate, zero_immediate, comparison, of_64_bits, of_32_bits, code_of}
-use Rattle.rv_operators.proofs.Sequences.{one, two, three}
-use Rattle.rv_operators.proofs.Values.{width, wrapped-64, wrapped-32, mixed, and-small, divided, left-over, equal-words, other-words, turned, difference-32, added-nothing, signed-less, shifted-small, zeros-8, zeros-16, zeros-32, low-8, low-16, low-32, quotient-is, remainder-is}
+use Rattle.rv_operators.specs.Codes.{mask_8, mask_16, mask_32, gap_8, gap_16, gap_32, narrow_unsigned, x0, x5, x6, one_immediate, zero_immediate, comparison, of_64_bits, of_32_bits, code_of}
+use Rattle.rv_operators.proofs.Sequences.{one, two, three, six-first}
+use Rattle.rv_operators.proofs.Values.{width, wrapped-64, wrapped-32, mixed, and-small, divided, left-over, equal-words, other-words, turned, difference-32, added-nothing, signed-less, shifted-small, zeros-8, zeros-16, zeros-32, low-8, low-16, low-32, count-8, count-16, count-32, quotient-is, remainder-is}
 
 -- 64 bits
 add-64 : (sg : Bool) → Computes (RegisterRegister ops.Add x5 x5 x6 ∷ []) (width sg 64) Add
@@ -224,8 +224,8 @@ unsigned-32 op n s e =
     let v = register_value op (s.registers 5) (s.registers 6) in
     three _ _ _ s v (low (v * 2 ^ 32)) (low (v * 2 ^ 32) / 2 ^ 32) _ refl refl refl (zeros-32 v (n s) e)
 
-narrow-32 : (op : BinaryOperator) (code : List Instr) → narrow_unsigned gap_32 op ≡ Some code → Computes code (width false 32) op
-unfolding applied difference
+narrow-32 : (op : BinaryOperator) (code : List Instr) → narrow_unsigned mask_32 gap_32 op ≡ Some code → Computes code (width false 32) op
+unfolding applied difference shifted_left shifted_right
 narrow-32 Add code e = the-code _ code (width false 32) Add e
     (λ s x y d. unsigned-32 ops.Add (λ t. t.registers 5 + t.registers 6) s (low-32 (s.registers 5 + s.registers 6)))
 narrow-32 Subtract code e = the-code _ code (width false 32) Subtract e
@@ -242,8 +242,14 @@ narrow-32 And code e = the-code _ code (width false 32) And e
     (λ s x y d. unsigned-32 ops.And (λ t. bit_and (t.registers 5) (t.registers 6)) s refl)
 narrow-32 Or code e = the-code _ code (width false 32) Or e
     (λ s x y d. unsigned-32 ops.Or (λ t. bit_or (t.registers 5) (t.registers 6)) s refl)
-narrow-32 ShiftLeft code e = compares false 32 ShiftLeft code e
-narrow-32 ShiftRight code e = compares false 32 ShiftRight code e
+narrow-32 ShiftLeft code e = the-code _ code (width false 32) ShiftLeft e
+    (λ s x y d. six-first _ _ s (bit_and (s.registers 6) 31) _ refl
+    (unsigned-32 ops.Sll (λ t. s.registers 5 * 2 ^ (s.registers 6 % 32)) (at_with s (low (s.pc + 4)) 6 (bit_and (s.registers 6) 31))
+    (low-32 (s.registers 5 * 2 ^ (bit_and (s.registers 6) 31 % 2 ^ 6)) ∙ ap (λ c. s.registers 5 * 2 ^ c % 2 ^ 32) (count-32 (s.registers 6)))))
+narrow-32 ShiftRight code e = the-code _ code (width false 32) ShiftRight e
+    (λ s x y d. six-first _ _ s (bit_and (s.registers 6) 31) _ refl
+    (unsigned-32 ops.Srl (λ t. s.registers 5 / 2 ^ (s.registers 6 % 32)) (at_with s (low (s.pc + 4)) 6 (bit_and (s.registers 6) 31))
+    (ap (λ c. s.registers 5 / 2 ^ c % 2 ^ 32) (count-32 (s.registers 6)))))
 narrow-32 Equal code e = compares false 32 Equal code e
 narrow-32 NotEqual code e = compares false 32 NotEqual code e
 narrow-32 Less code e = compares false 32 Less code e
@@ -260,8 +266,8 @@ unsigned-16 op n s e =
     let v = register_value op (s.registers 5) (s.registers 6) in
     three _ _ _ s v (low (v * 2 ^ 48)) (low (v * 2 ^ 48) / 2 ^ 48) _ refl refl refl (zeros-16 v (n s) e)
 
-narrow-16 : (op : BinaryOperator) (code : List Instr) → narrow_unsigned gap_16 op ≡ Some code → Computes code (width false 16) op
-unfolding applied difference
+narrow-16 : (op : BinaryOperator) (code : List Instr) → narrow_unsigned mask_16 gap_16 op ≡ Some code → Computes code (width false 16) op
+unfolding applied difference shifted_left shifted_right
 narrow-16 Add code e = the-code _ code (width false 16) Add e
     (λ s x y d. unsigned-16 ops.Add (λ t. t.registers 5 + t.registers 6) s (low-16 (s.registers 5 + s.registers 6)))
 narrow-16 Subtract code e = the-code _ code (width false 16) Subtract e
@@ -278,8 +284,14 @@ narrow-16 And code e = the-code _ code (width false 16) And e
     (λ s x y d. unsigned-16 ops.And (λ t. bit_and (t.registers 5) (t.registers 6)) s refl)
 narrow-16 Or code e = the-code _ code (width false 16) Or e
     (λ s x y d. unsigned-16 ops.Or (λ t. bit_or (t.registers 5) (t.registers 6)) s refl)
-narrow-16 ShiftLeft code e = compares false 16 ShiftLeft code e
-narrow-16 ShiftRight code e = compares false 16 ShiftRight code e
+narrow-16 ShiftLeft code e = the-code _ code (width false 16) ShiftLeft e
+    (λ s x y d. six-first _ _ s (bit_and (s.registers 6) 15) _ refl
+    (unsigned-16 ops.Sll (λ t. s.registers 5 * 2 ^ (s.registers 6 % 16)) (at_with s (low (s.pc + 4)) 6 (bit_and (s.registers 6) 15))
+    (low-16 (s.registers 5 * 2 ^ (bit_and (s.registers 6) 15 % 2 ^ 6)) ∙ ap (λ c. s.registers 5 * 2 ^ c % 2 ^ 16) (count-16 (s.registers 6)))))
+narrow-16 ShiftRight code e = the-code _ code (width false 16) ShiftRight e
+    (λ s x y d. six-first _ _ s (bit_and (s.registers 6) 15) _ refl
+    (unsigned-16 ops.Srl (λ t. s.registers 5 / 2 ^ (s.registers 6 % 16)) (at_with s (low (s.pc + 4)) 6 (bit_and (s.registers 6) 15))
+    (ap (λ c. s.registers 5 / 2 ^ c % 2 ^ 16) (count-16 (s.registers 6)))))
 narrow-16 Equal code e = compares false 16 Equal code e
 narrow-16 NotEqual code e = compares false 16 NotEqual code e
 narrow-16 Less code e = compares false 16 Less code e
@@ -296,8 +308,8 @@ unsigned-8 op n s e =
     let v = register_value op (s.registers 5) (s.registers 6) in
     three _ _ _ s v (low (v * 2 ^ 56)) (low (v * 2 ^ 56) / 2 ^ 56) _ refl refl refl (zeros-8 v (n s) e)
 
-narrow-8 : (op : BinaryOperator) (code : List Instr) → narrow_unsigned gap_8 op ≡ Some code → Computes code (width false 8) op
-unfolding applied difference
+narrow-8 : (op : BinaryOperator) (code : List Instr) → narrow_unsigned mask_8 gap_8 op ≡ Some code → Computes code (width false 8) op
+unfolding applied difference shifted_left shifted_right
 narrow-8 Add code e = the-code _ code (width false 8) Add e
     (λ s x y d. unsigned-8 ops.Add (λ t. t.registers 5 + t.registers 6) s (low-8 (s.registers 5 + s.registers 6)))
 narrow-8 Subtract code e = the-code _ code (width false 8) Subtract e
@@ -314,8 +326,14 @@ narrow-8 And code e = the-code _ code (width false 8) And e
     (λ s x y d. unsigned-8 ops.And (λ t. bit_and (t.registers 5) (t.registers 6)) s refl)
 narrow-8 Or code e = the-code _ code (width false 8) Or e
     (λ s x y d. unsigned-8 ops.Or (λ t. bit_or (t.registers 5) (t.registers 6)) s refl)
-narrow-8 ShiftLeft code e = compares false 8 ShiftLeft code e
-narrow-8 ShiftRight code e = compares false 8 ShiftRight code e
+narrow-8 ShiftLeft code e = the-code _ code (width false 8) ShiftLeft e
+    (λ s x y d. six-first _ _ s (bit_and (s.registers 6) 7) _ refl
+    (unsigned-8 ops.Sll (λ t. s.registers 5 * 2 ^ (s.registers 6 % 8)) (at_with s (low (s.pc + 4)) 6 (bit_and (s.registers 6) 7))
+    (low-8 (s.registers 5 * 2 ^ (bit_and (s.registers 6) 7 % 2 ^ 6)) ∙ ap (λ c. s.registers 5 * 2 ^ c % 2 ^ 8) (count-8 (s.registers 6)))))
+narrow-8 ShiftRight code e = the-code _ code (width false 8) ShiftRight e
+    (λ s x y d. six-first _ _ s (bit_and (s.registers 6) 7) _ refl
+    (unsigned-8 ops.Srl (λ t. s.registers 5 / 2 ^ (s.registers 6 % 8)) (at_with s (low (s.pc + 4)) 6 (bit_and (s.registers 6) 7))
+    (ap (λ c. s.registers 5 / 2 ^ c % 2 ^ 8) (count-8 (s.registers 6)))))
 narrow-8 Equal code e = compares false 8 Equal code e
 narrow-8 NotEqual code e = compares false 8 NotEqual code e
 narrow-8 Less code e = compares false 8 Less code e

@@ -1,5 +1,5 @@
 -- One and two instructions that write x5.
-use Rattle.std.proofs.Common.{◌≡◌, ◌≢◌, ℕ, ◌+◌, ◌*◌, ◌%◌, ◌^◌, ◌<◌, List, [], ◌∷◌, refl, sym, ap, ◌∙◌, arith}
+use Rattle.std.proofs.Common.{◌≡◌, ◌≢◌, ℕ, ◌+◌, ◌*◌, ◌%◌, ◌^◌, ◌<◌, List, [], ◌∷◌, suc, length, refl, sym, ap, ◌∙◌, arith}
 use Rattle.std.specs.Prelude.{if◌then◌else◌}
 use Rattle.std.proofs.lemmas.Bool.{ne_eqb}
 use Rattle.rv_isa.specs.declared.instr.Instr.{Instr}
@@ -56,4 +56,21 @@ three i j k s v w u result h g f e = record {
   keeps = λ r five six seven. next-keeps (next (next s v) w) u r five ∙ (next-keeps (next s v) w r five ∙ next-keeps s v r five);
   region = refl;
   private = refl;
+}
+
+low-more : (p n : ℕ) → low (low (p + 4) + 4 * n) ≡ low (p + 4 * suc n)
+unfolding low
+low-more p n = omega arith
+
+-- an instruction that writes x6 before a sequence
+pub six-first : (i : Instr) (rest : List Instr) (s : State) (v result : ℕ) → act i s ≡ GoesOn (at_with s (low (s.pc + 4)) 6 v) →
+    Leads rest (at_with s (low (s.pc + 4)) 6 v) result → Leads (i ∷ rest) s result
+six-first i rest s v result h l = record {
+  after = l.after;
+  goes = ap (λ m. then_on m (λ t. acts rest t)) h ∙ l.goes;
+  gives = l.gives;
+  behind = l.behind ∙ low-more s.pc (length rest);
+  keeps = λ r five six seven. l.keeps r five six seven ∙ ap (λ b. if b then v else s.registers r) (ne_eqb r 6 six);
+  region = l.region;
+  private = l.private;
 }

@@ -4,7 +4,7 @@ use Rattle.std.specs.Prelude.{if◌then◌else◌, nat_eq, nat_lt, nat_le, bit_a
 use Rattle.std.specs.Int.{w32, w64, cast_signed, cast_unsigned}
 use Rattle.std.proofs.lemmas.Bool.{cases_eq, cases_lt, cases_Bool, eq-eqb, ne_eqb, lt-ltb, le-ltb, le-leb, lt-leb}
 use Rattle.std.proofs.lemmas.Int.{ints, to_z_pos}
-use Rattle.std.proofs.lemmas.Nat.{and_le_l, or_lt, xor_lt}
+use Rattle.std.proofs.lemmas.Nat.{and_mask, and_le_l, or_lt, xor_lt}
 use Rattle.std.proofs.Math.Nat.{div-le_self, mod-lt}
 use mir.Facts.{to_z-neg}
 use Rattle.terra_words.specs.declared.words.Width.{Width}
@@ -183,3 +183,21 @@ quotient-is x y n = ap (λ b. if b then 2 ^ 64 - 1 else x / y) (ne_eqb y 0 n)
 pub remainder-is : (x y : ℕ) → y ≢ 0 → remainder_unsigned x y ≡ x % y
 unfolding remainder_unsigned
 remainder-is x y n = ap (λ b. if b then x else x % y) (ne_eqb y 0 n)
+
+pub count-32 : (y : ℕ) → bit_and y 31 % 2 ^ 6 ≡ y % 32
+count-32 y =
+    let m : bit_and y 31 ≡ y % 2 ^ 5 = and_mask y 5 in
+    let n : y % 2 ^ 5 % 2 ^ 6 ≡ y % 32 = omega arith in
+    ap (λ c. c % 2 ^ 6) m ∙ n
+
+pub count-16 : (y : ℕ) → bit_and y 15 % 2 ^ 6 ≡ y % 16
+count-16 y =
+    let m : bit_and y 15 ≡ y % 2 ^ 4 = and_mask y 4 in
+    let n : y % 2 ^ 4 % 2 ^ 6 ≡ y % 16 = omega arith in
+    ap (λ c. c % 2 ^ 6) m ∙ n
+
+pub count-8 : (y : ℕ) → bit_and y 7 % 2 ^ 6 ≡ y % 8
+count-8 y =
+    let m : bit_and y 7 ≡ y % 2 ^ 3 = and_mask y 3 in
+    let n : y % 2 ^ 3 % 2 ^ 6 ≡ y % 8 = omega arith in
+    ap (λ c. c % 2 ^ 6) m ∙ n

@@ -85,21 +85,38 @@ gap_8 = record { count = 56; in_range = lit≤ tt }
 abbrev pub then_zeros : ShiftCount → RegisterOp → Option (List Instr)
 then_zeros gap op = Some (RegisterRegister op x5 x5 x6 ∷ Shift Slli x5 x5 gap ∷ Shift Srli x5 x5 gap ∷ [])
 
+-- the masks of counts of shifts
+abbrev pub mask_32 : Immediate
+mask_32 = record { value = pos 31; lowest = record { le = tt }; highest = record { le = tt } }
+
+abbrev pub mask_16 : Immediate
+mask_16 = record { value = pos 15; lowest = record { le = tt }; highest = record { le = tt } }
+
+abbrev pub mask_8 : Immediate
+mask_8 = record { value = pos 7; lowest = record { le = tt }; highest = record { le = tt } }
+
+-- a shift by the low bits of its count
+abbrev pub masked : Immediate → ShiftCount → RegisterOp → Option (List Instr)
+masked mask gap op =
+    Some (RegisterImmediate immediates.Andi x6 x6 mask ∷ RegisterRegister op x5 x5 x6 ∷ Shift Slli x5 x5 gap ∷ Shift Srli x5 x5 gap ∷ [])
+
 -- an operator of fewer than 64 bits without a sign: that of 64 bits, and zeros
-abbrev pub narrow_unsigned : ShiftCount → BinaryOperator → Option (List Instr)
-narrow_unsigned gap Add = then_zeros gap ops.Add
-narrow_unsigned gap Subtract = then_zeros gap ops.Sub
-narrow_unsigned gap Multiply = then_zeros gap ops.Mul
-narrow_unsigned gap Divide = then_zeros gap ops.Divu
-narrow_unsigned gap Modulo = then_zeros gap ops.Remu
-narrow_unsigned gap Xor = then_zeros gap ops.Xor
-narrow_unsigned gap And = then_zeros gap ops.And
-narrow_unsigned gap Or = then_zeros gap ops.Or
-narrow_unsigned gap op = comparison false op
+abbrev pub narrow_unsigned : Immediate → ShiftCount → BinaryOperator → Option (List Instr)
+narrow_unsigned mask gap Add = then_zeros gap ops.Add
+narrow_unsigned mask gap Subtract = then_zeros gap ops.Sub
+narrow_unsigned mask gap Multiply = then_zeros gap ops.Mul
+narrow_unsigned mask gap Divide = then_zeros gap ops.Divu
+narrow_unsigned mask gap Modulo = then_zeros gap ops.Remu
+narrow_unsigned mask gap Xor = then_zeros gap ops.Xor
+narrow_unsigned mask gap And = then_zeros gap ops.And
+narrow_unsigned mask gap Or = then_zeros gap ops.Or
+narrow_unsigned mask gap ShiftLeft = masked mask gap ops.Sll
+narrow_unsigned mask gap ShiftRight = masked mask gap ops.Srl
+narrow_unsigned mask gap op = comparison false op
 
 abbrev pub code_of : Width → BinaryOperator → Option (List Instr)
 code_of w op =
     if nat_eq w.bits 64 then of_64_bits w.signed op
-    else (if nat_eq w.bits 32 then (if w.signed then of_32_bits op else narrow_unsigned gap_32 op)
-    else (if nat_eq w.bits 16 then (if w.signed then comparison true op else narrow_unsigned gap_16 op)
-    else (if nat_eq w.bits 8 then (if w.signed then comparison true op else narrow_unsigned gap_8 op) else None)))
+    else (if nat_eq w.bits 32 then (if w.signed then of_32_bits op else narrow_unsigned mask_32 gap_32 op)
+    else (if nat_eq w.bits 16 then (if w.signed then comparison true op else narrow_unsigned mask_16 gap_16 op)
+    else (if nat_eq w.bits 8 then (if w.signed then comparison true op else narrow_unsigned mask_8 gap_8 op) else None)))
