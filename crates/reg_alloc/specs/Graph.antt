@@ -1,5 +1,5 @@
--- What of three-address code matters for registers: which temporaries each part reads, which one it writes, and which blocks
--- follow a block.
+-- What of three-address code matters for registers: which temporaries each part reads, which one it writes, and
+-- which blocks follow a block.
 use Rattle.std.specs.Prelude.{ℕ, List, [], ◌∷◌, ◌++◌, Option, Some, None, map}
 use Rattle.std.specs.List.{flat_map}
 use Rattle.tac_form.specs.declared.tac.Operand.{Operand}

@@ -4,8 +4,8 @@ ghost use Rattle.std.specs.Prelude.{◌≡◌};
 
 use std::marker::Model;
 
-/// Where a temporary stands in machine code: in one of the registers that calls keep, by its number, or in a slot of the
-/// frame, which holds a word.
+/// Where a temporary stands in machine code: in one of the registers that calls keep, by its number, or in a slot of
+/// the frame, which holds a word.
 #[derive(Clone, Copy, Debug, PartialEq, Eq)]
 pub enum Home {
     Register(u64),

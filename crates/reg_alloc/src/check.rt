@@ -164,11 +164,12 @@ pub fn is_graph_below(graph: &[FlowBlock], count: usize) -> bool
     graph.iter().all(|b| is_block_below(b, count))
 }
 
-/// Whether an assignment is right for code: exactly where each temporary that is ever in use has a register from x18 to x27 or
-/// a slot, and no two that are in use at one place share it.
+/// Whether an assignment is right for code: exactly where each temporary that is ever in use has a register from x18
+/// to x27 or a slot, and no two that are in use at one place share it.
 ///
-/// It takes time in the order of places by homes for the places themselves, and of rounds by blocks by homes before, with as
-/// many rounds as loops hold one another and two more for code whose uncounted edges lead forward; memory of blocks by homes.
+/// It takes time in the order of places by homes for the places themselves, and of rounds by blocks by homes before,
+/// with as many rounds as loops hold one another and two more for code whose uncounted edges lead forward; memory of
+/// blocks by homes.
 pub fn check_assignment(alloc: Global, tac: &Tac, assignment: &Assignment) -> Result<bool, NoMemory>
     ensures { IfOk result (λ right. IsTrue right ↔ IsRight tac.now assignment.now) }
 {

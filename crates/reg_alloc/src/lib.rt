@@ -1,7 +1,7 @@
 //! Registers and slots for the temporaries of three-address code.
 //!
-//! `specs/Live.antt` says where a temporary is in use, and `specs/Right.antt` which assignments are right. `check_assignment`
-//! answers that exactly, for an assignment made in any way, and `assign` makes only such.
+//! `specs/Live.antt` says where a temporary is in use, and `specs/Right.antt` which assignments are right.
+//! `check_assignment` answers that exactly, for an assignment made in any way, and `assign` makes only such.
 #![tactic(auto)]
 
 pub mod all_slots;

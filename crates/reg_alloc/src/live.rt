@@ -1,6 +1,6 @@
-// Which temporaries are live where blocks begin: the least sets that the flow graph allows. They begin empty, and rounds from
-// the last block to the first put in what a block reads before it writes, or what is live behind it and not written in it,
-// until a round puts nothing in.
+// Which temporaries are live where blocks begin: the least sets that the flow graph allows. They begin empty, and
+// rounds from the last block to the first put in what a block reads before it writes, or what is live behind it and
+// not written in it, until a round puts nothing in.
 
 ghost use Rattle.std.specs.Prelude.{◌≡◌, ◌<◌, ◌||◌, false, length, replicate, IfOk};
 ghost use Rattle.reg_alloc.specs.Live.{before_exit};

@@ -1,8 +1,9 @@
 //! Says of the rows of standard input, one a line, whether `check_assignment` takes an assignment for a small piece of
-//! three-address code, and whether it takes that of `assign`. `stdin` and `stdout` are written by `bench/reg_rows`, by its own
-//! reading of the rules.
+//! three-address code, and whether it takes that of `assign`. `stdin` and `stdout` are written by `bench/reg_rows`,
+//! by its own reading of the rules.
 //!
-//! A row is the homes, a letter or digit for each temporary, and then the code's words, of which those of an exit end a block.
+//! A row is the homes, a letter or digit for each temporary, and then the code's words, of which those of an exit
+//! end a block.
 #![tactic(auto)]
 
 mod reading;

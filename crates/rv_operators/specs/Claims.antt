@@ -18,8 +18,8 @@ abbrev pub acts : List Instr → State → Moved
 acts [] s = GoesOn s
 acts (i ∷ is) s = then_on (act i s) (λ t. acts is t)
 
--- The sequence comes from a state to the address behind it, with this word in x5. It changes no register but x5 to x7, and
--- no memory.
+-- The sequence comes from a state to the address behind it, with this word in x5. It changes no register but x5 to
+-- x7, and no memory.
 pub record Leads (code : List Instr) (s : State) (result : ℕ) : Type 0 where
   pub after : State
   pub goes : acts code s ≡ GoesOn after

@@ -1,5 +1,5 @@
--- Which sequence stands for an operator at a width: of x5 and x6, to x5. An operation of 64 bits needs no more than itself, and
--- one of 32 bits with a sign is an operation of its own, or is extended by ADDIW.
+-- Which sequence stands for an operator at a width: of x5 and x6, to x5. An operation of 64 bits needs no more than
+-- itself, and one of 32 bits with a sign is an operation of its own, or is extended by ADDIW.
 use Rattle.std.specs.Prelude.{ℕ, pos, Bool, true, false, nat_eq, if◌then◌else◌, List, [], ◌∷◌, ◌++◌, Option, Some, None}
 use Rattle.rv_isa.specs.declared.instr.Instr.{Instr}
 use Rattle.rv_isa.specs.declared.instr.Instr.TheVariants.{Addiw, Shift, RegisterImmediate, RegisterRegister, RegisterRegisterWord}
