@@ -59,7 +59,7 @@ is_short line word position f l w p =
 
 pub text_by_name : (line word position : ℕ) (f : LibFn) (name : List ℕ) → name ≡ library_text f →
     decimal line ++ (codes ":" ++ (decimal word ++ (codes ": bad argument " ++ (decimal position ++ (codes " to " ++ name)))))
-        ≡ bad_argument_text line word position f
+    ≡ bad_argument_text line word position f
 text_by_name line word position f name e =
     let a = decimal line in
     let b = decimal word in

@@ -7,7 +7,13 @@ ghost use Rattle.lua_table.specs.Heap.{text_at};
 ghost use Rattle.lua_table.specs.Keeping.{KeepsHeap};
 ghost use Rattle.lua_base.specs.Texts.{line_of};
 ghost use Rattle.lua_base.specs.Calls.{
-    turned, text_units, called, print_turned, type_turned, bad_argument, bad_argument_text,
+  turned,
+  text_units,
+  called,
+  print_turned,
+  type_turned,
+  bad_argument,
+  bad_argument_text,
 };
 
 use crate::texts::{push_text, push_texts};

@@ -1,14 +1,15 @@
 // The texts of values.
 
 ghost use Rattle.std.specs.Prelude.{◌≡◌, ◌++◌, OnOk};
-ghost use Rattle.lua_base.specs.Texts.{numbered, value_text, tabs_before};
+ghost use Rattle.lua_base.specs.Texts.{named, numbered, primitive_text, value_text, tabs_before};
 
 use lua_table::Heap;
-use lua_value::Value;
+use lua_value::{Primitive, Value};
 use tl_base::{NoMemory, Text2};
 
 /// Puts the text of a value behind a line: that of a text is its bytes, and that of what has none is its kind, and its number among those of
-/// its kind, from 1. A function of the library has its name in place of the number.
+/// its kind, from 1. A function of the library, and a primitive of Terra, has
+/// its name in place of the number.
 pub fn push_text(heap: &Heap, line: &mut Text2, value: Value) -> Result<(), NoMemory>
     ensures { OnOk result (line.new ≡ line.old ++ value_text heap.now value) }
 {
@@ -22,11 +23,7 @@ pub fn push_text(heap: &Heap, line: &mut Text2, value: Value) -> Result<(), NoMe
             line.push_bytes(text.as_bytes())
         }
         Value::Text(text) => line.push_bytes(heap.text(text)),
-        Value::Library(function) => {
-            let name = function.name();
-            let text = format!(in heap.allocator(); "function: {name}")?;
-            line.push_bytes(text.as_bytes())
-        }
+        Value::Library(function) => push_named(heap, line, value, function.name()),
         Value::Table(id) => push_numbered(heap, line, value, id.0),
         Value::Closure(id) => push_numbered(heap, line, value, id.0),
         Value::TerraFunction(id) => push_numbered(heap, line, value, id.0),
@@ -36,8 +33,33 @@ pub fn push_text(heap: &Heap, line: &mut Text2, value: Value) -> Result<(), NoMe
         Value::Macro(id) => push_numbered(heap, line, value, id.0),
         Value::Global(id) => push_numbered(heap, line, value, id.0),
         Value::Constant(id) => push_numbered(heap, line, value, id.0),
-        Value::Primitive(primitive) => push_numbered(heap, line, value, primitive.number()),
+        Value::Primitive(primitive) => { push_named(heap, line, value, primitive_name(primitive)) }
     }
+}
+
+/// The name of a primitive of Terra.
+fn primitive_name(primitive: Primitive) -> &'static str
+    ensures { result.now ≡ primitive_text primitive }
+{
+    match primitive {
+        Primitive::PutByte => "putbyte",
+        Primitive::Write => "write",
+        Primitive::Alloc => "alloc",
+    }
+}
+
+/// Puts the kind of a value behind a line, and a name.
+fn push_named(
+    heap: &Heap,
+    line: &mut Text2,
+    value: Value,
+    name: &'static str,
+) -> Result<(), NoMemory>
+    ensures { OnOk result (line.new ≡ line.old ++ named value name.now) }
+{
+    let kind = value.kind().name();
+    let text = format!(in heap.allocator(); "{kind}: {name}")?;
+    line.push_bytes(text.as_bytes())
 }
 
 /// Puts the kind of a value behind a line, and a number from 1.
