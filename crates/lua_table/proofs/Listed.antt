@@ -1,11 +1,11 @@
 -- The list of places beside a table's pairs.
-use Rattle.std.proofs.Common.{ℕ, zero, suc, ◌+◌, ◌-◌, ◌<◌, ◌≤◌, pos, ◌≡◌, ◌≢◌, Bool, true, false, cond, not, ltb, List, [], ◌∷◌, ◌++◌, length, take, get_or, slice_get, unwrap_or, Some, None, refl, sym, ◌∙◌, ap, subst, arith}
+use Rattle.std.proofs.Common.{ℕ, zero, suc, ◌+◌, ◌-◌, ◌<◌, ◌≤◌, pos, ◌≡◌, Bool, true, false, cond, not, ltb, List, [], ◌∷◌, ◌++◌, length, take, get_or, slice_get, Some, None, refl, sym, ◌∙◌, ap, subst, arith}
 use Rattle.std.proofs.Math.ListN.{get_or-append}
 use Rattle.std.proofs.Math.Seq.{get_or-append_seam}
 use Rattle.std.proofs.lemmas.Bool.Decides.{nat_tests}
 use Rattle.std.proofs.lemmas.List.{append-nil, length-append, length-take-le, get_or-take}
 use Rattle.std.proofs.lemmas.Option.{slice_get_within}
-use Rattle.std.specs.Map.{keys_of, values_of, lookup}
+use Rattle.std.specs.Map.{keys_of, values_of}
 use Rattle.std.specs.List.{position, position_or_len, IsDistinct, AllByRecursion}
 use Rattle.indexmap.specs.IndexMap.{insert_entry, set_value_at}
 use Rattle.lua_value.specs.Numbers.{largest_size}
@@ -15,7 +15,7 @@ use Rattle.lua_value.specs.declared.value.Value.TheVariants.{Nil, Number}
 use Rattle.lua_value.proofs.Same.{same_value_equal, same_value_self}
 use Rattle.lua_table.specs.Keys.{IsKey}
 use Rattle.lua_table.specs.Borders.{IsFull, IsBorder, AreListed, AreFull, AreTable, IsStored, index_in}
-use Rattle.lua_table.specs.Pairs.{Pairs, value_in, value_at, with_value}
+use Rattle.lua_table.specs.Pairs.{Pairs, value_at, with_value}
 use Rattle.lua_table.proofs.Border.{none_beyond}
 use Rattle.lua_table.proofs.Stored.{keyed_stored, is_stored, emptied, kept_empty, kept_full, grown, key_at, stored_full, differs, apart_test}
 
@@ -207,15 +207,10 @@ elsewhere_by ps listed key value false e k table past other = table_stored ps li
 pub table_elsewhere : (ps : Pairs) (listed : List ℕ) (key value : Value) → IsKey key → AreTable ps listed → (0 < index_in key → index_in key ≤ length listed → ⊥) → (is_nil value ≡ false → index_in key ≡ length listed + 1 → ⊥) → AreTable (with_value ps key value) listed
 table_elsewhere ps listed key value k table past other = elsewhere_by ps listed key value (is_nil value) refl k table past other
 
-nowhere_by : (ps : Pairs) (place : ℕ) (key : Value) → slice_get (values_of ps) place ≡ None → slice_get (keys_of ps) place ≡ Some key → ⊥
+pub nowhere_by : (ps : Pairs) (place : ℕ) (key : Value) → slice_get (values_of ps) place ≡ None → slice_get (keys_of ps) place ≡ Some key → ⊥
 nowhere_by [] place key none there = absurd (cc there)
 nowhere_by (p ∷ ps) zero key none there = absurd (cc none)
 nowhere_by (p ∷ ps) (suc place) key none there = nowhere_by ps place key none there
-
--- at a listed place stands a value
-pub listed_value_there : (ps : Pairs) (listed : List ℕ) (key : Value) (index : ℕ) → AreListed ps listed → index_in key ≡ index → 0 < index → index ≤ length listed → slice_get (values_of ps) (get_or listed (index - 1) 0) ≡ None → ⊥
-listed_value_there ps listed key index places at above within none =
-    nowhere_by ps (get_or listed (index - 1) 0) key none (listed_key ps listed key index places at above within)
 
 push_by : (ps : Pairs) (listed : List ℕ) (place i : ℕ) (within : Bool) → within ≡ ltb i (length listed) → AreListed ps listed → slice_get (keys_of ps) place ≡ Some (Number (pos (length listed + 1))) → i < length listed + 1 → slice_get (keys_of ps) (get_or (listed ++ place ∷ []) i 0) ≡ Some (Number (pos (i + 1)))
 push_by ps listed place i true e places at h =
