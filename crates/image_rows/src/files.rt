@@ -95,8 +95,8 @@ impl FileRows {
         Ok(answers.text)
     }
 
-    /// What comes of the file with this byte at a place, and None where it stands there. A bad field that begins there is
-    /// named `here`.
+    /// What comes of the file with this byte at a place, and None where it stands there. A bad field that begins there
+    /// is named `here`.
     fn answer_with(&mut self, place: usize, byte: u8) -> Result<Option<String>, NoMemory> {
         let Some(before) = exchange(&mut self.bytes, place, byte) else {
             return Ok(None);

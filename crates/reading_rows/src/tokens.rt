@@ -15,8 +15,8 @@ pub enum Part {
     Size,
 }
 
-/// The tokens of a text with their places, up to the end or a refusal. A star is at the first token of a line. The lexer
-/// is asked once more behind the last answer, which it has to give again.
+/// The tokens of a text with their places, up to the end or a refusal. A star is at the first token of a line. The
+/// lexer is asked once more behind the last answer, which it has to give again.
 pub fn listing(alloc: Global, text: &str, part: Part) -> Result<String, NoMemory>
     requires { length text.now ≤ LONGEST_TEXT }
 {
