@@ -74,6 +74,7 @@ fn global(heap: &Heap, words: &[&str]) -> Result<String, NoMemory> {
     let key = value_at(&mut opened, words, 1)?;
     let value = opened.get(TableId(0), key);
     let mut text = show(&opened, &value)?;
+    let key = value_at(&mut opened, words, 1)?;
     let next = show_next(&opened, &opened.next(TableId(0), key))?;
     push_word(&mut text, next.as_str())?;
     Ok(text)
