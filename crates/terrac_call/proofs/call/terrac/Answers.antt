@@ -4,7 +4,7 @@ use Rattle.tl_base.specs.Outside.{IsRisen}
 use Rattle.terrac_call.specs.Words.{job_of}
 use Rattle.terrac_call.proofs.Answering.{answers_exactly}
 use Rattle.terrac_call.proofs.Top.{answers_rest, answers_stopped, rest_rose, rest_no_usage, rose_since}
-use Rattle.terrac_call.proofs.terrac.terrac.Goals as goal
+use Rattle.terrac_call.proofs.call.terrac.Goals as goal
 
 pub returns-in-Due-clause-answers : goal.returns-in-Due-clause-answers
 returns-in-Due-clause-answers g c =
