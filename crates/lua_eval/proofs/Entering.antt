@@ -1,0 +1,55 @@
+-- Steps that enter an expression of a list, a field of a constructor or a target, with others behind it or none.
+use Rattle.std.proofs.Common.{◌≡◌, ℕ, ◌<◌, List, [], ◌∷◌, ◌++◌, length, refl}
+use Rattle.tl_base.specs.declared.ids.NodeId.{NodeId}
+use Rattle.tl_base.specs.declared.machine.Step.TheVariants.{Enter}
+use Rattle.tl_base.specs.Plan.{Do}
+use Rattle.tl_tree.specs.Code.{Items}
+use Rattle.lua_table.specs.LuaState.{LuaState}
+use Rattle.lua_model.specs.declared.job.Job.TheVariants as jobs
+use Rattle.lua_eval.specs.declared.frame.LuaFrame.{LuaFrame}
+use Rattle.lua_eval.specs.declared.frame.LuaFrame.TheVariants as frames
+use Rattle.lua_eval.specs.declared.frame.OneFrame.TheVariants as ones
+use Rattle.lua_eval.specs.declared.frame.AllFrame.TheVariants as alls
+use Rattle.lua_eval.specs.declared.frame.FieldFrame.TheVariants as of_field
+use Rattle.lua_eval.specs.declared.frame.ListFrame.{ListFrame}
+use Rattle.lua_eval.specs.declared.frame.TableFrame.{TableFrame}
+use Rattle.lua_eval.specs.declared.tables.FieldKind.TheVariants.{Listed}
+use Rattle.lua_eval.specs.Fields.{field_by}
+use Rattle.lua_eval.specs.Frames.{after, then_plan, list_plan, fields_from}
+use Rattle.lua_eval.specs.Steps.{Goes}
+use Rattle.lua_eval.proofs.Below.{moved}
+use Rattle.lua_eval.proofs.Doing.{enters}
+use Rattle.lua_eval.proofs.Listing.{values_next, values_last, field_next, field_last}
+
+-- an expression with others behind it gives one value
+pub item_enters : (items : Items) (fs pushed : List LuaFrame) (n : NodeId) (f : ListFrame) (s : LuaState) (left : ℕ)
+    → 0 < length f.rest.now → pushed ≡ fs ++ frames.One (ones.Item f) ∷ []
+    → Goes items fs (list_plan items (n ∷ f.rest.now) f.scope f.values f.then) s left pushed (Enter (jobs.Expression n f.scope)) s left
+item_enters items fs pushed n f s left some is =
+    let frame = frames.One (ones.Item f) in
+    moved items fs pushed (list_plan items (n ∷ f.rest.now) f.scope f.values f.then) (Do (jobs.Expression n f.scope) (after items frame))
+    s s s left left (Enter (jobs.Expression n f.scope))
+    (values_next n f.rest.now f.scope f.values (λ all. then_plan items f.then f.scope all) some) refl
+    (enters items fs pushed frame (jobs.Expression n f.scope) s left is)
+
+-- the last one gives all
+pub last_enters : (items : Items) (fs pushed : List LuaFrame) (n : NodeId) (f : ListFrame) (s : LuaState) (left : ℕ)
+    → length f.rest.now ≡ 0 → pushed ≡ fs ++ frames.All (alls.Last f) ∷ []
+    → Goes items fs (list_plan items (n ∷ f.rest.now) f.scope f.values f.then) s left pushed (Enter (jobs.Expression n f.scope)) s left
+last_enters items fs pushed n f s left none is =
+    let frame = frames.All (alls.Last f) in
+    moved items fs pushed (list_plan items (n ∷ f.rest.now) f.scope f.values f.then) (Do (jobs.Expression n f.scope) (after items frame))
+    s s s left left (Enter (jobs.Expression n f.scope))
+    (values_last n f.rest.now f.scope f.values (λ all. then_plan items f.then f.scope all) none) refl
+    (enters items fs pushed frame (jobs.Expression n f.scope) s left is)
+
+-- a field without a key, with others behind it
+pub field_enters : (items : Items) (fs pushed : List LuaFrame) (n : NodeId) (f : TableFrame) (s : LuaState) (left : ℕ)
+    → 0 < length f.rest.now → pushed ≡ fs ++ frames.One (ones.Field f of_field.Next) ∷ []
+    → Goes items fs (field_by items Listed n f) s left pushed (Enter (jobs.Expression n f.scope)) s left
+field_enters items fs pushed n f s left some is =
+    let frame = frames.One (ones.Field f of_field.Next) in
+    moved items fs pushed (field_by items Listed n f) (Do (jobs.Expression n f.scope) (after items frame))
+    s s s left left (Enter (jobs.Expression n f.scope))
+    (field_next f.table f.next n f.rest.now f.scope (λ next. fields_from items f next) some) refl
+    (enters items fs pushed frame (jobs.Expression n f.scope) s left is)

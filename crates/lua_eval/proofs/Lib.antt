@@ -1,0 +1,14 @@
+pub mod Below
+pub mod Calling
+pub mod Counting
+pub mod Declaring
+pub mod Doing
+pub mod Ending
+pub mod Entering
+pub mod Fielding
+pub mod Keeping
+pub mod Listing
+pub mod Making
+pub mod Named
+pub mod Numbering
+pub mod Operands

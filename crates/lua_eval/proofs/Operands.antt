@@ -1,0 +1,37 @@
+-- Operands of handlers.
+use Rattle.std.proofs.Common.{◌≡◌, Bool, true, false, [], ◌∷◌, refl, Option}
+use Rattle.std.specs.Prelude.{if◌then◌else◌}
+use Rattle.lua_value.specs.declared.value.Value.{Value}
+use Rattle.tl_base.specs.declared.place.Place.{Place}
+use Rattle.tl_tree.specs.declared.node.BinaryOperator.{BinaryOperator}
+use Rattle.tl_tree.specs.declared.node.BinaryOperator.TheVariants as binary
+use Rattle.tl_tree.specs.Code.{Items}
+use Rattle.lua_model.specs.Operators.{turned, operate}
+use Rattle.lua_eval.specs.Operands.{operation_of, operate_by}
+
+-- one operand is the same the other way round
+pub alone_either : (swapped : Bool) (a : Value) → (if swapped then turned (a ∷ []) else a ∷ []) ≡ a ∷ []
+alone_either true a = refl
+alone_either false a = refl
+
+-- an operator, by what it does
+pub operate_is : (items : Items) (op : BinaryOperator) (a b : Value) (place : Place) (outer : Option Place)
+    → operate items op a b place outer ≡ operate_by items (operation_of op) a b place outer
+operate_is items binary.Arrow a b place outer = refl
+operate_is items binary.Less a b place outer = refl
+operate_is items binary.Greater a b place outer = refl
+operate_is items binary.LessEqual a b place outer = refl
+operate_is items binary.GreaterEqual a b place outer = refl
+operate_is items binary.NotEqual a b place outer = refl
+operate_is items binary.Equal a b place outer = refl
+operate_is items binary.Concatenate a b place outer = refl
+operate_is items binary.Add a b place outer = refl
+operate_is items binary.Subtract a b place outer = refl
+operate_is items binary.Multiply a b place outer = refl
+operate_is items binary.Divide a b place outer = refl
+operate_is items binary.Modulo a b place outer = refl
+operate_is items binary.Power a b place outer = refl
+operate_is items binary.Or a b place outer = refl
+operate_is items binary.And a b place outer = refl
+operate_is items binary.ShiftLeft a b place outer = refl
+operate_is items binary.ShiftRight a b place outer = refl

@@ -1,0 +1,22 @@
+use Rattle.std.proofs.Common.{◌≡◌, [], ◌∷◌, ap}
+use Rattle.tl_tree.specs.Arena.{items_of}
+use Rattle.lua_value.specs.declared.value.Value.TheVariants.{Nil}
+use Rattle.lua_ops.specs.declared.operator.Arithmetic.TheVariants.{Minus}
+use Rattle.lua_ops.specs.declared.outcome.Outcome.{Outcome}
+use Rattle.lua_ops.specs.Outcomes.{arith_outcome}
+use Rattle.lua_model.specs.Operators.{settle}
+use Rattle.lua_eval.proofs.Below.{moved}
+use Rattle.lua_eval.proofs.operators.minus.Goals as goal
+
+pub returns-in_ok-step-clause-means : goal.returns-in_ok-step-clause-means
+returns-in_ok-step-clause-means c =
+    let a = c.args in
+    let items = items_of a.tree.now in
+    let outcome = c.in_ok-outcome.outcome in
+    let is : arith_outcome a.heap.now Minus a.a Nil ≡ outcome = cc in
+    let heap : a.heap.now ≡ c.arith-outcome.new.heap = cc in
+    moved items a.frames.now.items c.settle-step.new.frames.items
+    (settle items (arith_outcome a.heap.now Minus a.a Nil) (a.a ∷ []) a.place a.outer)
+    (settle items outcome (a.a ∷ []) a.place a.outer)
+    a.heap.now c.arith-outcome.new.heap c.settle-step.new.heap a.budget.now c.settle-step.new.budget c.in_ok-step.step
+    (ap (λ (o : Outcome). settle items o (a.a ∷ []) a.place a.outer) is) heap c.in_ok-step.ensures.means

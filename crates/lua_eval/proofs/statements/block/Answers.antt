@@ -1,0 +1,24 @@
+use Rattle.std.proofs.Common.{[], refl, sym}
+use Rattle.tl_base.specs.Plan.{Give}
+use Rattle.tl_tree.specs.Arena.{items_of}
+use Rattle.tl_tree.specs.Code.{statements_at}
+use Rattle.lua_model.specs.Plans.{statements}
+use Rattle.lua_eval.proofs.Below.{moved}
+use Rattle.lua_eval.proofs.Making.{entering_goes, statements_are}
+use Rattle.lua_eval.proofs.statements.block.Goals as goal
+
+pub returns-in_ok-step-clause-means : goal.returns-in_ok-step-clause-means
+returns-in_ok-step-clause-means c = λ left.
+    let a = c.args in
+    let items = items_of a.tree.now in
+    let fs2 = c.statements-step.new.frames.items in
+    let t = c.new_env-env.new.self in
+    let inner = c.within.result in
+    let ns = c.block_statements.result.now in
+    let none = c.new-none.result in
+    entering_goes items a.frames.now.items fs2 a.block a.scope inner (λ sc. statements (statements_at items a.block) sc [] Give)
+    a.heap.now t t left left c.in_ok-step.step c.in_ok-env.env c.within.ensures c.in_ok-env.ensures.id c.in_ok-env.ensures.ok
+    (moved items a.frames.now.items fs2 (statements (statements_at items a.block) inner [] Give) (statements ns inner none Give)
+    t t t left left c.in_ok-step.step
+    (statements_are (statements_at items a.block) ns inner inner [] none Give (sym c.block_statements.ensures) refl (sym c.new-none.ensures))
+    refl (c.in_ok-step.ensures.means items t left))

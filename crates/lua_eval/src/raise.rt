@@ -1,0 +1,61 @@
+// Texts and errors.
+
+ghost use Rattle.std.specs.Prelude.{◌≡◌, ◌≤◌, length, IfOk, OnOk};
+ghost use Rattle.tl_tree.specs.Code.{Items};
+ghost use Rattle.lua_table.specs.Keeping.{KeepsHeap};
+ghost use Rattle.lua_model.specs.Plans.{error_text, text_units, raise};
+ghost use Rattle.lua_eval.specs.Steps.{Does};
+
+use lua_model::{End, Job, LuaQuestion};
+use lua_ops::Fault;
+use lua_table::Heap;
+use lua_value::Value;
+use tl_base::{Budget, NoMemory, Place, Step, Text2};
+
+/// What the machine does next.
+pub type LuaStep = Step<Job, End, LuaQuestion>;
+
+/// The units that a text of so many bytes costs.
+pub fn text_units(length: usize) -> u64
+    ensures { result ≡ text_units length }
+{
+    (length as u64).div_ceil(64)
+}
+
+/// The text of an error: the place of what raises it, and what it is.
+fn error_text(heap: &Heap, place: Place, fault: Fault) -> Result<Text2, NoMemory>
+    ensures { IfOk result (λ text. text ≡ error_text place fault) }
+{
+    let alloc = heap.allocator();
+    let line = place.line;
+    let word = place.word;
+    let before = format!(in alloc; "{line}:{word}: ")?;
+    let behind = fault.text(alloc)?;
+    let mut text = Text2::new(alloc);
+    text.push_bytes(before.as_bytes())?;
+    text.push_bytes(behind.as_bytes())?;
+    Ok(text)
+}
+
+/// Raises a fault, with its place before its text, which is paid for.
+pub fn raise(
+    heap: &mut Heap,
+    budget: &mut Budget,
+    place: Place,
+    fault: Fault,
+) -> Result<LuaStep, NoMemory>
+    ensures means { IfOk result (λ step. (items : Items) →
+        Does items (raise place fault) heap.old budget.old step heap.new budget.new) }
+    ensures kept { OnOk result (KeepsHeap heap.old heap.new) }
+{
+    let text = error_text(heap, place, fault)?;
+    let bytes = text.bytes();
+    if !budget.pay(text_units(bytes.len())) {
+        return Ok(Step::Spent);
+    }
+    if bytes.len() > 65535 {
+        return Ok(Step::Return(End::Raised(Value::Nil, place)));
+    }
+    let id = heap.intern(bytes)?;
+    Ok(Step::Return(End::Raised(Value::Text(id), place)))
+}

@@ -1,0 +1,311 @@
+// Statements (Lua 5.1 manual, section 2.4).
+
+ghost use Rattle.std.specs.Prelude.{◌≡◌, ℕ, IfOk, OnOk};
+ghost use Rattle.tl_tree.specs.Arena.{items_of};
+ghost use Rattle.tl_tree.specs.Nodes.{item_at};
+ghost use Rattle.tl_base.specs.Plan.{Give};
+ghost use Rattle.tl_tree.specs.Code.{arm_condition, arm_block};
+ghost use Rattle.lua_table.specs.LuaState.{LuaState};
+ghost use Rattle.lua_table.specs.Keeping.{KeepsHeap};
+ghost use Rattle.lua_model.specs.Assignments.{target_plan};
+ghost use Rattle.lua_model.specs.Statements as plans;
+ghost use Rattle.lua_eval.specs.Frames.{with_statement};
+ghost use Rattle.lua_eval.specs.Slots.{ArePaths};
+ghost use Rattle.lua_eval.specs.Steps.{Goes};
+
+use crate::assignments::{define, held, targets};
+use crate::calls::statements;
+use crate::cells::declare;
+use crate::code::{block_statements, path_method, path_names};
+use crate::frame::{AllFrame, LoopFrame, LuaFrame, OneFrame, StatementFrame, TargetFrame, Then};
+use crate::lists::list;
+use crate::loops::{while_test, within};
+use crate::raise::LuaStep;
+use crate::values::one;
+use lua_model::{End, Job, Loop, LuaQuestion, Scope};
+use lua_table::{Closure, Heap};
+use lua_value::{Value, Values};
+use tl_base::{Budget, NoMemory, NodeId, Place, Step};
+use tl_rename::Slots;
+use tl_tree::{Expression, Node, Piece, Statement, Tree};
+
+/// Executes a block as a statement of its own.
+pub fn block<'a>(
+    tree: &'a Tree<'a>,
+    frames: &mut Vec<LuaFrame<'a>>,
+    heap: &mut Heap,
+    block: NodeId,
+    scope: Scope,
+) -> Result<LuaStep, NoMemory>
+    ensures means { IfOk result (λ step. (left : ℕ) →
+        Goes (items_of tree.now) frames.old.items (plans.block_plan (items_of tree.now) block scope Give)
+        heap.old left frames.new.items step heap.new left) }
+    ensures kept { OnOk result (KeepsHeap heap.old heap.new) }
+{
+    let env = heap.new_env(block, Some(scope.env))?;
+    let none = Values::new(heap.allocator());
+    let step = statements(
+        frames,
+        block_statements(tree, block),
+        within(scope, env),
+        none,
+    )?;
+    Ok(step)
+}
+
+#[tactic(auto, using(tl_base::proofs::Steps::pushes))]
+/// Goes on with the arms of an `if` that are left.
+fn arms<'a>(
+    tree: &'a Tree<'a>,
+    frames: &mut Vec<LuaFrame<'a>>,
+    heap: &mut Heap,
+    rest: &'a [NodeId],
+    otherwise: Option<NodeId>,
+    scope: Scope,
+) -> Result<LuaStep, NoMemory>
+    ensures means { IfOk result (λ step. (left : ℕ) →
+        Goes (items_of tree.now) frames.old.items (plans.arms_plan (items_of tree.now) rest.now otherwise scope)
+        heap.old left frames.new.items step heap.new left) }
+    ensures kept { OnOk result (KeepsHeap heap.old heap.new) }
+{
+    match rest.split_first() {
+        None => match otherwise {
+            Some(node) => {
+                let step = block(tree, frames, heap, node, scope)?;
+                Ok(step)
+            }
+            None => Ok(Step::Return(End::Fell(Values::new(heap.allocator())))),
+        },
+        Some((first, rest)) => {
+            let (condition, node) = arm(tree, *first);
+            let frame = StatementFrame::Arm(node, rest, otherwise, scope);
+            frames.push(LuaFrame::One(OneFrame::Statement(frame)))?;
+            Ok(Step::Enter(Job::Expression(condition, scope)))
+        }
+    }
+}
+
+/// The condition and the block of an arm.
+fn arm(tree: &Tree<'_>, node: NodeId) -> (NodeId, NodeId)
+    ensures condition { result.0 ≡ arm_condition (item_at (items_of tree.now) node) }
+    ensures block { result.1 ≡ arm_block (item_at (items_of tree.now) node) }
+{
+    match tree.node(node) {
+        Node::Piece(Piece::Arm(condition, block)) => (*condition, *block),
+        _ => (NodeId(0), NodeId(0)),
+    }
+}
+
+#[tactic(auto, using(tl_base::proofs::Steps::pushes))]
+/// Goes on with a statement that waited for one value.
+pub fn with_statement<'a>(
+    tree: &'a Tree<'a>,
+    frames: &mut Vec<LuaFrame<'a>>,
+    heap: &mut Heap,
+    frame: StatementFrame<'a>,
+    value: Value,
+) -> Result<LuaStep, NoMemory>
+    ensures means { IfOk result (λ step. (left : ℕ) →
+        Goes (items_of tree.now) frames.old.items (with_statement (items_of tree.now) frame.entry value)
+        heap.old left frames.new.items step heap.new left) }
+    ensures kept { OnOk result (KeepsHeap heap.old heap.new) }
+{
+    match frame {
+        StatementFrame::Emit => {
+            let out = one(heap.allocator(), value)?;
+            Ok(Step::Return(End::Fell(out)))
+        }
+        StatementFrame::Arm(node, rest, otherwise, scope) => {
+            if value.is_true() {
+                let step = block(tree, frames, heap, node, scope)?;
+                Ok(step)
+            } else {
+                let step = arms(tree, frames, heap, rest, otherwise, scope)?;
+                Ok(step)
+            }
+        }
+    }
+}
+
+#[tactic(auto, using(tl_base::proofs::Steps::pushes))]
+/// Executes the statement that a node is.
+pub fn statement<'a>(
+    tree: &'a Tree<'a>,
+    slots: &Slots,
+    frames: &mut Vec<LuaFrame<'a>>,
+    heap: &mut Heap,
+    budget: &mut Budget,
+    node: NodeId,
+    scope: Scope,
+) -> Result<LuaStep, NoMemory>
+    requires { ArePaths (items_of tree.now) slots.now }
+    ensures means { IfOk result (λ step.
+        Goes (items_of tree.now) frames.old.items
+        (plans.statement_plan (items_of tree.now) (item_at (items_of tree.now) node) node scope)
+        heap.old budget.old frames.new.items step heap.new budget.new) }
+    ensures kept { OnOk result (KeepsHeap heap.old heap.new) }
+{
+    match tree.node(node) {
+        Node::Statement(place, statement) => {
+            let step = execute(
+                tree, slots, frames, heap, budget, statement, node, *place, scope,
+            )?;
+            Ok(step)
+        }
+        _ => Ok(Step::Return(End::Fell(Values::new(heap.allocator())))),
+    }
+}
+
+#[tactic(auto, using(tl_base::proofs::Steps::pushes))]
+fn execute<'a>(
+    tree: &'a Tree<'a>,
+    slots: &Slots,
+    frames: &mut Vec<LuaFrame<'a>>,
+    heap: &mut Heap,
+    budget: &mut Budget,
+    statement: &'a Statement,
+    node: NodeId,
+    place: Place,
+    scope: Scope,
+) -> Result<LuaStep, NoMemory>
+    requires { ArePaths (items_of tree.now) slots.now }
+    ensures means { IfOk result (λ step.
+        Goes (items_of tree.now) frames.old.items
+        (plans.statement_of (items_of tree.now) statement.now node place scope)
+        heap.old budget.old frames.new.items step heap.new budget.new) }
+    ensures kept { OnOk result (KeepsHeap heap.old heap.new) }
+{
+    let none = Values::new(heap.allocator());
+    match statement {
+        Statement::Assign(all, values) => {
+            let (all, values) = (all.as_slice(), values.as_slice());
+            let step = targets(
+                tree, slots, frames, heap, budget, all, all, values, scope, none,
+            )?;
+            Ok(step)
+        }
+        Statement::Call(call) => {
+            frames.push(LuaFrame::All(AllFrame::Done))?;
+            Ok(Step::Enter(Job::Expression(*call, scope)))
+        }
+        Statement::Do(inner) => {
+            let step = block(tree, frames, heap, *inner, scope)?;
+            Ok(step)
+        }
+        Statement::While(condition, _) => {
+            let step = while_test(frames, node, *condition, scope, none)?;
+            Ok(step)
+        }
+        Statement::Repeat(_, _) => Ok(Step::Enter(Job::Turn(node, scope, Loop::Repeat, none))),
+        Statement::If(list, otherwise) => {
+            let step = arms(tree, frames, heap, list.as_slice(), *otherwise, scope)?;
+            Ok(step)
+        }
+        Statement::NumericFor(_, first, limit, step, _) => {
+            let frame = LoopFrame::Initial(node, *limit, *step, place, scope);
+            frames.push(LuaFrame::One(OneFrame::Loop(frame)))?;
+            Ok(Step::Enter(Job::Expression(*first, scope)))
+        }
+        Statement::GenericFor(names, values, _) => {
+            let then = Then::Listed(node, names.as_slice(), place);
+            let step = list(
+                tree,
+                slots,
+                frames,
+                heap,
+                budget,
+                values.as_slice(),
+                scope,
+                none,
+                then,
+            )?;
+            Ok(step)
+        }
+        Statement::Function(path, _) => {
+            let (names, method) = (path_names(tree, *path), path_method(tree, *path));
+            let step = define(frames, heap, names, method, node, scope)?;
+            Ok(step)
+        }
+        Statement::LocalFunction(_, body) => {
+            let made = heap.new_closure(Closure {
+                function: *body,
+                env: scope.env,
+            })?;
+            declare(heap, scope.env, Value::Closure(made))?;
+            Ok(Step::Return(End::Fell(none)))
+        }
+        Statement::Local(names, values) => {
+            let then = Then::Local(names.as_slice());
+            let step = list(
+                tree,
+                slots,
+                frames,
+                heap,
+                budget,
+                values.as_slice(),
+                scope,
+                none,
+                then,
+            )?;
+            Ok(step)
+        }
+        Statement::Emit(value) => {
+            frames.push(LuaFrame::One(OneFrame::Statement(StatementFrame::Emit)))?;
+            Ok(Step::Enter(Job::Expression(*value, scope)))
+        }
+        Statement::Return(values) => {
+            let step = list(
+                tree,
+                slots,
+                frames,
+                heap,
+                budget,
+                values.as_slice(),
+                scope,
+                none,
+                Then::Return,
+            )?;
+            Ok(step)
+        }
+        Statement::Break => Ok(Step::Return(End::Broke(none))),
+        Statement::Terra(_, _)
+        | Statement::DeclareTerra(_, _)
+        | Statement::LocalTerra(_, _, _)
+        | Statement::LocalDeclareTerra(_, _, _)
+        | Statement::Struct(_, _)
+        | Statement::LocalStruct(_, _, _) => {
+            frames.push(LuaFrame::All(AllFrame::Done))?;
+            Ok(Step::Stop(LuaQuestion::Specialise(node, scope.env)))
+        }
+    }
+}
+
+#[tactic(auto, using(tl_base::proofs::Steps::pushes))]
+/// Evaluates the object and the key of the target that a node is.
+pub fn target<'a>(
+    tree: &'a Tree<'a>,
+    frames: &mut Vec<LuaFrame<'a>>,
+    heap: &Heap,
+    node: NodeId,
+    scope: Scope,
+) -> Result<LuaStep, NoMemory>
+    ensures means { IfOk result (λ step. (s : LuaState) (left : ℕ) →
+        Goes (items_of tree.now) frames.old.items
+        (target_plan (items_of tree.now) (item_at (items_of tree.now) node) scope) s left
+        frames.new.items step s left) }
+{
+    match tree.node(node) {
+        Node::Expression(_, Expression::Index(object, key)) => {
+            frames.push(LuaFrame::One(OneFrame::Target(TargetFrame::Object(*key, scope))))?;
+            Ok(Step::Enter(Job::Expression(*object, scope)))
+        }
+        Node::Expression(_, Expression::Select(object, name)) => {
+            frames.push(LuaFrame::One(OneFrame::Target(TargetFrame::Select(*name))))?;
+            Ok(Step::Enter(Job::Expression(*object, scope)))
+        }
+        _ => {
+            let step = held(heap, Value::Nil, Value::Nil)?;
+            Ok(step)
+        }
+    }
+}

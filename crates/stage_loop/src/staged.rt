@@ -1,0 +1,146 @@
+// The layers as one stage: Lua code, and the functions of the library that it calls.
+
+ghost use Rattle.std.specs.Prelude.{◌≡◌, false};
+ghost use Rattle.tl_tree.specs.Arena.{items_of};
+ghost use Rattle.lua_table.specs.Keeping.{KeepsHeap};
+ghost use Rattle.stage_loop.specs.Staged.{task_of};
+
+use crate::library;
+use lua_eval::Lua;
+use lua_model::{LuaAnswer, LuaEnd, LuaJob, LuaQuestion};
+use lua_table::{Heap, LibCall, LibTurn};
+use lua_value::Values;
+use stage_form::Stages;
+use std::alloc::Global;
+use tl_base::{Budget, Layer, NoMemory, Turn};
+use tl_rename::Slots;
+use tl_tree::Tree;
+
+/// What a layer is asked to do.
+#[derive(Debug, Drop)]
+pub enum Task {
+    /// To evaluate Lua code.
+    Evaluate(LuaJob),
+    /// To call a function of the library.
+    Library(LibCall),
+    /// To specialise Terra code, which ends at once, with no values.
+    Specialise,
+}
+
+/// The layer that answers a question of Lua code.
+fn task_of(question: LuaQuestion) -> Task
+    ensures { result ≡ task_of question }
+{
+    match question {
+        LuaQuestion::Library(call) => Task::Library(call),
+        LuaQuestion::Specialise(_, _) => Task::Specialise,
+    }
+}
+
+/// A layer of the stage, which is to begin, or is suspended.
+#[derive(Drop)]
+pub enum Staged<'a> {
+    Lua(Lua<'a>),
+    /// It ends at once.
+    Library(LibCall),
+    /// It ends at once, with no values.
+    Nothing(Global),
+}
+
+impl Layer for Staged<'_> {
+    ghost use Rattle.lua_eval.specs.Frames.{is_go};
+    ghost use Rattle.stage_loop.specs.Staged.{staged_rest, StagedFits};
+
+    type World = Heap;
+
+    type Question = Task;
+
+    type Answer = LuaAnswer;
+
+    type End = LuaEnd;
+
+    ghost rest = { staged_rest };
+
+    ghost fits = { StagedFits };
+
+    ghost follows = { λ question s next. is_go next.answer ≡ false };
+
+    ghost keeps = { KeepsHeap };
+
+    fn resume(
+        &mut self,
+        heap: &mut Heap,
+        budget: &mut Budget,
+        answer: LuaAnswer,
+    ) -> Result<Turn<Task, LuaEnd>, NoMemory> {
+        match self {
+            Staged::Lua(lua) => match lua.resume(heap, budget, answer)? {
+                Turn::End(end) => Ok(Turn::End(end)),
+                Turn::Ask(question) => Ok(Turn::Ask(task_of(question))),
+                Turn::Spent => Ok(Turn::Spent),
+            },
+            Staged::Library(call) => match library::call(heap, call, budget)? {
+                LibTurn::Values(values) => Ok(Turn::End(LuaEnd::Done(values))),
+                LibTurn::Raise(value, place) => Ok(Turn::End(LuaEnd::Raised(value, place))),
+                LibTurn::Spent => Ok(Turn::Spent),
+                // No function that is there asks.
+                LibTurn::CallBack { .. }
+                | LibTurn::Check { .. }
+                | LibTurn::Layout { .. }
+                | LibTurn::TypeText { .. } => {
+                    Ok(Turn::End(LuaEnd::Done(Values::new(heap.allocator()))))
+                }
+            },
+            Staged::Nothing(alloc) => Ok(Turn::End(LuaEnd::Done(Values::new(*alloc)))),
+        }
+    }
+}
+
+/// The stage of these layers, over a tree whose uses of locals have these slots.
+#[derive(Clone, Copy)]
+pub struct LuaStage<'a> {
+    pub tree: &'a Tree<'a>,
+    pub slots: &'a Slots,
+}
+
+impl<'a> Stages for LuaStage<'a> {
+    ghost use Rattle.lua_table.proofs.Keeping.{keeps_itself, keeps_then};
+    ghost use Rattle.stage_loop.specs.Staged.{lua_stage, ends_follow};
+
+    type World = Heap;
+
+    type Question = Task;
+
+    type Answer = LuaAnswer;
+
+    type End = LuaEnd;
+
+    type Staged = Staged<'a>;
+
+    ghost stage = { λ stages. lua_stage (items_of stages.tree.now) };
+
+    ghost ends_follow = { λ stages question asked now end kept paid. ends_follow end };
+
+    ghost keeps_self = { keeps_itself };
+
+    ghost keeps_on = { keeps_then };
+
+    fn start(&self, alloc: Global, question: Task) -> Staged<'a> {
+        match question {
+            Task::Evaluate(job) => Staged::Lua(Lua::start(alloc, self.tree, self.slots, job)),
+            Task::Library(call) => Staged::Library(call),
+            Task::Specialise => Staged::Nothing(alloc),
+        }
+    }
+
+    fn go(&self) -> LuaAnswer {
+        LuaAnswer::Go
+    }
+
+    fn answer(&self, end: LuaEnd) -> LuaAnswer {
+        match end {
+            LuaEnd::Done(values) => LuaAnswer::Values(values),
+            LuaEnd::Raised(value, place) => LuaAnswer::Raise(value, place),
+        }
+    }
+}
