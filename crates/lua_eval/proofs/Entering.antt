@@ -1,10 +1,13 @@
 -- Steps that enter an expression of a list, a field of a constructor or a target, with others behind it or none.
-use Rattle.std.proofs.Common.{◌≡◌, ℕ, ◌<◌, List, [], ◌∷◌, ◌++◌, length, refl}
+use Rattle.std.proofs.Common.{◌≡◌, ℕ, ◌<◌, List, [], ◌∷◌, ◌++◌, length, refl, ap, ◌∙◌, arith}
 use Rattle.tl_base.specs.declared.ids.NodeId.{NodeId}
 use Rattle.tl_base.specs.declared.machine.Step.TheVariants.{Enter}
 use Rattle.tl_base.specs.Plan.{Do}
 use Rattle.tl_tree.specs.Code.{Items}
+use Rattle.lua_value.specs.declared.value.Value.TheVariants.{Table}
 use Rattle.lua_table.specs.LuaState.{LuaState}
+use Rattle.lua_model.specs.Plans.{LuaPlan, give, on_all}
+use Rattle.lua_model.specs.Tables.{fields, store_values}
 use Rattle.lua_model.specs.declared.job.Job.TheVariants as jobs
 use Rattle.lua_eval.specs.declared.frame.LuaFrame.{LuaFrame}
 use Rattle.lua_eval.specs.declared.frame.LuaFrame.TheVariants as frames
@@ -52,4 +55,22 @@ field_enters items fs pushed n f s left some is =
     moved items fs pushed (field_by items Listed n f) (Do (jobs.Expression n f.scope) (after items frame))
     s s s left left (Enter (jobs.Expression n f.scope))
     (field_next f.table f.next n f.rest.now f.scope (λ next. fields_from items f next) some) refl
+    (enters items fs pushed frame (jobs.Expression n f.scope) s left is)
+
+fields_none : (items : Items) (f : TableFrame) (ns : List NodeId) → length ns ≡ 0
+    → fields items ns f.table f.next f.place f.scope ≡ give (Table f.table)
+fields_none items f [] none = refl
+fields_none items f (n ∷ ns) none = absurd (omega arith)
+
+-- the last one gives all
+pub field_last_enters : (items : Items) (fs pushed : List LuaFrame) (n : NodeId) (f : TableFrame) (s : LuaState) (left : ℕ)
+    → length f.rest.now ≡ 0 → pushed ≡ fs ++ frames.All (alls.LastField f) ∷ []
+    → Goes items fs (field_by items Listed n f) s left pushed (Enter (jobs.Expression n f.scope)) s left
+field_last_enters items fs pushed n f s left none is =
+    let frame = frames.All (alls.LastField f) in
+    moved items fs pushed (field_by items Listed n f) (Do (jobs.Expression n f.scope) (after items frame))
+    s s s left left (Enter (jobs.Expression n f.scope))
+    (field_last f.table f.next n f.rest.now f.scope (λ next. fields_from items f next) none
+    ∙ ap (λ (p : LuaPlan). Do (jobs.Expression n f.scope) (λ r. on_all r (λ vs. store_values f.table f.next vs p)))
+    (fields_none items f f.rest.now none)) refl
     (enters items fs pushed frame (jobs.Expression n f.scope) s left is)

@@ -16,10 +16,10 @@ ghost use Rattle.lua_eval.specs.Steps.{Goes, Does};
 
 use crate::cells::set_local;
 use crate::code::{name, name_place};
-use crate::fields::{GLOBALS, read_named, store, store_named, text_value};
+use crate::fields::{GLOBALS, read_named, store, store_named};
 use crate::frame::{AllFrame, LuaFrame, OneFrame, TargetFrame, Then};
 use crate::lists::{list, nth};
-use crate::raise::LuaStep;
+use crate::raise::{LuaStep, text_value};
 use crate::values::two;
 use lua_model::{End, Job, Scope};
 use lua_table::{Closure, Heap};

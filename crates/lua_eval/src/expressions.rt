@@ -15,11 +15,11 @@ ghost use Rattle.lua_eval.specs.Steps.{Goes};
 
 use crate::cells::{local, values_from};
 use crate::code::name;
-use crate::fields::{GLOBALS, read, read_named, text_value};
+use crate::fields::{GLOBALS, read, read_named};
 use crate::frame::{CallFrame, LuaFrame, OneFrame, Then, ValueFrame};
 use crate::lists::list;
 use crate::operators::{operate, operate_one, whole};
-use crate::raise::LuaStep;
+use crate::raise::{LuaStep, text_value};
 use crate::tables::fields;
 use crate::values::one;
 use lua_model::{End, Job, LuaQuestion, Scope};

@@ -8,12 +8,11 @@ ghost use Rattle.lua_model.specs.Plans.{give, fell, on_one, on_all, with_text_of
 ghost use Rattle.lua_model.specs.Calls.{call_library};
 ghost use Rattle.lua_model.specs.Fields.{read, read_table, read_by, read_terra, type_function, store, store_table, store_by, store_raw};
 ghost use Rattle.lua_eval.specs.Steps.{Goes, Does};
-ghost use Rattle.lua_eval.specs.Texts.{text_value, text_state};
 
 use crate::calls::call_library;
 use crate::frame::{AllFrame, LuaFrame, OneFrame, ValueFrame};
-use crate::raise::{LuaStep, raise};
-use crate::values::{three, two};
+use crate::raise::{LuaStep, raise, text_value};
+use crate::values::{copy, three, two};
 use lua_model::{End, Job, LuaQuestion};
 use lua_ops::{Fault, handler_of};
 use lua_table::{Heap, LibCall};
@@ -25,19 +24,6 @@ pub const TEXT_FUNCTIONS: TableId = TableId(1);
 
 /// The opening table of globals.
 pub const GLOBALS: TableId = TableId(0);
-
-/// The text of these bytes, and nil where they are more than texts have.
-pub fn text_value(heap: &mut Heap, bytes: &[u8]) -> Result<Value, NoMemory>
-    ensures value { IfOk result (λ value. value ≡ text_value heap.old bytes.now) }
-    ensures heap { OnOk result (heap.new ≡ text_state heap.old bytes.now) }
-    ensures kept { OnOk result (KeepsHeap heap.old heap.new) }
-{
-    if bytes.len() > 65535 {
-        return Ok(Value::Nil);
-    }
-    let id = heap.intern(bytes)?;
-    Ok(Value::Text(id))
-}
 
 /// Calls a function of the library, and takes one value.
 fn value_by_library<'a>(
@@ -143,7 +129,7 @@ fn read_table<'a>(
         heap.old budget.old frames.new.items step heap.new budget.new) }
     ensures kept { OnOk result (KeepsHeap heap.old heap.new) }
 {
-    let value = heap.get(table, key);
+    let value = heap.get(table, copy(&key));
     if !value.is_nil() {
         return Ok(Step::Return(End::One(value)));
     }
@@ -178,8 +164,8 @@ fn read_terra<'a>(
 }
 
 /// The function of the library that a key of a type asks for.
-fn type_function(key: Value) -> LibFn
-    ensures { result ≡ type_function key }
+fn type_function(key: &Value) -> LibFn
+    ensures { result ≡ type_function key.now }
 {
     match key {
         Value::Number(_) => LibFn::ArrayType,
@@ -213,7 +199,8 @@ pub fn read<'a>(
             Ok(step)
         }
         Value::TerraType(_) => {
-            let step = read_terra(frames, heap, type_function(key), object, key, place, outer)?;
+            let function = type_function(&key);
+            let step = read_terra(frames, heap, function, object, key, place, outer)?;
             Ok(step)
         }
         Value::TerraFunction(_)
@@ -328,7 +315,7 @@ fn store_table<'a>(
         heap.old budget.old frames.new.items step heap.new budget.new) }
     ensures kept { OnOk result (KeepsHeap heap.old heap.new) }
 {
-    if heap.get(table, key).is_nil() {
+    if heap.get(table, copy(&key)).is_nil() {
         let handler = handler_of(heap, &Value::Table(table), "__newindex");
         let step = store_by(
             frames, heap, budget, handler, table, key, value, place, outer,
@@ -362,8 +349,21 @@ pub fn store<'a>(
             let step = store_table(frames, heap, budget, table, key, value, place, outer)?;
             Ok(step)
         }
-        other => {
-            let step = raise(heap, budget, place, Fault::Index(other.kind()))?;
+        Value::Nil
+        | Value::Boolean(_)
+        | Value::Number(_)
+        | Value::Text(_)
+        | Value::Closure(_)
+        | Value::Library(_)
+        | Value::TerraFunction(_)
+        | Value::TerraType(_)
+        | Value::Quote(_)
+        | Value::Symbol(_)
+        | Value::Macro(_)
+        | Value::Global(_)
+        | Value::Constant(_)
+        | Value::Primitive(_) => {
+            let step = raise(heap, budget, place, Fault::Index(object.kind()))?;
             Ok(step)
         }
     }

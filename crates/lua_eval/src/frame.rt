@@ -101,7 +101,7 @@ pub enum Then<'a> {
 }
 
 /// What a call waits for.
-#[derive(Clone, Copy, Debug)]
+#[derive(Debug, Drop)]
 pub enum CallFrame<'a> {
     /// The function, with the arguments.
     Function(&'a [NodeId], Place, Scope),
@@ -136,7 +136,7 @@ pub enum FieldFrame {
 }
 
 /// What a target or a path waits for.
-#[derive(Clone, Copy, Debug)]
+#[derive(Debug, Drop)]
 pub enum TargetFrame<'a> {
     /// The object of a target, with the key.
     Object(NodeId, Scope),
@@ -164,7 +164,7 @@ pub enum LoopFrame {
 }
 
 /// How a loop goes on behind a turn.
-#[derive(Clone, Copy, Debug)]
+#[derive(Debug, Drop)]
 pub enum TurnFrame<'a> {
     /// By the condition.
     While(NodeId),
@@ -177,7 +177,7 @@ pub enum TurnFrame<'a> {
 }
 
 /// What a statement waits for.
-#[derive(Clone, Copy, Debug)]
+#[derive(Debug, Drop)]
 pub enum StatementFrame<'a> {
     /// The value that is emitted.
     Emit,

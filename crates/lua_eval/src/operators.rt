@@ -362,7 +362,7 @@ pub enum Operation {
 }
 
 /// What an operator does with its two operands.
-fn operation(op: BinaryOperator) -> Operation
+fn operation_of(op: BinaryOperator) -> Operation
     ensures { result ≡ operation_of op }
 {
     match op {
@@ -409,7 +409,7 @@ pub fn operate<'a>(
         frames,
         heap,
         budget,
-        operation(op),
+        operation_of(op),
         a,
         b,
         place,

@@ -5,6 +5,7 @@ ghost use Rattle.tl_tree.specs.Code.{Items};
 ghost use Rattle.lua_table.specs.Keeping.{KeepsHeap};
 ghost use Rattle.lua_model.specs.Plans.{error_text, text_units, raise};
 ghost use Rattle.lua_eval.specs.Steps.{Does};
+ghost use Rattle.lua_eval.specs.Texts.{text_value, text_state};
 
 use lua_model::{End, Job, LuaQuestion};
 use lua_ops::Fault;
@@ -37,6 +38,19 @@ fn error_text(heap: &Heap, place: Place, fault: Fault) -> Result<Text2, NoMemory
     Ok(text)
 }
 
+/// The text of these bytes, and nil where they are more than texts have.
+pub fn text_value(heap: &mut Heap, bytes: &[u8]) -> Result<Value, NoMemory>
+    ensures value { IfOk result (λ value. value ≡ text_value heap.old bytes.now) }
+    ensures heap { OnOk result (heap.new ≡ text_state heap.old bytes.now) }
+    ensures kept { OnOk result (KeepsHeap heap.old heap.new) }
+{
+    if bytes.len() > 65535 {
+        return Ok(Value::Nil);
+    }
+    let id = heap.intern(bytes)?;
+    Ok(Value::Text(id))
+}
+
 /// Raises a fault, with its place before its text, which is paid for.
 pub fn raise(
     heap: &mut Heap,
@@ -53,9 +67,6 @@ pub fn raise(
     if !budget.pay(text_units(bytes.len())) {
         return Ok(Step::Spent);
     }
-    if bytes.len() > 65535 {
-        return Ok(Step::Return(End::Raised(Value::Nil, place)));
-    }
-    let id = heap.intern(bytes)?;
-    Ok(Step::Return(End::Raised(Value::Text(id), place)))
+    let value = text_value(heap, bytes)?;
+    Ok(Step::Return(End::Raised(value, place)))
 }

@@ -13,10 +13,9 @@ ghost use Rattle.lua_eval.specs.Frames.{fields_from, with_field};
 ghost use Rattle.lua_eval.specs.Steps.{Goes};
 
 use crate::code::name;
-use crate::fields::text_value;
 use crate::frame::{AllFrame, FieldFrame, LuaFrame, OneFrame, TableFrame};
 use crate::operators::whole;
-use crate::raise::{LuaStep, raise};
+use crate::raise::{LuaStep, raise, text_value};
 use lua_model::{End, Job, Scope};
 use lua_ops::Fault;
 use lua_table::Heap;
