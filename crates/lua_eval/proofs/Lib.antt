@@ -3,7 +3,6 @@ pub mod Calling
 pub mod Counting
 pub mod Declaring
 pub mod Doing
-pub mod Ending
 pub mod Entering
 pub mod Fielding
 pub mod Keeping

@@ -4,8 +4,6 @@ pub mod Frames
 pub mod Steps
 -- Where the uses of locals find their cells.
 pub mod Slots
--- The values in ends.
-pub mod Ends
 pub mod Texts
 -- The environment of a call in progress.
 pub mod Calls

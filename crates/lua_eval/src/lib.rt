@@ -25,7 +25,7 @@
 //!
 //! Where a plan has a last case for all other variants, what the code needs of it is asked in a small function that
 //! gives a value and no plan (`field_kind`), and a lemma with one `refl` for each case says that the plan is the same by
-//! that value (`field_is`, `define_in_by`, `left_other`, `binary_is`, `numbers_are`, `one_taken`). Every lemma takes all
+//! that value (`field_is`, `define_in_by`, `left_other`, `binary_is`, `numbers_are`). Every lemma takes all
 //! its arguments: `Goes` unfolds, and so none is found from it. In an answer they are, in this order, the tree's items,
 //! the frames before and after, what the lemma is about, the heaps, the budgets and the step.
 //! `kept` of an arm that changed the heap by itself is `keeps_by` of `proofs/Keeping`, with a lemma of

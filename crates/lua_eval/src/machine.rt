@@ -1,10 +1,12 @@
 // The machine: how tasks and jobs begin, and how frames go on.
 
-ghost use Rattle.std.specs.Prelude.{◌≡◌, ℕ, List, IfOk, OnOk, true, false};
+ghost use Rattle.std.specs.Prelude.{◌≡◌, ℕ, List, None, IfOk, OnOk, true, false};
 ghost use Rattle.tl_base.specs.Plan.{Give};
 ghost use Rattle.tl_tree.specs.Code.{Items};
 ghost use Rattle.lua_table.specs.LuaState.{LuaState};
-ghost use Rattle.lua_model.specs.Plans.{scope_at, on_fell, statements};
+ghost use Rattle.lua_model.specs.Plans.{scope_at, alone, on_one, on_all, on_fell, statements};
+ghost use Rattle.lua_model.specs.Fields.{read};
+ghost use Rattle.lua_model.specs.Meaning.{chunk_plan};
 ghost use Rattle.lua_model.specs.Calls.{returned};
 ghost use Rattle.lua_model.specs.Loops.{after_turn};
 ghost use Rattle.tl_tree.specs.Arena.{items_of};
@@ -24,12 +26,12 @@ use crate::loops::{listed, next_turn, turn, with_loop};
 use crate::raise::LuaStep;
 use crate::statements::{block, statement, target, with_statement};
 use crate::tables::{store_values, with_field};
-use crate::values::{all_in, append, one, one_in};
+use crate::values::{append, one, split_values};
 use lua_model::{Caller, End, Job, LuaAnswer, LuaEnd, LuaJob, LuaQuestion, Scope};
 use lua_table::Heap;
 use lua_value::{Value, Values};
 use std::alloc::Global;
-use tl_base::{Budget, CellId, EnvId, Machine, NoMemory, NodeId, Step};
+use tl_base::{Budget, CellId, EnvId, Machine, NoMemory, NodeId, Place, Step};
 use tl_rename::Slots;
 use tl_tree::Tree;
 
@@ -188,6 +190,77 @@ fn with_all<'a>(
 }
 
 #[tactic(auto, using(tl_base::proofs::Steps::pushes))]
+/// Goes on with what waited for one value, given how what gives it ended.
+fn after_one<'a>(
+    tree: &'a Tree<'a>,
+    slots: &Slots,
+    frames: &mut Vec<LuaFrame<'a>>,
+    heap: &mut Heap,
+    budget: &mut Budget,
+    frame: OneFrame<'a>,
+    end: End,
+) -> Result<LuaStep, NoMemory>
+    requires { ArePaths (items_of tree.now) slots.now }
+    ensures means { IfOk result (λ step.
+        Goes (items_of tree.now) frames.old.items (on_one end (λ v. with_one (items_of tree.now) frame.entry v))
+        heap.old budget.old frames.new.items step heap.new budget.new) }
+    ensures kept { OnOk result (KeepsHeap heap.old heap.new) }
+{
+    match end {
+        End::One(value) => {
+            let step = with_one(tree, slots, frames, heap, budget, frame, value)?;
+            Ok(step)
+        }
+        End::Many(values) => {
+            let (value, _) = split_values(values.as_slice());
+            let step = with_one(tree, slots, frames, heap, budget, frame, value)?;
+            Ok(step)
+        }
+        End::Fell(_) | End::Broke(_) | End::Returned(_, _) => {
+            let step = with_one(tree, slots, frames, heap, budget, frame, Value::Nil)?;
+            Ok(step)
+        }
+        End::Raised(value, place) => Ok(Step::Return(End::Raised(value, place))),
+    }
+}
+
+#[tactic(auto, using(tl_base::proofs::Steps::pushes))]
+/// Goes on with what waited for all values, given how what gives them ended.
+fn after_all<'a>(
+    tree: &'a Tree<'a>,
+    slots: &Slots,
+    frames: &mut Vec<LuaFrame<'a>>,
+    heap: &mut Heap,
+    budget: &mut Budget,
+    frame: AllFrame<'a>,
+    end: End,
+) -> Result<LuaStep, NoMemory>
+    requires { ArePaths (items_of tree.now) slots.now }
+    ensures means { IfOk result (λ step.
+        Goes (items_of tree.now) frames.old.items (on_all end (λ vs. with_all (items_of tree.now) frame.entry vs))
+        heap.old budget.old frames.new.items step heap.new budget.new) }
+    ensures kept { OnOk result (KeepsHeap heap.old heap.new) }
+{
+    match end {
+        End::One(value) => {
+            let values = one(heap.allocator(), value)?;
+            let step = with_all(tree, slots, frames, heap, budget, frame, values)?;
+            Ok(step)
+        }
+        End::Many(values) => {
+            let step = with_all(tree, slots, frames, heap, budget, frame, values)?;
+            Ok(step)
+        }
+        End::Fell(_) | End::Broke(_) | End::Returned(_, _) => {
+            let none = Values::new(heap.allocator());
+            let step = with_all(tree, slots, frames, heap, budget, frame, none)?;
+            Ok(step)
+        }
+        End::Raised(value, place) => Ok(Step::Return(End::Raised(value, place))),
+    }
+}
+
+#[tactic(auto, using(tl_base::proofs::Steps::pushes))]
 /// Goes on behind a turn of a loop, whose block ended so.
 fn after_turn<'a>(
     tree: &'a Tree<'a>,
@@ -262,10 +335,48 @@ fn returned(heap: &Heap, end: End) -> End
     ensures { result ≡ returned end }
 {
     match end {
-        End::Returned(values, _) => End::Many(values),
+        End::Returned(values, _) | End::Many(values) => End::Many(values),
         End::Fell(_) | End::Broke(_) => End::Many(Values::new(heap.allocator())),
-        other => other,
+        End::One(value) => End::One(value),
+        End::Raised(value, place) => End::Raised(value, place),
     }
+}
+
+/// Begins the chunk.
+fn chunk<'a>(
+    tree: &'a Tree<'a>,
+    frames: &mut Vec<LuaFrame<'a>>,
+    heap: &mut Heap,
+) -> Result<LuaStep, NoMemory>
+    ensures means { IfOk result (λ step. (left : ℕ) →
+        Goes (items_of tree.now) frames.old.items (chunk_plan (items_of tree.now)) heap.old left
+        frames.new.items step heap.new left) }
+    ensures kept { OnOk result (KeepsHeap heap.old heap.new) }
+{
+    let root = tree.root();
+    let env = heap.new_env(root, None)?;
+    let none = Values::new(heap.allocator());
+    let begun = statements(frames, block_statements(tree, root), scope_at(env), none)?;
+    Ok(begun)
+}
+
+/// Reads a key of a value, which is all that is asked for.
+fn read_alone<'a>(
+    frames: &mut Vec<LuaFrame<'a>>,
+    heap: &mut Heap,
+    budget: &mut Budget,
+    object: Value,
+    key: Value,
+    place: Place,
+) -> Result<LuaStep, NoMemory>
+    ensures means { IfOk result (λ step. (items : Items) →
+        Goes items frames.old.items (read object key place None alone)
+        heap.old budget.old frames.new.items step heap.new budget.new) }
+    ensures kept { OnOk result (KeepsHeap heap.old heap.new) }
+{
+    frames.push(LuaFrame::One(OneFrame::Value(ValueFrame::Alone)))?;
+    let found = read(frames, heap, budget, object, key, place, None)?;
+    Ok(found)
 }
 
 impl<'a> Steps<'a> {
@@ -317,12 +428,8 @@ impl<'a> Machine for Steps<'a> {
     ) -> Result<LuaStep, NoMemory> {
         match task {
             LuaJob::Chunk => {
-                let root = self.tree.root();
-                let env = heap.new_env(root, None)?;
-                let list = block_statements(self.tree, root);
-                let none = Values::new(heap.allocator());
-                let begun = statements(frames, list, scope_at(env), none)?;
-                Ok(begun)
+                let step = chunk(self.tree, frames, heap)?;
+                Ok(step)
             }
             LuaJob::Call(function, args, place) => {
                 let by = Caller::ByOther;
@@ -348,9 +455,8 @@ impl<'a> Machine for Steps<'a> {
                 Ok(step)
             }
             LuaJob::Index(object, text, place) => {
-                frames.push(LuaFrame::One(OneFrame::Value(ValueFrame::Alone)))?;
-                let found = read(frames, heap, budget, object, Value::Text(text), place, None)?;
-                Ok(found)
+                let step = read_alone(frames, heap, budget, object, Value::Text(text), place)?;
+                Ok(step)
             }
         }
     }
@@ -405,24 +511,14 @@ impl<'a> Machine for Steps<'a> {
         end: End,
     ) -> Result<LuaStep, NoMemory> {
         match frame {
-            LuaFrame::One(frame) => match end {
-                End::Raised(value, place) => Ok(Step::Return(End::Raised(value, place))),
-                end => {
-                    let value = one_in(&end);
-                    let step = with_one(self.tree, self.slots, frames, heap, budget, frame, value)?;
-                    Ok(step)
-                }
-            },
-            LuaFrame::All(frame) => match end {
-                End::Raised(value, place) => Ok(Step::Return(End::Raised(value, place))),
-                end => {
-                    let values = all_in(self.alloc, end)?;
-                    let step = with_all(
-                        self.tree, self.slots, frames, heap, budget, frame, values,
-                    )?;
-                    Ok(step)
-                }
-            },
+            LuaFrame::One(frame) => {
+                let step = after_one(self.tree, self.slots, frames, heap, budget, frame, end)?;
+                Ok(step)
+            }
+            LuaFrame::All(frame) => {
+                let step = after_all(self.tree, self.slots, frames, heap, budget, frame, end)?;
+                Ok(step)
+            }
             LuaFrame::Library => {
                 heap.end_call();
                 Ok(Step::Return(end))

@@ -2,9 +2,7 @@
 
 ghost use Rattle.std.specs.Prelude.{◌≡◌, [], ◌∷◌, ◌++◌, IfOk, OnOk};
 ghost use Rattle.lua_table.specs.Cells.{first_value, further_values};
-ghost use Rattle.lua_eval.specs.Ends.{is_raised, one_in, all_in};
 
-use lua_model::End;
 use lua_value::{Value, Values};
 use std::alloc::Global;
 use tl_base::NoMemory;
@@ -74,29 +72,4 @@ pub fn with_first(alloc: Global, value: Value, values: &[Value]) -> Result<Value
     let mut all = one(alloc, value)?;
     append(&mut all, values)?;
     Ok(all)
-}
-
-/// The one value with which what waits for one goes on; an error goes on with none.
-pub fn one_in(end: &End) -> Value
-    ensures { result ≡ one_in end.now }
-{
-    match end {
-        End::One(value) => *value,
-        End::Many(values) => split_values(values.as_slice()).0,
-        _ => Value::Nil,
-    }
-}
-
-/// All values with which what waits for them goes on.
-pub fn all_in(alloc: Global, end: End) -> Result<Values, NoMemory>
-    ensures { IfOk result (λ values. values ≡ all_in end) }
-{
-    match end {
-        End::One(value) => {
-            let values = one(alloc, value)?;
-            Ok(values)
-        }
-        End::Many(values) => Ok(values),
-        _ => Ok(Values::new(alloc)),
-    }
 }
