@@ -17,3 +17,7 @@ keeps_joined s (Err fault) = keeps_itself s
 
 pub keeps_concat : (s : LuaState) (a b : Value) → KeepsHeap s (concat_store s a b)
 keeps_concat s a b = keeps_joined s (joined a b (piece_of s a) (piece_of s b))
+
+-- a heap that is another one, which is kept
+pub kept_as : (s t w : LuaState) → t ≡ w → KeepsHeap s w → KeepsHeap s t
+kept_as s t w is kept = subst (KeepsHeap s) (sym is) kept

@@ -11,4 +11,3 @@ pub mod Making
 pub mod Named
 pub mod Numbering
 pub mod Operands
-pub mod Raising

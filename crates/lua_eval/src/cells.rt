@@ -53,7 +53,6 @@ pub fn set_local(heap: &mut Heap, env: EnvId, depth: u32, position: u32, value: 
 }
 
 /// Declares a local with a value.
-#[tactic(auto, using(lua_table::proofs::Keeping::keeps_cell, lua_table::proofs::Keeping::keeps_declared, lua_table::proofs::Keeping::keeps_then))]
 pub fn declare(heap: &mut Heap, env: EnvId, value: Value) -> Result<(), NoMemory>
     ensures ok { OnOk result (heap.new ≡ declare env value heap.old) }
     ensures kept { OnOk result (KeepsHeap heap.old heap.new) }
@@ -84,7 +83,7 @@ pub fn declare_all(
 }
 
 /// Puts values into fresh cells.
-#[tactic(auto, using(crate::proofs::Declaring::cells_next, crate::proofs::Declaring::cells_end, lua_table::proofs::Keeping::keeps_cell, lua_table::proofs::Keeping::keeps_then))]
+#[tactic(auto, using(crate::proofs::Declaring::cells_end))]
 pub fn with_cells(heap: &mut Heap, values: &[Value]) -> Result<(), NoMemory>
     ensures ok { OnOk result (heap.new ≡ with_cells values.now heap.old) }
     ensures kept { OnOk result (KeepsHeap heap.old heap.new) }
