@@ -11,3 +11,4 @@ pub mod Making
 pub mod Named
 pub mod Numbering
 pub mod Operands
+pub mod Turning

@@ -1,17 +1,18 @@
 -- Names by the paths of their declarations.
 use Rattle.std.proofs.Common.{◌≡◌, ℕ, List, refl, sym, ap, ◌∙◌, Option, Some, None}
 use Rattle.tl_base.specs.declared.place.Place.{Place}
-use Rattle.tl_base.specs.Plan.{Read, Write}
+use Rattle.tl_base.specs.Plan.{Read}
 use Rattle.tl_tree.specs.Scopes.{Found}
 use Rattle.lua_value.specs.declared.value.Value.{Value}
 use Rattle.lua_value.specs.declared.value.Value.TheVariants as values
-use Rattle.lua_table.specs.Cells.{local_value, with_local}
+use Rattle.lua_table.specs.Cells.{local_value}
 use Rattle.lua_model.specs.declared.scope.Scope.{Scope}
 use Rattle.lua_model.specs.Plans.{LuaPlan, give, with_text_of}
-use Rattle.lua_model.specs.Fields.{read, store, globals}
+use Rattle.lua_model.specs.Fields.{read, globals}
 use Rattle.lua_model.specs.Expressions.{name_plan}
 use Rattle.lua_model.specs.Assignments.{store_name}
 use Rattle.lua_eval.specs.Slots.{path_of}
+use Rattle.lua_eval.specs.Stores.{store_by_path}
 
 abbrev pub name_by : Option (ℕ × ℕ) → List ℕ → Place → Scope → LuaPlan
 name_by (Some path) text place scope = Read (λ s. give (local_value s scope.env path.0 path.1))
@@ -21,11 +22,6 @@ pub named_by_path : (b : Option Found) (text : List ℕ) (place : Place) (scope 
     → name_plan b text place scope ≡ name_by (path_of b) text place scope
 named_by_path (Some found) text place scope = refl
 named_by_path None text place scope = refl
-
-abbrev pub store_by_path : Option (ℕ × ℕ) → List ℕ → Place → Scope → Value → LuaPlan → LuaPlan
-store_by_path (Some path) text place scope v rest = Read (λ s. Write (with_local s scope.env path.0 path.1 v) rest)
-store_by_path None text place scope v rest =
-    with_text_of text (λ key. store (values.Table globals) key v place scope.call rest)
 
 pub stored_by_path : (b : Option Found) (text : List ℕ) (place : Place) (scope : Scope) (v : Value) (rest : LuaPlan)
     → store_name b text place scope v rest ≡ store_by_path (path_of b) text place scope v rest

@@ -17,3 +17,5 @@ pub mod Operands
 pub mod Numbers
 -- What remains of an evaluation that is suspended.
 pub mod Rest
+-- Stores in names.
+pub mod Stores

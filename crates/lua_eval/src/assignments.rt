@@ -3,14 +3,16 @@
 ghost use Rattle.std.specs.Prelude.{◌≡◌, ℕ, ◌+◌, ◌*◌, [], ◌∷◌, ◌++◌, IfOk, OnOk};
 ghost use Rattle.tl_tree.specs.Arena.{items_of};
 ghost use Rattle.tl_tree.specs.Nodes.{item_at};
-ghost use Rattle.tl_tree.specs.Code.{Items, if_any, node_in};
+ghost use Rattle.tl_tree.specs.Code.{Items, if_any, name_at, node_in};
+ghost use Rattle.tl_tree.specs.Scopes.{binder};
 ghost use Rattle.lua_table.specs.LuaState.{LuaState};
 ghost use Rattle.lua_table.specs.Keeping.{KeepsHeap};
-ghost use Rattle.lua_model.specs.Plans.{fell};
+ghost use Rattle.lua_model.specs.Plans.{fell, with_text_of};
 ghost use Rattle.lua_model.specs.Assignments as plans;
 ghost use Rattle.lua_table.specs.Cells.{nth_value};
 ghost use Rattle.lua_eval.specs.Slots.{ArePaths};
 ghost use Rattle.lua_eval.specs.Paths.{is_end};
+ghost use Rattle.lua_eval.specs.Stores.{store_by_path};
 ghost use Rattle.lua_eval.specs.Frames.{targets_plan, define_name, with_target};
 ghost use Rattle.lua_eval.specs.Steps.{Goes, Does};
 
@@ -20,11 +22,11 @@ use crate::fields::{GLOBALS, read_named, store, store_named};
 use crate::frame::{AllFrame, LuaFrame, OneFrame, TargetFrame, Then};
 use crate::lists::{list, nth};
 use crate::raise::{LuaStep, text_value};
-use crate::values::two;
+use crate::values::{copy, two};
 use lua_model::{End, Job, Scope};
 use lua_table::{Closure, Heap};
 use lua_value::{Value, Values};
-use tl_base::{Budget, NoMemory, NodeId, Step};
+use tl_base::{Budget, NoMemory, NodeId, Place, Step};
 use tl_rename::Slots;
 use tl_tree::{Node, Tree};
 
@@ -142,31 +144,80 @@ fn store_target<'a>(
     ensures kept { OnOk result (KeepsHeap heap.old heap.new) }
 {
     match tree.node(target) {
-        Node::Name(place, _, text) => match slots.path(target) {
-            Some((depth, position)) => {
-                set_local(heap, scope.env, depth, position, value);
-                Ok(Step::Return(End::Fell(Values::new(heap.allocator()))))
-            }
-            None => {
-                let globals = Value::Table(GLOBALS);
-                let step = store_named(
-                    frames,
-                    heap,
-                    budget,
-                    globals,
-                    text.as_bytes(),
-                    value,
-                    *place,
-                    scope.call,
-                )?;
-                Ok(step)
-            }
-        },
+        Node::Name(place, _, text) => {
+            let step = store_name(
+                tree, slots, frames, heap, budget, target, text, value, *place, scope,
+            )?;
+            Ok(step)
+        }
         Node::Expression(place, _) => {
             let step = store(frames, heap, budget, object, key, value, *place, scope.call)?;
             Ok(step)
         }
         _ => Ok(Step::Return(End::Fell(Values::new(heap.allocator())))),
+    }
+}
+
+/// Stores a value in the name that a node is.
+fn store_name<'a>(
+    tree: &'a Tree<'a>,
+    slots: &Slots,
+    frames: &mut Vec<LuaFrame<'a>>,
+    heap: &mut Heap,
+    budget: &mut Budget,
+    target: NodeId,
+    text: &str,
+    value: Value,
+    place: Place,
+    scope: Scope,
+) -> Result<LuaStep, NoMemory>
+    requires { ArePaths (items_of tree.now) slots.now }
+    ensures means { IfOk result (λ step.
+        Goes (items_of tree.now) frames.old.items
+        (plans.store_name (binder (items_of tree.now) target) text.now place scope value fell)
+        heap.old budget.old frames.new.items step heap.new budget.new) }
+    ensures kept { OnOk result (KeepsHeap heap.old heap.new) }
+{
+    let path = slots.path(target);
+    let step = store_by_path(frames, heap, budget, path, text, value, place, scope)?;
+    Ok(step)
+}
+
+/// Stores a value in a local at this path, or in a field of the globals where there is none.
+fn store_by_path<'a>(
+    frames: &mut Vec<LuaFrame<'a>>,
+    heap: &mut Heap,
+    budget: &mut Budget,
+    path: Option<(u32, u32)>,
+    text: &str,
+    value: Value,
+    place: Place,
+    scope: Scope,
+) -> Result<LuaStep, NoMemory>
+    ensures means { IfOk result (λ step. (items : Items) →
+        Goes items frames.old.items (store_by_path path text.now place scope value fell)
+        heap.old budget.old frames.new.items step heap.new budget.new) }
+    ensures kept { OnOk result (KeepsHeap heap.old heap.new) }
+{
+    match path {
+        Some((depth, position)) => {
+            set_local(heap, scope.env, depth, position, value);
+            Ok(Step::Return(End::Fell(Values::new(heap.allocator()))))
+        }
+        None => {
+            let globals = Value::Table(GLOBALS);
+            let step = store_named(
+                frames,
+                heap,
+                budget,
+                globals,
+                text.as_bytes(),
+                value,
+                place,
+                scope.call,
+            )?;
+            Ok(step)
+        }
     }
 }
 
@@ -372,6 +423,24 @@ pub fn held(heap: &Heap, object: Value, key: Value) -> Result<LuaStep, NoMemory>
     Ok(Step::Return(End::Many(values)))
 }
 
+/// Gives the object and the key of a target that is a selection of a name.
+fn held_under<'a>(
+    tree: &'a Tree<'a>,
+    heap: &mut Heap,
+    node: NodeId,
+    object: Value,
+) -> Result<LuaStep, NoMemory>
+    ensures means { IfOk result (λ step. (left : ℕ) →
+        Does (items_of tree.now) (with_text_of (name_at (items_of tree.now) node) (λ key. plans.held object key))
+        heap.old left step heap.new left) }
+    ensures kept { OnOk result (KeepsHeap heap.old heap.new) }
+{
+    let text = name(tree, node);
+    let key = text_value(heap, text.as_bytes())?;
+    let step = held(heap, object, key)?;
+    Ok(step)
+}
+
 #[tactic(auto, using(tl_base::proofs::Steps::pushes))]
 /// Goes on with a target, of which something was evaluated.
 pub fn with_target<'a>(
@@ -379,31 +448,30 @@ pub fn with_target<'a>(
     frames: &mut Vec<LuaFrame<'a>>,
     heap: &mut Heap,
     budget: &mut Budget,
-    frame: TargetFrame<'a>,
+    frame: &TargetFrame<'a>,
     value: Value,
 ) -> Result<LuaStep, NoMemory>
     ensures means { IfOk result (λ step.
-        Goes (items_of tree.now) frames.old.items (with_target (items_of tree.now) frame.entry value)
+        Goes (items_of tree.now) frames.old.items (with_target (items_of tree.now) frame.now value)
         heap.old budget.old frames.new.items step heap.new budget.new) }
     ensures kept { OnOk result (KeepsHeap heap.old heap.new) }
 {
     match frame {
         TargetFrame::Object(key, scope) => {
             frames.push(LuaFrame::One(OneFrame::Target(TargetFrame::Key(value))))?;
-            Ok(Step::Enter(Job::Expression(key, scope)))
+            Ok(Step::Enter(Job::Expression(*key, *scope)))
         }
         TargetFrame::Key(object) => {
-            let step = held(heap, object, value)?;
+            let step = held(heap, copy(object), value)?;
             Ok(step)
         }
         TargetFrame::Select(node) => {
-            let key = text_value(heap, name(tree, node).as_bytes())?;
-            let step = held(heap, value, key)?;
+            let step = held_under(tree, heap, *node, value)?;
             Ok(step)
         }
         TargetFrame::Path(rest, method, function, scope) => {
             let step = define_in(
-                tree, frames, heap, budget, rest, method, function, scope, value,
+                tree, frames, heap, budget, rest, *method, *function, *scope, value,
             )?;
             Ok(step)
         }

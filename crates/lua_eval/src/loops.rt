@@ -2,12 +2,14 @@
 
 ghost use Rattle.std.specs.Prelude.{◌≡◌, ℕ, pos, IfOk, OnOk};
 ghost use Rattle.tl_tree.specs.Arena.{items_of};
-ghost use Rattle.tl_tree.specs.Code.{Items};
+ghost use Rattle.tl_base.specs.Plan.{Give};
+ghost use Rattle.tl_tree.specs.Code.{Items, statements_at};
+ghost use Rattle.lua_value.specs.Numbers.{number_from};
 ghost use Rattle.lua_table.specs.LuaState.{LuaState};
 ghost use Rattle.lua_table.specs.Keeping.{KeepsHeap};
 ghost use Rattle.tl_tree.specs.Nodes.{item_at};
 ghost use Rattle.lua_ops.specs.Outcomes.{operand};
-ghost use Rattle.lua_model.specs.Plans.{within, value_of};
+ghost use Rattle.lua_model.specs.Plans.{within, value_of, statements};
 ghost use Rattle.lua_eval.specs.Numbers.{number_in, numbers_in};
 ghost use Rattle.lua_model.specs.Loops as plans;
 ghost use Rattle.lua_eval.specs.Frames.{first_count, next_turn, with_loop};
@@ -18,7 +20,7 @@ use crate::cells::{declare, declare_all};
 use crate::code::block_statements;
 use crate::frame::{AllFrame, LoopFrame, LuaFrame, OneFrame, TurnFrame};
 use crate::raise::{LuaStep, raise};
-use crate::values::{split_values, two};
+use crate::values::{copy, split_values, two};
 use lua_model::{Caller, End, Job, Loop, Scope};
 use lua_ops::{Fault, operand};
 use lua_table::Heap;
@@ -54,7 +56,8 @@ pub fn list_next<'a>(
         heap.old budget.old frames.new.items step heap.new budget.new) }
     ensures kept { OnOk result (KeepsHeap heap.old heap.new) }
 {
-    let args = two(heap.allocator(), state, control)?;
+    let args = two(heap.allocator(), copy(&state), control)?;
+    let callee = copy(&function);
     frames.push(LuaFrame::All(AllFrame::Listed(node, names, scope, function, state, out)))?;
     let step = call(
         tree,
@@ -62,7 +65,7 @@ pub fn list_next<'a>(
         heap,
         budget,
         Caller::ByNode,
-        function,
+        callee,
         args,
         place,
         scope.call,
@@ -213,19 +216,47 @@ pub fn with_loop<'a>(
             ))))?;
             Ok(Step::Enter(Job::Expression(limit, scope)))
         }
-        LoopFrame::Limit(node, first, Some(step), place, scope) => {
-            frames.push(LuaFrame::One(OneFrame::Loop(LoopFrame::Step(
-                node, first, value, place, scope,
-            ))))?;
-            Ok(Step::Enter(Job::Expression(step, scope)))
-        }
-        LoopFrame::Limit(node, first, None, place, scope) => {
-            let step = first_count(heap, budget, node, first, value, one(), place, scope)?;
-            Ok(step)
+        LoopFrame::Limit(node, first, step, place, scope) => {
+            let next = with_limit(
+                frames, heap, budget, node, first, value, step, place, scope,
+            )?;
+            Ok(next)
         }
         LoopFrame::Step(node, first, limit, place, scope) => {
             let step = first_count(heap, budget, node, first, limit, value, place, scope)?;
             Ok(step)
+        }
+    }
+}
+
+#[tactic(auto, using(tl_base::proofs::Steps::pushes))]
+/// Evaluates the step of a numeric `for`, which is 1 where there is none.
+fn with_limit<'a>(
+    frames: &mut Vec<LuaFrame<'a>>,
+    heap: &mut Heap,
+    budget: &mut Budget,
+    node: NodeId,
+    first: Value,
+    limit: Value,
+    step: Option<NodeId>,
+    place: Place,
+    scope: Scope,
+) -> Result<LuaStep, NoMemory>
+    ensures means { IfOk result (λ next. (items : Items) →
+        Goes items frames.old.items (plans.step_plan step scope (λ c. first_count node first limit c place scope))
+        heap.old budget.old frames.new.items next heap.new budget.new) }
+    ensures kept { OnOk result (KeepsHeap heap.old heap.new) }
+{
+    match step {
+        Some(step) => {
+            frames.push(LuaFrame::One(OneFrame::Loop(LoopFrame::Step(
+                node, first, limit, place, scope,
+            ))))?;
+            Ok(Step::Enter(Job::Expression(step, scope)))
+        }
+        None => {
+            let next = first_count(heap, budget, node, first, limit, one(), place, scope)?;
+            Ok(next)
         }
     }
 }
@@ -272,6 +303,24 @@ pub fn while_test<'a>(
 }
 
 #[tactic(auto, using(tl_base::proofs::Steps::pushes))]
+/// Tests the condition of a `repeat`, in the scope of its block.
+fn repeat_test<'a>(
+    frames: &mut Vec<LuaFrame<'a>>,
+    node: NodeId,
+    condition: NodeId,
+    scope: Scope,
+    inner: Scope,
+    out: Values,
+) -> Result<LuaStep, NoMemory>
+    ensures means { IfOk result (λ step. (items : Items) (s : LuaState) (left : ℕ) →
+        Goes items frames.old.items (plans.repeat_test node condition scope inner out) s left
+        frames.new.items step s left) }
+{
+    let step = test(frames, LoopFrame::Repeat(node, scope, out), condition, inner)?;
+    Ok(step)
+}
+
+#[tactic(auto, using(tl_base::proofs::Steps::pushes))]
 /// Goes on behind a turn.
 pub fn next_turn<'a>(
     tree: &'a Tree<'a>,
@@ -280,39 +329,52 @@ pub fn next_turn<'a>(
     budget: &mut Budget,
     node: NodeId,
     scope: Scope,
-    frame: TurnFrame<'a>,
+    frame: &TurnFrame<'a>,
     out: Values,
 ) -> Result<LuaStep, NoMemory>
     ensures means { IfOk result (λ step.
-        Goes (items_of tree.now) frames.old.items (next_turn (items_of tree.now) node scope frame.entry out)
+        Goes (items_of tree.now) frames.old.items (next_turn (items_of tree.now) node scope frame.now out)
         heap.old budget.old frames.new.items step heap.new budget.new) }
     ensures kept { OnOk result (KeepsHeap heap.old heap.new) }
 {
     match frame {
         TurnFrame::While(condition) => {
-            let step = test(frames, LoopFrame::While(node, scope, out), condition, scope)?;
+            let step = while_test(frames, node, *condition, scope, out)?;
             Ok(step)
         }
         TurnFrame::Repeat(condition, inner) => {
-            let step = test(
-                frames,
-                LoopFrame::Repeat(node, scope, out),
-                condition,
-                inner,
-            )?;
+            let step = repeat_test(frames, node, *condition, scope, *inner, out)?;
             Ok(step)
         }
-        TurnFrame::Counted(at, limit, step) => match Number::new(at.get() + step.get()) {
-            Some(at) => Ok(count(node, scope, at, limit, step, out)),
-            None => Ok(Step::Return(End::Fell(out))),
-        },
+        TurnFrame::Counted(at, limit, step) => {
+            Ok(count_from(node, scope, at.get() + step.get(), *limit, *step, out))
+        }
         TurnFrame::Listed(names, place, function, state, control) => {
+            let (function, state, control) = (copy(function), copy(state), copy(control));
             let step = list_next(
-                tree, frames, heap, budget, node, names, place, scope, function, state, control,
+                tree, frames, heap, budget, node, names, *place, scope, function, state, control,
                 out,
             )?;
             Ok(step)
         }
+    }
+}
+
+/// Begins the next turn of a numeric `for`. A number out of the profile is past every limit.
+fn count_from(
+    node: NodeId,
+    scope: Scope,
+    at: i64,
+    limit: Number,
+    step: Number,
+    out: Values,
+) -> LuaStep
+    ensures { (items : Items) (s : LuaState) (left : ℕ) →
+        Does items (plans.count_from node scope (number_from at) limit step out) s left result s left }
+{
+    match Number::new(at) {
+        Some(at) => count(node, scope, at, limit, step, out),
+        None => Step::Return(End::Fell(out)),
     }
 }
 
@@ -377,23 +439,42 @@ fn turn_of<'a>(
             )?;
             Ok(step)
         }
-        Loop::Listed(env, function, state, control) => match statement {
-            Statement::GenericFor(names, _, block) => {
-                let next = TurnFrame::Listed(names.as_slice(), place, function, state, control);
-                let step = turn_block(
-                    tree,
-                    frames,
-                    *block,
-                    node,
-                    scope,
-                    within(scope, env),
-                    next,
-                    out,
-                )?;
-                Ok(step)
-            }
-            _ => Ok(Step::Return(End::Fell(out))),
-        },
+        Loop::Listed(env, function, state, control) => {
+            let step = generic_turn(
+                tree, frames, statement, node, place, scope, env, function, state, control, out,
+            )?;
+            Ok(step)
+        }
+    }
+}
+
+#[tactic(auto, using(tl_base::proofs::Steps::pushes))]
+fn generic_turn<'a>(
+    tree: &'a Tree<'a>,
+    frames: &mut Vec<LuaFrame<'a>>,
+    statement: &'a Statement,
+    node: NodeId,
+    place: Place,
+    scope: Scope,
+    env: EnvId,
+    function: Value,
+    state: Value,
+    control: Value,
+    out: Values,
+) -> Result<LuaStep, NoMemory>
+    ensures means { IfOk result (λ step. (s : LuaState) (left : ℕ) →
+        Goes (items_of tree.now) frames.old.items
+        (plans.generic_turn (items_of tree.now) statement.now node place scope env function state control out)
+        s left frames.new.items step s left) }
+{
+    match statement {
+        Statement::GenericFor(names, _, block) => {
+            let next = TurnFrame::Listed(names.as_slice(), place, function, state, control);
+            frames.push(LuaFrame::Turn(node, scope, next))?;
+            let begun = turn_block(tree, frames, *block, within(scope, env), out)?;
+            Ok(begun)
+        }
+        _ => Ok(Step::Return(End::Fell(out))),
     }
 }
 
@@ -416,17 +497,8 @@ fn while_turn<'a>(
     match statement {
         Statement::While(condition, block) => {
             let env = heap.new_env(*block, Some(scope.env))?;
-            let next = TurnFrame::While(*condition);
-            let begun = turn_block(
-                tree,
-                frames,
-                *block,
-                node,
-                scope,
-                within(scope, env),
-                next,
-                out,
-            )?;
+            frames.push(LuaFrame::Turn(node, scope, TurnFrame::While(*condition)))?;
+            let begun = turn_block(tree, frames, *block, within(scope, env), out)?;
             Ok(begun)
         }
         _ => Ok(Step::Return(End::Fell(out))),
@@ -453,8 +525,8 @@ fn repeat_turn<'a>(
         Statement::Repeat(block, condition) => {
             let env = heap.new_env(node, Some(scope.env))?;
             let inner = within(scope, env);
-            let next = TurnFrame::Repeat(*condition, inner);
-            let begun = turn_block(tree, frames, *block, node, scope, inner, next, out)?;
+            frames.push(LuaFrame::Turn(node, scope, TurnFrame::Repeat(*condition, inner)))?;
+            let begun = turn_block(tree, frames, *block, inner, out)?;
             Ok(begun)
         }
         _ => Ok(Step::Return(End::Fell(out))),
@@ -484,41 +556,27 @@ fn numeric_turn<'a>(
         Statement::NumericFor(_, _, _, _, block) => {
             let env = heap.new_env(node, Some(scope.env))?;
             declare(heap, env, Value::Number(at))?;
-            let next = TurnFrame::Counted(at, limit, by);
-            let begun = turn_block(
-                tree,
-                frames,
-                *block,
-                node,
-                scope,
-                within(scope, env),
-                next,
-                out,
-            )?;
+            frames.push(LuaFrame::Turn(node, scope, TurnFrame::Counted(at, limit, by)))?;
+            let begun = turn_block(tree, frames, *block, within(scope, env), out)?;
             Ok(begun)
         }
         _ => Ok(Step::Return(End::Fell(out))),
     }
 }
 
-/// Executes a block in a turn.
+/// Executes a block in a turn, of which so much was emitted before.
 fn turn_block<'a>(
     tree: &'a Tree<'a>,
     frames: &mut Vec<LuaFrame<'a>>,
     block: NodeId,
-    node: NodeId,
-    scope: Scope,
     inner: Scope,
-    next: TurnFrame<'a>,
     out: Values,
 ) -> Result<LuaStep, NoMemory>
     ensures means { IfOk result (λ step. (s : LuaState) (left : ℕ) →
         Goes (items_of tree.now) frames.old.items
-        (plans.turn_block (items_of tree.now) block inner out
-        (λ all. next_turn (items_of tree.now) node scope next.entry all))
+        (statements (statements_at (items_of tree.now) block) inner out Give)
         s left frames.new.items step s left) }
 {
-    frames.push(LuaFrame::Turn(node, scope, next))?;
     let step = statements(frames, block_statements(tree, block), inner, out)?;
     Ok(step)
 }

@@ -103,7 +103,7 @@ fn with_one<'a>(
             Ok(step)
         }
         OneFrame::Target(frame) => {
-            let step = with_target(tree, frames, heap, budget, frame, value)?;
+            let step = with_target(tree, frames, heap, budget, &frame, value)?;
             Ok(step)
         }
         OneFrame::Loop(frame) => {
@@ -269,12 +269,12 @@ fn after_turn<'a>(
     budget: &mut Budget,
     node: NodeId,
     scope: Scope,
-    frame: TurnFrame<'a>,
+    frame: &TurnFrame<'a>,
     end: End,
 ) -> Result<LuaStep, NoMemory>
     ensures means { IfOk result (λ step.
         Goes (items_of tree.now) frames.old.items
-        (after_turn end (λ out. next_turn (items_of tree.now) node scope frame.entry out))
+        (after_turn end (λ out. next_turn (items_of tree.now) node scope frame.now out))
         heap.old budget.old frames.new.items step heap.new budget.new) }
     ensures kept { OnOk result (KeepsHeap heap.old heap.new) }
 {
@@ -528,7 +528,7 @@ impl<'a> Machine for Steps<'a> {
                 Ok(Step::Return(returned(heap, end)))
             }
             LuaFrame::Turn(node, scope, kind) => {
-                let step = after_turn(self.tree, frames, heap, budget, node, scope, kind, end)?;
+                let step = after_turn(self.tree, frames, heap, budget, node, scope, &kind, end)?;
                 Ok(step)
             }
             LuaFrame::Block(rest, scope, out) => {

@@ -1,17 +1,20 @@
 // Statements (Lua 5.1 manual, section 2.4).
 
-ghost use Rattle.std.specs.Prelude.{◌≡◌, ℕ, IfOk, OnOk};
+ghost use Rattle.std.specs.Prelude.{◌≡◌, ℕ, [], IfOk, OnOk};
 ghost use Rattle.tl_tree.specs.Arena.{items_of};
 ghost use Rattle.tl_tree.specs.Nodes.{item_at};
 ghost use Rattle.tl_base.specs.Plan.{Give};
-ghost use Rattle.tl_tree.specs.Code.{arm_condition, arm_block};
+ghost use Rattle.tl_tree.specs.Code.{Items, path_at, arm_condition, arm_block};
 ghost use Rattle.lua_table.specs.LuaState.{LuaState};
 ghost use Rattle.lua_table.specs.Keeping.{KeepsHeap};
-ghost use Rattle.lua_model.specs.Assignments.{target_plan};
+ghost use Rattle.lua_model.specs.Plans.{values_of};
+ghost use Rattle.lua_model.specs.Assignments.{assign_plan, define, target_of, target_plan};
+ghost use Rattle.lua_model.specs.Loops.{generic_plan};
+ghost use Rattle.lua_model.specs.declared.end.End.TheVariants.{Returned};
 ghost use Rattle.lua_model.specs.Statements as plans;
 ghost use Rattle.lua_eval.specs.Frames.{with_statement};
 ghost use Rattle.lua_eval.specs.Slots.{ArePaths};
-ghost use Rattle.lua_eval.specs.Steps.{Goes};
+ghost use Rattle.lua_eval.specs.Steps.{Goes, Does};
 
 use crate::assignments::{define, held, targets};
 use crate::calls::statements;
@@ -27,7 +30,7 @@ use lua_table::{Closure, Heap};
 use lua_value::{Value, Values};
 use tl_base::{Budget, NoMemory, NodeId, Place, Step};
 use tl_rename::Slots;
-use tl_tree::{Expression, Node, Piece, Statement, Tree};
+use tl_tree::{Expression, Node, NodeList, Piece, Statement, Tree};
 
 /// Executes a block as a statement of its own.
 pub fn block<'a>(
@@ -175,13 +178,9 @@ fn execute<'a>(
         heap.old budget.old frames.new.items step heap.new budget.new) }
     ensures kept { OnOk result (KeepsHeap heap.old heap.new) }
 {
-    let none = Values::new(heap.allocator());
     match statement {
         Statement::Assign(all, values) => {
-            let (all, values) = (all.as_slice(), values.as_slice());
-            let step = targets(
-                tree, slots, frames, heap, budget, all, all, values, scope, none,
-            )?;
+            let step = assign(tree, slots, frames, heap, budget, all, values, scope)?;
             Ok(step)
         }
         Statement::Call(call) => {
@@ -193,10 +192,14 @@ fn execute<'a>(
             Ok(step)
         }
         Statement::While(condition, _) => {
+            let none = Values::new(heap.allocator());
             let step = while_test(frames, node, *condition, scope, none)?;
             Ok(step)
         }
-        Statement::Repeat(_, _) => Ok(Step::Enter(Job::Turn(node, scope, Loop::Repeat, none))),
+        Statement::Repeat(_, _) => {
+            let none = Values::new(heap.allocator());
+            Ok(Step::Enter(Job::Turn(node, scope, Loop::Repeat, none)))
+        }
         Statement::If(list, otherwise) => {
             let step = arms(tree, frames, heap, list.as_slice(), *otherwise, scope)?;
             Ok(step)
@@ -207,46 +210,21 @@ fn execute<'a>(
             Ok(Step::Enter(Job::Expression(*first, scope)))
         }
         Statement::GenericFor(names, values, _) => {
-            let then = Then::Listed(node, names.as_slice(), place);
-            let step = list(
-                tree,
-                slots,
-                frames,
-                heap,
-                budget,
-                values.as_slice(),
-                scope,
-                none,
-                then,
+            let step = generic_for(
+                tree, slots, frames, heap, budget, node, names, values, place, scope,
             )?;
             Ok(step)
         }
         Statement::Function(path, _) => {
-            let (names, method) = (path_names(tree, *path), path_method(tree, *path));
-            let step = define(frames, heap, names, method, node, scope)?;
+            let step = define_at(tree, frames, heap, *path, node, scope)?;
             Ok(step)
         }
         Statement::LocalFunction(_, body) => {
-            let made = heap.new_closure(Closure {
-                function: *body,
-                env: scope.env,
-            })?;
-            declare(heap, scope.env, Value::Closure(made))?;
-            Ok(Step::Return(End::Fell(none)))
+            let step = local_function(heap, *body, scope)?;
+            Ok(step)
         }
         Statement::Local(names, values) => {
-            let then = Then::Local(names.as_slice());
-            let step = list(
-                tree,
-                slots,
-                frames,
-                heap,
-                budget,
-                values.as_slice(),
-                scope,
-                none,
-                then,
-            )?;
+            let step = locals(tree, slots, frames, heap, budget, names, values, scope)?;
             Ok(step)
         }
         Statement::Emit(value) => {
@@ -254,20 +232,10 @@ fn execute<'a>(
             Ok(Step::Enter(Job::Expression(*value, scope)))
         }
         Statement::Return(values) => {
-            let step = list(
-                tree,
-                slots,
-                frames,
-                heap,
-                budget,
-                values.as_slice(),
-                scope,
-                none,
-                Then::Return,
-            )?;
+            let step = return_values(tree, slots, frames, heap, budget, values, scope)?;
             Ok(step)
         }
-        Statement::Break => Ok(Step::Return(End::Broke(none))),
+        Statement::Break => Ok(Step::Return(End::Broke(Values::new(heap.allocator())))),
         Statement::Terra(_, _)
         | Statement::DeclareTerra(_, _)
         | Statement::LocalTerra(_, _, _)
@@ -278,6 +246,143 @@ fn execute<'a>(
             Ok(Step::Stop(LuaQuestion::Specialise(node, scope.env)))
         }
     }
+}
+
+/// An assignment: its targets, then its expressions, then the stores.
+fn assign<'a>(
+    tree: &'a Tree<'a>,
+    slots: &Slots,
+    frames: &mut Vec<LuaFrame<'a>>,
+    heap: &mut Heap,
+    budget: &mut Budget,
+    all: &'a NodeList,
+    values: &'a NodeList,
+    scope: Scope,
+) -> Result<LuaStep, NoMemory>
+    requires { ArePaths (items_of tree.now) slots.now }
+    ensures means { IfOk result (λ step.
+        Goes (items_of tree.now) frames.old.items (assign_plan (items_of tree.now) all.now values.now scope)
+        heap.old budget.old frames.new.items step heap.new budget.new) }
+    ensures kept { OnOk result (KeepsHeap heap.old heap.new) }
+{
+    let none = Values::new(heap.allocator());
+    let all = all.as_slice();
+    let values = values.as_slice();
+    let step = targets(
+        tree, slots, frames, heap, budget, all, all, values, scope, none,
+    )?;
+    Ok(step)
+}
+
+/// A generic `for`: the values of its expressions, and then the first call of the iterator.
+fn generic_for<'a>(
+    tree: &'a Tree<'a>,
+    slots: &Slots,
+    frames: &mut Vec<LuaFrame<'a>>,
+    heap: &mut Heap,
+    budget: &mut Budget,
+    node: NodeId,
+    names: &'a NodeList,
+    values: &'a NodeList,
+    place: Place,
+    scope: Scope,
+) -> Result<LuaStep, NoMemory>
+    requires { ArePaths (items_of tree.now) slots.now }
+    ensures means { IfOk result (λ step.
+        Goes (items_of tree.now) frames.old.items
+        (generic_plan (items_of tree.now) node names.now values.now place scope)
+        heap.old budget.old frames.new.items step heap.new budget.new) }
+    ensures kept { OnOk result (KeepsHeap heap.old heap.new) }
+{
+    let none = Values::new(heap.allocator());
+    let names = names.as_slice();
+    let values = values.as_slice();
+    let then = Then::Listed(node, names, place);
+    let step = list(tree, slots, frames, heap, budget, values, scope, none, then)?;
+    Ok(step)
+}
+
+/// Defines a function under a path.
+fn define_at<'a>(
+    tree: &'a Tree<'a>,
+    frames: &mut Vec<LuaFrame<'a>>,
+    heap: &Heap,
+    path: NodeId,
+    function: NodeId,
+    scope: Scope,
+) -> Result<LuaStep, NoMemory>
+    ensures means { IfOk result (λ step. (s : LuaState) (left : ℕ) →
+        Goes (items_of tree.now) frames.old.items
+        (define (items_of tree.now) (path_at (items_of tree.now) path) function scope) s left
+        frames.new.items step s left) }
+{
+    let names = path_names(tree, path);
+    let method = path_method(tree, path);
+    let step = define(frames, heap, names, method, function, scope)?;
+    Ok(step)
+}
+
+/// Declares a local with a function, which sees it.
+fn local_function(heap: &mut Heap, body: NodeId, scope: Scope) -> Result<LuaStep, NoMemory>
+    ensures means { IfOk result (λ step. (items : Items) (left : ℕ) →
+        Does items (plans.local_function_plan body scope) heap.old left step heap.new left) }
+    ensures kept { OnOk result (KeepsHeap heap.old heap.new) }
+{
+    let made = heap.new_closure(Closure {
+        function: body,
+        env: scope.env,
+    })?;
+    declare(heap, scope.env, Value::Closure(made))?;
+    Ok(Step::Return(End::Fell(Values::new(heap.allocator()))))
+}
+
+/// Declares locals, behind their expressions.
+fn locals<'a>(
+    tree: &'a Tree<'a>,
+    slots: &Slots,
+    frames: &mut Vec<LuaFrame<'a>>,
+    heap: &mut Heap,
+    budget: &mut Budget,
+    names: &'a NodeList,
+    values: &'a NodeList,
+    scope: Scope,
+) -> Result<LuaStep, NoMemory>
+    requires { ArePaths (items_of tree.now) slots.now }
+    ensures means { IfOk result (λ step.
+        Goes (items_of tree.now) frames.old.items (plans.local_plan names.now values.now scope)
+        heap.old budget.old frames.new.items step heap.new budget.new) }
+    ensures kept { OnOk result (KeepsHeap heap.old heap.new) }
+{
+    let none = Values::new(heap.allocator());
+    let names = names.as_slice();
+    let values = values.as_slice();
+    let then = Then::Local(names);
+    let step = list(tree, slots, frames, heap, budget, values, scope, none, then)?;
+    Ok(step)
+}
+
+/// Returns the values of expressions.
+fn return_values<'a>(
+    tree: &'a Tree<'a>,
+    slots: &Slots,
+    frames: &mut Vec<LuaFrame<'a>>,
+    heap: &mut Heap,
+    budget: &mut Budget,
+    values: &'a NodeList,
+    scope: Scope,
+) -> Result<LuaStep, NoMemory>
+    requires { ArePaths (items_of tree.now) slots.now }
+    ensures means { IfOk result (λ step.
+        Goes (items_of tree.now) frames.old.items
+        (values_of values.now scope [] (λ vs. Give (Returned vs [])))
+        heap.old budget.old frames.new.items step heap.new budget.new) }
+    ensures kept { OnOk result (KeepsHeap heap.old heap.new) }
+{
+    let none = Values::new(heap.allocator());
+    let values = values.as_slice();
+    let then = Then::Return;
+    let step = list(tree, slots, frames, heap, budget, values, scope, none, then)?;
+    Ok(step)
 }
 
 #[tactic(auto, using(tl_base::proofs::Steps::pushes))]
@@ -295,11 +400,34 @@ pub fn target<'a>(
         frames.new.items step s left) }
 {
     match tree.node(node) {
-        Node::Expression(_, Expression::Index(object, key)) => {
+        Node::Expression(_, expression) => {
+            let step = target_of(frames, heap, expression, scope)?;
+            Ok(step)
+        }
+        _ => {
+            let step = held(heap, Value::Nil, Value::Nil)?;
+            Ok(step)
+        }
+    }
+}
+
+#[tactic(auto, using(tl_base::proofs::Steps::pushes))]
+/// Evaluates the object and the key of a target that is an expression.
+fn target_of<'a>(
+    frames: &mut Vec<LuaFrame<'a>>,
+    heap: &Heap,
+    expression: &Expression,
+    scope: Scope,
+) -> Result<LuaStep, NoMemory>
+    ensures means { IfOk result (λ step. (items : Items) (s : LuaState) (left : ℕ) →
+        Goes items frames.old.items (target_of items expression.now scope) s left frames.new.items step s left) }
+{
+    match expression {
+        Expression::Index(object, key) => {
             frames.push(LuaFrame::One(OneFrame::Target(TargetFrame::Object(*key, scope))))?;
             Ok(Step::Enter(Job::Expression(*object, scope)))
         }
-        Node::Expression(_, Expression::Select(object, name)) => {
+        Expression::Select(object, name) => {
             frames.push(LuaFrame::One(OneFrame::Target(TargetFrame::Select(*name))))?;
             Ok(Step::Enter(Job::Expression(*object, scope)))
         }
