@@ -5,6 +5,7 @@ use Rattle.tl_base.specs.declared.ids.ClosureId.{ClosureId}
 use Rattle.tl_base.specs.declared.ids.NodeId.{NodeId}
 use Rattle.tl_base.specs.declared.place.Place.{Place}
 use Rattle.tl_base.specs.Plan.{Give, Write}
+use Rattle.tl_base.specs.declared.machine.Step.TheVariants.{Stop}
 use Rattle.tl_tree.specs.Code.{Items, function_at, statements_at}
 use Rattle.lua_value.specs.declared.library.LibFn.{LibFn}
 use Rattle.lua_value.specs.declared.value.Value.{Value}
@@ -13,6 +14,8 @@ use Rattle.lua_table.specs.LuaState.{LuaState}
 use Rattle.lua_table.specs.Heap.{closure_at, deeper}
 use Rattle.lua_ops.specs.declared.fault.Fault.TheVariants.{StackOverflow}
 use Rattle.lua_model.specs.declared.end.End.{End}
+use Rattle.lua_model.specs.declared.question.LuaQuestion.{LuaQuestion}
+use Rattle.lua_model.specs.declared.question.LuaQuestion.TheVariants.{Library}
 use Rattle.lua_model.specs.declared.scope.Scope.{Scope}
 use Rattle.lua_model.specs.Plans.{LuaPlan, statements, raise}
 use Rattle.lua_model.specs.Calls.{most_calls, leave, returned, called_state, called_scope, ask_library, call_library, call_closure}
@@ -21,6 +24,7 @@ use Rattle.lua_eval.specs.declared.frame.LuaFrame.TheVariants as frames
 use Rattle.lua_eval.specs.Calls.{entered_state, entered_scope}
 use Rattle.lua_eval.specs.Steps.{LuaStep, Goes, Does}
 use Rattle.lua_eval.proofs.Below.{moved, chosen, statements_below}
+use Rattle.lua_eval.proofs.Doing.{asks}
 
 -- a call of the library is refused
 pub library_refused : (items : Items) (fs : List LuaFrame) (s s2 : LuaState) (left left2 : ℕ) (step : LuaStep)
@@ -32,6 +36,18 @@ library_refused items fs s s2 left left2 step function vs place outer full does 
     chosen items fs fs (nat_lt s.calls most_calls) false
     (Write (deeper s) (ask_library function vs place outer (λ r. leave r Give))) (raise place StackOverflow)
     s s2 left left2 step full (does fs)
+
+-- a call of the library begins: its function is asked for, below a frame that ends the call
+pub library_called : (items : Items) (fs pushed : List LuaFrame) (s : LuaState) (left : ℕ)
+    (function : LibFn) (vs : List Value) (place : Place) (outer : Option Place)
+    → nat_lt s.calls most_calls ≡ true → pushed ≡ fs ++ frames.Library ∷ []
+    → Goes items fs (call_library function vs place outer Give) s left pushed
+    (Stop (Library (record { function = function; args = vs; place = place; outer = outer }))) (deeper s) left
+library_called items fs pushed s left function vs place outer few is =
+    let call : LuaQuestion = Library (record { function = function; args = vs; place = place; outer = outer }) in
+    chosen items fs pushed (nat_lt s.calls most_calls) true
+    (Write (deeper s) (ask_library function vs place outer (λ r. leave r Give))) (raise place StackOverflow)
+    s (deeper s) left left (Stop call) few (asks items fs pushed frames.Library call (deeper s) left is)
 
 -- what a call of a function of Lua code does, where it may begin
 abbrev begun : Items → Closure → List Value → Place → LuaState → LuaPlan

@@ -1,5 +1,5 @@
 -- Values that are stored under the numbers from one on, as far as these are in the profile.
-use Rattle.std.proofs.Common.{◌≡◌, ℕ, ◌+◌, ◌<◌, ◌≤◌, Bool, true, false, List, [], ◌∷◌, length, drop, get_or, refl, ap, ◌∙◌, arith}
+use Rattle.std.proofs.Common.{◌≡◌, ℕ, ◌+◌, ◌<◌, ◌≤◌, Bool, true, false, List, [], ◌∷◌, length, drop, get_or, refl, sym, ap, ◌∙◌, arith}
 use Rattle.std.proofs.lemmas.Bool.Decides.{nat_tests}
 use Rattle.std.proofs.lemmas.List.{at_drop_more, at_drop_all}
 use Rattle.std.specs.Prelude.{nat_le, nat_lt, pos, Some, None, if◌then◌else◌}
@@ -75,3 +75,11 @@ nil_of_nil v is = absurd cc
 -- a number that 64 bits don't hold is nil
 pub unfit_is_nil : (n : ℕ) → fitting n ≡ None → whole n ≡ Nil
 unfit_is_nil n none = nil_of_nil (whole n) (past_is_nil n (unfit_by n (nat_lt n 18446744073709551616) refl none))
+
+fit_by : (n m : ℕ) (b : Bool) → (if b then Some n else None) ≡ Some m → n ≡ m
+fit_by n m true e = cc
+fit_by n m false e = cc
+
+-- a number that 64 bits hold is itself
+pub fit_is_whole : (n m : ℕ) → fitting n ≡ Some m → whole m ≡ whole n
+fit_is_whole n m e = ap whole (sym (fit_by n m (nat_lt n 18446744073709551616) e))

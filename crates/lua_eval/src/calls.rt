@@ -240,8 +240,8 @@ pub fn call<'a>(
             let step = raise(heap, budget, place, Fault::CallsTerra)?;
             Ok(step)
         }
-        other => {
-            let step = raise(heap, budget, place, Fault::Call(other.kind()))?;
+        _ => {
+            let step = raise(heap, budget, place, Fault::Call(function.kind()))?;
             Ok(step)
         }
     }

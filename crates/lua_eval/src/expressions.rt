@@ -21,7 +21,7 @@ use crate::lists::list;
 use crate::operators::{operate, operate_one, whole};
 use crate::raise::{LuaStep, text_value};
 use crate::tables::fields;
-use crate::values::one;
+use crate::values::{copy, one};
 use lua_model::{End, Job, LuaQuestion, Scope};
 use lua_table::{Closure, Heap};
 use lua_value::{Value, Values};
@@ -298,7 +298,7 @@ pub fn with_call<'a>(
             Ok(step)
         }
         CallFrame::Method(node, arguments, place, scope) => {
-            let frame = CallFrame::MethodOf(value, arguments, place, scope);
+            let frame = CallFrame::MethodOf(copy(&value), arguments, place, scope);
             frames.push(LuaFrame::One(OneFrame::Call(frame)))?;
             let found = read_named(
                 frames,

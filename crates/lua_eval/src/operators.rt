@@ -15,7 +15,7 @@ ghost use Rattle.lua_eval.specs.Operands.{operands_in, operation_of, operate_by}
 use crate::calls::call;
 use crate::frame::{LuaFrame, OneFrame, ValueFrame};
 use crate::raise::{LuaStep, raise, text_units};
-use crate::values::{one, two};
+use crate::values::{copy, one, two};
 use lua_model::{Caller, End, LuaQuestion};
 use lua_ops::{Arithmetic, Comparison, Fault, Handler, Outcome};
 use lua_table::{Heap, LibCall};
@@ -38,8 +38,8 @@ pub fn whole(number: u64) -> Value
 
 /// The operands with which a handler is called.
 #[tactic(auto, using(crate::proofs::Operands::alone_either))]
-fn operands(heap: &Heap, handler: Handler, a: Value, b: Option<Value>) -> Result<Values, NoMemory>
-    ensures { IfOk result (λ values. values ≡ plans.operands_of handler (operands_in a b)) }
+fn operands(heap: &Heap, handler: &Handler, a: Value, b: Option<Value>) -> Result<Values, NoMemory>
+    ensures { IfOk result (λ values. values ≡ plans.operands_of handler.now (operands_in a b)) }
 {
     match b {
         None => {
@@ -65,14 +65,14 @@ fn handle<'a>(
     heap: &mut Heap,
     budget: &mut Budget,
     frame: ValueFrame,
-    handler: Handler,
+    function: Value,
     args: Values,
     place: Place,
     outer: Option<Place>,
 ) -> Result<LuaStep, NoMemory>
     ensures means { IfOk result (λ step.
         Goes (items_of tree.now) frames.old.items
-        (call (items_of tree.now) Caller.ByOther handler.function args place outer
+        (call (items_of tree.now) Caller.ByOther function args place outer
         (λ r. on_one r (λ v. with_value (items_of tree.now) frame v)))
         heap.old budget.old frames.new.items step heap.new budget.new) }
     ensures kept { OnOk result (KeepsHeap heap.old heap.new) }
@@ -84,7 +84,7 @@ fn handle<'a>(
         heap,
         budget,
         Caller::ByOther,
-        handler.function,
+        function,
         args,
         place,
         outer,
@@ -117,14 +117,14 @@ fn settle<'a>(
             Ok(step)
         }
         Outcome::Meta(handler) => {
-            let args = operands(heap, handler, a, b)?;
+            let args = operands(heap, &handler, a, b)?;
             let called = handle(
                 tree,
                 frames,
                 heap,
                 budget,
                 ValueFrame::First,
-                handler,
+                handler.function,
                 args,
                 place,
                 outer,
@@ -151,7 +151,7 @@ fn arith<'a>(
         heap.old budget.old frames.new.items step heap.new budget.new) }
     ensures kept { OnOk result (KeepsHeap heap.old heap.new) }
 {
-    let outcome = lua_ops::arith::arith(heap, op, a, b)?;
+    let outcome = lua_ops::arith::arith(heap, op, copy(&a), copy(&b))?;
     let step = settle(
         tree,
         frames,
@@ -181,17 +181,17 @@ fn minus<'a>(
         heap.old budget.old frames.new.items step heap.new budget.new) }
     ensures kept { OnOk result (KeepsHeap heap.old heap.new) }
 {
-    let outcome = lua_ops::arith::arith(heap, Arithmetic::Minus, a, Value::Nil)?;
+    let outcome = lua_ops::arith::arith(heap, Arithmetic::Minus, copy(&a), Value::Nil)?;
     let step = settle(tree, frames, heap, budget, outcome, a, None, place, outer)?;
     Ok(step)
 }
 
 /// The length of a text; of any other value it is 0.
-fn text_length(heap: &Heap, value: Value) -> usize
-    ensures { result ≡ plans.text_length heap.now value }
+fn text_length(heap: &Heap, value: &Value) -> usize
+    ensures { result ≡ plans.text_length heap.now value.now }
 {
     match value {
-        Value::Text(text) => heap.text(text).len(),
+        Value::Text(text) => heap.text(*text).len(),
         _ => 0,
     }
 }
@@ -213,7 +213,7 @@ fn concat<'a>(
         heap.old budget.old frames.new.items step heap.new budget.new) }
     ensures kept { OnOk result (KeepsHeap heap.old heap.new) }
 {
-    let outcome = lua_ops::concat::concat(heap, a, b)?;
+    let outcome = lua_ops::concat::concat(heap, copy(&a), copy(&b))?;
     let step = joined(tree, frames, heap, budget, outcome, a, b, place, outer)?;
     Ok(step)
 }
@@ -238,7 +238,7 @@ fn joined<'a>(
 {
     match outcome {
         Outcome::Value(value) => {
-            if !budget.pay(text_units(text_length(heap, value))) {
+            if !budget.pay(text_units(text_length(heap, &value))) {
                 return Ok(Step::Spent);
             }
             Ok(Step::Return(End::One(value)))
@@ -277,7 +277,7 @@ fn compare<'a>(
         heap.old budget.old frames.new.items step heap.new budget.new) }
     ensures kept { OnOk result (KeepsHeap heap.old heap.new) }
 {
-    let outcome = lua_ops::compare::compare(heap, op, a, b)?;
+    let outcome = lua_ops::compare::compare(heap, op, copy(&a), copy(&b))?;
     let step = compared(tree, frames, heap, budget, outcome, a, b, place, outer)?;
     Ok(step)
 }
@@ -316,10 +316,11 @@ fn compared<'a>(
             Ok(step)
         }
         Outcome::Meta(handler) => {
-            let args = operands(heap, handler, a, Some(b))?;
+            let args = operands(heap, &handler, a, Some(b))?;
+            let function = copy(&handler.function);
             let frame = ValueFrame::Answer(handler);
             let called = handle(
-                tree, frames, heap, budget, frame, handler, args, place, outer,
+                tree, frames, heap, budget, frame, function, args, place, outer,
             )?;
             Ok(called)
         }
@@ -514,8 +515,8 @@ fn length(
             let border = heap.border(table);
             Ok(Step::Return(End::One(whole(border))))
         }
-        other => {
-            let step = raise(heap, budget, place, Fault::Length(other.kind()))?;
+        _ => {
+            let step = raise(heap, budget, place, Fault::Length(value.kind()))?;
             Ok(step)
         }
     }
