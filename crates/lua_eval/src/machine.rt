@@ -335,7 +335,8 @@ fn returned(heap: &Heap, end: End) -> End
     ensures { result ≡ returned end }
 {
     match end {
-        End::Returned(values, _) | End::Many(values) => End::Many(values),
+        End::Returned(values, _) => End::Many(values),
+        End::Many(values) => End::Many(values),
         End::Fell(_) | End::Broke(_) => End::Many(Values::new(heap.allocator())),
         End::One(value) => End::One(value),
         End::Raised(value, place) => End::Raised(value, place),

@@ -14,6 +14,7 @@ ghost use Rattle.lua_eval.specs.Steps.{Goes};
 
 use crate::code::name;
 use crate::frame::{AllFrame, FieldFrame, LuaFrame, OneFrame, TableFrame};
+use crate::lists::enter_below;
 use crate::operators::whole;
 use crate::raise::{LuaStep, raise, text_value};
 use lua_model::{End, Job, Scope};
@@ -121,15 +122,31 @@ fn field<'a>(
             Ok(Step::Enter(Job::Expression(key, frame.scope)))
         }
         FieldKind::Listed => {
-            if frame.rest.is_empty() {
-                frames.push(LuaFrame::All(AllFrame::LastField(frame)))?;
-                Ok(Step::Enter(Job::Expression(node, frame.scope)))
-            } else {
-                frames.push(LuaFrame::One(OneFrame::Field(frame, FieldFrame::Next)))?;
-                Ok(Step::Enter(Job::Expression(node, frame.scope)))
-            }
+            let step = listed_field(frames, node, frame)?;
+            Ok(step)
         }
     }
+}
+
+/// Evaluates and stores a field without a key, and those behind it.
+fn listed_field<'a>(
+    frames: &mut Vec<LuaFrame<'a>>,
+    node: NodeId,
+    frame: TableFrame<'a>,
+) -> Result<LuaStep, NoMemory>
+    ensures means { IfOk result (λ step. (items : Items) (s : LuaState) (left : ℕ) →
+        Goes items frames.old.items (field_by items FieldKind.Listed node frame.entry) s left
+        frames.new.items step s left) }
+{
+    let job = Job::Expression(node, frame.scope);
+    // The last one gives all its values, and any other one gives one.
+    if frame.rest.is_empty() {
+        let last = enter_below(frames, LuaFrame::All(AllFrame::LastField(frame)), job)?;
+        return Ok(last);
+    }
+    let field = LuaFrame::One(OneFrame::Field(frame, FieldFrame::Next));
+    let entered = enter_below(frames, field, job)?;
+    Ok(entered)
 }
 
 #[tactic(auto, using(tl_base::proofs::Steps::pushes))]
@@ -164,6 +181,27 @@ fn store_field<'a>(
         frame.place,
         frame.scope,
     )?;
+    Ok(step)
+}
+
+/// Stores the value of a field with a name, and goes on with the fields behind it.
+fn named_field<'a>(
+    tree: &'a Tree<'a>,
+    frames: &mut Vec<LuaFrame<'a>>,
+    heap: &mut Heap,
+    budget: &mut Budget,
+    frame: TableFrame<'a>,
+    node: NodeId,
+    value: Value,
+) -> Result<LuaStep, NoMemory>
+    ensures means { IfOk result (λ step.
+        Goes (items_of tree.now) frames.old.items
+        (with_field (items_of tree.now) frame.entry (FieldFrame.Named node) value)
+        heap.old budget.old frames.new.items step heap.new budget.new) }
+    ensures kept { OnOk result (KeepsHeap heap.old heap.new) }
+{
+    let key = text_value(heap, name(tree, node).as_bytes())?;
+    let step = store_field(tree, frames, heap, budget, frame, key, value)?;
     Ok(step)
 }
 
@@ -202,8 +240,7 @@ pub fn with_field<'a>(
             Ok(step)
         }
         FieldFrame::Named(node) => {
-            let key = text_value(heap, name(tree, node).as_bytes())?;
-            let step = store_field(tree, frames, heap, budget, frame, key, value)?;
+            let step = named_field(tree, frames, heap, budget, frame, node, value)?;
             Ok(step)
         }
         FieldFrame::Key(node) => {

@@ -20,8 +20,8 @@ values-preserved c =
     let made = c.in_ok-new_cell.ensures.ok in
     record {
       same =
-        ap (λ (w : LuaState). with_cells (drop (i + 1) vs) w)
-        (made ∙ ap (λ (x : Value). with_cell s x) (get_or_read vs i v c.values-test.true c.value-item.is Nil))
-        ∙ sym (cells_next vs i s c.values-test.true) ∙ c.values.invariant.same;
+          ap (λ (w : LuaState). with_cells (drop (i + 1) vs) w)
+          (made ∙ ap (λ (x : Value). with_cell s x) (get_or_read vs i v c.values-test.true c.value-item.is Nil))
+          ∙ sym (cells_next vs i s c.values-test.true) ∙ c.values.invariant.same;
       kept = keeps_then c.args.heap.now s t c.values.invariant.kept (kept_as s t (with_cell s v) made (keeps_cell s v));
     }

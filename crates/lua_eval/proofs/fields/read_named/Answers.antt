@@ -3,8 +3,8 @@ use Rattle.lua_model.specs.Fields.{read}
 use Rattle.lua_eval.proofs.Below.{text_goes}
 use Rattle.lua_eval.proofs.fields.read_named.Goals as goal
 
-pub returns-in_ok-step-clause-means : goal.returns-in_ok-step-clause-means
-returns-in_ok-step-clause-means c = λ items.
+pub returns-clause-means : goal.returns-in_ok-step-clause-means
+returns-clause-means c = λ items.
     let a = c.args in
     text_goes items a.frames.now.items c.read-step.new.frames.items a.name.now (λ key. read a.object key a.place a.outer give)
     a.heap.now c.text_value-key.new.heap c.read-step.new.heap a.budget.now c.read-step.new.budget c.in_ok-step.step c.in_ok-key.key

@@ -3,8 +3,8 @@ use Rattle.lua_model.specs.Fields.{store}
 use Rattle.lua_eval.proofs.Below.{text_goes}
 use Rattle.lua_eval.proofs.fields.store_named.Goals as goal
 
-pub returns-in_ok-step-clause-means : goal.returns-in_ok-step-clause-means
-returns-in_ok-step-clause-means c = λ items.
+pub returns-clause-means : goal.returns-in_ok-step-clause-means
+returns-clause-means c = λ items.
     let a = c.args in
     text_goes items a.frames.now.items c.store-step.new.frames.items a.name.now (λ key. store a.object key a.value a.place a.outer fell)
     a.heap.now c.text_value-key.new.heap c.store-step.new.heap a.budget.now c.store-step.new.budget c.in_ok-step.step c.in_ok-key.key

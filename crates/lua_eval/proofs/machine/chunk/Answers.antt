@@ -6,12 +6,14 @@ use Rattle.tl_tree.specs.Nodes.{last_of}
 use Rattle.tl_tree.specs.Code.{statements_at}
 use Rattle.lua_table.specs.Heap.{next_env, with_env}
 use Rattle.lua_model.specs.Plans.{scope_at, statements}
+use Rattle.lua_table.proofs.Keeping.{keeps_env}
+use Rattle.lua_eval.proofs.Keeping.{kept_as}
 use Rattle.lua_eval.proofs.Below.{moved}
 use Rattle.lua_eval.proofs.Making.{statements_are}
 use Rattle.lua_eval.proofs.machine.chunk.Goals as goal
 
-pub returns-in_ok-begun-clause-means : goal.returns-in_ok-begun-clause-means
-returns-in_ok-begun-clause-means c = λ left.
+pub returns-clause-means : goal.returns-in_ok-begun-clause-means
+returns-clause-means c = λ left.
     let a = c.args in
     let items = items_of a.tree.now in
     let s = a.heap.now in
@@ -27,3 +29,8 @@ returns-in_ok-begun-clause-means c = λ left.
     (sym (c.scope_at.ensures ∙ ap scope_at c.in_ok-env.ensures.id)) (sym c.new-none.ensures))
     (sym (c.in_ok-env.ensures.ok ∙ ap (λ (n : NodeId). with_env s n None) c.root.ensures))
     (c.in_ok-begun.ensures.means items t left)
+
+pub returns-clause-kept : goal.returns-clause-kept
+returns-clause-kept c =
+    let s = c.args.heap.now in
+    kept_as s c.new_env-env.new.self (with_env s c.root.result None) c.in_ok-env.ensures.ok (keeps_env s c.root.result None)

@@ -6,8 +6,8 @@ use Rattle.lua_eval.specs.declared.frame.ValueFrame.TheVariants as of_value
 use Rattle.lua_eval.proofs.Below.{read_below}
 use Rattle.lua_eval.proofs.machine.read_alone.Goals as goal
 
-pub returns-in_ok-found-clause-means : goal.returns-in_ok-found-clause-means
-returns-in_ok-found-clause-means c = λ items.
+pub returns-clause-means : goal.returns-in_ok-found-clause-means
+returns-clause-means c = λ items.
     let a = c.args in
     read_below items a.frames.now.items c.push.new.self.items c.read-found.new.frames.items (frames.One (ones.Value of_value.Alone))
     a.heap.now c.read-found.new.heap a.budget.now c.read-found.new.budget c.in_ok-found.found a.object a.key a.place None alone
