@@ -3,12 +3,14 @@ use Rattle.std.proofs.Common.{◌≡◌, ℕ, Bool, true, false, List, [], ◌�
 use Rattle.std.specs.Prelude.{nat_lt}
 use Rattle.tl_base.specs.declared.ids.ClosureId.{ClosureId}
 use Rattle.tl_base.specs.declared.ids.NodeId.{NodeId}
+use Rattle.tl_base.specs.declared.ids.TableId.{TableId}
 use Rattle.tl_base.specs.declared.place.Place.{Place}
 use Rattle.tl_base.specs.Plan.{Give, Write}
 use Rattle.tl_base.specs.declared.machine.Step.TheVariants.{Stop}
 use Rattle.tl_tree.specs.Code.{Items, function_at, statements_at}
 use Rattle.lua_value.specs.declared.library.LibFn.{LibFn}
 use Rattle.lua_value.specs.declared.value.Value.{Value}
+use Rattle.lua_value.specs.declared.value.Value.TheVariants as values
 use Rattle.lua_table.specs.declared.env.Closure.{Closure}
 use Rattle.lua_table.specs.LuaState.{LuaState}
 use Rattle.lua_table.specs.Heap.{closure_at, deeper}
@@ -16,12 +18,13 @@ use Rattle.lua_ops.specs.declared.fault.Fault.TheVariants.{StackOverflow}
 use Rattle.lua_model.specs.declared.end.End.{End}
 use Rattle.lua_model.specs.declared.question.LuaQuestion.{LuaQuestion}
 use Rattle.lua_model.specs.declared.question.LuaQuestion.TheVariants.{Library}
+use Rattle.lua_model.specs.declared.job.Caller.{Caller}
 use Rattle.lua_model.specs.declared.scope.Scope.{Scope}
 use Rattle.lua_model.specs.Plans.{LuaPlan, statements, raise}
-use Rattle.lua_model.specs.Calls.{most_calls, leave, returned, called_state, called_scope, ask_library, call_library, call_closure}
+use Rattle.lua_model.specs.Calls.{most_calls, leave, returned, called_state, called_scope, ask_library, call_library, call_closure, call_handler, call}
 use Rattle.lua_eval.specs.declared.frame.LuaFrame.{LuaFrame}
 use Rattle.lua_eval.specs.declared.frame.LuaFrame.TheVariants as frames
-use Rattle.lua_eval.specs.Calls.{entered_state, entered_scope}
+use Rattle.lua_eval.specs.Calls.{entered_state, entered_scope, call_fault}
 use Rattle.lua_eval.specs.Steps.{LuaStep, Goes, Does}
 use Rattle.lua_eval.proofs.Below.{moved, chosen, statements_below}
 use Rattle.lua_eval.proofs.Doing.{asks}
@@ -121,3 +124,19 @@ closure_called items fs pushed fs2 s t s2 left left2 step id c vs place scope me
     s s2 left left2 step few
     (moved items fs fs2 (begun items (closure_at s id) vs place s) (begun items c vs place s) s s s2 left left2 step
     (ap (λ (d : Closure). begun items d vs place s) (sym is)) refl at)
+
+-- what no function is called by: the value itself, and a table's handler
+pub not_called : (items : Items) (by : Caller) (v : Value) (vs : List Value) (place : Place) (outer : Option Place) (go : End → LuaPlan)
+    → ((c : ClosureId) → v ≡ values.Closure c → ⊥) → ((f : LibFn) → v ≡ values.Library f → ⊥) → ((t : TableId) → v ≡ values.Table t → ⊥)
+    → call items by v vs place outer go ≡ raise place (call_fault v)
+not_called items by (values.Closure c) vs place outer go not_closure not_library not_table = absurd (not_closure c refl)
+not_called items by (values.Library f) vs place outer go not_closure not_library not_table = absurd (not_library f refl)
+not_called items by (values.Table t) vs place outer go not_closure not_library not_table = absurd (not_table t refl)
+not_called items by v vs place outer go not_closure not_library not_table = refl
+
+pub not_handled : (v : Value) (vs : List Value) (place : Place) (outer : Option Place) (go : End → LuaPlan) (otherwise : LuaPlan)
+    → ((c : ClosureId) → v ≡ values.Closure c → ⊥) → ((f : LibFn) → v ≡ values.Library f → ⊥)
+    → call_handler v vs place outer go otherwise ≡ otherwise
+not_handled (values.Closure c) vs place outer go otherwise not_closure not_library = absurd (not_closure c refl)
+not_handled (values.Library f) vs place outer go otherwise not_closure not_library = absurd (not_library f refl)
+not_handled v vs place outer go otherwise not_closure not_library = refl

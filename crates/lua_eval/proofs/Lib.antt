@@ -4,6 +4,7 @@ pub mod Counting
 pub mod Declaring
 pub mod Doing
 pub mod Entering
+pub mod Evaluating
 pub mod Fielding
 pub mod Keeping
 pub mod Listing

@@ -1,12 +1,16 @@
--- The environment of a call in progress, by what its function has.
+-- The environment of a call in progress, by what its function has, and what a call raises.
 use Rattle.std.specs.Prelude.{ℕ, ◌+◌, Bool, List, [], length, drop, Some, if◌then◌else◌}
 use Rattle.tl_base.specs.declared.ids.NodeId.{NodeId}
 use Rattle.tl_base.specs.declared.place.Place.{Place}
 use Rattle.lua_value.specs.declared.value.Value.{Value}
+use Rattle.lua_value.specs.declared.value.Value.TheVariants as values
+use Rattle.lua_value.specs.Values.{kind_of}
 use Rattle.lua_table.specs.declared.env.Closure.{Closure}
 use Rattle.lua_table.specs.LuaState.{LuaState}
 use Rattle.lua_table.specs.Heap.{next_env, next_cell, with_env}
 use Rattle.lua_table.specs.Cells.{declare_all, with_cells}
+use Rattle.lua_ops.specs.declared.fault.Fault.{Fault}
+use Rattle.lua_ops.specs.declared.fault.Fault.TheVariants.{Call, CallsTerra}
 use Rattle.lua_model.specs.declared.scope.Scope.{Scope}
 
 abbrev pub count_in : Bool → List NodeId → ℕ
@@ -32,3 +36,9 @@ entered_scope method names variadic c vs place s =
       count = length (extras_in method names variadic vs);
       call = Some place;
     }
+
+-- what the call of a value raises that is no function and no table
+abbrev pub call_fault : Value → Fault
+call_fault (values.TerraFunction f) = CallsTerra
+call_fault (values.Primitive p) = CallsTerra
+call_fault v = Call (kind_of v)

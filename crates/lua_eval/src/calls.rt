@@ -10,7 +10,7 @@ ghost use Rattle.lua_table.specs.Metatables.{handler_at};
 ghost use Rattle.lua_model.specs.Plans.{statements, raise};
 ghost use Rattle.std.specs.Bool.{OnTrue};
 ghost use Rattle.lua_model.specs.Calls.{most_calls, call, call_closure, call_library, call_handler};
-ghost use Rattle.lua_eval.specs.Calls.{entered_state, entered_scope};
+ghost use Rattle.lua_eval.specs.Calls.{entered_state, entered_scope, call_fault};
 ghost use Rattle.lua_eval.specs.Steps.{Goes};
 ghost use Rattle.tl_base.specs.Plan.{Give};
 
@@ -194,6 +194,16 @@ fn call_handler<'a>(
     }
 }
 
+/// What the call of a value raises that is no function and no table. Lua code can't call Terra code.
+fn call_fault(function: &Value) -> Fault
+    ensures { result ≡ call_fault function.now }
+{
+    match function {
+        Value::TerraFunction(_) | Value::Primitive(_) => Fault::CallsTerra,
+        _ => Fault::Call(function.kind()),
+    }
+}
+
 #[tactic(auto, using(tl_base::proofs::Steps::pushes))]
 /// Calls a value.
 pub fn call<'a>(
@@ -236,12 +246,8 @@ pub fn call<'a>(
             let step = call_handler(frames, heap, budget, handler, args, place, outer)?;
             Ok(step)
         }
-        Value::TerraFunction(_) | Value::Primitive(_) => {
-            let step = raise(heap, budget, place, Fault::CallsTerra)?;
-            Ok(step)
-        }
         _ => {
-            let step = raise(heap, budget, place, Fault::Call(function.kind()))?;
+            let step = raise(heap, budget, place, call_fault(&function))?;
             Ok(step)
         }
     }

@@ -78,12 +78,15 @@ pub fn node<'a>(
             let step = evaluate(tree, frames, heap, expression, node, *place, scope)?;
             Ok(step)
         }
-        _ => Ok(Step::Return(End::One(Value::Nil))),
+        Node::Statement(_, _) => Ok(Step::Return(End::One(Value::Nil))),
+        Node::TerraExpression(_, _) => Ok(Step::Return(End::One(Value::Nil))),
+        Node::TerraStatement(_, _) => Ok(Step::Return(End::One(Value::Nil))),
+        Node::Piece(_) => Ok(Step::Return(End::One(Value::Nil))),
     }
 }
 
 /// The value of a numeral.
-#[tactic(auto, using(crate::proofs::Numbering::unfit_is_nil))]
+#[tactic(auto, using(crate::proofs::Numbering::unfit_is_nil, crate::proofs::Numbering::fit_is_whole))]
 fn numeral(text: &str) -> Value
     ensures { result ≡ whole (value_of text.now) }
 {

@@ -151,7 +151,9 @@ fn arith<'a>(
         heap.old budget.old frames.new.items step heap.new budget.new) }
     ensures kept { OnOk result (KeepsHeap heap.old heap.new) }
 {
-    let outcome = lua_ops::arith::arith(heap, op, copy(&a), copy(&b))?;
+    let first = copy(&a);
+    let second = copy(&b);
+    let outcome = lua_ops::arith::arith(heap, op, first, second)?;
     let step = settle(
         tree,
         frames,
@@ -181,7 +183,8 @@ fn minus<'a>(
         heap.old budget.old frames.new.items step heap.new budget.new) }
     ensures kept { OnOk result (KeepsHeap heap.old heap.new) }
 {
-    let outcome = lua_ops::arith::arith(heap, Arithmetic::Minus, copy(&a), Value::Nil)?;
+    let first = copy(&a);
+    let outcome = lua_ops::arith::arith(heap, Arithmetic::Minus, first, Value::Nil)?;
     let step = settle(tree, frames, heap, budget, outcome, a, None, place, outer)?;
     Ok(step)
 }
@@ -213,7 +216,9 @@ fn concat<'a>(
         heap.old budget.old frames.new.items step heap.new budget.new) }
     ensures kept { OnOk result (KeepsHeap heap.old heap.new) }
 {
-    let outcome = lua_ops::concat::concat(heap, copy(&a), copy(&b))?;
+    let first = copy(&a);
+    let second = copy(&b);
+    let outcome = lua_ops::concat::concat(heap, first, second)?;
     let step = joined(tree, frames, heap, budget, outcome, a, b, place, outer)?;
     Ok(step)
 }
@@ -277,7 +282,9 @@ fn compare<'a>(
         heap.old budget.old frames.new.items step heap.new budget.new) }
     ensures kept { OnOk result (KeepsHeap heap.old heap.new) }
 {
-    let outcome = lua_ops::compare::compare(heap, op, copy(&a), copy(&b))?;
+    let first = copy(&a);
+    let second = copy(&b);
+    let outcome = lua_ops::compare::compare(heap, op, first, second)?;
     let step = compared(tree, frames, heap, budget, outcome, a, b, place, outer)?;
     Ok(step)
 }

@@ -13,24 +13,24 @@ returns-in_ok-entered-clause-means c =
     let a = c.args in
     let items = items_of a.tree.now in
     let parts = c.function_parts-parts.result in
-    closure_called items a.frames.now.items c.push.new.self.items c.statements-entered.new.frames.items
-    a.heap.now c.enter_call-scope.new.heap c.enter_call-scope.new.heap a.budget.now a.budget.now c.in_ok-entered.entered
+    closure_called items a.frames.now.items c.push.new.self.items c.statements.new.frames.items
+    a.heap.now c.enter_call.new.heap c.enter_call.new.heap a.budget.now a.budget.now c.in_ok-entered.entered
     a.closure c.closure-code.result a.args a.place c.in_ok-scope.scope parts.method parts.variadic parts.names.now
     c.block_statements.result.now c.new-none.result
     (sym c.may_call.ensures.same ∙ c.if-may_call.true) c.new-none.ensures c.closure-code.ensures
     c.function_parts-parts.ensures.method c.function_parts-parts.ensures.names c.function_parts-parts.ensures.variadic
     (c.block_statements.ensures ∙ ap (λ (n : NodeId). statements_at items n) c.function_parts-parts.ensures.block)
     (rw c.begin_call.ensures at c.in_ok-scope.ensures.scope) (rw c.begin_call.ensures at c.in_ok-scope.ensures.heap)
-    c.in_ok-push.ensures.items (c.in_ok-entered.ensures.means items c.enter_call-scope.new.heap a.budget.now)
+    c.in_ok-push.ensures.items (c.in_ok-entered.ensures.means items c.enter_call.new.heap a.budget.now)
 
 pub returns-in_ok-step-clause-means : goal.returns-in_ok-step-clause-means
 returns-in_ok-step-clause-means c =
     let a = c.args in
     let items = items_of a.tree.now in
-    closure_refused items a.frames.now.items a.heap.now c.raise-step.new.heap a.budget.now c.raise-step.new.budget
+    closure_refused items a.frames.now.items a.heap.now c.raise.new.heap a.budget.now c.raise.new.budget
     c.in_ok-step.step a.closure a.args a.place (sym c.may_call.ensures.same ∙ c.if-may_call.false) (c.in_ok-step.ensures.means items)
 
 pub returns-in_ok-entered-clause-kept : goal.returns-in_ok-entered-clause-kept
 returns-in_ok-entered-clause-kept c =
-    keeps_by c.args.heap.now c.begin_call.new.self (deeper c.args.heap.now) c.enter_call-scope.new.heap
+    keeps_by c.args.heap.now c.begin_call.new.self (deeper c.args.heap.now) c.enter_call.new.heap
     c.begin_call.ensures (keeps_deeper c.args.heap.now) c.in_ok-scope.ensures.kept

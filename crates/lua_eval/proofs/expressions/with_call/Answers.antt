@@ -18,11 +18,11 @@ returns-in_ok-found-in-Method-clause-means c =
     let m = c.in-Method in
     let items = items_of a.tree.now in
     let fs = a.frames.now.items in
-    let fs2 = c.read_named-found.new.frames.items in
+    let fs2 = c.read_named.new.frames.items in
     let bytes = c.as_bytes.result.now in
     let go : Value → LuaPlan = λ f. list_plan items m.arguments.now m.scope (a.value ∷ []) (thens.Call f m.place) in
-    let heap = c.read_named-found.new.heap in
-    let left = c.read_named-found.new.budget in
+    let heap = c.read_named.new.heap in
+    let left = c.read_named.new.budget in
     let found = c.in_ok-found-in-Method.found in
     rw m.is (moved items fs fs2 (with_text_of (name_at items m.node) (λ key. read a.value key m.place m.scope.call go))
     (with_text_of bytes (λ key. read a.value key m.place m.scope.call go)) a.heap.now a.heap.now heap a.budget.now left found

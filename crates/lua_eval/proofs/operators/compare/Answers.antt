@@ -1,5 +1,6 @@
-use Rattle.std.proofs.Common.{◌≡◌, [], ◌∷◌, ap}
+use Rattle.std.proofs.Common.{◌≡◌, [], ◌∷◌, sym, ap, ◌∙◌}
 use Rattle.tl_tree.specs.Arena.{items_of}
+use Rattle.lua_value.specs.declared.value.Value.{Value}
 use Rattle.lua_ops.specs.declared.outcome.Outcome.{Outcome}
 use Rattle.lua_ops.specs.Outcomes.{compare_outcome}
 use Rattle.lua_model.specs.Operators.{compared}
@@ -11,10 +12,15 @@ returns-in_ok-step-clause-means c =
     let a = c.args in
     let items = items_of a.tree.now in
     let outcome = c.in_ok-outcome.outcome in
-    let is : compare_outcome a.heap.now a.op a.a a.b ≡ outcome = cc in
-    let heap : a.heap.now ≡ c.compare-outcome.new.heap = cc in
-    moved items a.frames.now.items c.compared-step.new.frames.items
+    let first = c.copy-first.result in
+    let second = c.copy-second.result in
+    let found : compare_outcome a.heap.now a.op first second ≡ outcome = cc in
+    let is : compare_outcome a.heap.now a.op a.a a.b ≡ outcome =
+    ap (λ (v : Value). compare_outcome a.heap.now a.op v a.b) (sym c.copy-first.ensures)
+    ∙ ap (λ (v : Value). compare_outcome a.heap.now a.op first v) (sym c.copy-second.ensures) ∙ found in
+    let heap : a.heap.now ≡ c.compare.new.heap = cc in
+    moved items a.frames.now.items c.compared.new.frames.items
     (compared items (compare_outcome a.heap.now a.op a.a a.b) (a.a ∷ a.b ∷ []) a.place a.outer)
     (compared items outcome (a.a ∷ a.b ∷ []) a.place a.outer)
-    a.heap.now c.compare-outcome.new.heap c.compared-step.new.heap a.budget.now c.compared-step.new.budget c.in_ok-step.step
+    a.heap.now c.compare.new.heap c.compared.new.heap a.budget.now c.compared.new.budget c.in_ok-step.step
     (ap (λ (o : Outcome). compared items o (a.a ∷ a.b ∷ []) a.place a.outer) is) heap c.in_ok-step.ensures.means

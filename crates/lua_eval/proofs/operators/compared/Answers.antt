@@ -16,9 +16,9 @@ returns-in_ok-called-in-Meta-clause-means c =
     let plan : Value → List Value → LuaPlan =
     λ f vs. call items ByOther f vs a.place a.outer (λ r. on_one r (λ v. give (answered m.handler v))) in
     let given = operands_of m.handler (a.a ∷ a.b ∷ []) in
-    rw m.is (moved items a.frames.now.items c.handle-called.new.frames.items (plan m.handler.function given)
-    (plan c.copy-function.result c.in_ok-args-in-Meta.args) a.heap.now a.heap.now c.handle-called.new.heap
-    a.budget.now c.handle-called.new.budget c.in_ok-called-in-Meta.called
+    rw m.is (moved items a.frames.now.items c.handle.new.frames.items (plan m.handler.function given)
+    (plan c.copy-function.result c.in_ok-args-in-Meta.args) a.heap.now a.heap.now c.handle.new.heap
+    a.budget.now c.handle.new.budget c.in_ok-called-in-Meta.called
     (ap (λ (f : Value). plan f given) (sym c.copy-function.ensures)
     ∙ ap (λ (vs : List Value). plan c.copy-function.result vs) (sym c.in_ok-args-in-Meta.ensures))
     refl c.in_ok-called-in-Meta.ensures.means)

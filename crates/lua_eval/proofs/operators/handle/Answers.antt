@@ -10,7 +10,7 @@ use Rattle.lua_eval.proofs.operators.handle.Goals as goal
 pub returns-in_ok-step-clause-means : goal.returns-in_ok-step-clause-means
 returns-in_ok-step-clause-means c =
     let items = items_of c.args.tree.now in
-    call_below items c.args.frames.now.items c.push.new.self.items c.call-step.new.frames.items (frames.One (ones.Value c.args.frame))
-    c.args.heap.now c.call-step.new.heap c.args.budget.now c.call-step.new.budget c.in_ok-step.step
+    call_below items c.args.frames.now.items c.push.new.self.items c.call.new.frames.items (frames.One (ones.Value c.args.frame))
+    c.args.heap.now c.call.new.heap c.args.budget.now c.call.new.budget c.in_ok-step.step
     ByOther c.args.function c.args.args c.args.place c.args.outer
     c.in_ok-push.ensures.items (one_passes (jobs_of items) (λ v. with_value items c.args.frame v)) c.in_ok-step.ensures.means

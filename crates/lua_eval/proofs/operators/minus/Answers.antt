@@ -1,5 +1,6 @@
-use Rattle.std.proofs.Common.{◌≡◌, [], ◌∷◌, ap}
+use Rattle.std.proofs.Common.{◌≡◌, [], ◌∷◌, sym, ap, ◌∙◌}
 use Rattle.tl_tree.specs.Arena.{items_of}
+use Rattle.lua_value.specs.declared.value.Value.{Value}
 use Rattle.lua_value.specs.declared.value.Value.TheVariants.{Nil}
 use Rattle.lua_ops.specs.declared.operator.Arithmetic.TheVariants.{Minus}
 use Rattle.lua_ops.specs.declared.outcome.Outcome.{Outcome}
@@ -13,10 +14,13 @@ returns-in_ok-step-clause-means c =
     let a = c.args in
     let items = items_of a.tree.now in
     let outcome = c.in_ok-outcome.outcome in
-    let is : arith_outcome a.heap.now Minus a.a Nil ≡ outcome = cc in
-    let heap : a.heap.now ≡ c.arith-outcome.new.heap = cc in
-    moved items a.frames.now.items c.settle-step.new.frames.items
+    let first = c.copy-first.result in
+    let found : arith_outcome a.heap.now Minus first Nil ≡ outcome = cc in
+    let is : arith_outcome a.heap.now Minus a.a Nil ≡ outcome =
+    ap (λ (v : Value). arith_outcome a.heap.now Minus v Nil) (sym c.copy-first.ensures) ∙ found in
+    let heap : a.heap.now ≡ c.arith.new.heap = cc in
+    moved items a.frames.now.items c.settle.new.frames.items
     (settle items (arith_outcome a.heap.now Minus a.a Nil) (a.a ∷ []) a.place a.outer)
     (settle items outcome (a.a ∷ []) a.place a.outer)
-    a.heap.now c.arith-outcome.new.heap c.settle-step.new.heap a.budget.now c.settle-step.new.budget c.in_ok-step.step
+    a.heap.now c.arith.new.heap c.settle.new.heap a.budget.now c.settle.new.budget c.in_ok-step.step
     (ap (λ (o : Outcome). settle items o (a.a ∷ []) a.place a.outer) is) heap c.in_ok-step.ensures.means

@@ -11,8 +11,8 @@ pub returns-in_ok-step-clause-means : goal.returns-in_ok-step-clause-means
 returns-in_ok-step-clause-means c =
     let a = c.args in
     let items = items_of a.tree.now in
-    moved items a.frames.now.items c.operate_by-step.new.frames.items (operate items a.op a.a a.b a.place a.outer)
+    moved items a.frames.now.items c.operate_by.new.frames.items (operate items a.op a.a a.b a.place a.outer)
     (operate_by items c.operation_of.result a.a a.b a.place a.outer)
-    a.heap.now a.heap.now c.operate_by-step.new.heap a.budget.now c.operate_by-step.new.budget c.in_ok-step.step
+    a.heap.now a.heap.now c.operate_by.new.heap a.budget.now c.operate_by.new.budget c.in_ok-step.step
     (operate_is items a.op a.a a.b a.place a.outer
     ∙ ap (λ (o : Operation). operate_by items o a.a a.b a.place a.outer) (sym c.operation_of.ensures)) refl c.in_ok-step.ensures.means

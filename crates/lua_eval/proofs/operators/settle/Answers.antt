@@ -15,6 +15,6 @@ returns-in_ok-called-in-Meta-clause-means c =
     let m = c.in-Meta in
     let items = items_of a.tree.now in
     let plan : List Value → LuaPlan = λ vs. call items ByOther m.handler.function vs a.place a.outer (λ r. on_one r give) in
-    rw m.is (moved items a.frames.now.items c.handle-called.new.frames.items (plan (operands_of m.handler (operands_in a.a a.b)))
-    (plan c.in_ok-args-in-Meta.args) a.heap.now a.heap.now c.handle-called.new.heap a.budget.now c.handle-called.new.budget
+    rw m.is (moved items a.frames.now.items c.handle.new.frames.items (plan (operands_of m.handler (operands_in a.a a.b)))
+    (plan c.in_ok-args-in-Meta.args) a.heap.now a.heap.now c.handle.new.heap a.budget.now c.handle.new.budget
     c.in_ok-called-in-Meta.called (ap plan (sym c.in_ok-args-in-Meta.ensures)) refl c.in_ok-called-in-Meta.ensures.means)
