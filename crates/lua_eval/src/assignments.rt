@@ -289,19 +289,43 @@ pub fn define_in<'a>(
     ensures kept { OnOk result (KeepsHeap heap.old heap.new) }
 {
     match rest.split_first() {
-        None => match method {
-            Some(last) => {
-                let step = define_last(tree, frames, heap, budget, last, function, scope, object)?;
-                Ok(step)
-            }
-            None => Ok(Step::Return(End::Fell(Values::new(heap.allocator())))),
-        },
+        None => {
+            let step = define_method(tree, frames, heap, budget, method, function, scope, object)?;
+            Ok(step)
+        }
         Some((first, rest)) => {
             let step = define_next(
                 tree, frames, heap, budget, *first, rest, method, function, scope, object,
             )?;
             Ok(step)
         }
+    }
+}
+
+#[tactic(auto, using(tl_base::proofs::Steps::pushes))]
+/// Goes on in a path, of which the method alone is left, or nothing.
+fn define_method<'a>(
+    tree: &'a Tree<'a>,
+    frames: &mut Vec<LuaFrame<'a>>,
+    heap: &mut Heap,
+    budget: &mut Budget,
+    method: Option<NodeId>,
+    function: NodeId,
+    scope: Scope,
+    object: Value,
+) -> Result<LuaStep, NoMemory>
+    ensures means { IfOk result (λ step.
+        Goes (items_of tree.now) frames.old.items
+        (plans.define_in (items_of tree.now) (if_any method) function scope object)
+        heap.old budget.old frames.new.items step heap.new budget.new) }
+    ensures kept { OnOk result (KeepsHeap heap.old heap.new) }
+{
+    match method {
+        Some(last) => {
+            let step = define_last(tree, frames, heap, budget, last, function, scope, object)?;
+            Ok(step)
+        }
+        None => Ok(Step::Return(End::Fell(Values::new(heap.allocator())))),
     }
 }
 
@@ -394,24 +418,73 @@ pub fn define<'a>(
         frames.new.items step s left) }
 {
     match names.split_first() {
-        None => match method {
-            Some(last) => {
-                frames.push(LuaFrame::All(AllFrame::Name(last, function, scope)))?;
-                Ok(Step::Enter(Job::Target(last, scope)))
-            }
-            None => Ok(Step::Return(End::Fell(Values::new(heap.allocator())))),
-        },
+        None => {
+            let step = define_alone(frames, heap, method, function, scope)?;
+            Ok(step)
+        }
         Some((first, rest)) => {
-            if is_end(rest, method) {
-                frames.push(LuaFrame::All(AllFrame::Name(*first, function, scope)))?;
-                return Ok(Step::Enter(Job::Target(*first, scope)));
-            }
-            frames.push(LuaFrame::One(OneFrame::Target(TargetFrame::Path(
-                rest, method, function, scope,
-            ))))?;
-            Ok(Step::Enter(Job::Expression(*first, scope)))
+            let step = define_from(frames, *first, rest, method, function, scope)?;
+            Ok(step)
         }
     }
+}
+
+#[tactic(auto, using(tl_base::proofs::Steps::pushes))]
+/// Defines a function under a path that has a method's name alone, or nothing.
+fn define_alone<'a>(
+    frames: &mut Vec<LuaFrame<'a>>,
+    heap: &Heap,
+    method: Option<NodeId>,
+    function: NodeId,
+    scope: Scope,
+) -> Result<LuaStep, NoMemory>
+    ensures means { IfOk result (λ step. (items : Items) (s : LuaState) (left : ℕ) →
+        Goes items frames.old.items (plans.define items (if_any method) function scope) s left
+        frames.new.items step s left) }
+{
+    match method {
+        Some(last) => {
+            let step = define_first(frames, last, function, scope)?;
+            Ok(step)
+        }
+        None => Ok(Step::Return(End::Fell(Values::new(heap.allocator())))),
+    }
+}
+
+/// Defines a function under a path from its first name on.
+fn define_from<'a>(
+    frames: &mut Vec<LuaFrame<'a>>,
+    first: NodeId,
+    rest: &'a [NodeId],
+    method: Option<NodeId>,
+    function: NodeId,
+    scope: Scope,
+) -> Result<LuaStep, NoMemory>
+    ensures means { IfOk result (λ step. (items : Items) (s : LuaState) (left : ℕ) →
+        Goes items frames.old.items (plans.define items (first ∷ (rest.now ++ if_any method)) function scope) s left
+        frames.new.items step s left) }
+{
+    if is_end(rest, method) {
+        let step = define_first(frames, first, function, scope)?;
+        return Ok(step);
+    }
+    frames.push(LuaFrame::One(OneFrame::Target(TargetFrame::Path(rest, method, function, scope))))?;
+    Ok(Step::Enter(Job::Expression(first, scope)))
+}
+
+/// Begins to define a function under a name alone.
+fn define_first<'a>(
+    frames: &mut Vec<LuaFrame<'a>>,
+    first: NodeId,
+    function: NodeId,
+    scope: Scope,
+) -> Result<LuaStep, NoMemory>
+    ensures means { IfOk result (λ step. (items : Items) (s : LuaState) (left : ℕ) →
+        Goes items frames.old.items (plans.define items (first ∷ []) function scope) s left
+        frames.new.items step s left) }
+{
+    frames.push(LuaFrame::All(AllFrame::Name(first, function, scope)))?;
+    Ok(Step::Enter(Job::Target(first, scope)))
 }
 
 /// Gives the object and the key of a target.

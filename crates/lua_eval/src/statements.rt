@@ -72,19 +72,39 @@ fn arms<'a>(
     ensures kept { OnOk result (KeepsHeap heap.old heap.new) }
 {
     match rest.split_first() {
-        None => match otherwise {
-            Some(node) => {
-                let step = block(tree, frames, heap, node, scope)?;
-                Ok(step)
-            }
-            None => Ok(Step::Return(End::Fell(Values::new(heap.allocator())))),
-        },
+        None => {
+            let step = otherwise_block(tree, frames, heap, otherwise, scope)?;
+            Ok(step)
+        }
         Some((first, rest)) => {
             let (condition, node) = arm(tree, *first);
             let frame = StatementFrame::Arm(node, rest, otherwise, scope);
             frames.push(LuaFrame::One(OneFrame::Statement(frame)))?;
             Ok(Step::Enter(Job::Expression(condition, scope)))
         }
+    }
+}
+
+#[tactic(auto, using(tl_base::proofs::Steps::pushes))]
+/// Executes the block behind `else`, where there is one.
+fn otherwise_block<'a>(
+    tree: &'a Tree<'a>,
+    frames: &mut Vec<LuaFrame<'a>>,
+    heap: &mut Heap,
+    otherwise: Option<NodeId>,
+    scope: Scope,
+) -> Result<LuaStep, NoMemory>
+    ensures means { IfOk result (λ step. (left : ℕ) →
+        Goes (items_of tree.now) frames.old.items (plans.otherwise_plan (items_of tree.now) otherwise scope)
+        heap.old left frames.new.items step heap.new left) }
+    ensures kept { OnOk result (KeepsHeap heap.old heap.new) }
+{
+    match otherwise {
+        Some(node) => {
+            let step = block(tree, frames, heap, node, scope)?;
+            Ok(step)
+        }
+        None => Ok(Step::Return(End::Fell(Values::new(heap.allocator())))),
     }
 }
 

@@ -1,9 +1,10 @@
-use Rattle.std.proofs.Common.{[], refl, sym}
+use Rattle.std.proofs.Common.{sym, refl, [], Some}
 use Rattle.tl_base.specs.Plan.{Give}
 use Rattle.tl_tree.specs.Arena.{items_of}
-use Rattle.tl_tree.specs.Code.{statements_at}
 use Rattle.lua_model.specs.Plans.{statements}
+use Rattle.tl_tree.specs.Code.{statements_at}
 use Rattle.lua_eval.proofs.Below.{moved}
+use Rattle.lua_eval.proofs.Turning.{env_kept}
 use Rattle.lua_eval.proofs.Making.{entering_goes, statements_are}
 use Rattle.lua_eval.proofs.statements.block.Goals as goal
 
@@ -22,3 +23,7 @@ returns-in_ok-step-clause-means c = λ left.
     t t t left left c.in_ok-step.step
     (statements_are (statements_at items a.block) ns inner inner [] none Give (sym c.block_statements.ensures) refl (sym c.new-none.ensures))
     refl (c.in_ok-step.ensures.means items t left))
+
+pub returns-in_ok-step-clause-kept : goal.returns-in_ok-step-clause-kept
+returns-in_ok-step-clause-kept c =
+    env_kept c.args.heap.now c.new_env-env.new.self c.args.block (Some c.args.scope.env) c.in_ok-env.ensures.ok
