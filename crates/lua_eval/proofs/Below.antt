@@ -113,7 +113,7 @@ call_below items fs pushed fs2 f s s2 left left2 step by v vs place outer is pas
 
 -- what a run of a frame that waits for one value is
 one_frame : (items : Items) (f : LuaFrame) (go : Value → LuaPlan) → ((r : End) → after items f r ≡ on_one r go)
-    → (λ (r : End). run (jobs_of items) (on_one r go)) ≡ (λ (r : End). run (jobs_of items) (after items f r))
+    → ◌≡◌ {A = End → LuaCourse} (λ r. run (jobs_of items) (on_one r go)) (λ r. run (jobs_of items) (after items f r))
 one_frame items f go same = fun_ext (λ r. ap (run (jobs_of items)) (sym (same r)))
 
 -- reads: the frame goes on with one value

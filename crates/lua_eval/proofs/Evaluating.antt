@@ -4,7 +4,7 @@ use Rattle.tl_base.specs.declared.ids.NodeId.{NodeId}
 use Rattle.tl_base.specs.declared.place.Place.{Place}
 use Rattle.tl_base.specs.declared.machine.Step.TheVariants.{Enter, Return}
 use Rattle.tl_base.specs.Layer.{state}
-use Rattle.tl_base.specs.Plan.{Give, Gives}
+use Rattle.tl_base.specs.Plan.{Read, Gives}
 use Rattle.tl_base.specs.Machine.{plug}
 use Rattle.tl_tree.specs.Code.{Items}
 use Rattle.tl_tree.specs.Item.{Item}
@@ -13,22 +13,18 @@ use Rattle.tl_tree.specs.Nodes.{item_at}
 use Rattle.tl_tree.specs.Scopes.{Found, binder}
 use Rattle.tl_tree.specs.declared.node.BinaryOperator.{BinaryOperator}
 use Rattle.tl_tree.specs.declared.node.BinaryOperator.TheVariants as binary
-use Rattle.tl_tree.specs.declared.node.Expression.{Expression}
 use Rattle.tl_lex.specs.Values.{value_of as literal_value}
-use Rattle.tl_tree.specs.Numbers.{value_of as numeral_value}
 use Rattle.lua_value.specs.declared.value.Value.{Value}
 use Rattle.lua_value.specs.declared.value.Value.TheVariants as values
 use Rattle.lua_table.specs.LuaState.{LuaState}
 use Rattle.lua_table.specs.Cells.{local_value}
 use Rattle.lua_model.specs.declared.job.Job.TheVariants as jobs
-use Rattle.lua_model.specs.declared.job.Caller.TheVariants.{ByNode}
 use Rattle.lua_model.specs.declared.end.End.TheVariants.{One}
 use Rattle.lua_model.specs.declared.scope.Scope.{Scope}
-use Rattle.lua_model.specs.Plans.{LuaPlan, give, whole, value_of, values_of, with_text_of}
-use Rattle.lua_model.specs.Calls.{call}
+use Rattle.lua_model.specs.Plans.{LuaPlan, give, value_of, with_text_of}
 use Rattle.lua_model.specs.Fields.{read, globals}
 use Rattle.lua_model.specs.Operators.{binary_plan, operate}
-use Rattle.lua_model.specs.Expressions.{node_plan, expression_plan}
+use Rattle.lua_model.specs.Expressions.{node_plan}
 use Rattle.lua_eval.specs.declared.frame.LuaFrame.{LuaFrame}
 use Rattle.lua_eval.specs.declared.frame.LuaFrame.TheVariants as frames
 use Rattle.lua_eval.specs.declared.frame.OneFrame.TheVariants as ones
@@ -65,9 +61,8 @@ pub local_goes : (items : Items) (fs : List LuaFrame) (place : Place) (offset : 
     → v ≡ local_value s scope.env depth position
     → Goes items fs (node_plan items (item_at items n) n scope) s left fs (Return (One v)) s left
 local_goes items fs place offset text n scope s left v depth position is path value =
-    node_goes items fs fs (kept.Name place offset text) n scope (give (local_value s scope.env depth position))
-    s s s left left (Return (One v)) is
-    (ap (λ (p : LuaPlan). p) (name_known (binder items n) (Some (depth, position)) text place scope path)) refl
+    node_goes items fs fs (kept.Name place offset text) n scope (Read (λ w. give (local_value w scope.env depth position)))
+    s s s left left (Return (One v)) is (name_known (binder items n) (Some (depth, position)) text place scope path) refl
     (returns_known items fs v (local_value s scope.env depth position) s left value)
 
 -- a global

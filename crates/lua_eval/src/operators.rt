@@ -153,19 +153,24 @@ fn arith<'a>(
 {
     let first = copy(&a);
     let second = copy(&b);
-    let outcome = lua_ops::arith::arith(heap, op, first, second)?;
-    let step = settle(
-        tree,
-        frames,
-        heap,
-        budget,
-        outcome,
-        a,
-        Some(b),
-        place,
-        outer,
-    )?;
-    Ok(step)
+    // A `?` gets no proof where the value holds a handler, here and below.
+    match lua_ops::arith::arith(heap, op, first, second) {
+        Ok(outcome) => {
+            let step = settle(
+                tree,
+                frames,
+                heap,
+                budget,
+                outcome,
+                a,
+                Some(b),
+                place,
+                outer,
+            )?;
+            Ok(step)
+        }
+        Err(lack) => Err(lack),
+    }
 }
 
 /// What unary minus gives.
@@ -184,9 +189,13 @@ fn minus<'a>(
     ensures kept { OnOk result (KeepsHeap heap.old heap.new) }
 {
     let first = copy(&a);
-    let outcome = lua_ops::arith::arith(heap, Arithmetic::Minus, first, Value::Nil)?;
-    let step = settle(tree, frames, heap, budget, outcome, a, None, place, outer)?;
-    Ok(step)
+    match lua_ops::arith::arith(heap, Arithmetic::Minus, first, Value::Nil) {
+        Ok(outcome) => {
+            let step = settle(tree, frames, heap, budget, outcome, a, None, place, outer)?;
+            Ok(step)
+        }
+        Err(lack) => Err(lack),
+    }
 }
 
 /// The length of a text; of any other value it is 0.
@@ -218,9 +227,13 @@ fn concat<'a>(
 {
     let first = copy(&a);
     let second = copy(&b);
-    let outcome = lua_ops::concat::concat(heap, first, second)?;
-    let step = joined(tree, frames, heap, budget, outcome, a, b, place, outer)?;
-    Ok(step)
+    match lua_ops::concat::concat(heap, first, second) {
+        Ok(outcome) => {
+            let step = joined(tree, frames, heap, budget, outcome, a, b, place, outer)?;
+            Ok(step)
+        }
+        Err(lack) => Err(lack),
+    }
 }
 
 #[tactic(auto, using(tl_base::proofs::Steps::payments))]
@@ -284,9 +297,13 @@ fn compare<'a>(
 {
     let first = copy(&a);
     let second = copy(&b);
-    let outcome = lua_ops::compare::compare(heap, op, first, second)?;
-    let step = compared(tree, frames, heap, budget, outcome, a, b, place, outer)?;
-    Ok(step)
+    match lua_ops::compare::compare(heap, op, first, second) {
+        Ok(outcome) => {
+            let step = compared(tree, frames, heap, budget, outcome, a, b, place, outer)?;
+            Ok(step)
+        }
+        Err(lack) => Err(lack),
+    }
 }
 
 #[tactic(auto, using(tl_base::proofs::Steps::pushes))]

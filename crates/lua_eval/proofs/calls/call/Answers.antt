@@ -14,6 +14,10 @@ use Rattle.lua_eval.proofs.Below.{moved}
 use Rattle.lua_eval.proofs.Calling.{not_called}
 use Rattle.lua_eval.proofs.calls.call.Goals as goal
 
+pub returns-in_ok-step-in-Library-clause-means : goal.returns-in_ok-step-in-Library-clause-means
+returns-in_ok-step-in-Library-clause-means c =
+    rw c.in-Library.is (c.in_ok-step-in-Library.ensures.means (items_of c.args.tree.now))
+
 pub returns-in_ok-step-in-Table-clause-means : goal.returns-in_ok-step-in-Table-clause-means
 returns-in_ok-step-in-Table-clause-means c =
     let a = c.args in

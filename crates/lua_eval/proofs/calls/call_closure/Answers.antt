@@ -8,8 +8,8 @@ use Rattle.tl_tree.specs.Code.{statements_at}
 use Rattle.lua_eval.proofs.Calling.{closure_called, closure_refused}
 use Rattle.lua_eval.proofs.calls.call_closure.Goals as goal
 
-pub returns-in_ok-entered-clause-means : goal.returns-in_ok-entered-clause-means
-returns-in_ok-entered-clause-means c =
+pub returns-then-may_call-clause-means : goal.returns-then-may_call-clause-means
+returns-then-may_call-clause-means c =
     let a = c.args in
     let items = items_of a.tree.now in
     let parts = c.function_parts-parts.result in
@@ -23,14 +23,14 @@ returns-in_ok-entered-clause-means c =
     (rw c.begin_call.ensures at c.in_ok-scope.ensures.scope) (rw c.begin_call.ensures at c.in_ok-scope.ensures.heap)
     c.in_ok-push.ensures.items (c.in_ok-entered.ensures.means items c.enter_call.new.heap a.budget.now)
 
-pub returns-in_ok-step-clause-means : goal.returns-in_ok-step-clause-means
-returns-in_ok-step-clause-means c =
+pub returns-clause-means : goal.returns-clause-means
+returns-clause-means c =
     let a = c.args in
     let items = items_of a.tree.now in
     closure_refused items a.frames.now.items a.heap.now c.raise.new.heap a.budget.now c.raise.new.budget
     c.in_ok-step.step a.closure a.args a.place (sym c.may_call.ensures.same ∙ c.if-may_call.false) (c.in_ok-step.ensures.means items)
 
-pub returns-in_ok-entered-clause-kept : goal.returns-in_ok-entered-clause-kept
-returns-in_ok-entered-clause-kept c =
+pub returns-then-may_call-clause-kept : goal.returns-then-may_call-clause-kept
+returns-then-may_call-clause-kept c =
     keeps_by c.args.heap.now c.begin_call.new.self (deeper c.args.heap.now) c.enter_call.new.heap
     c.begin_call.ensures (keeps_deeper c.args.heap.now) c.in_ok-scope.ensures.kept

@@ -8,6 +8,9 @@ use Rattle.lua_eval.proofs.Below.{moved}
 use Rattle.lua_eval.proofs.Calling.{not_handled}
 use Rattle.lua_eval.proofs.calls.call_handler.Goals as goal
 
+pub returns-in_ok-step-in-Library-clause-means : goal.returns-in_ok-step-in-Library-clause-means
+returns-in_ok-step-in-Library-clause-means c = λ items. rw c.in-Library.is (c.in_ok-step-in-Library.ensures.means items)
+
 pub returns-in_ok-step-in_default-clause-means : goal.returns-in_ok-step-in_default-clause-means
 returns-in_ok-step-in_default-clause-means c = λ items.
     let a = c.args in

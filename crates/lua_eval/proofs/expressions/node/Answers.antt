@@ -19,10 +19,10 @@ returns-in-Some-clause-means c =
     let a = c.args in
     let m = c.in-Name in
     let items = items_of a.tree.now in
-    let e : item_at items a.node ≡ kept.Name m.place.now m.field-1 m.text.now = search rules in
+    let e : item_at items a.node ≡ kept.Name m.place m.field-1 m.text.now = search rules in
     let p : Some (c.in-Some.depth, c.in-Some.position) ≡ path_of (binder items a.node) =
     c.in-Some.ensures ∙ ap path_of (c.requires a.node) in
-    local_goes items a.frames.now.items m.place.now m.field-1 m.text.now a.node a.scope a.heap.now a.budget.now
+    local_goes items a.frames.now.items m.place m.field-1 m.text.now a.node a.scope a.heap.now a.budget.now
     c.local-value.result c.in-Some.depth c.in-Some.position e p c.local-value.ensures
 
 pub returns-in_ok-step-in-None-clause-means : goal.returns-in_ok-step-in-None-clause-means
@@ -30,9 +30,9 @@ returns-in_ok-step-in-None-clause-means c =
     let a = c.args in
     let m = c.in-Name in
     let items = items_of a.tree.now in
-    let e : item_at items a.node ≡ kept.Name m.place.now m.field-1 m.text.now = search rules in
+    let e : item_at items a.node ≡ kept.Name m.place m.field-1 m.text.now = search rules in
     let p : None ≡ path_of (binder items a.node) = c.in-None.ensures ∙ ap path_of (c.requires a.node) in
-    global_goes items a.frames.now.items c.read_named.new.frames.items m.place.now m.field-1 m.text.now c.as_bytes.result.now
+    global_goes items a.frames.now.items c.read_named.new.frames.items m.place m.field-1 m.text.now c.as_bytes.result.now
     a.node a.scope a.heap.now c.read_named.new.heap a.budget.now c.read_named.new.budget c.in_ok-step-in-None.step
     e p c.as_bytes.ensures.value (c.in_ok-step-in-None.ensures.means items)
 
@@ -62,9 +62,9 @@ returns-in_ok-step-in-Expression-clause-means c =
     let a = c.args in
     let m = c.in-Expression in
     let items = items_of a.tree.now in
-    let e : item_at items a.node ≡ kept.Expression m.place.now m.expression.now = search rules in
-    node_goes items a.frames.now.items c.evaluate.new.frames.items (kept.Expression m.place.now m.expression.now) a.node a.scope
-    (expression_plan items m.expression.now a.node m.place.now a.scope) a.heap.now a.heap.now c.evaluate.new.heap
+    let e : item_at items a.node ≡ kept.Expression m.place m.expression = search rules in
+    node_goes items a.frames.now.items c.evaluate.new.frames.items (kept.Expression m.place m.expression) a.node a.scope
+    (expression_plan items m.expression a.node m.place a.scope) a.heap.now a.heap.now c.evaluate.new.heap
     a.budget.now a.budget.now c.in_ok-step-in-Expression.step e refl refl (c.in_ok-step-in-Expression.ensures.means a.budget.now)
 
 pub returns-in-Statement-clause-means : goal.returns-in-Statement-clause-means

@@ -7,11 +7,11 @@ use Rattle.lua_model.specs.Operators.{compared}
 use Rattle.lua_eval.proofs.Below.{moved}
 use Rattle.lua_eval.proofs.operators.compare.Goals as goal
 
-pub returns-in_ok-step-clause-means : goal.returns-in_ok-step-clause-means
-returns-in_ok-step-clause-means c =
+pub returns-in_ok-step-in-Ok-clause-means : goal.returns-in_ok-step-in-Ok-clause-means
+returns-in_ok-step-in-Ok-clause-means c =
     let a = c.args in
     let items = items_of a.tree.now in
-    let outcome = c.in_ok-outcome.outcome in
+    let outcome = c.in-Ok.outcome in
     let first = c.copy-first.result in
     let second = c.copy-second.result in
     let found : compare_outcome a.heap.now a.op first second ≡ outcome = cc in
@@ -22,5 +22,5 @@ returns-in_ok-step-clause-means c =
     moved items a.frames.now.items c.compared.new.frames.items
     (compared items (compare_outcome a.heap.now a.op a.a a.b) (a.a ∷ a.b ∷ []) a.place a.outer)
     (compared items outcome (a.a ∷ a.b ∷ []) a.place a.outer)
-    a.heap.now c.compare.new.heap c.compared.new.heap a.budget.now c.compared.new.budget c.in_ok-step.step
-    (ap (λ (o : Outcome). compared items o (a.a ∷ a.b ∷ []) a.place a.outer) is) heap c.in_ok-step.ensures.means
+    a.heap.now c.compare.new.heap c.compared.new.heap a.budget.now c.compared.new.budget c.in_ok-step-in-Ok.step
+    (ap (λ (o : Outcome). compared items o (a.a ∷ a.b ∷ []) a.place a.outer) is) heap c.in_ok-step-in-Ok.ensures.means

@@ -14,26 +14,26 @@ by_copies : {X : Type 0} (f : Value → Value → X) (a b first second : Value) 
     → first ≡ a → second ≡ b → x ≡ f first second → f a b ≡ x
 by_copies f a b first second x e h is = ap (λ (v : Value). f v b) (sym e) ∙ ap (λ (v : Value). f first v) (sym h) ∙ sym is
 
-pub returns-in_ok-step-clause-means : goal.returns-in_ok-step-clause-means
-returns-in_ok-step-clause-means c =
+pub returns-in_ok-step-in-Ok-clause-means : goal.returns-in_ok-step-in-Ok-clause-means
+returns-in_ok-step-in-Ok-clause-means c =
     let a = c.args in
     let items = items_of a.tree.now in
-    let outcome = c.in_ok-outcome.outcome in
+    let outcome = c.in-Ok.outcome in
     let first = c.copy-first.result in
     let second = c.copy-second.result in
     let is : concat_outcome a.heap.now a.a a.b ≡ outcome =
-    by_copies (concat_outcome a.heap.now) a.a a.b first second outcome c.copy-first.ensures c.copy-second.ensures c.in_ok-outcome.ensures.outcome in
+    by_copies (concat_outcome a.heap.now) a.a a.b first second outcome c.copy-first.ensures c.copy-second.ensures c.in-Ok.ensures.outcome in
     let store : concat_store a.heap.now a.a a.b ≡ c.concat.new.heap =
-    by_copies (concat_store a.heap.now) a.a a.b first second c.concat.new.heap c.copy-first.ensures c.copy-second.ensures c.in_ok-outcome.ensures.store in
+    by_copies (concat_store a.heap.now) a.a a.b first second c.concat.new.heap c.copy-first.ensures c.copy-second.ensures c.in-Ok.ensures.store in
     moved items a.frames.now.items c.joined.new.frames.items
     (joined items (concat_outcome a.heap.now a.a a.b) (a.a ∷ a.b ∷ []) a.place a.outer)
     (joined items outcome (a.a ∷ a.b ∷ []) a.place a.outer)
-    (concat_store a.heap.now a.a a.b) c.concat.new.heap c.joined.new.heap a.budget.now c.joined.new.budget c.in_ok-step.step
-    (ap (λ (o : Outcome). joined items o (a.a ∷ a.b ∷ []) a.place a.outer) is) store c.in_ok-step.ensures.means
+    (concat_store a.heap.now a.a a.b) c.concat.new.heap c.joined.new.heap a.budget.now c.joined.new.budget c.in_ok-step-in-Ok.step
+    (ap (λ (o : Outcome). joined items o (a.a ∷ a.b ∷ []) a.place a.outer) is) store c.in_ok-step-in-Ok.ensures.means
 
-pub returns-in_ok-step-clause-kept : goal.returns-in_ok-step-clause-kept
-returns-in_ok-step-clause-kept c =
+pub returns-in_ok-step-in-Ok-clause-kept : goal.returns-in_ok-step-in-Ok-clause-kept
+returns-in_ok-step-in-Ok-clause-kept c =
     let first = c.copy-first.result in
     let second = c.copy-second.result in
     keeps_by c.args.heap.now c.concat.new.heap (concat_store c.args.heap.now first second) c.joined.new.heap
-    c.in_ok-outcome.ensures.store (keeps_concat c.args.heap.now first second) c.in_ok-step.ensures.kept
+    c.in-Ok.ensures.store (keeps_concat c.args.heap.now first second) c.in_ok-step-in-Ok.ensures.kept

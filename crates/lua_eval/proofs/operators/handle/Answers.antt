@@ -7,8 +7,8 @@ use Rattle.lua_eval.specs.Frames.{with_value}
 use Rattle.lua_eval.proofs.Below.{jobs_of, call_below}
 use Rattle.lua_eval.proofs.operators.handle.Goals as goal
 
-pub returns-in_ok-step-clause-means : goal.returns-in_ok-step-clause-means
-returns-in_ok-step-clause-means c =
+pub returns-clause-means : goal.returns-clause-means
+returns-clause-means c =
     let items = items_of c.args.tree.now in
     call_below items c.args.frames.now.items c.push.new.self.items c.call.new.frames.items (frames.One (ones.Value c.args.frame))
     c.args.heap.now c.call.new.heap c.args.budget.now c.call.new.budget c.in_ok-step.step

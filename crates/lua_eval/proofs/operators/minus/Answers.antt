@@ -9,11 +9,11 @@ use Rattle.lua_model.specs.Operators.{settle}
 use Rattle.lua_eval.proofs.Below.{moved}
 use Rattle.lua_eval.proofs.operators.minus.Goals as goal
 
-pub returns-in_ok-step-clause-means : goal.returns-in_ok-step-clause-means
-returns-in_ok-step-clause-means c =
+pub returns-in_ok-step-in-Ok-clause-means : goal.returns-in_ok-step-in-Ok-clause-means
+returns-in_ok-step-in-Ok-clause-means c =
     let a = c.args in
     let items = items_of a.tree.now in
-    let outcome = c.in_ok-outcome.outcome in
+    let outcome = c.in-Ok.outcome in
     let first = c.copy-first.result in
     let found : arith_outcome a.heap.now Minus first Nil ≡ outcome = cc in
     let is : arith_outcome a.heap.now Minus a.a Nil ≡ outcome =
@@ -22,5 +22,5 @@ returns-in_ok-step-clause-means c =
     moved items a.frames.now.items c.settle.new.frames.items
     (settle items (arith_outcome a.heap.now Minus a.a Nil) (a.a ∷ []) a.place a.outer)
     (settle items outcome (a.a ∷ []) a.place a.outer)
-    a.heap.now c.arith.new.heap c.settle.new.heap a.budget.now c.settle.new.budget c.in_ok-step.step
-    (ap (λ (o : Outcome). settle items o (a.a ∷ []) a.place a.outer) is) heap c.in_ok-step.ensures.means
+    a.heap.now c.arith.new.heap c.settle.new.heap a.budget.now c.settle.new.budget c.in_ok-step-in-Ok.step
+    (ap (λ (o : Outcome). settle items o (a.a ∷ []) a.place a.outer) is) heap c.in_ok-step-in-Ok.ensures.means

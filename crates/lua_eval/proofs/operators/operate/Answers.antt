@@ -7,8 +7,8 @@ use Rattle.lua_eval.proofs.Below.{moved}
 use Rattle.lua_eval.proofs.Operands.{operate_is}
 use Rattle.lua_eval.proofs.operators.operate.Goals as goal
 
-pub returns-in_ok-step-clause-means : goal.returns-in_ok-step-clause-means
-returns-in_ok-step-clause-means c =
+pub returns-clause-means : goal.returns-clause-means
+returns-clause-means c =
     let a = c.args in
     let items = items_of a.tree.now in
     moved items a.frames.now.items c.operate_by.new.frames.items (operate items a.op a.a a.b a.place a.outer)

@@ -9,6 +9,10 @@ use Rattle.lua_eval.specs.Operands.{operands_in}
 use Rattle.lua_eval.proofs.Below.{moved}
 use Rattle.lua_eval.proofs.operators.settle.Goals as goal
 
+pub returns-in_ok-step-in-Raise-clause-means : goal.returns-in_ok-step-in-Raise-clause-means
+returns-in_ok-step-in-Raise-clause-means c =
+    rw c.in-Raise.is (c.in_ok-step-in-Raise.ensures.means (items_of c.args.tree.now) c.args.frames.now.items)
+
 pub returns-in_ok-called-in-Meta-clause-means : goal.returns-in_ok-called-in-Meta-clause-means
 returns-in_ok-called-in-Meta-clause-means c =
     let a = c.args in
