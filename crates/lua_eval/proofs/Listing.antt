@@ -90,6 +90,10 @@ some_of ns e = grind (arith, nat_tests)
 pub none_of : (ns : List NodeId) → (length ns == 0) ≡ true → length ns ≡ 0
 none_of ns e = grind (arith, nat_tests)
 
+pub none_is : (ns : List NodeId) → length ns ≡ 0 → ns ≡ []
+none_is [] none = refl
+none_is (n ∷ ns) none = absurd (omega arith)
+
 not_zero : (n : ℕ) → false ≡ (suc n == 0)
 not_zero n = grind (arith, nat_tests)
 

@@ -6,7 +6,7 @@ use Rattle.tl_base.specs.declared.ids.EnvId.{EnvId}
 use Rattle.tl_base.specs.declared.ids.ClosureId.{ClosureId}
 use Rattle.tl_base.specs.declared.machine.Step.TheVariants.{Enter, Return}
 use Rattle.tl_base.specs.Layer.{state}
-use Rattle.tl_base.specs.Plan.{Give, Do, Gives}
+use Rattle.tl_base.specs.Plan.{Give, Do, Read, Write, Gives}
 use Rattle.tl_base.specs.Machine.{plug}
 use Rattle.tl_tree.specs.Code.{Items}
 use Rattle.lua_value.specs.declared.value.Value.{Value}
@@ -79,6 +79,18 @@ env_kept_on s t u n outer is later = keeps_then s t u (env_kept s t n outer is) 
 
 -- ---- the turns of a generic `for`
 
+-- the iterator gave nil
+pub listed_over : (items : Items) (fs : List LuaFrame) (n : NodeId) (names : List NodeId) (scope : Scope) (f given control : Value)
+    (vs out : List Value) (s : LuaState) (left : ℕ)
+    → control ≡ first_value vs → is_nil control ≡ true
+    → Goes items fs (listed n names scope f given vs out) s left fs (Return (Fell out)) s left
+listed_over items fs n names scope f given control vs out s left control_is nil =
+    let begun : LuaPlan = Read (λ w.
+        Write (declare_all (length names) (next_env w) vs (with_env w n (Some scope.env)))
+        (turn n scope (loops.Listed (next_env w) f given (first_value vs)) out)) in
+    chosen items fs fs (is_nil (first_value vs)) true (over out) begun s s left left (Return (Fell out)) (ap is_nil (sym control_is) ∙ nil)
+    (returns items fs (Fell out) s left)
+
 -- a turn with the iterator's values
 pub listed_turn : (items : Items) (fs : List LuaFrame) (n : NodeId) (names : List NodeId) (scope : Scope) (f given control : Value)
     (vs out : List Value) (s t : LuaState) (left : ℕ) (env : EnvId)
@@ -88,7 +100,10 @@ pub listed_turn : (items : Items) (fs : List LuaFrame) (n : NodeId) (names : Lis
 listed_turn items fs n names scope f given control vs out s t left env control_is full env_is heap_is =
     let job : Job = jobs.Turn n scope (loops.Listed env f given control) out in
     let step : LuaStep = Enter job in
-    chosen items fs fs (is_nil (first_value vs)) false (over out) _ s t left left step (ap is_nil (sym control_is) ∙ full)
+    let begun : LuaPlan = Read (λ w.
+        Write (declare_all (length names) (next_env w) vs (with_env w n (Some scope.env)))
+        (turn n scope (loops.Listed (next_env w) f given (first_value vs)) out)) in
+    chosen items fs fs (is_nil (first_value vs)) false (over out) begun s t left left step (ap is_nil (sym control_is) ∙ full)
     (moved items fs fs (turn n scope (loops.Listed (next_env s) f given (first_value vs)) out) (Do job Give)
     (declare_all (length names) (next_env s) vs (with_env s n (Some scope.env))) t t left left step
     (ap (λ (e : EnvId). turn n scope (loops.Listed e f given (first_value vs)) out) (sym env_is)

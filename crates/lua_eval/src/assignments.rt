@@ -178,8 +178,8 @@ fn store_name<'a>(
         heap.old budget.old frames.new.items step heap.new budget.new) }
     ensures kept { OnOk result (KeepsHeap heap.old heap.new) }
 {
-    let path = slots.path(target);
-    let step = store_by_path(frames, heap, budget, path, text, value, place, scope)?;
+    let found = slots.path(target);
+    let step = store_by_path(frames, heap, budget, found, text, value, place, scope)?;
     Ok(step)
 }
 

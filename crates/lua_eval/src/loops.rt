@@ -1,6 +1,6 @@
 // Loops (Lua 5.1 manual, sections 2.4.4 and 2.4.5).
 
-ghost use Rattle.std.specs.Prelude.{◌≡◌, ℕ, pos, IfOk, OnOk};
+ghost use Rattle.std.specs.Prelude.{◌≡◌, ℕ, pos, ◌+ℤ◌, IfOk, OnOk};
 ghost use Rattle.tl_tree.specs.Arena.{items_of};
 ghost use Rattle.tl_base.specs.Plan.{Give};
 ghost use Rattle.tl_tree.specs.Code.{Items, statements_at};
@@ -347,7 +347,8 @@ pub fn next_turn<'a>(
             Ok(step)
         }
         TurnFrame::Counted(at, limit, step) => {
-            Ok(count_from(node, scope, at.get() + step.get(), *limit, *step, out))
+            let next = following(at, step);
+            Ok(count_from(node, scope, next, *limit, *step, out))
         }
         TurnFrame::Listed(names, place, function, state, control) => {
             let (function, state, control) = (copy(function), copy(state), copy(control));
@@ -360,19 +361,26 @@ pub fn next_turn<'a>(
     }
 }
 
+/// The next number of a `for`, or `None` where it is out of the profile.
+fn following(at: &Number, step: &Number) -> Option<Number>
+    ensures { result ≡ number_from (at.now +ℤ step.now) }
+{
+    Number::new(at.get() + step.get())
+}
+
 /// Begins the next turn of a numeric `for`. A number out of the profile is past every limit.
 fn count_from(
     node: NodeId,
     scope: Scope,
-    at: i64,
+    at: Option<Number>,
     limit: Number,
     step: Number,
     out: Values,
 ) -> LuaStep
     ensures { (items : Items) (s : LuaState) (left : ℕ) →
-        Does items (plans.count_from node scope (number_from at) limit step out) s left result s left }
+        Does items (plans.count_from node scope at limit step out) s left result s left }
 {
-    match Number::new(at) {
+    match at {
         Some(at) => count(node, scope, at, limit, step, out),
         None => Step::Return(End::Fell(out)),
     }

@@ -10,6 +10,7 @@ ghost use Rattle.lua_table.specs.Keeping.{KeepsHeap};
 ghost use Rattle.lua_model.specs.Plans.{values_of};
 ghost use Rattle.lua_model.specs.Assignments.{assign_plan, define, target_of, target_plan};
 ghost use Rattle.lua_model.specs.Loops.{generic_plan};
+ghost use Rattle.lua_model.specs.Loops as loop_plans;
 ghost use Rattle.lua_model.specs.declared.end.End.TheVariants.{Returned};
 ghost use Rattle.lua_model.specs.Statements as plans;
 ghost use Rattle.lua_eval.specs.Frames.{with_statement};
@@ -212,8 +213,7 @@ fn execute<'a>(
             Ok(step)
         }
         Statement::While(condition, _) => {
-            let none = Values::new(heap.allocator());
-            let step = while_test(frames, node, *condition, scope, none)?;
+            let step = while_first(frames, heap, node, *condition, scope)?;
             Ok(step)
         }
         Statement::Repeat(_, _) => {
@@ -221,7 +221,7 @@ fn execute<'a>(
             Ok(Step::Enter(Job::Turn(node, scope, Loop::Repeat, none)))
         }
         Statement::If(list, otherwise) => {
-            let step = arms(tree, frames, heap, list.as_slice(), *otherwise, scope)?;
+            let step = first_arm(tree, frames, heap, list, *otherwise, scope)?;
             Ok(step)
         }
         Statement::NumericFor(_, first, limit, step, _) => {
@@ -266,6 +266,42 @@ fn execute<'a>(
             Ok(Step::Stop(LuaQuestion::Specialise(node, scope.env)))
         }
     }
+}
+
+/// Begins a `while`, before which nothing was emitted.
+fn while_first<'a>(
+    frames: &mut Vec<LuaFrame<'a>>,
+    heap: &Heap,
+    node: NodeId,
+    condition: NodeId,
+    scope: Scope,
+) -> Result<LuaStep, NoMemory>
+    ensures means { IfOk result (λ step. (items : Items) (s : LuaState) (left : ℕ) →
+        Goes items frames.old.items (loop_plans.while_test node condition scope []) s left
+        frames.new.items step s left) }
+{
+    let none = Values::new(heap.allocator());
+    let step = while_test(frames, node, condition, scope, none)?;
+    Ok(step)
+}
+
+/// Begins with the arms of an `if`.
+fn first_arm<'a>(
+    tree: &'a Tree<'a>,
+    frames: &mut Vec<LuaFrame<'a>>,
+    heap: &mut Heap,
+    list: &'a NodeList,
+    otherwise: Option<NodeId>,
+    scope: Scope,
+) -> Result<LuaStep, NoMemory>
+    ensures means { IfOk result (λ step. (left : ℕ) →
+        Goes (items_of tree.now) frames.old.items (plans.arms_plan (items_of tree.now) list.now otherwise scope)
+        heap.old left frames.new.items step heap.new left) }
+    ensures kept { OnOk result (KeepsHeap heap.old heap.new) }
+{
+    let list = list.as_slice();
+    let step = arms(tree, frames, heap, list, otherwise, scope)?;
+    Ok(step)
 }
 
 /// An assignment: its targets, then its expressions, then the stores.

@@ -4,8 +4,8 @@ use Rattle.lua_eval.specs.declared.frame.AllFrame.TheVariants as alls
 use Rattle.lua_model.specs.declared.job.Job.TheVariants as jobs
 use Rattle.lua_eval.proofs.assignments.define_first.Goals as goal
 
-pub returns-in_ok-push-clause-means : goal.returns-in_ok-push-clause-means
-returns-in_ok-push-clause-means c = λ items s left.
+pub returns : goal.returns
+returns c = λ items s left.
     let a = c.args in
     enters items a.frames.now.items c.push.new.self.items (frames.All (alls.Name a.first a.function a.scope)) (jobs.Target a.first a.scope)
     s left c.in_ok-push.ensures.items

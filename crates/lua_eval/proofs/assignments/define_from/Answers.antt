@@ -14,19 +14,19 @@ use Rattle.lua_model.specs.declared.job.Job.TheVariants as jobs
 use Rattle.tl_base.specs.declared.machine.Step.TheVariants as steps
 use Rattle.lua_eval.proofs.assignments.define_from.Goals as goal
 
-pub returns-in_ok-step-clause-means : goal.returns-in_ok-step-clause-means
-returns-in_ok-step-clause-means c = λ items s left.
+pub returns-in_ok-step-then-is_end : goal.returns-in_ok-step-then-is_end
+returns-in_ok-step-then-is_end c = λ items s left.
     let a = c.args in
     let ns = a.rest.now ++ if_any a.method in
-    moved items a.frames.now.items c.define_first-step.new.frames.items (define items (a.first ∷ ns) a.function a.scope)
+    moved items a.frames.now.items c.define_first.new.frames.items (define items (a.first ∷ ns) a.function a.scope)
     (define items (a.first ∷ []) a.function a.scope) s s s left left c.in_ok-step.step
     (define_by items a.first ns a.function a.scope
     ∙ if_true (is_end ns) (define items (a.first ∷ []) a.function a.scope)
     (value_of a.first a.scope (λ object. define_in items ns a.function a.scope object)) (sym c.is_end.ensures ∙ c.if-is_end.true)) refl
     (c.in_ok-step.ensures.means items s left)
 
-pub returns-in_ok-push-clause-means : goal.returns-in_ok-push-clause-means
-returns-in_ok-push-clause-means c = λ items s left.
+pub returns : goal.returns
+returns c = λ items s left.
     let a = c.args in
     let ns = a.rest.now ++ if_any a.method in
     let frame = frames.One (ones.Target (of_target.Path a.rest a.method a.function a.scope)) in

@@ -15,26 +15,26 @@ use Rattle.lua_eval.proofs.Below.{moved, named_below}
 use Rattle.lua_eval.proofs.Listing.{define_in_by}
 use Rattle.lua_eval.proofs.assignments.define_next.Goals as goal
 
-pub returns-in_ok-step-clause-means : goal.returns-in_ok-step-clause-means
-returns-in_ok-step-clause-means c =
+pub returns-in_ok-step-then-is_end-clause-means : goal.returns-in_ok-step-then-is_end-clause-means
+returns-in_ok-step-then-is_end-clause-means c =
     let a = c.args in
     let items = items_of a.tree.now in
     let ns = a.rest.now ++ if_any a.method in
     let last : LuaPlan = define_in items (a.first ∷ []) a.function a.scope a.object in
     let next : LuaPlan = with_text_of (name_at items a.first) (λ key. read a.object key (place_at items a.first) a.scope.call (λ o. define_in items ns a.function a.scope o)) in
     let ends : is_end ns ≡ true = sym c.is_end.ensures ∙ c.if-is_end.true in
-    moved items a.frames.now.items c.define_last-step.new.frames.items (define_in items (a.first ∷ ns) a.function a.scope a.object) last
-    a.heap.now a.heap.now c.define_last-step.new.heap a.budget.now c.define_last-step.new.budget c.in_ok-step.step
+    moved items a.frames.now.items c.define_last.new.frames.items (define_in items (a.first ∷ ns) a.function a.scope a.object) last
+    a.heap.now a.heap.now c.define_last.new.heap a.budget.now c.define_last.new.budget c.in_ok-step.step
     (define_in_by items a.first ns a.function a.scope a.object ∙ ap (λ (b : Bool). if b then last else next) ends) refl c.in_ok-step.ensures.means
 
-pub returns-in_ok-found-clause-means : goal.returns-in_ok-found-clause-means
-returns-in_ok-found-clause-means c =
+pub returns-clause-means : goal.returns-clause-means
+returns-clause-means c =
     let a = c.args in
     let items = items_of a.tree.now in
     let fs = a.frames.now.items in
-    let fs2 = c.read_named-found.new.frames.items in
-    let s2 = c.read_named-found.new.heap in
-    let left2 = c.read_named-found.new.budget in
+    let fs2 = c.read_named.new.frames.items in
+    let s2 = c.read_named.new.heap in
+    let left2 = c.read_named.new.budget in
     let found = c.in_ok-found.found in
     let ns = a.rest.now ++ if_any a.method in
     let go : Value → LuaPlan = λ o. define_in items ns a.function a.scope o in

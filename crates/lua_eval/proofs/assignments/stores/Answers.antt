@@ -9,14 +9,14 @@ use Rattle.lua_eval.proofs.Below.{moved, target_below}
 use Rattle.lua_eval.proofs.Listing.{stores_at}
 use Rattle.lua_eval.proofs.assignments.stores.Goals as goal
 
-pub returns-in_ok-step-clause-means : goal.returns-in_ok-step-clause-means
-returns-in_ok-step-clause-means c =
+pub returns-clause-means : goal.returns-clause-means
+returns-clause-means c =
     let a = c.args in
     let items = items_of a.tree.now in
     let fs = a.frames.now.items in
-    let fs2 = c.store_target-step.new.frames.items in
-    let s2 = c.store_target-step.new.heap in
-    let b2 = c.store_target-step.new.budget in
+    let fs2 = c.store_target.new.frames.items in
+    let s2 = c.store_target.new.heap in
+    let b2 = c.store_target.new.budget in
     let step = c.in_ok-step.step in
     let n = c.node_in-target.result in
     let object = c.held_at-pair.result.0 in

@@ -11,8 +11,8 @@ use Rattle.lua_eval.specs.declared.frame.LuaFrame.TheVariants as frames
 use Rattle.lua_eval.specs.declared.frame.TurnFrame.TheVariants as of_turn
 use Rattle.lua_eval.proofs.loops.generic_turn.Goals as goal
 
-pub returns-in_ok-begun-in-GenericFor-clause-means : goal.returns-in_ok-begun-in-GenericFor-clause-means
-returns-in_ok-begun-in-GenericFor-clause-means c = λ s left.
+pub returns-in_ok-begun-in-GenericFor : goal.returns-in_ok-begun-in-GenericFor
+returns-in_ok-begun-in-GenericFor c = λ s left.
     let a = c.args in
     let items = items_of a.tree.now in
     let block = c.in-GenericFor.block.now in
@@ -20,11 +20,11 @@ returns-in_ok-begun-in-GenericFor-clause-means c = λ s left.
     let ns = c.in-GenericFor.names.now in
     let inner = c.within.result in
     let go : List NodeId → List Value → LuaPlan = λ l all. list_next items a.node l a.place a.scope a.function a.state a.control all in
-    rw c.in-GenericFor.is (moved items a.frames.now.items c.turn_block-begun.new.frames.items
+    rw c.in-GenericFor.is (moved items a.frames.now.items c.turn_block.new.frames.items
     (turn_block items block (within a.scope a.env) a.out (go ns)) (turn_block items block inner a.out (go names.now))
     s s s left left c.in_ok-begun.begun
     (ap (λ (l : List NodeId). turn_block items block (within a.scope a.env) a.out (go l)) (sym c.as_slice.ensures)
     ∙ ap (λ (sc : Scope). turn_block items block sc a.out (go names.now)) (sym c.within.ensures)) refl
-    (statements_below items a.frames.now.items c.push.new.self.items c.turn_block-begun.new.frames.items
+    (statements_below items a.frames.now.items c.push.new.self.items c.turn_block.new.frames.items
     (frames.Turn a.node a.scope (of_turn.Listed names a.place a.function a.state a.control)) s s left left c.in_ok-begun.begun
     (statements_at items block) inner a.out c.in_ok-push.ensures.items (c.in_ok-begun.ensures.means s left)))

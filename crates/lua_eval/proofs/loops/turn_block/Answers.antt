@@ -7,11 +7,11 @@ use Rattle.tl_tree.specs.Code.{statements_at}
 use Rattle.lua_eval.proofs.Below.{moved}
 use Rattle.lua_eval.proofs.loops.turn_block.Goals as goal
 
-pub returns-in_ok-step-clause-means : goal.returns-in_ok-step-clause-means
-returns-in_ok-step-clause-means c = λ s left.
+pub returns : goal.returns
+returns c = λ s left.
     let a = c.args in
     let items = items_of a.tree.now in
-    moved items a.frames.now.items c.statements-step.new.frames.items (statements (statements_at items a.block) a.inner a.out Give)
+    moved items a.frames.now.items c.statements.new.frames.items (statements (statements_at items a.block) a.inner a.out Give)
     (statements c.block_statements.result.now a.inner a.out Give) s s s left left c.in_ok-step.step
     (ap (λ (ns : List NodeId). statements ns a.inner a.out Give) (sym c.block_statements.ensures)) refl
     (c.in_ok-step.ensures.means items s left)

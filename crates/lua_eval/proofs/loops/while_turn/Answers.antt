@@ -14,14 +14,14 @@ returns-in_ok-begun-in-While-clause-means c = λ left.
     let a = c.args in
     let items = items_of a.tree.now in
     let block = c.in-While.block.now in
-    let t = c.new_env-env.new.self in
-    rw c.in-While.is (entering_goes items a.frames.now.items c.turn_block-begun.new.frames.items block a.scope c.within.result
+    let t = c.new_env.new.self in
+    rw c.in-While.is (entering_goes items a.frames.now.items c.turn_block.new.frames.items block a.scope c.within.result
     (λ inner. turn_block items block inner a.out (λ all. while_test a.node c.in-While.condition.now a.scope all))
     a.heap.now t t left left c.in_ok-begun.begun c.in_ok-env.env c.within.ensures c.in_ok-env.ensures.id c.in_ok-env.ensures.ok
-    (statements_below items a.frames.now.items c.push.new.self.items c.turn_block-begun.new.frames.items
+    (statements_below items a.frames.now.items c.push.new.self.items c.turn_block.new.frames.items
     (frames.Turn a.node a.scope (of_turn.While c.in-While.condition.now)) t t left left c.in_ok-begun.begun (statements_at items block) c.within.result a.out
     c.in_ok-push.ensures.items (c.in_ok-begun.ensures.means t left)))
 
 pub returns-in_ok-begun-in-While-clause-kept : goal.returns-in_ok-begun-in-While-clause-kept
 returns-in_ok-begun-in-While-clause-kept c =
-    env_kept c.args.heap.now c.new_env-env.new.self c.in-While.block.now (Some c.args.scope.env) c.in_ok-env.ensures.ok
+    env_kept c.args.heap.now c.new_env.new.self c.in-While.block.now (Some c.args.scope.env) c.in_ok-env.ensures.ok

@@ -7,15 +7,15 @@ use Rattle.lua_eval.specs.Frames.{targets_plan}
 use Rattle.lua_eval.proofs.Below.{moved}
 use Rattle.lua_eval.proofs.statements.assign.Goals as goal
 
-pub returns-in_ok-step-clause-means : goal.returns-in_ok-step-clause-means
-returns-in_ok-step-clause-means c =
+pub returns-clause-means : goal.returns-clause-means
+returns-clause-means c =
     let a = c.args in
     let items = items_of a.tree.now in
     let ns = c.as_slice-all.result.now in
     let es = c.as_slice-values.result.now in
     let none = c.new-none.result in
-    moved items a.frames.now.items c.targets-step.new.frames.items (assign_plan items a.all.now a.values.now a.scope)
-    (targets_plan items ns ns es a.scope none) a.heap.now a.heap.now c.targets-step.new.heap a.budget.now c.targets-step.new.budget
+    moved items a.frames.now.items c.targets.new.frames.items (assign_plan items a.all.now a.values.now a.scope)
+    (targets_plan items ns ns es a.scope none) a.heap.now a.heap.now c.targets.new.heap a.budget.now c.targets.new.budget
     c.in_ok-step.step
     (ap (λ (l : List NodeId). assign_plan items l a.values.now a.scope) (sym c.as_slice-all.ensures)
     ∙ ap (λ (l : List NodeId). assign_plan items ns l a.scope) (sym c.as_slice-values.ensures)

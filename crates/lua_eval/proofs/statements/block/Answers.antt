@@ -8,12 +8,12 @@ use Rattle.lua_eval.proofs.Turning.{env_kept}
 use Rattle.lua_eval.proofs.Making.{entering_goes, statements_are}
 use Rattle.lua_eval.proofs.statements.block.Goals as goal
 
-pub returns-in_ok-step-clause-means : goal.returns-in_ok-step-clause-means
-returns-in_ok-step-clause-means c = λ left.
+pub returns-clause-means : goal.returns-clause-means
+returns-clause-means c = λ left.
     let a = c.args in
     let items = items_of a.tree.now in
-    let fs2 = c.statements-step.new.frames.items in
-    let t = c.new_env-env.new.self in
+    let fs2 = c.statements.new.frames.items in
+    let t = c.new_env.new.self in
     let inner = c.within.result in
     let ns = c.block_statements.result.now in
     let none = c.new-none.result in
@@ -24,6 +24,6 @@ returns-in_ok-step-clause-means c = λ left.
     (statements_are (statements_at items a.block) ns inner inner [] none Give (sym c.block_statements.ensures) refl (sym c.new-none.ensures))
     refl (c.in_ok-step.ensures.means items t left))
 
-pub returns-in_ok-step-clause-kept : goal.returns-in_ok-step-clause-kept
-returns-in_ok-step-clause-kept c =
-    env_kept c.args.heap.now c.new_env-env.new.self c.args.block (Some c.args.scope.env) c.in_ok-env.ensures.ok
+pub returns-clause-kept : goal.returns-clause-kept
+returns-clause-kept c =
+    env_kept c.args.heap.now c.new_env.new.self c.args.block (Some c.args.scope.env) c.in_ok-env.ensures.ok

@@ -7,13 +7,13 @@ use Rattle.tl_tree.specs.Code.{if_any, path_at, path_method_of}
 use Rattle.lua_eval.proofs.Below.{moved}
 use Rattle.lua_eval.proofs.statements.define_at.Goals as goal
 
-pub returns-in_ok-step-clause-means : goal.returns-in_ok-step-clause-means
-returns-in_ok-step-clause-means c = λ s left.
+pub returns : goal.returns
+returns c = λ s left.
     let a = c.args in
     let items = items_of a.tree.now in
     let ns = c.path_names-names.result.now in
     let method = c.path_method-method.result in
-    moved items a.frames.now.items c.define-step.new.frames.items (define items (path_at items a.path) a.function a.scope)
+    moved items a.frames.now.items c.define.new.frames.items (define items (path_at items a.path) a.function a.scope)
     (define items (ns ++ if_any method) a.function a.scope) s s s left left c.in_ok-step.step
     (ap (λ (l : List NodeId). define items (l ++ if_any (path_method_of (item_at items a.path))) a.function a.scope) (sym c.path_names-names.ensures)
     ∙ ap (λ (m : Option NodeId). define items (ns ++ if_any m) a.function a.scope) (sym c.path_method-method.ensures))
