@@ -20,7 +20,8 @@
 //!    `entering_goes`, `variable_goes` and `closing_goes` of `proofs/Making`.
 //! 4. It pushes a frame for what is behind a plan, and passes on to a step that does the plan alone: `library_below`,
 //!    `call_below`, `read_below`, `named_below`, `target_below` and `statements_below` of `proofs/Below`. Such a step is
-//!    best a function of its own without a `match`, which has one answer, `returns-in_ok-step-clause-means`.
+//!    best a function of its own without a `match`, whose answers are `returns-clause-means` and `returns-clause-kept`,
+//!    and `returns` where it has one clause.
 //! 5. It chooses by a test that the plan makes too: `chosen` of `proofs/Below`.
 //!
 //! Where a plan has a last case for all other variants, what the code needs of it is asked in a small function that
@@ -28,6 +29,12 @@
 //! that value (`field_is`, `define_in_by`, `left_other`, `binary_is`, `numbers_are`). Every lemma takes all
 //! its arguments: `Goes` unfolds, and so none is found from it. In an answer they are, in this order, the tree's items,
 //! the frames before and after, what the lemma is about, the heaps, the budgets and the step.
+//!
+//! A value holds a number, which has a model, so that it is used up where it is passed by value: what goes on with it
+//! behind a call takes it by reference, or passes `copy` of it. A frame with values is owned, and taken by reference
+//! where some arm leaves it. A list that ends is known by `none_is`, and one that goes on by the `cases` of
+//! `split_first`.
+//!
 //! `kept` of an arm that changed the heap by itself is `keeps_by` of `proofs/Keeping`, with a lemma of
 //! `lua_table::proofs::Keeping`.
 #![tactic(auto)]
