@@ -282,43 +282,43 @@ pub fn with_call<'a>(
     frames: &mut Vec<LuaFrame<'a>>,
     heap: &mut Heap,
     budget: &mut Budget,
-    frame: CallFrame<'a>,
+    frame: &CallFrame<'a>,
     value: Value,
 ) -> Result<LuaStep, NoMemory>
     requires { ArePaths (items_of tree.now) slots.now }
     ensures means { IfOk result (λ step.
-        Goes (items_of tree.now) frames.old.items (with_call (items_of tree.now) frame.entry value)
+        Goes (items_of tree.now) frames.old.items (with_call (items_of tree.now) frame.now value)
         heap.old budget.old frames.new.items step heap.new budget.new) }
     ensures kept { OnOk result (KeepsHeap heap.old heap.new) }
 {
     match frame {
         CallFrame::Function(arguments, place, scope) => {
             let none = Values::new(heap.allocator());
-            let then = Then::Call(value, place);
+            let then = Then::Call(value, *place);
             let step = list(
-                tree, slots, frames, heap, budget, arguments, scope, none, then,
+                tree, slots, frames, heap, budget, *arguments, *scope, none, then,
             )?;
             Ok(step)
         }
         CallFrame::Method(node, arguments, place, scope) => {
-            let frame = CallFrame::MethodOf(copy(&value), arguments, place, scope);
+            let frame = CallFrame::MethodOf(copy(&value), *arguments, *place, *scope);
             frames.push(LuaFrame::One(OneFrame::Call(frame)))?;
             let found = read_named(
                 frames,
                 heap,
                 budget,
                 value,
-                name(tree, node).as_bytes(),
-                place,
+                name(tree, *node).as_bytes(),
+                *place,
                 scope.call,
             )?;
             Ok(found)
         }
         CallFrame::MethodOf(object, arguments, place, scope) => {
-            let first = one(heap.allocator(), object)?;
-            let then = Then::Call(value, place);
+            let first = one(heap.allocator(), copy(object))?;
+            let then = Then::Call(value, *place);
             let step = list(
-                tree, slots, frames, heap, budget, arguments, scope, first, then,
+                tree, slots, frames, heap, budget, *arguments, *scope, first, then,
             )?;
             Ok(step)
         }

@@ -95,7 +95,7 @@ fn with_one<'a>(
             Ok(step)
         }
         OneFrame::Call(frame) => {
-            let step = with_call(tree, slots, frames, heap, budget, frame, value)?;
+            let step = with_call(tree, slots, frames, heap, budget, &frame, value)?;
             Ok(step)
         }
         OneFrame::Field(frame, wait) => {

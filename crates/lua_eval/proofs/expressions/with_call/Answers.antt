@@ -50,5 +50,5 @@ returns-in_ok-step-in-MethodOf-clause-means c =
     let plan : List Value → LuaPlan = λ vs. list_plan items m.arguments.now m.scope vs (thens.Call a.value m.place) in
     rw m.is (moved items a.frames.now.items c.list-in-MethodOf.new.frames.items (plan (m.object ∷ []))
     (plan c.in_ok-first-in-MethodOf.first) a.heap.now a.heap.now c.list-in-MethodOf.new.heap a.budget.now
-    c.list-in-MethodOf.new.budget c.in_ok-step-in-MethodOf.step (ap plan (sym c.in_ok-first-in-MethodOf.ensures)) refl
+    c.list-in-MethodOf.new.budget c.in_ok-step-in-MethodOf.step (ap plan (sym (c.in_ok-first-in-MethodOf.ensures ∙ ap (λ (v : Value). v ∷ []) c.copy-in-MethodOf.ensures))) refl
     c.in_ok-step-in-MethodOf.ensures.means)
