@@ -3,7 +3,8 @@
 ghost use Rattle.std.specs.Prelude.{◌≡◌, ◌+◌, IfOk, OnOk};
 ghost use Rattle.lua_table.specs.Heap.{cell_at};
 ghost use Rattle.lua_table.specs.Keeping.{KeepsHeap};
-ghost use Rattle.lua_table.specs.Cells.{env_out, local_cell, local_value, with_local, declare, declare_all, with_cells, values_from};
+ghost use Rattle.lua_table.specs.Cells.{env_out, local_cell, local_value, with_local};
+ghost use Rattle.lua_table.specs.Cells.{declare, declare_all, with_cells, values_from};
 
 use crate::values::split_values;
 use lua_table::Heap;

@@ -2,7 +2,8 @@
 
 ghost use Rattle.std.specs.Prelude.{◌≡◌};
 ghost use Rattle.tl_tree.specs.Arena.{items_of};
-ghost use Rattle.tl_tree.specs.Code.{function_at, body_of, statements_at, name_at, place_at, path_names_at, path_method_of, place_of_piece};
+ghost use Rattle.tl_tree.specs.Code.{function_at, body_of, statements_at, name_at, place_at};
+ghost use Rattle.tl_tree.specs.Code.{path_names_at, path_method_of, place_of_piece};
 ghost use Rattle.tl_tree.specs.Nodes.{item_at, item_of};
 
 use tl_base::{NodeId, Place};

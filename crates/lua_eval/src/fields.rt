@@ -6,7 +6,8 @@ ghost use Rattle.lua_value.specs.Values.{kind_of};
 ghost use Rattle.lua_table.specs.Keeping.{KeepsHeap};
 ghost use Rattle.lua_model.specs.Plans.{give, fell, on_one, on_all, with_text_of};
 ghost use Rattle.lua_model.specs.Calls.{call_library};
-ghost use Rattle.lua_model.specs.Fields.{read, read_table, read_by, read_terra, type_function, store, store_table, store_by, store_raw};
+ghost use Rattle.lua_model.specs.Fields.{read, read_table, read_by, read_terra, type_function};
+ghost use Rattle.lua_model.specs.Fields.{store, store_table, store_by, store_raw};
 ghost use Rattle.lua_eval.specs.Steps.{Goes, Does};
 
 use crate::calls::call_library;

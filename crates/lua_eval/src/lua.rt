@@ -23,7 +23,8 @@ pub struct Lua<'a> {
 impl<'a> Lua<'a> {
     ghost use Rattle.lua_eval.specs.Rest.{lua_rest, LuaFits};
 
-    /// What is to do a job, and is to begin with `Go`. The slots are those that `tl_rename::resolve` gives for the tree.
+    /// What is to do a job, and is to begin with `Go`. The slots are those that `tl_rename::resolve` gives for the
+    /// tree.
     ///
     /// - `means`: what remains of it is what `lua_model` says that the job means.
     /// - `fits`: `Go` is what it begins with.
