@@ -14,8 +14,8 @@ use Rattle.lua_model.specs.declared.job.Job.TheVariants as jobs
 use Rattle.tl_base.specs.declared.machine.Step.TheVariants as steps
 use Rattle.lua_eval.proofs.assignments.define_from.Goals as goal
 
-pub returns-in_ok-step-then-is_end : goal.returns-in_ok-step-then-is_end
-returns-in_ok-step-then-is_end c = λ items s left.
+pub returns-then-is_end : goal.returns-then-is_end
+returns-then-is_end c = λ items s left.
     let a = c.args in
     let ns = a.rest.now ++ if_any a.method in
     moved items a.frames.now.items c.define_first.new.frames.items (define items (a.first ∷ ns) a.function a.scope)

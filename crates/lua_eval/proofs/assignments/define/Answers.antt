@@ -1,0 +1,25 @@
+use Rattle.std.proofs.Common.{ap, refl, List, ◌∷◌, ◌++◌}
+use Rattle.tl_base.specs.declared.ids.NodeId.{NodeId}
+use Rattle.lua_model.specs.Assignments.{define}
+use Rattle.tl_tree.specs.Code.{if_any}
+use Rattle.lua_eval.proofs.Below.{moved}
+use Rattle.lua_eval.proofs.Listing.{none_is}
+use Rattle.lua_eval.proofs.assignments.define.Goals as goal
+
+pub returns-in_ok-step-in-None : goal.returns-in_ok-step-in-None
+returns-in_ok-step-in-None c = λ items s left.
+    let a = c.args in
+    moved items a.frames.now.items c.define_alone.new.frames.items (define items (a.names.now ++ if_any a.method) a.function a.scope)
+    (define items (if_any a.method) a.function a.scope) s s s left left c.in_ok-step-in-None.step
+    (ap (λ (l : List NodeId). define items (l ++ if_any a.method) a.function a.scope) (none_is a.names.now c.in-None.ensures.cases)) refl
+    (c.in_ok-step-in-None.ensures.means items s left)
+
+pub returns-in_ok-step-in-Some : goal.returns-in_ok-step-in-Some
+returns-in_ok-step-in-Some c = λ items s left.
+    let a = c.args in
+    let first = c.in-Some.first.now in
+    let rest = c.in-Some.rest.now in
+    moved items a.frames.now.items c.define_from.new.frames.items (define items (a.names.now ++ if_any a.method) a.function a.scope)
+    (define items (first ∷ (rest ++ if_any a.method)) a.function a.scope) s s s left left c.in_ok-step-in-Some.step
+    (ap (λ (l : List NodeId). define items (l ++ if_any a.method) a.function a.scope) c.in-Some.ensures.cases.0) refl
+    (c.in_ok-step-in-Some.ensures.means items s left)
