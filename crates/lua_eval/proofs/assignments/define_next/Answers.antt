@@ -15,8 +15,8 @@ use Rattle.lua_eval.proofs.Below.{moved, named_below}
 use Rattle.lua_eval.proofs.Listing.{define_in_by}
 use Rattle.lua_eval.proofs.assignments.define_next.Goals as goal
 
-pub returns-in_ok-step-then-is_end-clause-means : goal.returns-in_ok-step-then-is_end-clause-means
-returns-in_ok-step-then-is_end-clause-means c =
+pub returns-then-is_end-clause-means : goal.returns-then-is_end-clause-means
+returns-then-is_end-clause-means c =
     let a = c.args in
     let items = items_of a.tree.now in
     let ns = a.rest.now ++ if_any a.method in

@@ -12,6 +12,6 @@ returns-in_ok-step-in-None-clause-means c = λ items.
     let bytes = c.as_bytes.result.now in
     let put : List ℕ → LuaPlan = λ bs. with_text_of bs (λ key. store (values.Table globals) key a.value a.place a.scope.call fell) in
     moved items a.frames.now.items c.store_named.new.frames.items (store_by_path a.path a.text.now a.place a.scope a.value fell)
-    (put bytes) a.heap.now a.heap.now c.store_named.new.heap a.budget.now c.store_named.new.budget c.in_ok-step.step
+    (put bytes) a.heap.now a.heap.now c.store_named.new.heap a.budget.now c.store_named.new.budget c.in_ok-step-in-None.step
     (ap (λ (p : Option (ℕ × ℕ)). store_by_path p a.text.now a.place a.scope a.value fell) c.in-None.is
-    ∙ ap put (sym c.as_bytes.ensures.value)) refl (c.in_ok-step.ensures.means items)
+    ∙ ap put (sym c.as_bytes.ensures.value)) refl (c.in_ok-step-in-None.ensures.means items)

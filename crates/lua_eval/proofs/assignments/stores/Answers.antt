@@ -1,4 +1,6 @@
-use Rattle.std.proofs.Common.{◌-◌, ◌<◌, refl, arith}
+use Rattle.std.proofs.Common.{◌+◌, ◌-◌, ◌*◌, ◌<◌, List, refl, ap, ◌∙◌, arith}
+use Rattle.lua_value.specs.declared.value.Value.{Value}
+use Rattle.lua_table.specs.Cells.{nth_value}
 use Rattle.tl_tree.specs.Arena.{items_of}
 use Rattle.tl_tree.specs.Nodes.{item_at}
 use Rattle.lua_model.specs.Plans.{fell}
@@ -27,7 +29,9 @@ returns-clause-means c =
     moved items fs fs2 (stores items a.targets.now a.scope a.held a.values a.left)
     (store_target items (item_at items n) n a.scope object key v rest) a.heap.now a.heap.now s2 a.budget.now b2 step
     (stores_at items a.targets.now a.scope a.held a.values a.left n object key v some c.node_in-target.ensures
-    c.held_at-pair.ensures.object c.held_at-pair.ensures.key c.nth-value.ensures) refl
+    (c.held_at-pair.ensures.object ∙ ap (λ (l : List Value). nth_value l (2 * (a.left - 1))) c.as_slice-2.ensures)
+    (c.held_at-pair.ensures.key ∙ ap (λ (l : List Value). nth_value l (2 * (a.left - 1) + 1)) c.as_slice-2.ensures)
+    (c.nth-value.ensures ∙ ap (λ (l : List Value). nth_value l (a.left - 1)) c.as_slice.ensures)) refl
     (target_below items fs c.push.new.self.items fs2 (frames.All (alls.Stores a.targets a.scope a.held a.values (a.left - 1)))
     a.heap.now s2 a.budget.now b2 step (item_at items n) n a.scope object key v rest c.in_ok-push.ensures.items (λ r. refl)
     c.in_ok-step.ensures.means)

@@ -18,6 +18,6 @@ returns-in_ok-step-in-None-clause-means c =
     let none = c.new-none.result in
     let go : List Value → LuaPlan = λ vs. stores items ns a.scope a.held vs (length ns) in
     moved items a.frames.now.items c.list.new.frames.items (targets_plan items a.rest.now ns es a.scope a.held)
-    (values_of es a.scope none go) a.heap.now a.heap.now c.list.new.heap a.budget.now c.list.new.budget c.in_ok-step.step
+    (values_of es a.scope none go) a.heap.now a.heap.now c.list.new.heap a.budget.now c.list.new.budget c.in_ok-step-in-None.step
     (ap (λ (l : List NodeId). targets_plan items l ns es a.scope a.held) (none_is a.rest.now c.in-None.ensures.cases)
-    ∙ ap (λ (us : List Value). values_of es a.scope us go) (sym c.new-none.ensures)) refl c.in_ok-step.ensures.means
+    ∙ ap (λ (us : List Value). values_of es a.scope us go) (sym c.new-none.ensures)) refl c.in_ok-step-in-None.ensures.means

@@ -13,15 +13,15 @@ pub returns-in_ok-begun-in-While-clause-means : goal.returns-in_ok-begun-in-Whil
 returns-in_ok-begun-in-While-clause-means c = λ left.
     let a = c.args in
     let items = items_of a.tree.now in
-    let block = c.in-While.block.now in
+    let block = c.in-While.block in
     let t = c.new_env.new.self in
     rw c.in-While.is (entering_goes items a.frames.now.items c.turn_block.new.frames.items block a.scope c.within.result
-    (λ inner. turn_block items block inner a.out (λ all. while_test a.node c.in-While.condition.now a.scope all))
-    a.heap.now t t left left c.in_ok-begun.begun c.in_ok-env.env c.within.ensures c.in_ok-env.ensures.id c.in_ok-env.ensures.ok
+    (λ inner. turn_block items block inner a.out (λ all. while_test a.node c.in-While.condition a.scope all))
+    a.heap.now t t left left c.in_ok-begun-in-While.begun c.in_ok-env-in-While.env c.within.ensures c.in_ok-env-in-While.ensures.id c.in_ok-env-in-While.ensures.ok
     (statements_below items a.frames.now.items c.push.new.self.items c.turn_block.new.frames.items
-    (frames.Turn a.node a.scope (of_turn.While c.in-While.condition.now)) t t left left c.in_ok-begun.begun (statements_at items block) c.within.result a.out
-    c.in_ok-push.ensures.items (c.in_ok-begun.ensures.means t left)))
+    (frames.Turn a.node a.scope (of_turn.While c.in-While.condition)) t t left left c.in_ok-begun-in-While.begun (statements_at items block) c.within.result a.out
+    c.in_ok-push-in-While.ensures.items (c.in_ok-begun-in-While.ensures.means t left)))
 
 pub returns-in_ok-begun-in-While-clause-kept : goal.returns-in_ok-begun-in-While-clause-kept
 returns-in_ok-begun-in-While-clause-kept c =
-    env_kept c.args.heap.now c.new_env.new.self c.in-While.block.now (Some c.args.scope.env) c.in_ok-env.ensures.ok
+    env_kept c.args.heap.now c.new_env.new.self c.in-While.block (Some c.args.scope.env) c.in_ok-env-in-While.ensures.ok
