@@ -7,7 +7,7 @@ use Rattle.lua_eval.proofs.fields.done_by_library.Goals as goal
 
 pub returns-clause-means : goal.returns-in_ok-step-clause-means
 returns-clause-means c = λ items.
-    library_below items c.args.frames.now.items c.push.new.self.items c.call_library-step.new.frames.items (All Done)
-    c.args.heap.now c.call_library-step.new.heap c.args.budget.now c.call_library-step.new.budget c.in_ok-step.step
+    library_below items c.args.frames.now.items c.push.new.self.items c.call_library.new.frames.items (All Done)
+    c.args.heap.now c.call_library.new.heap c.args.budget.now c.call_library.new.budget c.in_ok-step.step
     c.args.call.function c.args.call.args c.args.call.place c.args.call.outer
     c.in_ok-push.ensures.items (all_passes (jobs_of items) (λ vs. fell)) (c.in_ok-step.ensures.means items)

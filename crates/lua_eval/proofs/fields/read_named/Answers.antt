@@ -6,6 +6,6 @@ use Rattle.lua_eval.proofs.fields.read_named.Goals as goal
 pub returns-clause-means : goal.returns-in_ok-step-clause-means
 returns-clause-means c = λ items.
     let a = c.args in
-    text_goes items a.frames.now.items c.read-step.new.frames.items a.name.now (λ key. read a.object key a.place a.outer give)
-    a.heap.now c.text_value-key.new.heap c.read-step.new.heap a.budget.now c.read-step.new.budget c.in_ok-step.step c.in_ok-key.key
+    text_goes items a.frames.now.items c.read.new.frames.items a.name.now (λ key. read a.object key a.place a.outer give)
+    a.heap.now c.text_value.new.heap c.read.new.heap a.budget.now c.read.new.budget c.in_ok-step.step c.in_ok-key.key
     c.in_ok-key.ensures.value c.in_ok-key.ensures.heap (c.in_ok-step.ensures.means items)

@@ -6,6 +6,6 @@ use Rattle.lua_eval.proofs.fields.store_named.Goals as goal
 pub returns-clause-means : goal.returns-in_ok-step-clause-means
 returns-clause-means c = λ items.
     let a = c.args in
-    text_goes items a.frames.now.items c.store-step.new.frames.items a.name.now (λ key. store a.object key a.value a.place a.outer fell)
-    a.heap.now c.text_value-key.new.heap c.store-step.new.heap a.budget.now c.store-step.new.budget c.in_ok-step.step c.in_ok-key.key
+    text_goes items a.frames.now.items c.store.new.frames.items a.name.now (λ key. store a.object key a.value a.place a.outer fell)
+    a.heap.now c.text_value.new.heap c.store.new.heap a.budget.now c.store.new.budget c.in_ok-step.step c.in_ok-key.key
     c.in_ok-key.ensures.value c.in_ok-key.ensures.heap (c.in_ok-step.ensures.means items)

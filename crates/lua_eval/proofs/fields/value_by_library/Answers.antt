@@ -8,7 +8,7 @@ use Rattle.lua_eval.proofs.fields.value_by_library.Goals as goal
 
 pub returns-clause-means : goal.returns-in_ok-step-clause-means
 returns-clause-means c = λ items.
-    library_below items c.args.frames.now.items c.push.new.self.items c.call_library-step.new.frames.items (One (Value First))
-    c.args.heap.now c.call_library-step.new.heap c.args.budget.now c.call_library-step.new.budget c.in_ok-step.step
+    library_below items c.args.frames.now.items c.push.new.self.items c.call_library.new.frames.items (One (Value First))
+    c.args.heap.now c.call_library.new.heap c.args.budget.now c.call_library.new.budget c.in_ok-step.step
     c.args.call.function c.args.call.args c.args.call.place c.args.call.outer
     c.in_ok-push.ensures.items (one_passes (jobs_of items) give) (c.in_ok-step.ensures.means items)

@@ -15,10 +15,10 @@ returns-clause-means c =
     let state = c.nth-state.result in
     let control = c.nth-control.result in
     let none = c.new-none.result in
-    moved items a.frames.now.items c.list_next-step.new.frames.items
+    moved items a.frames.now.items c.list_next.new.frames.items
     (list_next items a.node a.names.now a.place a.scope (nth_value vs 0) (nth_value vs 1) (nth_value vs 2) [])
     (list_next items a.node a.names.now a.place a.scope f state control none)
-    a.heap.now a.heap.now c.list_next-step.new.heap a.budget.now c.list_next-step.new.budget c.in_ok-step.step
+    a.heap.now a.heap.now c.list_next.new.heap a.budget.now c.list_next.new.budget c.in_ok-step.step
     (ap (λ (v : Value). list_next items a.node a.names.now a.place a.scope v (nth_value vs 1) (nth_value vs 2) []) (sym c.nth-function.ensures)
     ∙ ap (λ (v : Value). list_next items a.node a.names.now a.place a.scope f v (nth_value vs 2) []) (sym c.nth-state.ensures)
     ∙ ap (λ (v : Value). list_next items a.node a.names.now a.place a.scope f state v []) (sym c.nth-control.ensures)

@@ -11,8 +11,8 @@ pub returns-in_ok-step-in-None-clause-means : goal.returns-in_ok-step-in-None-cl
 returns-in_ok-step-in-None-clause-means c =
     let a = c.args in
     let items = items_of a.tree.now in
-    moved items a.frames.now.items c.with_list-step.new.frames.items (list_plan items a.nodes.now a.scope a.values a.then)
-    (then_plan items a.then a.scope a.values) a.heap.now a.heap.now c.with_list-step.new.heap a.budget.now c.with_list-step.new.budget
+    moved items a.frames.now.items c.with_list.new.frames.items (list_plan items a.nodes.now a.scope a.values a.then)
+    (then_plan items a.then a.scope a.values) a.heap.now a.heap.now c.with_list.new.heap a.budget.now c.with_list.new.budget
     c.in_ok-step.step
     (ap (λ (ns : List NodeId). list_plan items ns a.scope a.values a.then) (none_is a.nodes.now c.in-None.ensures.cases)) refl
     c.in_ok-step.ensures.means
@@ -23,7 +23,7 @@ returns-in_ok-entered-in-Some-clause-means c =
     let items = items_of a.tree.now in
     let n = c.in-Some.first.now in
     let rest = c.in-Some.rest in
-    moved items a.frames.now.items c.item-entered.new.frames.items (list_plan items a.nodes.now a.scope a.values a.then)
+    moved items a.frames.now.items c.item.new.frames.items (list_plan items a.nodes.now a.scope a.values a.then)
     (list_plan items (n ∷ rest.now) a.scope a.values a.then) a.heap.now a.heap.now a.heap.now a.budget.now a.budget.now
     c.in_ok-entered.entered
     (ap (λ (ns : List NodeId). list_plan items ns a.scope a.values a.then) c.in-Some.ensures.cases.0) refl

@@ -12,16 +12,16 @@ use Rattle.lua_eval.proofs.Below.{moved}
 use Rattle.lua_eval.proofs.Making.{statements_are}
 use Rattle.lua_eval.proofs.machine.chunk.Goals as goal
 
-pub returns-clause-means : goal.returns-in_ok-begun-clause-means
+pub returns-clause-means : goal.returns-clause-means
 returns-clause-means c = λ left.
     let a = c.args in
     let items = items_of a.tree.now in
     let s = a.heap.now in
-    let t = c.new_env-env.new.self in
+    let t = c.new_env.new.self in
     let ns = c.block_statements.result.now in
     let scope = c.scope_at.result in
     let none = c.new-none.result in
-    moved items a.frames.now.items c.statements-begun.new.frames.items
+    moved items a.frames.now.items c.statements.new.frames.items
     (statements (statements_at items (last_of items)) (scope_at (next_env s)) [] Give) (statements ns scope none Give)
     (with_env s (last_of items) None) t t left left c.in_ok-begun.begun
     (statements_are (statements_at items (last_of items)) ns (scope_at (next_env s)) scope [] none Give
@@ -33,4 +33,4 @@ returns-clause-means c = λ left.
 pub returns-clause-kept : goal.returns-clause-kept
 returns-clause-kept c =
     let s = c.args.heap.now in
-    kept_as s c.new_env-env.new.self (with_env s c.root.result None) c.in_ok-env.ensures.ok (keeps_env s c.root.result None)
+    kept_as s c.new_env.new.self (with_env s c.root.result None) c.in_ok-env.ensures.ok (keeps_env s c.root.result None)

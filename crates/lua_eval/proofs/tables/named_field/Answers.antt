@@ -15,10 +15,10 @@ returns-clause-means c =
     let items = items_of a.tree.now in
     let f = a.frame in
     let fs = a.frames.now.items in
-    let fs2 = c.store_field-step.new.frames.items in
-    let t = c.text_value-key.new.heap in
-    let s2 = c.store_field-step.new.heap in
-    let left2 = c.store_field-step.new.budget in
+    let fs2 = c.store_field.new.frames.items in
+    let t = c.text_value.new.heap in
+    let s2 = c.store_field.new.heap in
+    let left2 = c.store_field.new.budget in
     let step = c.in_ok-step.step in
     let bytes = c.as_bytes.result.now in
     let go : Value → LuaPlan = λ key. store_raw f.table key a.value f.place (fields_from items f f.next) in
@@ -29,4 +29,4 @@ returns-clause-means c =
 
 pub returns-clause-kept : goal.returns-clause-kept
 returns-clause-kept c =
-    keeps_then c.args.heap.now c.text_value-key.new.heap c.store_field-step.new.heap c.in_ok-key.ensures.kept c.in_ok-step.ensures.kept
+    keeps_then c.args.heap.now c.text_value.new.heap c.store_field.new.heap c.in_ok-key.ensures.kept c.in_ok-step.ensures.kept
