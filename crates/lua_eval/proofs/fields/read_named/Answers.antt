@@ -3,7 +3,7 @@ use Rattle.lua_model.specs.Fields.{read}
 use Rattle.lua_eval.proofs.Below.{text_goes}
 use Rattle.lua_eval.proofs.fields.read_named.Goals as goal
 
-pub returns-clause-means : goal.returns-in_ok-step-clause-means
+pub returns-clause-means : goal.returns-clause-means
 returns-clause-means c = λ items.
     let a = c.args in
     text_goes items a.frames.now.items c.read.new.frames.items a.name.now (λ key. read a.object key a.place a.outer give)

@@ -3,7 +3,7 @@ use Rattle.lua_model.specs.Fields.{store}
 use Rattle.lua_eval.proofs.Below.{text_goes}
 use Rattle.lua_eval.proofs.fields.store_named.Goals as goal
 
-pub returns-clause-means : goal.returns-in_ok-step-clause-means
+pub returns-clause-means : goal.returns-clause-means
 returns-clause-means c = λ items.
     let a = c.args in
     text_goes items a.frames.now.items c.store.new.frames.items a.name.now (λ key. store a.object key a.value a.place a.outer fell)

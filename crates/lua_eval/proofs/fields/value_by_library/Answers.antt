@@ -6,7 +6,7 @@ use Rattle.lua_eval.specs.declared.frame.ValueFrame.TheVariants.{First}
 use Rattle.lua_eval.proofs.Below.{jobs_of, library_below}
 use Rattle.lua_eval.proofs.fields.value_by_library.Goals as goal
 
-pub returns-clause-means : goal.returns-in_ok-step-clause-means
+pub returns-clause-means : goal.returns-clause-means
 returns-clause-means c = λ items.
     library_below items c.args.frames.now.items c.push.new.self.items c.call_library.new.frames.items (One (Value First))
     c.args.heap.now c.call_library.new.heap c.args.budget.now c.call_library.new.budget c.in_ok-step.step
