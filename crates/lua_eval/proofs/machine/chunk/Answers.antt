@@ -25,12 +25,12 @@ returns-clause-means c = λ left.
     (statements (statements_at items (last_of items)) (scope_at (next_env s)) [] Give) (statements ns scope none Give)
     (with_env s (last_of items) None) t t left left c.in_ok-begun.begun
     (statements_are (statements_at items (last_of items)) ns (scope_at (next_env s)) scope [] none Give
-    (sym (c.block_statements.ensures ∙ ap (λ (n : NodeId). statements_at items n) c.root.ensures))
+    (sym (c.block_statements.ensures ∙ ap (λ (n : NodeId). statements_at items n) c.root-root.ensures))
     (sym (c.scope_at.ensures ∙ ap scope_at c.in_ok-env.ensures.id)) (sym c.new-none.ensures))
-    (sym (c.in_ok-env.ensures.ok ∙ ap (λ (n : NodeId). with_env s n None) c.root.ensures))
+    (sym (c.in_ok-env.ensures.ok ∙ ap (λ (n : NodeId). with_env s n None) c.root-root.ensures))
     (c.in_ok-begun.ensures.means items t left)
 
 pub returns-clause-kept : goal.returns-clause-kept
 returns-clause-kept c =
     let s = c.args.heap.now in
-    kept_as s c.new_env.new.self (with_env s c.root.result None) c.in_ok-env.ensures.ok (keeps_env s c.root.result None)
+    kept_as s c.new_env.new.self (with_env s c.root-root.result None) c.in_ok-env.ensures.ok (keeps_env s c.root-root.result None)
