@@ -20,7 +20,7 @@ returns-then-may_call-clause-means c =
     (sym c.may_call.ensures.same ∙ c.if-may_call.true) c.new-none.ensures c.closure-code.ensures
     c.function_parts-parts.ensures.method c.function_parts-parts.ensures.names c.function_parts-parts.ensures.variadic
     (c.block_statements.ensures ∙ ap (λ (n : NodeId). statements_at items n) c.function_parts-parts.ensures.block)
-    (rw c.begin_call.ensures at c.in_ok-scope.ensures.scope) (rw c.begin_call.ensures at c.in_ok-scope.ensures.heap)
+    (rw (c.begin_call.ensures, c.as_slice.ensures) at c.in_ok-scope.ensures.scope) (rw (c.begin_call.ensures, c.as_slice.ensures) at c.in_ok-scope.ensures.heap)
     c.in_ok-push.ensures.items (c.in_ok-entered.ensures.means items c.enter_call.new.heap a.budget.now)
 
 pub returns-clause-means : goal.returns-clause-means

@@ -1,4 +1,6 @@
 use Rattle.std.proofs.Common.{◌≡◌, [], ◌∷◌, sym, ap, ◌∙◌}
+use Rattle.std.specs.Prelude.{Result, Ok}
+use Rattle.tl_base.specs.declared.memory.NoMemory.{NoMemory}
 use Rattle.tl_tree.specs.Arena.{items_of}
 use Rattle.lua_value.specs.declared.value.Value.{Value}
 use Rattle.lua_ops.specs.declared.outcome.Outcome.{Outcome}
@@ -7,6 +9,10 @@ use Rattle.lua_model.specs.Operators.{settle}
 use Rattle.lua_eval.proofs.Below.{moved}
 use Rattle.lua_eval.proofs.operators.arith.Goals as goal
 
+-- what stands in an `Ok`
+value_is : (o p : Outcome) → ◌≡◌ {A = Result Outcome NoMemory} (Ok o) (Ok p) → o ≡ p
+value_is o p e = cc
+
 pub returns-in_ok-step-in-Ok-clause-means : goal.returns-in_ok-step-in-Ok-clause-means
 returns-in_ok-step-in-Ok-clause-means c =
     let a = c.args in
@@ -14,7 +20,7 @@ returns-in_ok-step-in-Ok-clause-means c =
     let outcome = c.in-Ok.outcome in
     let first = c.copy-first.result in
     let second = c.copy-second.result in
-    let found : arith_outcome a.heap.now a.op first second ≡ outcome = cc in
+    let found = sym (value_is outcome (arith_outcome a.heap.now a.op first second) c.in-Ok.ensures.outcome) in
     let is : arith_outcome a.heap.now a.op a.a a.b ≡ outcome =
     ap (λ (v : Value). arith_outcome a.heap.now a.op v a.b) (sym c.copy-first.ensures)
     ∙ ap (λ (v : Value). arith_outcome a.heap.now a.op first v) (sym c.copy-second.ensures) ∙ found in
