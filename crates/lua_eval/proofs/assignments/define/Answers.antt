@@ -17,7 +17,7 @@ returns-in_ok-step-in-None c =
         (define items (if_any a.method) a.function a.scope) s s s left left c.in_ok-step-in-None.step
         (ap (λ (l : List NodeId). define items (l ++ if_any a.method) a.function a.scope) (none_is a.names.now c.in-None.ensures.cases)) refl
         (c.in_ok-step-in-None.ensures.means items s left) in
-    proof
+    record { means = proof }
 
 pub returns-in_ok-step-in-Some : goal.returns-in_ok-step-in-Some
 returns-in_ok-step-in-Some c =
@@ -30,4 +30,4 @@ returns-in_ok-step-in-Some c =
         (define items (first ∷ (rest ++ if_any a.method)) a.function a.scope) s s s left left c.in_ok-step-in-Some.step
         (ap (λ (l : List NodeId). define items (l ++ if_any a.method) a.function a.scope) c.in-Some.ensures.cases.0) refl
         (c.in_ok-step-in-Some.ensures.means items s left) in
-    proof
+    record { means = proof }

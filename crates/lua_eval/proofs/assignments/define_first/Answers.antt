@@ -17,4 +17,4 @@ returns c =
         c.push.new.self.items (steps.Enter (jobs.Target a.first a.scope)) s left = λ items s left.
         enters items a.frames.now.items c.push.new.self.items (frames.All (alls.Name a.first a.function a.scope)) (jobs.Target a.first a.scope)
         s left c.in_ok-push.ensures.items in
-    proof
+    record { means = proof }

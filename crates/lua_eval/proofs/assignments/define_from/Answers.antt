@@ -28,7 +28,7 @@ returns-then-is_end c =
         ∙ if_true (is_end ns) (define items (a.first ∷ []) a.function a.scope)
         (value_of a.first a.scope (λ object. define_in items ns a.function a.scope object)) (sym c.is_end.ensures ∙ c.if-is_end.true)) refl
         (c.in_ok-step.ensures.means items s left) in
-    proof
+    record { means = proof }
 
 
 pub returns : goal.returns
@@ -45,4 +45,4 @@ returns c =
         ∙ if_false (is_end ns) (define items (a.first ∷ []) a.function a.scope)
         (value_of a.first a.scope (λ object. define_in items ns a.function a.scope object)) (sym c.is_end.ensures ∙ c.if-is_end.false)) refl
         (enters items a.frames.now.items c.push.new.self.items frame (jobs.Expression a.first a.scope) s left c.in_ok-push.ensures.items) in
-    proof
+    record { means = proof }

@@ -12,7 +12,7 @@ use Rattle.lua_eval.specs.declared.frame.TurnFrame.TheVariants as of_turn
 use Rattle.lua_eval.proofs.loops.generic_turn.Goals as goal
 
 pub returns-in_ok-begun-in-GenericFor : goal.returns-in_ok-begun-in-GenericFor
-returns-in_ok-begun-in-GenericFor c = λ s left.
+returns-in_ok-begun-in-GenericFor c = record { means = λ s left.
     let a = c.args in
     let items = items_of a.tree.now in
     let block = c.in-GenericFor.block in
@@ -27,4 +27,4 @@ returns-in_ok-begun-in-GenericFor c = λ s left.
     ∙ ap (λ (sc : Scope). turn_block items block sc a.out (go names.now)) (sym c.within.ensures)) refl
     (statements_below items a.frames.now.items c.push.new.self.items c.turn_block.new.frames.items
     (frames.Turn a.node a.scope (of_turn.Listed names a.place a.function a.state a.control)) s s left left c.in_ok-begun-in-GenericFor.begun
-    (statements_at items block) inner a.out c.in_ok-push-in-GenericFor.ensures.items (c.in_ok-begun-in-GenericFor.ensures.means s left)))
+    (statements_at items block) inner a.out c.in_ok-push-in-GenericFor.ensures.items (c.in_ok-begun-in-GenericFor.ensures.means s left))) }

@@ -20,4 +20,4 @@ returns c =
         (statements c.block_statements.result.now a.inner a.out Give) s s s left left c.in_ok-step.step
         (ap (λ (ns : List NodeId). statements ns a.inner a.out Give) (sym c.block_statements.ensures)) refl
         (c.in_ok-step.ensures.means items s left) in
-    proof
+    record { means = proof }

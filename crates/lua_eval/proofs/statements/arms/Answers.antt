@@ -36,13 +36,13 @@ returns-in_ok-push-in-Some-clause-means c = λ left.
     ∙ ap (λ (n : NodeId). value_of n a.scope (go (arm_block (item_at items first)))) (sym c.arm.ensures.condition)
     ∙ ap (λ (n : NodeId). value_of condition a.scope (go n)) (sym c.arm.ensures.block)) refl
     (enters items a.frames.now.items c.push.new.self.items frame (jobs.Expression condition a.scope) a.heap.now left
-    c.in_ok-push.ensures.items)
+    c.in_ok-push-in-Some.ensures.items)
 
 pub returns-in_ok-step-in-None-clause-means : goal.returns-in_ok-step-in-None-clause-means
 returns-in_ok-step-in-None-clause-means c = λ left.
     let a = c.args in
     let items = items_of a.tree.now in
     moved items a.frames.now.items c.otherwise_block.new.frames.items (arms_plan items a.rest.now a.otherwise a.scope)
-    (otherwise_plan items a.otherwise a.scope) a.heap.now a.heap.now c.otherwise_block.new.heap left left c.in_ok-step.step
+    (otherwise_plan items a.otherwise a.scope) a.heap.now a.heap.now c.otherwise_block.new.heap left left c.in_ok-step-in-None.step
     (ap (λ (l : List NodeId). arms_plan items l a.otherwise a.scope) (none_is a.rest.now c.in-None.ensures.cases)) refl
-    (c.in_ok-step.ensures.means left)
+    (c.in_ok-step-in-None.ensures.means left)

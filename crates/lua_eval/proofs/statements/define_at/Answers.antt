@@ -23,4 +23,4 @@ returns c =
         (ap (λ (l : List NodeId). define items (l ++ if_any (path_method_of (item_at items a.path))) a.function a.scope) (sym c.path_names-names.ensures)
         ∙ ap (λ (m : Option NodeId). define items (ns ++ if_any m) a.function a.scope) (sym c.path_method-method.ensures))
         refl (c.in_ok-step.ensures.means items s left) in
-    proof
+    record { means = proof }

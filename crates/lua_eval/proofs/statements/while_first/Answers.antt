@@ -17,4 +17,4 @@ returns c =
         (while_test a.node a.condition a.scope none) s s s left left c.in_ok-step.step
         (ap (λ (out : List Value). while_test a.node a.condition a.scope out) (sym c.new-none.ensures)) refl
         (c.in_ok-step.ensures.means items s left) in
-    proof
+    record { means = proof }
