@@ -1,6 +1,7 @@
 -- Operands of handlers.
 use Rattle.std.proofs.Common.{◌≡◌, Bool, true, false, [], ◌∷◌, refl, Option}
-use Rattle.std.specs.Prelude.{if◌then◌else◌}
+use Rattle.std.specs.Prelude.{Result, Ok, if◌then◌else◌}
+use Rattle.tl_base.specs.declared.memory.NoMemory.{NoMemory}
 use Rattle.lua_value.specs.declared.value.Value.{Value}
 use Rattle.lua_value.specs.declared.value.Value.TheVariants as values
 use Rattle.lua_value.specs.Values.{kind_of}
@@ -11,6 +12,7 @@ use Rattle.tl_tree.specs.declared.node.BinaryOperator.{BinaryOperator}
 use Rattle.tl_tree.specs.declared.node.BinaryOperator.TheVariants as binary
 use Rattle.tl_tree.specs.Code.{Items}
 use Rattle.lua_ops.specs.declared.fault.Fault.TheVariants.{Length}
+use Rattle.lua_ops.specs.declared.outcome.Outcome.{Outcome}
 use Rattle.lua_model.specs.Plans.{raise}
 use Rattle.lua_model.specs.Operators.{turned, operate, length_plan}
 use Rattle.lua_eval.specs.Operands.{operation_of, operate_by}
@@ -48,3 +50,7 @@ pub no_length : (v : Value) (place : Place) → ((t : TextId) → v ≡ values.T
 no_length (values.Text t) place not_text not_table = absurd (not_text t refl)
 no_length (values.Table t) place not_text not_table = absurd (not_table t refl)
 no_length v place not_text not_table = refl
+
+-- what stands in an `Ok`
+pub value_is : (o p : Outcome) → ◌≡◌ {A = Result Outcome NoMemory} (Ok o) (Ok p) → o ≡ p
+value_is o p e = cc

@@ -1,17 +1,12 @@
 use Rattle.std.proofs.Common.{◌≡◌, [], ◌∷◌, sym, ap, ◌∙◌}
-use Rattle.std.specs.Prelude.{Result, Ok}
-use Rattle.tl_base.specs.declared.memory.NoMemory.{NoMemory}
 use Rattle.tl_tree.specs.Arena.{items_of}
 use Rattle.lua_value.specs.declared.value.Value.{Value}
 use Rattle.lua_ops.specs.declared.outcome.Outcome.{Outcome}
 use Rattle.lua_ops.specs.Outcomes.{compare_outcome}
 use Rattle.lua_model.specs.Operators.{compared}
 use Rattle.lua_eval.proofs.Below.{moved}
+use Rattle.lua_eval.proofs.Operands.{value_is}
 use Rattle.lua_eval.proofs.operators.compare.Goals as goal
-
--- what stands in an `Ok`
-value_is : (o p : Outcome) → ◌≡◌ {A = Result Outcome NoMemory} (Ok o) (Ok p) → o ≡ p
-value_is o p e = cc
 
 pub returns-in_ok-step-in-Ok-clause-means : goal.returns-in_ok-step-in-Ok-clause-means
 returns-in_ok-step-in-Ok-clause-means c =
