@@ -140,9 +140,9 @@ pub fn first_count(
     ensures kept { OnOk result (KeepsHeap heap.old heap.new) }
 {
     match numbers(heap, first, limit, step) {
-        Ok((first, limit, step)) => {
+        Ok(all) => {
             let out = Values::new(heap.allocator());
-            Ok(count(node, scope, first, limit, step, out))
+            Ok(count(node, scope, all.0, all.1, all.2, out))
         }
         Err(fault) => {
             let step = raise(heap, budget, place, fault)?;

@@ -10,12 +10,12 @@ use Rattle.lua_eval.proofs.loops.first_count.Goals as goal
 pub returns-in-Ok-clause-means : goal.returns-in-Ok-clause-means
 returns-in-Ok-clause-means c = λ items fs.
     let a = c.args in
-    let m = c.in-Ok in
+    let all = c.in-Ok.all in
     let s = a.heap.now in
     let left = a.budget.now in
-    let counted : List Value → LuaPlan = λ out. count a.node a.scope m.first m.limit m.step out in
+    let counted : List Value → LuaPlan = λ out. count a.node a.scope all.0 all.1 all.2 out in
     first_count_goes items fs fs a.node a.first a.limit a.step a.place a.scope s s left left c.count.result
-    (Ok (m.first, m.limit, m.step)) m.ensures
+    (Ok all) c.in-Ok.ensures
     (moved items fs fs (counted []) (counted c.new-out.result) s s s left left c.count.result
     (ap counted (sym c.new-out.ensures)) refl (c.count.ensures items s left fs))
 
