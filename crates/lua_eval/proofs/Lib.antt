@@ -12,4 +12,5 @@ pub mod Making
 pub mod Named
 pub mod Numbering
 pub mod Operands
+pub mod Reading
 pub mod Turning
