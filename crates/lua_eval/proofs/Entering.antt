@@ -1,5 +1,5 @@
 -- The plans of an expression of a list and of a field without a key, by the frame that goes on with their ends.
-use Rattle.std.proofs.Common.{◌≡◌, ℕ, ◌<◌, List, [], ◌∷◌, length, refl, ap, ◌∙◌, arith}
+use Rattle.std.proofs.Common.{◌≡◌, ◌<◌, List, [], ◌∷◌, length, refl, ap, ◌∙◌, arith}
 use Rattle.tl_base.specs.declared.ids.NodeId.{NodeId}
 use Rattle.tl_base.specs.Plan.{Do}
 use Rattle.tl_tree.specs.Code.{Items}

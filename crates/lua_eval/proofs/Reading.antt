@@ -1,6 +1,6 @@
 -- Reads and stores, by what a value is read from and by what a handler is.
-use Rattle.std.proofs.Common.{◌≡◌, ℕ, List, ◌∷◌, ◌++◌, [], Bool, true, false, refl, sym, ap, ◌∙◌, Option}
-use Rattle.std.specs.Prelude.{codes, if◌then◌else◌}
+use Rattle.std.proofs.Common.{◌≡◌, ℕ, List, true, false, refl, sym, ap, ◌∙◌, Option}
+use Rattle.std.specs.Prelude.{codes}
 use Rattle.tl_base.specs.declared.ids.ClosureId.{ClosureId}
 use Rattle.tl_base.specs.declared.ids.TableId.{TableId}
 use Rattle.tl_base.specs.declared.place.Place.{Place}
