@@ -15,7 +15,7 @@ returns-in_ok-step-in-Listed c =
     let fs2 = c.listed_field.new.frames.items in
     let step = c.in_ok-step-in-Listed.step in
     let proof : (items : Items) (s : LuaState) (left : ℕ)
-        → Goes items fs (field_by items a.kind a.node a.frame) s left fs2 step s left = λ items s left.
-        moved items fs fs2 (field_by items a.kind a.node a.frame) (field_by items Listed a.node a.frame) s s s left left step
-        (ap (λ (k : FieldKind). field_by items k a.node a.frame) c.in-Listed.is) refl (c.in_ok-step-in-Listed.ensures.means items s left) in
+    → Goes items fs (field_by items a.kind a.node a.frame) s left fs2 step s left = λ items s left.
+    moved items fs fs2 (field_by items a.kind a.node a.frame) (field_by items Listed a.node a.frame) s s s left left step
+    (ap (λ (k : FieldKind). field_by items k a.node a.frame) c.in-Listed.is) refl (c.in_ok-step-in-Listed.ensures.means items s left) in
     record { means = proof }

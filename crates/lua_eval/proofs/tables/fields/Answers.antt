@@ -23,10 +23,10 @@ returns-in-None c =
     let items = items_of a.tree.now in
     let fs = a.frames.now.items in
     let proof : (s : LuaState) (left : ℕ)
-        → Goes items fs (fields items a.rest.now a.table a.next a.place a.scope) s left fs (Return (One (Table a.table))) s left = λ s left.
-        moved items fs fs (fields items a.rest.now a.table a.next a.place a.scope) (give (Table a.table)) s s s left left (Return (One (Table a.table)))
-        (ap (λ (ns : List NodeId). fields items ns a.table a.next a.place a.scope) (none_is a.rest.now c.in-None.ensures.cases)) refl
-        (returns_end items fs (One (Table a.table)) s left) in
+    → Goes items fs (fields items a.rest.now a.table a.next a.place a.scope) s left fs (Return (One (Table a.table))) s left = λ s left.
+    moved items fs fs (fields items a.rest.now a.table a.next a.place a.scope) (give (Table a.table)) s s s left left (Return (One (Table a.table)))
+    (ap (λ (ns : List NodeId). fields items ns a.table a.next a.place a.scope) (none_is a.rest.now c.in-None.ensures.cases)) refl
+    (returns_end items fs (One (Table a.table)) s left) in
     record { means = proof }
 
 pub returns-in_ok-step-in-Some : goal.returns-in_ok-step-in-Some
@@ -40,10 +40,10 @@ returns-in_ok-step-in-Some c =
     let step = c.in_ok-step-in-Some.step in
     let f : TableFrame = record { table = a.table; next = a.next; rest = more; place = a.place; scope = a.scope } in
     let proof : (s : LuaState) (left : ℕ)
-        → Goes items fs (fields items a.rest.now a.table a.next a.place a.scope) s left fs2 step s left = λ s left.
-        moved items fs fs2 (fields items a.rest.now a.table a.next a.place a.scope) (fields items (n ∷ more.now) a.table a.next a.place a.scope)
-        s s s left left step
-        (ap (λ (ns : List NodeId). fields items ns a.table a.next a.place a.scope) c.in-Some.ensures.cases.0) refl
-        (fields_goes items fs fs2 n c.field_kind-kind.result f s s left left step
-        (c.field_kind-kind.ensures ∙ ap (λ (item : Item). kind_of_field item) c.node.ensures) (c.in_ok-step-in-Some.ensures.means items s left)) in
+    → Goes items fs (fields items a.rest.now a.table a.next a.place a.scope) s left fs2 step s left = λ s left.
+    moved items fs fs2 (fields items a.rest.now a.table a.next a.place a.scope) (fields items (n ∷ more.now) a.table a.next a.place a.scope)
+    s s s left left step
+    (ap (λ (ns : List NodeId). fields items ns a.table a.next a.place a.scope) c.in-Some.ensures.cases.0) refl
+    (fields_goes items fs fs2 n c.field_kind-kind.result f s s left left step
+    (c.field_kind-kind.ensures ∙ ap (λ (item : Item). kind_of_field item) c.node.ensures) (c.in_ok-step-in-Some.ensures.means items s left)) in
     record { means = proof }
