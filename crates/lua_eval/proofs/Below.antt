@@ -39,6 +39,12 @@ jobs_of items = run_job (job_plan items)
 
 -- ---- plans and heaps that are known by equations
 
+-- the same plan
+pub same_run : (items : Items) (fs : List LuaFrame) (p q : LuaPlan) (s : LuaState) (left : ℕ) (later : List LuaGiven) → p ≡ q
+    → plug (lua_rules items) fs (run (jobs_of items) p (state s left) later)
+    ≡ plug (lua_rules items) fs (run (jobs_of items) q (state s left) later)
+same_run items fs p q s left later plans = ap (λ (x : LuaPlan). plug (lua_rules items) fs (run (jobs_of items) x (state s left) later)) plans
+
 -- the same plan, with the same heap
 pub moved : (items : Items) (fs fs2 : List LuaFrame) (p q : LuaPlan) (s t s2 : LuaState) (left left2 : ℕ) (step : LuaStep)
     → p ≡ q → s ≡ t → Goes items fs q t left fs2 step s2 left2 → Goes items fs p s left fs2 step s2 left2

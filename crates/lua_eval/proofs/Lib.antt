@@ -13,4 +13,5 @@ pub mod Named
 pub mod Numbering
 pub mod Operands
 pub mod Targeting
+pub mod Reading
 pub mod Turning

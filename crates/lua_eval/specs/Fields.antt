@@ -1,5 +1,4 @@
 -- The fields of a constructor, by what they are.
-use Rattle.std.specs.Prelude.{List, [], ◌∷◌}
 use Rattle.tl_base.specs.declared.ids.NodeId.{NodeId}
 use Rattle.tl_tree.specs.Item.{Item}
 use Rattle.tl_tree.specs.Item as kept

@@ -19,3 +19,5 @@ pub mod Numbers
 pub mod Rest
 -- Stores in names.
 pub mod Stores
+-- What values are read from.
+pub mod Reads

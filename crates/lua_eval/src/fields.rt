@@ -8,6 +8,7 @@ ghost use Rattle.lua_model.specs.Plans.{give, fell, on_one, on_all, with_text_of
 ghost use Rattle.lua_model.specs.Calls.{call_library};
 ghost use Rattle.lua_model.specs.Fields.{read, read_table, read_by, read_terra, type_function};
 ghost use Rattle.lua_model.specs.Fields.{store, store_table, store_by, store_raw};
+ghost use Rattle.lua_eval.specs.Reads.{source_of};
 ghost use Rattle.lua_eval.specs.Steps.{Goes, Does};
 
 use crate::calls::call_library;
@@ -97,18 +98,7 @@ fn read_by<'a>(
             let step = value_by_library(frames, heap, budget, call)?;
             Ok(step)
         }
-        Value::Boolean(_)
-        | Value::Number(_)
-        | Value::Text(_)
-        | Value::Table(_)
-        | Value::TerraFunction(_)
-        | Value::TerraType(_)
-        | Value::Quote(_)
-        | Value::Symbol(_)
-        | Value::Macro(_)
-        | Value::Global(_)
-        | Value::Constant(_)
-        | Value::Primitive(_) => {
+        _ => {
             frames.push(LuaFrame::One(OneFrame::Value(ValueFrame::First)))?;
             Ok(Step::Enter(Job::Read(handler, key, place, outer)))
         }
@@ -174,6 +164,37 @@ fn type_function(key: &Value) -> LibFn
     }
 }
 
+/// What a value is read from.
+#[derive(Clone, Copy, Debug)]
+pub enum Source {
+    /// A table.
+    Table(TableId),
+    /// Terra, by a function of the library.
+    Terra(LibFn),
+    /// It can't be read.
+    Nothing,
+}
+
+/// What a value is read from under a key.
+fn source_of(object: &Value, key: &Value) -> Source
+    ensures { result ≡ source_of object.now key.now }
+{
+    match object {
+        Value::Table(table) => Source::Table(*table),
+        Value::Text(_) => Source::Table(TEXT_FUNCTIONS),
+        Value::TerraType(_) => Source::Terra(type_function(key)),
+        Value::TerraFunction(_)
+        | Value::Primitive(_)
+        | Value::Quote(_)
+        | Value::Symbol(_)
+        | Value::Macro(_)
+        | Value::Global(_)
+        | Value::Constant(_) => Source::Terra(LibFn::Field),
+        Value::Nil | Value::Boolean(_) | Value::Number(_) | Value::Closure(_) | Value::Library(_) =>
+            Source::Nothing,
+    }
+}
+
 #[tactic(auto, using(tl_base::proofs::Steps::pushes))]
 /// Reads a key of a value.
 pub fn read<'a>(
@@ -190,35 +211,20 @@ pub fn read<'a>(
         heap.old budget.old frames.new.items step heap.new budget.new) }
     ensures kept { OnOk result (KeepsHeap heap.old heap.new) }
 {
-    match object {
-        Value::Table(table) => {
+    let source = source_of(&object, &key);
+    match source {
+        Source::Table(table) => {
             let step = read_table(frames, heap, budget, table, key, place, outer)?;
             Ok(step)
         }
-        Value::Text(_) => {
-            let step = read_table(frames, heap, budget, TEXT_FUNCTIONS, key, place, outer)?;
-            Ok(step)
-        }
-        Value::TerraType(_) => {
-            let function = type_function(&key);
+        Source::Terra(function) => {
             let step = read_terra(frames, heap, function, object, key, place, outer)?;
             Ok(step)
         }
-        Value::TerraFunction(_)
-        | Value::Primitive(_)
-        | Value::Quote(_)
-        | Value::Symbol(_)
-        | Value::Macro(_)
-        | Value::Global(_)
-        | Value::Constant(_) => {
-            let step = read_terra(frames, heap, LibFn::Field, object, key, place, outer)?;
+        Source::Nothing => {
+            let step = raise(heap, budget, place, Fault::Index(object.kind()))?;
             Ok(step)
         }
-        Value::Nil | Value::Boolean(_) | Value::Number(_) | Value::Closure(_) | Value::Library(_) =>
-            {
-                let step = raise(heap, budget, place, Fault::Index(object.kind()))?;
-                Ok(step)
-            }
     }
 }
 
@@ -282,18 +288,7 @@ fn store_by<'a>(
             let step = done_by_library(frames, heap, budget, call)?;
             Ok(step)
         }
-        Value::Boolean(_)
-        | Value::Number(_)
-        | Value::Text(_)
-        | Value::Table(_)
-        | Value::TerraFunction(_)
-        | Value::TerraType(_)
-        | Value::Quote(_)
-        | Value::Symbol(_)
-        | Value::Macro(_)
-        | Value::Global(_)
-        | Value::Constant(_)
-        | Value::Primitive(_) => {
+        _ => {
             frames.push(LuaFrame::All(AllFrame::Done))?;
             Ok(Step::Enter(Job::Store(handler, key, value, place, outer)))
         }
@@ -350,20 +345,7 @@ pub fn store<'a>(
             let step = store_table(frames, heap, budget, table, key, value, place, outer)?;
             Ok(step)
         }
-        Value::Nil
-        | Value::Boolean(_)
-        | Value::Number(_)
-        | Value::Text(_)
-        | Value::Closure(_)
-        | Value::Library(_)
-        | Value::TerraFunction(_)
-        | Value::TerraType(_)
-        | Value::Quote(_)
-        | Value::Symbol(_)
-        | Value::Macro(_)
-        | Value::Global(_)
-        | Value::Constant(_)
-        | Value::Primitive(_) => {
+        _ => {
             let step = raise(heap, budget, place, Fault::Index(object.kind()))?;
             Ok(step)
         }

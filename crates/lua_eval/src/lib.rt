@@ -22,11 +22,15 @@
 //!    `call_below`, `read_below`, `named_below`, `target_below` and `statements_below` of `proofs/Below`. Such a step is
 //!    best a function of its own without a `match`, whose answers are `returns-clause-means` and `returns-clause-kept`,
 //!    and `returns` where it has one clause.
-//! 5. It chooses by a test that the plan makes too: `chosen` of `proofs/Below`.
+//! 5. It chooses by a test that the plan makes too: `chosen` of `proofs/Below`, and for tables `absent_read`,
+//!    `absent_store`, `present_store`, `nil_stored` and `raw_stored` of `proofs/Reading`.
+//!
+//! Where a step calls another one twice, the answer needs no name of the call: `same_run` of `proofs/Below` is followed
+//! by what the callee ensures (`proofs/lists/item`).
 //!
 //! Where a plan has a last case for all other variants, what the code needs of it is asked in a small function that
 //! gives a value and no plan (`field_kind`), and a lemma with one `refl` for each case says that the plan is the same by
-//! that value (`field_is`, `define_in_by`, `left_other`, `binary_is`, `numbers_are`). Every lemma takes all
+//! that value (`field_is`, `read_is`, `define_in_by`, `left_other`, `binary_is`, `numbers_are`). Every lemma takes all
 //! its arguments: `Goes` unfolds, and so none is found from it. In an answer they are, in this order, the tree's items,
 //! the frames before and after, what the lemma is about, the heaps, the budgets and the step.
 //!

@@ -1,6 +1,6 @@
 // Constructors of tables (Lua 5.1 manual, section 2.5.7).
 
-ghost use Rattle.std.specs.Prelude.{◌≡◌, ℕ, IfOk, OnOk};
+ghost use Rattle.std.specs.Prelude.{◌≡◌, ◌+◌, ℕ, IfOk, OnOk};
 ghost use Rattle.tl_tree.specs.Arena.{items_of};
 ghost use Rattle.lua_table.specs.LuaState.{LuaState};
 ghost use Rattle.lua_table.specs.Keeping.{KeepsHeap};
@@ -168,8 +168,8 @@ fn store_field<'a>(
     ensures kept { OnOk result (KeepsHeap heap.old heap.new) }
 {
     if key.is_nil() {
-        let step = raise(heap, budget, frame.place, Fault::NilKey)?;
-        return Ok(step);
+        let raised = raise(heap, budget, frame.place, Fault::NilKey)?;
+        return Ok(raised);
     }
     heap.store(frame.table, key, value)?;
     let step = fields(
@@ -205,6 +205,45 @@ fn named_field<'a>(
     Ok(step)
 }
 
+/// The number behind another. No tree has so many fields that there is none.
+fn following(number: u64) -> Result<u64, NoMemory>
+    ensures { IfOk result (λ next. next ≡ number + 1) }
+{
+    match number.checked_add(1) {
+        Some(next) => Ok(next),
+        None => Err(NoMemory),
+    }
+}
+
+/// Stores the value of a field without a key, and goes on with the fields behind it.
+fn numbered_field<'a>(
+    tree: &'a Tree<'a>,
+    frames: &mut Vec<LuaFrame<'a>>,
+    heap: &mut Heap,
+    budget: &mut Budget,
+    frame: TableFrame<'a>,
+    value: Value,
+) -> Result<LuaStep, NoMemory>
+    ensures means { IfOk result (λ step.
+        Goes (items_of tree.now) frames.old.items
+        (with_field (items_of tree.now) frame.entry FieldFrame.Next value)
+        heap.old budget.old frames.new.items step heap.new budget.new) }
+    ensures kept { OnOk result (KeepsHeap heap.old heap.new) }
+{
+    store_values(heap, frame.table, frame.next, &[value])?;
+    let next = following(frame.next)?;
+    let step = fields(
+        tree,
+        frames,
+        frame.rest,
+        frame.table,
+        next,
+        frame.place,
+        frame.scope,
+    )?;
+    Ok(step)
+}
+
 #[tactic(auto, using(tl_base::proofs::Steps::pushes))]
 /// Goes on with a field, of which something was evaluated.
 pub fn with_field<'a>(
@@ -223,20 +262,7 @@ pub fn with_field<'a>(
 {
     match wait {
         FieldFrame::Next => {
-            store_values(heap, frame.table, frame.next, &[value])?;
-            // No tree has so many fields.
-            let Some(next) = frame.next.checked_add(1) else {
-                return Err(NoMemory);
-            };
-            let step = fields(
-                tree,
-                frames,
-                frame.rest,
-                frame.table,
-                next,
-                frame.place,
-                frame.scope,
-            )?;
+            let step = numbered_field(tree, frames, heap, budget, frame, value)?;
             Ok(step)
         }
         FieldFrame::Named(node) => {

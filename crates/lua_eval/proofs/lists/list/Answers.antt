@@ -13,9 +13,9 @@ returns-in_ok-step-in-None-clause-means c =
     let items = items_of a.tree.now in
     moved items a.frames.now.items c.with_list.new.frames.items (list_plan items a.nodes.now a.scope a.values a.then)
     (then_plan items a.then a.scope a.values) a.heap.now a.heap.now c.with_list.new.heap a.budget.now c.with_list.new.budget
-    c.in_ok-step.step
+    c.in_ok-step-in-None.step
     (ap (λ (ns : List NodeId). list_plan items ns a.scope a.values a.then) (none_is a.nodes.now c.in-None.ensures.cases)) refl
-    c.in_ok-step.ensures.means
+    c.in_ok-step-in-None.ensures.means
 
 pub returns-in_ok-entered-in-Some-clause-means : goal.returns-in_ok-entered-in-Some-clause-means
 returns-in_ok-entered-in-Some-clause-means c =
@@ -25,9 +25,9 @@ returns-in_ok-entered-in-Some-clause-means c =
     let rest = c.in-Some.rest in
     moved items a.frames.now.items c.item.new.frames.items (list_plan items a.nodes.now a.scope a.values a.then)
     (list_plan items (n ∷ rest.now) a.scope a.values a.then) a.heap.now a.heap.now a.heap.now a.budget.now a.budget.now
-    c.in_ok-entered.entered
+    c.in_ok-entered-in-Some.entered
     (ap (λ (ns : List NodeId). list_plan items ns a.scope a.values a.then) c.in-Some.ensures.cases.0) refl
-    (c.in_ok-entered.ensures.means items a.heap.now a.budget.now)
+    (c.in_ok-entered-in-Some.ensures.means items a.heap.now a.budget.now)
 
 pub returns-in_ok-entered-in-Some-clause-kept : goal.returns-in_ok-entered-in-Some-clause-kept
 returns-in_ok-entered-in-Some-clause-kept c = keeps_itself c.args.heap.now

@@ -33,9 +33,9 @@ values-preserved c =
     let full = ap is_nil (sym c.whole-key.ensures) ∙ sym c.is_nil.ensures.value ∙ c.if-is_nil.false in
     record {
       same =
-        ap (λ (w : LuaState). with_values a.table (at + 1) (drop (i + 1) vs) w)
-        (stored ∙ ap (λ (k : Value). with_stored s a.table k v) c.whole-key.ensures
-        ∙ ap (λ (x : Value). with_stored s a.table (whole at) x) (get_or_read vs i v c.values-test.true c.value-item.is Nil))
-        ∙ sym (stored_next a.table at i vs s c.values-test.true full) ∙ c.values.invariant.same;
+          ap (λ (w : LuaState). with_values a.table (at + 1) (drop (i + 1) vs) w)
+          (stored ∙ ap (λ (k : Value). with_stored s a.table k v) c.whole-key.ensures
+          ∙ ap (λ (x : Value). with_stored s a.table (whole at) x) (get_or_read vs i v c.values-test.true c.value-item.is Nil))
+          ∙ sym (stored_next a.table at i vs s c.values-test.true full) ∙ c.values.invariant.same;
       kept = keeps_then a.heap.now s t c.values.invariant.kept (kept_as s t (with_stored s a.table key v) stored (keeps_stored s a.table key v));
     }
