@@ -3,9 +3,9 @@
 ghost use Rattle.std.specs.Prelude.{◌≡◌, false};
 ghost use Rattle.tl_tree.specs.Arena.{items_of};
 ghost use Rattle.lua_table.specs.Keeping.{KeepsHeap};
-ghost use Rattle.stage_loop.specs.Staged.{task_of};
+ghost use Rattle.stage_loop.specs.Layers.{task_of};
 
-use crate::library;
+use lua_base::call;
 use lua_eval::Lua;
 use lua_model::{LuaAnswer, LuaEnd, LuaJob, LuaQuestion};
 use lua_table::{Heap, LibCall, LibTurn};
@@ -49,7 +49,7 @@ pub enum Staged<'a> {
 
 impl Layer for Staged<'_> {
     ghost use Rattle.lua_eval.specs.Frames.{is_go};
-    ghost use Rattle.stage_loop.specs.Staged.{staged_rest, StagedFits};
+    ghost use Rattle.stage_loop.specs.Layers.{staged_rest, StagedFits};
 
     type World = Heap;
 
@@ -79,7 +79,7 @@ impl Layer for Staged<'_> {
                 Turn::Ask(question) => Ok(Turn::Ask(task_of(question))),
                 Turn::Spent => Ok(Turn::Spent),
             },
-            Staged::Library(call) => match library::call(heap, call, budget)? {
+            Staged::Library(asked) => match call(heap, asked, budget)? {
                 LibTurn::Values(values) => Ok(Turn::End(LuaEnd::Done(values))),
                 LibTurn::Raise(value, place) => Ok(Turn::End(LuaEnd::Raised(value, place))),
                 LibTurn::Spent => Ok(Turn::Spent),
@@ -105,7 +105,7 @@ pub struct LuaStage<'a> {
 
 impl<'a> Stages for LuaStage<'a> {
     ghost use Rattle.lua_table.proofs.Keeping.{keeps_itself, keeps_then};
-    ghost use Rattle.stage_loop.specs.Staged.{lua_stage, ends_follow};
+    ghost use Rattle.stage_loop.specs.Layers.{lua_stage, ends_follow};
 
     type World = Heap;
 
