@@ -5,7 +5,6 @@ ghost use Rattle.tl_base.specs.Layer.{state};
 ghost use Rattle.stage_form.specs.Stage.{Final, final_of};
 ghost use Rattle.tl_tree.specs.Arena.{items_of};
 ghost use Rattle.lua_table.specs.LuaState.{LuaState};
-ghost use Rattle.lua_model.specs.declared.end.LuaEnd.{LuaEnd as LuaEnds};
 ghost use Rattle.stage_loop.specs.Staging.{raised_text, end_of, outcome_of, outcome};
 
 use crate::staged::{LuaStage, Task};
@@ -51,10 +50,7 @@ pub fn stage(alloc: Global, tree: &Tree<'_>, units: u64) -> Result<Outcome, NoMe
     let slots = resolve(alloc, tree)?;
     let mut heap = opening(alloc)?;
     let mut budget = Budget::new(units);
-    let stages = LuaStage {
-        tree,
-        slots: &slots,
-    };
+    let stages = LuaStage::new(tree, &slots);
     let staging = run(
         alloc,
         &stages,
@@ -62,16 +58,17 @@ pub fn stage(alloc: Global, tree: &Tree<'_>, units: u64) -> Result<Outcome, NoMe
         &mut heap,
         &mut budget,
     )?;
-    outcome_of(&heap, budget.left(), staging)
+    let outcome = outcome_of(&heap, budget.left(), staging)?;
+    Ok(outcome)
 }
 
 /// The outcome of a staging that ended in a heap, with so many units left.
 fn outcome_of(heap: &Heap, left: u64, staging: Staging<LuaEnd>) -> Result<Outcome, NoMemory>
-    ensures { IfOk result (λ it. it ≡ outcome_of (final_of staging (state heap.now left))) }
+    ensures means { IfOk result (λ it. it ≡ outcome_of (final_of staging (state heap.now left))) }
+    ensures left { IfOk result (λ it. it.left ≡ left) }
 {
     let end = end_of(heap, staging)?;
-    let mut printed = Text2::new(heap.allocator());
-    printed.push_bytes(heap.printed())?;
+    let printed = text_of(heap, heap.printed())?;
     Ok(Outcome { printed, end, left })
 }
 
@@ -93,15 +90,22 @@ fn end_of(heap: &Heap, staging: Staging<LuaEnd>) -> Result<End, NoMemory>
 fn raised_text(heap: &Heap, value: Value) -> Result<Text2, NoMemory>
     ensures { IfOk result (λ text. text ≡ raised_text heap.now value) }
 {
-    let mut text = Text2::new(heap.allocator());
     match value {
-        Value::Text(id) => text.push_bytes(heap.text(id))?,
+        Value::Text(id) => text_of(heap, heap.text(id)),
         Value::Number(number) => {
             let number = number.get();
             let written = format!(in heap.allocator(); "{number}")?;
-            text.push_bytes(written.as_bytes())?;
+            text_of(heap, written.as_bytes())
         }
-        _ => text.push_bytes(b"(error object is not a string)")?,
+        _ => text_of(heap, b"(error object is not a string)"),
     }
+}
+
+/// A text of these bytes.
+fn text_of(heap: &Heap, bytes: &[u8]) -> Result<Text2, NoMemory>
+    ensures { IfOk result (λ text. text ≡ bytes.now) }
+{
+    let mut text = Text2::new(heap.allocator());
+    text.push_bytes(bytes)?;
     Ok(text)
 }
