@@ -1,5 +1,5 @@
 -- How statements go on behind an end of another kind than those of statements.
-use Rattle.std.proofs.Common.{◌≡◌, List, refl, absurd}
+use Rattle.std.proofs.Common.{◌≡◌, List, refl}
 use Rattle.tl_base.specs.declared.place.Place.{Place}
 use Rattle.lua_value.specs.declared.value.Value.{Value}
 use Rattle.lua_model.specs.declared.end.End.{End}

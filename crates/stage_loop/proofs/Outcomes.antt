@@ -1,5 +1,5 @@
 -- Outcomes of stagings.
-use Rattle.std.proofs.Common.{◌≡◌, ℕ, ℤ, List, Option, Some, None, refl, ap, ◌∙◌, absurd}
+use Rattle.std.proofs.Common.{◌≡◌, ℕ, ℤ, List, Option, Some, None, refl, ap, ◌∙◌}
 use Rattle.std.specs.Prelude.{codes}
 use Rattle.tl_base.specs.Layer.{state}
 use Rattle.stage_form.specs.declared.staging.Outcome.{Outcome as Staging}

@@ -1,10 +1,10 @@
 // The staging of a source, and its outcome.
 
-ghost use Rattle.std.specs.Prelude.{ℕ, ◌≡◌, ◌≤◌, IfOk, OnOk, Some};
+ghost use Rattle.std.specs.Prelude.{ℕ, ◌≡◌, ◌≤◌, IfOk, Some};
 ghost use Rattle.tl_base.specs.Layer.{state};
-ghost use Rattle.stage_form.specs.Stage.{Final, final_of};
+ghost use Rattle.stage_form.specs.Stage.{final_of};
 ghost use Rattle.tl_tree.specs.Arena.{items_of};
-ghost use Rattle.lua_table.specs.LuaState.{LuaState};
+ghost use Rattle.tl_tree.specs.Code.{Items};
 ghost use Rattle.stage_loop.specs.Staging.{raised_text, end_of, outcome_of, outcome};
 
 use crate::staged::{LuaStage, Task};
@@ -38,7 +38,7 @@ pub struct Outcome {
 
 /// What a source's staging comes to, it comes to at each larger n.
 pub fn larger_changes_nothing()
-    ensures { (items : Rattle.tl_tree.specs.Code.Items) (n m units : ℕ) (out : Outcome) →
+    ensures { (items : Items) (n m units : ℕ) (out : Outcome) →
         outcome items n units ≡ Some out → n ≤ m → outcome items m units ≡ Some out }
 {}
 

@@ -7,19 +7,19 @@ use Rattle.lua_eval.proofs.Below.{moved}
 use Rattle.lua_eval.proofs.Ending.{no_statement_ended}
 use Rattle.lua_eval.proofs.machine.after_statement.Goals as goal
 
-pub returns-in_ok-step-in-Fell : goal.returns-in_ok-step-in-Fell
-returns-in_ok-step-in-Fell c = record { means = λ items s left.
+pub returns-in-Fell : goal.returns-in-Fell
+returns-in-Fell c = record { means = λ items s left.
     let a = c.args in
     let more = c.as_slice.result.now in
     let go : List Value → LuaPlan = λ all. statements a.rest.now a.scope all Give in
     moved items a.frames.now.items c.statements.new.frames.items (on_fell a.end a.before Give go) (go c.append.new.values)
     s s s left left c.in_ok-step-in-Fell.step
     (ap (λ (r : End). on_fell r a.before Give go) c.in-Fell.is
-    ∙ ap go (sym (c.in_ok-append.ensures ∙ ap (λ (vs : List Value). a.before ++ vs) c.as_slice.ensures))) refl
+    ∙ ap go (sym (c.in_ok-append-in-Fell.ensures ∙ ap (λ (vs : List Value). a.before ++ vs) c.as_slice.ensures))) refl
     (c.in_ok-step-in-Fell.ensures.means items s left) }
 
-pub returns-in_ok-step-in_default : goal.returns-in_ok-step-in_default
-returns-in_ok-step-in_default c = record { means = λ items s left.
+pub returns : goal.returns
+returns c = record { means = λ items s left.
     let a = c.args in
     let go : List Value → LuaPlan = λ all. statements a.rest.now a.scope all Give in
     let d = c.in_default in

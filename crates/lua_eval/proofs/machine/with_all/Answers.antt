@@ -6,8 +6,8 @@ use Rattle.lua_model.specs.Loops.{listed}
 use Rattle.lua_eval.proofs.Below.{moved}
 use Rattle.lua_eval.proofs.machine.with_all.Goals as goal
 
-pub returns-in_ok-step-in-Listed-clause-means : goal.returns-in_ok-step-in-Listed-clause-means
-returns-in_ok-step-in-Listed-clause-means c =
+pub returns-in-Listed-clause-means : goal.returns-in-Listed-clause-means
+returns-in-Listed-clause-means c =
     let a = c.args in
     let m = c.in-Listed in
     let items = items_of a.tree.now in
