@@ -58,13 +58,13 @@ pub fn stage(alloc: Global, tree: &Tree<'_>, units: u64) -> Result<Outcome, NoMe
         &mut heap,
         &mut budget,
     )?;
-    let outcome = outcome_of(&heap, budget.left(), staging)?;
+    let outcome = outcome_of(&heap, budget.left(), &staging)?;
     Ok(outcome)
 }
 
 /// The outcome of a staging that ended in a heap, with so many units left.
-fn outcome_of(heap: &Heap, left: u64, staging: Staging<LuaEnd>) -> Result<Outcome, NoMemory>
-    ensures means { IfOk result (λ it. it ≡ outcome_of (final_of staging (state heap.now left))) }
+fn outcome_of(heap: &Heap, left: u64, staging: &Staging<LuaEnd>) -> Result<Outcome, NoMemory>
+    ensures means { IfOk result (λ it. it ≡ outcome_of (final_of staging.now (state heap.now left))) }
     ensures left { IfOk result (λ it. it.left ≡ left) }
 {
     let end = end_of(heap, staging)?;
@@ -73,15 +73,15 @@ fn outcome_of(heap: &Heap, left: u64, staging: Staging<LuaEnd>) -> Result<Outcom
 }
 
 /// How a staging ended.
-fn end_of(heap: &Heap, staging: Staging<LuaEnd>) -> Result<End, NoMemory>
-    ensures { IfOk result (λ end. end ≡ (outcome_of (final_of staging (state heap.now 0))).end) }
+fn end_of(heap: &Heap, staging: &Staging<LuaEnd>) -> Result<End, NoMemory>
+    ensures { IfOk result (λ end. end ≡ (outcome_of (final_of staging.now (state heap.now 0))).end) }
 {
     match staging {
         Staging::Spent => Ok(End::Spent),
         Staging::Ends(LuaEnd::Done(_)) => Ok(End::Done),
         Staging::Ends(LuaEnd::Raised(value, place)) => {
-            let text = raised_text(heap, value)?;
-            Ok(End::Raised { text, place })
+            let text = raised_text(heap, *value)?;
+            Ok(End::Raised { text, place: *place })
         }
     }
 }
