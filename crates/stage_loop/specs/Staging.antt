@@ -1,7 +1,6 @@
 -- The outcome of a source's staging: what it printed, and how it ended.
 use Rattle.std.specs.Prelude.{ℕ, List, codes, Option, Some, None}
 use Rattle.std.specs.Fmt.{signed_decimal}
-use Rattle.tl_base.specs.declared.place.Place.{Place}
 use Rattle.tl_base.specs.Layer.{State, state}
 use Rattle.stage_form.specs.Stage.{Final, Finished, Exhausted, staged}
 use Rattle.tl_tree.specs.Code.{Items}
@@ -13,7 +12,6 @@ use Rattle.lua_model.specs.declared.job.LuaJob.TheVariants.{Chunk}
 use Rattle.lua_model.specs.declared.end.LuaEnd.{LuaEnd}
 use Rattle.lua_model.specs.declared.end.LuaEnd.TheVariants as ends
 use Rattle.lua_base.specs.Opening.{opening}
-use Rattle.stage_loop.specs.declared.staged.Task.{Task}
 use Rattle.stage_loop.specs.declared.staged.Task.TheVariants.{Evaluate}
 use Rattle.stage_loop.specs.declared.staging.End.{End}
 use Rattle.stage_loop.specs.declared.staging.End.TheVariants.{Done, Raised, Spent}

@@ -81,7 +81,10 @@ fn end_of(heap: &Heap, staging: &Staging<LuaEnd>) -> Result<End, NoMemory>
         Staging::Ends(LuaEnd::Done(_)) => Ok(End::Done),
         Staging::Ends(LuaEnd::Raised(value, place)) => {
             let text = raised_text(heap, *value)?;
-            Ok(End::Raised { text, place: *place })
+            Ok(End::Raised {
+                text,
+                place: *place,
+            })
         }
     }
 }

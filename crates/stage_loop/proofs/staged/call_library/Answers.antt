@@ -8,5 +8,8 @@ pub returns-clause-paid : goal.returns-clause-paid
 returns-clause-paid c =
     let a = c.args in
     let s = state a.heap.now a.budget.now in
-    omega (arith, ap (λ (t : Turned). t.left.left) c.in_ok-turn.ensures.does,
-    answered_within s a.asked.now.function a.asked.now.args a.asked.now.place)
+    omega (
+      arith,
+      ap (λ (t : Turned). t.left.left) c.in_ok-turn.ensures.does,
+      answered_within s a.asked.now.function a.asked.now.args a.asked.now.place,
+    )

@@ -20,11 +20,12 @@ returns-clause-means c =
     let units = c.new-budget.result in
     let there = c.run.new.world in
     let at : Items → LuaState → ℕ → Option Outcome =
-        λ items w u. outcome_if_any (staged (lua_stage items) n (Evaluate Chunk) (state w u)) in
-    (n,
-    ap (λ (w : LuaState). at (items_of a.tree.now) w a.units) (sym c.in_ok-heap.ensures)
-    ∙ ap (λ (u : ℕ). at (items_of a.tree.now) heap u) (sym c.new-budget.ensures)
-    ∙ ap (λ t. at (items_of t) heap units) (sym c.new-stages.ensures)
-    ∙ ap outcome_if_any ran.1
-    ∙ ap Some (ap (λ (left : ℕ). outcome_of (final_of c.in_ok-staging.staging (state there left))) (sym c.left.ensures)
-    ∙ sym c.in_ok-outcome.ensures.means))
+    λ items w u. outcome_if_any (staged (lua_stage items) n (Evaluate Chunk) (state w u)) in (
+      n,
+      ap (λ (w : LuaState). at (items_of a.tree.now) w a.units) (sym c.in_ok-heap.ensures)
+          ∙ ap (λ (u : ℕ). at (items_of a.tree.now) heap u) (sym c.new-budget.ensures)
+          ∙ ap (λ t. at (items_of t) heap units) (sym c.new-stages.ensures)
+          ∙ ap outcome_if_any ran.1
+          ∙ ap Some (ap (λ (left : ℕ). outcome_of (final_of c.in_ok-staging.staging (state there left))) (sym c.left.ensures)
+          ∙ sym c.in_ok-outcome.ensures.means),
+    )
