@@ -28,7 +28,8 @@ paying_within s units turn world = paying_by s units turn world (nat_le units s.
 made_within : (s : State LuaState) (bytes : List ℕ) (turn : Value → LibTurn)
     → (with_made s bytes turn).left.left ≤ s.left
 made_within s bytes turn =
-    paying_within s (text_units (length bytes)) (turn (values.Text (interned_id s.world bytes))) (with_text s.world bytes)
+    paying_within s (text_units (length bytes)) (turn (values.Text (interned_id s.world bytes)))
+    (with_text s.world bytes)
 
 pub answered_within : (s : State LuaState) (f : LibFn) (vs : List Value) (place : Place)
     → (answered s f vs place).left.left ≤ s.left

@@ -26,6 +26,7 @@ returns-clause-means c =
           ∙ ap (λ (u : ℕ). at (items_of a.tree.now) heap u) (sym c.new-budget.ensures)
           ∙ ap (λ t. at (items_of t) heap units) (sym c.new-stages.ensures)
           ∙ ap outcome_if_any ran.1
-          ∙ ap Some (ap (λ (left : ℕ). outcome_of (final_of c.in_ok-staging.staging (state there left))) (sym c.left.ensures)
+          ∙ ap Some (ap (λ (left : ℕ). outcome_of (final_of c.in_ok-staging.staging (state there left)))
+          (sym c.left.ensures)
           ∙ sym c.in_ok-outcome.ensures.means),
     )
