@@ -3,6 +3,7 @@ pub mod Calling
 pub mod Counting
 pub mod Declaring
 pub mod Doing
+pub mod Ending
 pub mod Entering
 pub mod Evaluating
 pub mod Fielding

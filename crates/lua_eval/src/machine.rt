@@ -323,7 +323,7 @@ fn after_statement<'a>(
             Ok(Step::Return(End::Returned(values, out)))
         }
         End::Raised(value, place) => Ok(Step::Return(End::Raised(value, place))),
-        End::One(_) | End::Many(_) => {
+        _ => {
             let step = statements(frames, rest, scope, out)?;
             Ok(step)
         }

@@ -1,4 +1,4 @@
--- What the functions of the library give.
-pub mod Library
+-- The promise: the outcome of a source's staging.
+pub mod Staging
 -- The layers as one stage.
-pub mod Staged
+pub mod Layers

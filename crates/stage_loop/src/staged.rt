@@ -1,11 +1,14 @@
 // The layers as one stage: Lua code, and the functions of the library that it calls.
 
-ghost use Rattle.std.specs.Prelude.{◌≡◌, false};
+ghost use Rattle.std.specs.Prelude.{◌≡◌, ◌≤◌, false, IfOk, OnOk};
+ghost use Rattle.tl_base.specs.Layer.{state};
 ghost use Rattle.tl_tree.specs.Arena.{items_of};
 ghost use Rattle.lua_table.specs.Keeping.{KeepsHeap};
-ghost use Rattle.stage_loop.specs.Staged.{task_of};
+ghost use Rattle.lua_base.specs.Calls.{turned, called};
+ghost use Rattle.lua_eval.specs.Slots.{ArePaths};
+ghost use Rattle.stage_loop.specs.Layers.{task_of};
 
-use crate::library;
+use lua_base::call;
 use lua_eval::Lua;
 use lua_model::{LuaAnswer, LuaEnd, LuaJob, LuaQuestion};
 use lua_table::{Heap, LibCall, LibTurn};
@@ -37,6 +40,17 @@ fn task_of(question: LuaQuestion) -> Task
     }
 }
 
+/// Calls a function of the library, which pays no more than is left.
+fn call_library(heap: &mut Heap, asked: &LibCall, budget: &mut Budget) -> Result<LibTurn, NoMemory>
+    ensures does { IfOk result (λ turn.
+        turned turn (state heap.new budget.new) ≡ called (state heap.old budget.old) asked.now) }
+    ensures kept { OnOk result (KeepsHeap heap.old heap.new) }
+    ensures paid { OnOk result (budget.new ≤ budget.old) }
+{
+    let turn = call(heap, asked, budget)?;
+    Ok(turn)
+}
+
 /// A layer of the stage, which is to begin, or is suspended.
 #[derive(Drop)]
 pub enum Staged<'a> {
@@ -49,7 +63,7 @@ pub enum Staged<'a> {
 
 impl Layer for Staged<'_> {
     ghost use Rattle.lua_eval.specs.Frames.{is_go};
-    ghost use Rattle.stage_loop.specs.Staged.{staged_rest, StagedFits};
+    ghost use Rattle.stage_loop.specs.Layers.{staged_rest, StagedFits};
 
     type World = Heap;
 
@@ -79,7 +93,7 @@ impl Layer for Staged<'_> {
                 Turn::Ask(question) => Ok(Turn::Ask(task_of(question))),
                 Turn::Spent => Ok(Turn::Spent),
             },
-            Staged::Library(call) => match library::call(heap, call, budget)? {
+            Staged::Library(asked) => match call_library(heap, asked, budget)? {
                 LibTurn::Values(values) => Ok(Turn::End(LuaEnd::Done(values))),
                 LibTurn::Raise(value, place) => Ok(Turn::End(LuaEnd::Raised(value, place))),
                 LibTurn::Spent => Ok(Turn::Spent),
@@ -97,15 +111,26 @@ impl Layer for Staged<'_> {
 }
 
 /// The stage of these layers, over a tree whose uses of locals have these slots.
-#[derive(Clone, Copy)]
+#[derive(Drop)]
 pub struct LuaStage<'a> {
-    pub tree: &'a Tree<'a>,
-    pub slots: &'a Slots,
+    tree: &'a Tree<'a>,
+    slots: &'a Slots,
+    ghost resolved: { ArePaths (items_of tree.now) slots.now },
+}
+
+impl<'a> LuaStage<'a> {
+    /// The stage over a tree, with the slots that `tl_rename::resolve` gives for it.
+    pub fn new(tree: &'a Tree<'a>, slots: &'a Slots) -> LuaStage<'a>
+        requires { ArePaths (items_of tree.now) slots.now }
+        ensures { result.tree.now ≡ tree.now }
+    {
+        LuaStage { tree, slots }
+    }
 }
 
 impl<'a> Stages for LuaStage<'a> {
     ghost use Rattle.lua_table.proofs.Keeping.{keeps_itself, keeps_then};
-    ghost use Rattle.stage_loop.specs.Staged.{lua_stage, ends_follow};
+    ghost use Rattle.stage_loop.specs.Layers.{lua_stage, ends_follow};
 
     type World = Heap;
 

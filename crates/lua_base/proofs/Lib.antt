@@ -1,0 +1,2 @@
+pub mod OpeningSteps
+pub mod Shortness
