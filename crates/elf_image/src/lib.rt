@@ -49,6 +49,3 @@ pub use laws::{
 };
 pub use reading::read;
 pub use writing::write;
-
-#[cfg(test)]
-mod tests;

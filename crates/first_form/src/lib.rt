@@ -26,6 +26,3 @@ mod parts;
 
 pub use form::{bounds, function_of};
 pub use function::{Expression, Function, Operator};
-
-#[cfg(test)]
-mod tests;

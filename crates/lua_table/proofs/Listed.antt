@@ -1,10 +1,11 @@
 -- The list of places beside a table's pairs.
-use Rattle.std.proofs.Common.{ℕ, zero, suc, ◌+◌, ◌-◌, ◌<◌, ◌≤◌, pos, ◌≡◌, ◌≢◌, Bool, true, false, cond, not, ltb, List, [], ◌∷◌, ◌++◌, length, take, get_or, slice_get, unwrap_or, Some, None, refl, sym, ◌∙◌, ap, subst, arith}
+use Rattle.std.proofs.Common.{ℕ, zero, suc, ◌+◌, ◌-◌, ◌<◌, ◌≤◌, pos, ◌≡◌, Bool, true, false, cond, not, ltb, List, [], ◌∷◌, ◌++◌, length, take, get_or, slice_get, Some, None, refl, sym, ◌∙◌, ap, subst, arith}
 use Rattle.std.proofs.Math.ListN.{get_or-append}
 use Rattle.std.proofs.Math.Seq.{get_or-append_seam}
 use Rattle.std.proofs.lemmas.Bool.Decides.{nat_tests}
 use Rattle.std.proofs.lemmas.List.{append-nil, length-append, length-take-le, get_or-take}
-use Rattle.std.specs.Map.{keys_of, values_of, lookup}
+use Rattle.std.proofs.lemmas.Option.{slice_get_within}
+use Rattle.std.specs.Map.{keys_of, values_of}
 use Rattle.std.specs.List.{position, position_or_len, IsDistinct, AllByRecursion}
 use Rattle.indexmap.specs.IndexMap.{insert_entry, set_value_at}
 use Rattle.lua_value.specs.Numbers.{largest_size}
@@ -14,7 +15,7 @@ use Rattle.lua_value.specs.declared.value.Value.TheVariants.{Nil, Number}
 use Rattle.lua_value.proofs.Same.{same_value_equal, same_value_self}
 use Rattle.lua_table.specs.Keys.{IsKey}
 use Rattle.lua_table.specs.Borders.{IsFull, IsBorder, AreListed, AreFull, AreTable, IsStored, index_in}
-use Rattle.lua_table.specs.Pairs.{Pairs, value_in, value_at, with_value}
+use Rattle.lua_table.specs.Pairs.{Pairs, value_at, with_value}
 use Rattle.lua_table.proofs.Border.{none_beyond}
 use Rattle.lua_table.proofs.Stored.{keyed_stored, is_stored, emptied, kept_empty, kept_full, grown, key_at, stored_full, differs, apart_test}
 
@@ -92,12 +93,54 @@ listed_key ps listed key index places at above within =
     let low : i < length listed = omega (arith, above, within) in
     places i low ∙ ap (λ n. Some (Number (pos n))) (sym same) ∙ ap (λ k. Some k) (sym (key_at key i next))
 
--- ---- a value is replaced at the place of its key
+-- ---- a key is found where it stands
 
 distinct_from : (x : Value) (keys : List Value) (i : ℕ) (k : Value) → AllByRecursion (λ y. same_value x y ≡ false) keys → slice_get keys i ≡ Some k → same_value x k ≡ false
 distinct_from x [] i k all at = absurd (cc at)
 distinct_from x (y ∷ keys) zero k all at = let e : y ≡ k = cc at in ap (λ q. same_value x q) (sym e) ∙ all.0
 distinct_from x (y ∷ keys) (suc i) k all at = distinct_from x keys i k all.1 at
+
+first_place : (n : ℕ) (t : Bool) → t ≡ true → cond (not t) (1 + n) 0 ≡ 0
+first_place n true e = refl
+first_place n false e = absurd (cc e)
+
+later_place : (n i : ℕ) (t : Bool) → t ≡ false → n ≡ i → cond (not t) (1 + n) 0 ≡ suc i
+later_place n i true e same = absurd (cc e)
+later_place n i false e same = omega (arith, same)
+
+stands_at : (keys : List Value) (place : ℕ) (key : Value) → IsDistinct same_value keys → slice_get keys place ≡ Some key → position_or_len (same_value key) keys ≡ place
+unfolding IsDistinct
+stands_at [] place key d at = absurd (cc at)
+stands_at (k ∷ keys) zero key d at =
+    let e : k ≡ key = cc at in
+    first_place (position_or_len (same_value key) keys) (same_value key k) (same_value_self key k (sym e))
+stands_at (k ∷ keys) (suc i) key d at =
+    let other : same_value k key ≡ false = distinct_from k keys i key d.0 at in
+    later_place (position_or_len (same_value key) keys) i (same_value key k) (apart_test key k (λ e. differs k key other (sym e))) (stands_at keys i key d.1 at)
+
+some_at : (a n place : ℕ) (t : Bool) → t ≡ ltb a n → a ≡ place → place < n → cond t (Some a) None ≡ Some place
+some_at a n place true e same h = ap (λ m. Some m) same
+some_at a n place false e same h = absurd (grind (arith, nat_tests))
+
+keys_length : (ps : Pairs) → length (keys_of ps) ≡ length ps
+keys_length [] = refl
+keys_length (p ∷ ps) = ap (λ n. suc n) (keys_length ps)
+
+-- the place of a listed number is where a search finds it
+pub listed_found : (ps : Pairs) (listed : List ℕ) (key : Value) (index : ℕ) → IsDistinct same_value (keys_of ps) → AreListed ps listed → index_in key ≡ index → 0 < index → index ≤ length listed → position (same_value key) (keys_of ps) ≡ Some (get_or listed (index - 1) 0)
+listed_found ps listed key index d places e above within =
+    let place = get_or listed (index - 1) 0 in
+    let at : slice_get (keys_of ps) place ≡ Some key = listed_key ps listed key index places e above within in
+    some_at (position_or_len (same_value key) (keys_of ps)) (length (keys_of ps)) place (ltb (position_or_len (same_value key) (keys_of ps)) (length (keys_of ps))) refl (stands_at (keys_of ps) place key d at) (slice_get_within (keys_of ps) place key at)
+
+-- and there is a pair there
+pub listed_within : (ps : Pairs) (listed : List ℕ) (key : Value) (index : ℕ) → AreListed ps listed → index_in key ≡ index → 0 < index → index ≤ length listed → get_or listed (index - 1) 0 < length ps
+listed_within ps listed key index places e above within =
+    let place = get_or listed (index - 1) 0 in
+    let h : place < length (keys_of ps) = slice_get_within (keys_of ps) place key (listed_key ps listed key index places e above within) in
+    omega (arith, h, keys_length ps)
+
+-- ---- a value is replaced at the place of its key
 
 here_by : (p : Value × Value) (ps stored : Pairs) (value : Value) (t : Bool) → t ≡ true → (p.0, value) ∷ ps ≡ cond t ((p.0, value) ∷ ps) (p ∷ stored)
 here_by p ps stored value true e = refl
@@ -164,15 +207,10 @@ elsewhere_by ps listed key value false e k table past other = table_stored ps li
 pub table_elsewhere : (ps : Pairs) (listed : List ℕ) (key value : Value) → IsKey key → AreTable ps listed → (0 < index_in key → index_in key ≤ length listed → ⊥) → (is_nil value ≡ false → index_in key ≡ length listed + 1 → ⊥) → AreTable (with_value ps key value) listed
 table_elsewhere ps listed key value k table past other = elsewhere_by ps listed key value (is_nil value) refl k table past other
 
-nowhere_by : (ps : Pairs) (place : ℕ) (key : Value) → slice_get (values_of ps) place ≡ None → slice_get (keys_of ps) place ≡ Some key → ⊥
+pub nowhere_by : (ps : Pairs) (place : ℕ) (key : Value) → slice_get (values_of ps) place ≡ None → slice_get (keys_of ps) place ≡ Some key → ⊥
 nowhere_by [] place key none there = absurd (cc there)
 nowhere_by (p ∷ ps) zero key none there = absurd (cc none)
 nowhere_by (p ∷ ps) (suc place) key none there = nowhere_by ps place key none there
-
--- at a listed place stands a value
-pub listed_value_there : (ps : Pairs) (listed : List ℕ) (key : Value) (index : ℕ) → AreListed ps listed → index_in key ≡ index → 0 < index → index ≤ length listed → slice_get (values_of ps) (get_or listed (index - 1) 0) ≡ None → ⊥
-listed_value_there ps listed key index places at above within none =
-    nowhere_by ps (get_or listed (index - 1) 0) key none (listed_key ps listed key index places at above within)
 
 push_by : (ps : Pairs) (listed : List ℕ) (place i : ℕ) (within : Bool) → within ≡ ltb i (length listed) → AreListed ps listed → slice_get (keys_of ps) place ≡ Some (Number (pos (length listed + 1))) → i < length listed + 1 → slice_get (keys_of ps) (get_or (listed ++ place ∷ []) i 0) ≡ Some (Number (pos (i + 1)))
 push_by ps listed place i true e places at h =

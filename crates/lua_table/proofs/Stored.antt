@@ -33,14 +33,6 @@ pub stored_full : (ps : Pairs) (key value : Value) → is_nil value ≡ false �
 stored_full [] key value full = rw full refl
 stored_full (p ∷ ps) key value full = insert_at (same_value key p.0) p key value ps (insert_entry same_value ps key value) (with_value ps key value) (stored_full ps key value full)
 
-there_by : (t : Bool) (p : Value × Value) (key value : Value) (rest : Pairs) → is_some (cond t (Some p.1) (lookup (same_value key) rest)) ≡ true → (is_some (lookup (same_value key) rest) ≡ true → insert_entry same_value rest key value ≡ with_value rest key value) → cond t ((p.0, value) ∷ rest) (p ∷ insert_entry same_value rest key value) ≡ cond t ((p.0, value) ∷ rest) (p ∷ with_value rest key value)
-there_by true p key value rest h later = refl
-there_by false p key value rest h later = ap (λ l. p ∷ l) (later h)
-
-pub stored_there : (ps : Pairs) (key value : Value) → is_some (lookup (same_value key) ps) ≡ true → insert_entry same_value ps key value ≡ with_value ps key value
-stored_there [] key value there = absurd (cc there)
-stored_there (p ∷ ps) key value there = there_by (same_value key p.0) p key value ps there (stored_there ps key value)
-
 nowhere_by : (t : Bool) (p : Value × Value) (key value : Value) (rest : Pairs) → is_some (cond t (Some p.1) (lookup (same_value key) rest)) ≡ false → (is_some (lookup (same_value key) rest) ≡ false → with_value rest key value ≡ rest) → cond t ((p.0, value) ∷ rest) (p ∷ with_value rest key value) ≡ p ∷ rest
 nowhere_by true p key value rest h later = absurd (cc h)
 nowhere_by false p key value rest h later = ap (λ l. p ∷ l) (later h)

@@ -1,10 +1,11 @@
-//! Does what the rows of standard input say with Lua's values, tables, heap and operators, one row a line, and writes each row with what
-//! came out. `stdin` and `stdout` are written by `bench/lua_rows`, by its own reading of the rules.
+//! Does what the rows of standard input say with Lua's values, tables, heap, operators and basic functions, one row a line, and writes each
+//! row with what came out. `stdin` and `stdout` are written by `bench/lua_rows`, by its own reading of the rules.
 //!
 //! A value is a word: `nil`, `true`, `12`, `'text`, `table:0`, `lib:print`. In a text `~` stands for a space and `^I` for a tab.
 #![tactic(auto)]
 
 mod heaps;
+mod library;
 mod operators;
 mod show;
 mod tables;
@@ -41,6 +42,9 @@ fn answer(heap: &mut Heap, words: &[&str]) -> Result<String, NoMemory> {
         return Ok(answer);
     }
     if let Some(answer) = heaps::answer(heap, word, words)? {
+        return Ok(answer);
+    }
+    if let Some(answer) = library::answer(heap, word, words)? {
         return Ok(answer);
     }
     if let Some(answer) = operators::answer(heap, word, words)? {

@@ -13,7 +13,7 @@ use tl_tree::{Node, Tree};
 type Finds = Option<(u32, u32, u32)>;
 
 /// A text of one line, the word at which a name stands in it, and what the name finds.
-static ROWS: [(&str, u32, Finds); 42] = [
+static ROWS: [(&str, u32, Finds); 50] = [
     // a local's scope begins after its statement
     (
         "local function f() return x end local x = 5 print(f())",
@@ -146,7 +146,26 @@ static ROWS: [(&str, u32, Finds); 42] = [
     ("terra f() var [s] = 1 return s end", 12, None),
     ("terra f() var s : s = s return s end", 8, None),
     ("terra f() var s : s = s return s end", 12, Some((0, 0, 6))),
+    // owners that declare many names
+    (MANY_AROUND, 35, Some((1, 1, 4))),
+    (MANY_AROUND, 37, Some((0, 0, 33))),
+    (MANY_AROUND, 39, Some((1, 13, 28))),
+    (MANY_AROUND, 41, None),
+    (MANY_BEFORE, 31, Some((0, 0, 2))),
+    (MANY_BEFORE, 36, Some((0, 0, 2))),
+    (MANY_BEFORE, 38, Some((0, 13, 34))),
+    (
+        "function t:g(a, b, c, d, e, f, g, h, i, j, k, l) return self end",
+        31,
+        Some((0, 0, 0)),
+    ),
 ];
+
+const MANY_AROUND: &str =
+    "local a, b, c, d, e, f, g, h, i, j, k, l, m, a = 1 do local b = b return b, a, z end";
+
+const MANY_BEFORE: &str =
+    "local a, b, c, d, e, f, g, h, i, j, k, l, m = 1 print(a) local a = a return a";
 
 /// The node of the name at this word of the first line, if one stands there.
 fn name_at(tree: &Tree, word: u32) -> Option<NodeId> {

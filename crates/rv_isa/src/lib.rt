@@ -24,8 +24,6 @@ pub mod law;
 mod opcode;
 pub mod operand;
 pub mod operation;
-#[cfg(test)]
-mod tests;
 
 pub use decoder::decode;
 pub use encoder::encode;

@@ -1,5 +1,5 @@
 -- Runs: what each step adds to one, and how they go on.
-use Rattle.std.proofs.Common.{◌≡◌, ◌≢◌, ℕ, zero, suc, ◌+◌, List, [], ◌++◌, Option, refl, sym, ap, ◌∙◌, ⊎_elim, append_assoc, arith}
+use Rattle.std.proofs.Common.{◌≡◌, ◌≢◌, ℕ, zero, suc, ◌+◌, List, [], ◌++◌, Option, refl, sym, ap, ◌∙◌, subst, ⊎_elim, append_assoc, arith}
 use Rattle.std.specs.Prelude.{if◌then◌else◌}
 use Rattle.std.proofs.lemmas.Bool.{cases_eq, eq-eqb, ne_eqb}
 use Rattle.rv_isa.specs.declared.instr.Instr.{Instr}
@@ -109,3 +109,34 @@ module _ (program : List (Option Instr)) where
   pub run_of-over : (s : State) (ran : Ran) (first more : ℕ) → run_of program s first ≡ ran → ran.stop ≢ Unfinished → run_of program s (first + more) ≡ ran
   run_of-over s ran first more e over =
       over_more s first more (λ h. over (sym (ap (λ (r : Ran). r.stop) e) ∙ h)) ∙ e
+
+  -- where a run stands that is over, it is over at the next step in the same way
+  abbrev Again : Ran → ℕ → Type 0
+  Again ran more = run_of program ran.state (suc more) ≡ stands ran.stop ran.state
+
+  -- a step of a run that is over later
+  stops_again : (s : State) (first more : ℕ) (m : Moved) → (s.pc ≡ 0 → ⊥) → step program s ≡ m → ((next : State) → (run_of program next first).stop ≢ Unfinished → Again (run_of program next first) more) → (after_step m s (λ next. run_of program next first)).stop ≢ Unfinished → Again (after_step m s (λ next. run_of program next first)) more
+  stops_again s first more (GoesOn next) on by again over = again next over
+  stops_again s first more (Writes next bytes) on by again over = again next over
+  stops_again s first more (Faults kind) on by again over = run_of-moved program s more (Faults kind) on by
+  stops_again s first more (Throws kind place) on by again over = run_of-moved program s more (Throws kind place) on by
+
+  over_again : (s : State) (first more : ℕ) → (run_of program s first).stop ≢ Unfinished → Again (run_of program s first) more
+  over_again s zero more over =
+      ⊎_elim
+      (λ at. subst (λ (r : Ran). Again r more) (sym (run_of-at_zero program s zero at)) (run_of-at_zero program s (suc more) at))
+      (λ on. absurd (over (ap (λ (r : Ran). r.stop) (run_of-used_up program s on))))
+      (cases_eq s.pc 0)
+  over_again s (suc first) more over =
+      ⊎_elim
+      (λ at. subst (λ (r : Ran). Again r more) (sym (run_of-at_zero program s (suc first) at)) (run_of-at_zero program s (suc more) at))
+      (λ on.
+      let turn = run_of-turn program s first on in
+      subst (λ (r : Ran). Again r more) (sym turn)
+      (stops_again s first more (step program s) on refl (λ next. over_again next first more) (λ h. over (ap (λ (r : Ran). r.stop) turn ∙ h))))
+      (cases_eq s.pc 0)
+
+  -- a run that is over ends again where it stands
+  pub run_of-again : (s : State) (ran : Ran) (first more : ℕ) → run_of program s first ≡ ran → ran.stop ≢ Unfinished → run_of program ran.state (suc more) ≡ stands ran.stop ran.state
+  run_of-again s ran first more e over =
+      subst (λ (r : Ran). Again r more) e (over_again s first more (λ h. over (sym (ap (λ (r : Ran). r.stop) e) ∙ h)))

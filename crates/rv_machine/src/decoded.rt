@@ -1,12 +1,12 @@
 // Words of text as the machine keeps them.
 
 ghost use Rattle.std.specs.Prelude.{◌≡◌, Some};
-ghost use Rattle.rv_isa.specs.declared.instr.Instr.TheVariants.{Branch};
+ghost use Rattle.rv_isa.specs.declared.instr.Instr.TheVariants.{Branch, Load, Store, RegisterRegister};
 ghost use Rattle.rv_machine.specs.Decoded.{found_of};
 
 use rv_isa::{
-    BranchCondition, BranchOffset, Immediate, ImmediateOp, Instr, LoadOp, Register, RegisterOp,
-    StoreOp,
+    BranchCondition, BranchOffset, Immediate, ImmediateOp, Instr, JumpOffset, LoadOp, Register,
+    RegisterOp, ShiftCount, ShiftOp, StoreOp, UpperImmediate,
 };
 
 /// A word of text, decoded. The commonest instructions have a variant of their own, so that a step asks only once which one it
@@ -15,28 +15,20 @@ use rv_isa::{
 pub enum Decoded {
     /// The word is no instruction.
     Illegal,
-    /// ADD.
-    Add {
+    /// LUI.
+    LoadUpper {
+        rd: Register,
+        imm: UpperImmediate,
+    },
+    /// JAL.
+    Jump {
+        rd: Register,
+        offset: JumpOffset,
+    },
+    /// JALR.
+    JumpRegister {
         rd: Register,
         rs1: Register,
-        rs2: Register,
-    },
-    /// ADDI.
-    AddImmediate {
-        rd: Register,
-        rs1: Register,
-        imm: Immediate,
-    },
-    /// LD.
-    LoadDouble {
-        rd: Register,
-        rs1: Register,
-        offset: Immediate,
-    },
-    /// SD.
-    StoreDouble {
-        rs1: Register,
-        rs2: Register,
         offset: Immediate,
     },
     /// BEQ.
@@ -50,6 +42,78 @@ pub enum Decoded {
         rs1: Register,
         rs2: Register,
         offset: BranchOffset,
+    },
+    /// ADDI.
+    AddImmediate {
+        rd: Register,
+        rs1: Register,
+        imm: Immediate,
+    },
+    /// SLLI.
+    ShiftLeft {
+        rd: Register,
+        rs1: Register,
+        count: ShiftCount,
+    },
+    /// ADD.
+    Add {
+        rd: Register,
+        rs1: Register,
+        rs2: Register,
+    },
+    /// SUB.
+    Subtract {
+        rd: Register,
+        rs1: Register,
+        rs2: Register,
+    },
+    /// XOR.
+    Xor {
+        rd: Register,
+        rs1: Register,
+        rs2: Register,
+    },
+    /// MUL.
+    Multiply {
+        rd: Register,
+        rs1: Register,
+        rs2: Register,
+    },
+    /// LBU.
+    LoadByte {
+        rd: Register,
+        rs1: Register,
+        offset: Immediate,
+    },
+    /// LW.
+    LoadWord {
+        rd: Register,
+        rs1: Register,
+        offset: Immediate,
+    },
+    /// LD.
+    LoadDouble {
+        rd: Register,
+        rs1: Register,
+        offset: Immediate,
+    },
+    /// SB.
+    StoreByte {
+        rs1: Register,
+        rs2: Register,
+        offset: Immediate,
+    },
+    /// SW.
+    StoreWord {
+        rs1: Register,
+        rs2: Register,
+        offset: Immediate,
+    },
+    /// SD.
+    StoreDouble {
+        rs1: Register,
+        rs2: Register,
+        offset: Immediate,
     },
     /// Any instruction.
     Other(Instr),
@@ -72,36 +136,40 @@ fn instruction(instr: Instr) -> Decoded
     ensures { found_of result ≡ Some instr }
 {
     match instr {
-        Instr::RegisterRegister {
-            op: RegisterOp::Add,
-            rd,
-            rs1,
-            rs2,
-        } => Decoded::Add { rd, rs1, rs2 },
-        Instr::RegisterImmediate {
-            op: ImmediateOp::Addi,
-            rd,
-            rs1,
-            imm,
-        } => Decoded::AddImmediate { rd, rs1, imm },
-        Instr::Load {
-            op: LoadOp::Ld,
-            rd,
-            rs1,
-            offset,
-        } => Decoded::LoadDouble { rd, rs1, offset },
-        Instr::Store {
-            op: StoreOp::Sd,
-            rs1,
-            rs2,
-            offset,
-        } => Decoded::StoreDouble { rs1, rs2, offset },
+        Instr::Lui { rd, imm } => Decoded::LoadUpper { rd, imm },
+        Instr::Jal { rd, offset } => Decoded::Jump { rd, offset },
+        Instr::Jalr { rd, rs1, offset } => Decoded::JumpRegister { rd, rs1, offset },
         Instr::Branch {
             condition,
             rs1,
             rs2,
             offset,
         } => branch(condition, rs1, rs2, offset),
+        Instr::RegisterImmediate {
+            op: ImmediateOp::Addi,
+            rd,
+            rs1,
+            imm,
+        } => Decoded::AddImmediate { rd, rs1, imm },
+        Instr::Shift {
+            op: ShiftOp::Slli,
+            rd,
+            rs1,
+            count,
+        } => Decoded::ShiftLeft { rd, rs1, count },
+        Instr::RegisterRegister { op, rd, rs1, rs2 } => registers(op, rd, rs1, rs2),
+        Instr::Load {
+            op,
+            rd,
+            rs1,
+            offset,
+        } => load(op, rd, rs1, offset),
+        Instr::Store {
+            op,
+            rs1,
+            rs2,
+            offset,
+        } => store(op, rs1, rs2, offset),
         _ => Decoded::Other(instr),
     }
 }
@@ -115,6 +183,53 @@ fn branch(condition: BranchCondition, rs1: Register, rs2: Register, offset: Bran
         BranchCondition::Ne => Decoded::BranchNotEqual { rs1, rs2, offset },
         _ => Decoded::Other(Instr::Branch {
             condition,
+            rs1,
+            rs2,
+            offset,
+        }),
+    }
+}
+
+// The word of an instruction on two registers.
+fn registers(op: RegisterOp, rd: Register, rs1: Register, rs2: Register) -> Decoded
+    ensures { found_of result ≡ Some (RegisterRegister op rd rs1 rs2) }
+{
+    match op {
+        RegisterOp::Add => Decoded::Add { rd, rs1, rs2 },
+        RegisterOp::Sub => Decoded::Subtract { rd, rs1, rs2 },
+        RegisterOp::Xor => Decoded::Xor { rd, rs1, rs2 },
+        RegisterOp::Mul => Decoded::Multiply { rd, rs1, rs2 },
+        _ => Decoded::Other(Instr::RegisterRegister { op, rd, rs1, rs2 }),
+    }
+}
+
+// The word of a load.
+fn load(op: LoadOp, rd: Register, rs1: Register, offset: Immediate) -> Decoded
+    ensures { found_of result ≡ Some (Load op rd rs1 offset) }
+{
+    match op {
+        LoadOp::Lbu => Decoded::LoadByte { rd, rs1, offset },
+        LoadOp::Lw => Decoded::LoadWord { rd, rs1, offset },
+        LoadOp::Ld => Decoded::LoadDouble { rd, rs1, offset },
+        _ => Decoded::Other(Instr::Load {
+            op,
+            rd,
+            rs1,
+            offset,
+        }),
+    }
+}
+
+// The word of a store.
+fn store(op: StoreOp, rs1: Register, rs2: Register, offset: Immediate) -> Decoded
+    ensures { found_of result ≡ Some (Store op rs1 rs2 offset) }
+{
+    match op {
+        StoreOp::Sb => Decoded::StoreByte { rs1, rs2, offset },
+        StoreOp::Sw => Decoded::StoreWord { rs1, rs2, offset },
+        StoreOp::Sd => Decoded::StoreDouble { rs1, rs2, offset },
+        _ => Decoded::Other(Instr::Store {
+            op,
             rs1,
             rs2,
             offset,

@@ -15,8 +15,8 @@ use crate::memory::{
 use crate::output::write_all;
 use crate::stops::{MachineKind, Stop};
 use rv_isa::{
-    BranchOffset, Immediate, Instr, JumpOffset, LoadOp, Register, RegisterOp, StoreOp,
-    UpperImmediate,
+    BranchOffset, Immediate, Instr, JumpOffset, LoadOp, Register, RegisterOp, ShiftCount, ShiftOp,
+    StoreOp, UpperImmediate,
 };
 use tl_base::Sink;
 
@@ -36,6 +36,8 @@ impl Hart {
     ghost use Rattle.std.specs.Prelude.{List, ℕ, Some, IfSome};
     ghost use Rattle.rv_machine.specs.Machine.{value_at, GoesOn, Faults, writes, jumps, goes_to, branches, loads, stores, act, obeys, calls, write_call, throw_call, at_with, start_state, loaded_state};
     ghost use Rattle.rv_machine.specs.Decoded.{found_of};
+    ghost use Rattle.rv_machine.specs.Arithmetic.{register_value, shift_value};
+    ghost use Rattle.rv_isa.specs.declared.operation.ShiftOp.TheVariants.{Slli};
     ghost use Rattle.rv_machine.specs.declared.stops.MachineKind.TheVariants.{BadAccess};
     ghost use Rattle.rv_machine.specs.declared.stops.Stop.TheVariants.{MachineFault, WriteFault};
     ghost use Rattle.rv_machine.specs.Memory.{place_of, FitsIn, bytes_at};
@@ -82,22 +84,35 @@ impl Hart {
     {
         match *word {
             Decoded::Illegal => Err(self.fault(MachineKind::IllegalWord)),
-            Decoded::Add { rd, rs1, rs2 } => {
-                self.write(
-                    rd,
-                    register_value(RegisterOp::Add, self.read(rs1), self.read(rs2)),
-                );
-                Ok(())
+            Decoded::LoadByte { rd, rs1, offset } => {
+                self.load(LoadOp::Lbu, rd, self.address(rs1, offset))
             }
-            Decoded::AddImmediate { rd, rs1, imm } => {
-                self.write(rd, self.address(rs1, imm));
-                Ok(())
+            Decoded::LoadWord { rd, rs1, offset } => {
+                self.load(LoadOp::Lw, rd, self.address(rs1, offset))
             }
             Decoded::LoadDouble { rd, rs1, offset } => {
                 self.load(LoadOp::Ld, rd, self.address(rs1, offset))
             }
+            Decoded::StoreByte { rs1, rs2, offset } => {
+                self.store(StoreOp::Sb, self.address(rs1, offset), self.read(rs2))
+            }
+            Decoded::StoreWord { rs1, rs2, offset } => {
+                self.store(StoreOp::Sw, self.address(rs1, offset), self.read(rs2))
+            }
             Decoded::StoreDouble { rs1, rs2, offset } => {
                 self.store(StoreOp::Sd, self.address(rs1, offset), self.read(rs2))
+            }
+            Decoded::LoadUpper { rd, imm } => {
+                self.write(rd, upper(imm));
+                Ok(())
+            }
+            Decoded::Jump { rd, offset } => {
+                self.jump(rd, self.ahead(jump_word(offset)));
+                Ok(())
+            }
+            Decoded::JumpRegister { rd, rs1, offset } => {
+                self.jump(rd, even(self.address(rs1, offset)));
+                Ok(())
             }
             Decoded::BranchEqual { rs1, rs2, offset } => {
                 self.branch(self.read(rs1) == self.read(rs2), offset);
@@ -107,8 +122,51 @@ impl Hart {
                 self.branch(self.read(rs1) != self.read(rs2), offset);
                 Ok(())
             }
+            Decoded::AddImmediate { rd, rs1, imm } => {
+                self.write(rd, self.address(rs1, imm));
+                Ok(())
+            }
+            Decoded::ShiftLeft { rd, rs1, count } => {
+                self.shift_left(rd, rs1, count);
+                Ok(())
+            }
+            Decoded::Add { rd, rs1, rs2 } => {
+                self.write_value(RegisterOp::Add, rd, rs1, rs2);
+                Ok(())
+            }
+            Decoded::Subtract { rd, rs1, rs2 } => {
+                self.write_value(RegisterOp::Sub, rd, rs1, rs2);
+                Ok(())
+            }
+            Decoded::Xor { rd, rs1, rs2 } => {
+                self.write_value(RegisterOp::Xor, rd, rs1, rs2);
+                Ok(())
+            }
+            Decoded::Multiply { rd, rs1, rs2 } => {
+                self.write_value(RegisterOp::Mul, rd, rs1, rs2);
+                Ok(())
+            }
             Decoded::Other(instr) => self.execute(instr, out),
         }
+    }
+
+    // SLLI.
+    #[inline(always)]
+    fn shift_left(&mut self, rd: Register, rs1: Register, count: ShiftCount)
+        ensures { writes (hart_state self.old) rd (shift_value Slli (value_at (hart_state self.old) rs1) count.count) ≡ GoesOn (hart_state self.new) }
+    {
+        self.write(
+            rd,
+            shift_value(ShiftOp::Slli, self.read(rs1), u32::from(count.count)),
+        )
+    }
+
+    // Writes what an operation on two registers gives.
+    #[inline(always)]
+    fn write_value(&mut self, op: RegisterOp, rd: Register, rs1: Register, rs2: Register)
+        ensures { writes (hart_state self.old) rd (register_value op (value_at (hart_state self.old) rs1) (value_at (hart_state self.old) rs2)) ≡ GoesOn (hart_state self.new) }
+    {
+        self.write(rd, register_value(op, self.read(rs1), self.read(rs2)))
     }
 
     // What any instruction does. One that stops the run leaves the hart as it was.
@@ -314,6 +372,7 @@ impl Hart {
     }
 
     // Goes on at an address, with the next address in a register.
+    #[inline]
     #[tactic(auto, unfolding(crate::specs::Word::low))]
     fn jump(&mut self, register: Register, target: u64)
         ensures { jumps (hart_state self.old) register target ≡ GoesOn (hart_state self.new) }

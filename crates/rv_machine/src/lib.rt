@@ -24,8 +24,6 @@ pub mod machine;
 pub mod memory;
 mod output;
 pub mod stops;
-#[cfg(test)]
-mod tests;
 
 pub use image_run::{images_have_runs, run_image};
 pub use machine::{Machine, TEXT, runs_go_on};

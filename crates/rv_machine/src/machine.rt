@@ -1,7 +1,7 @@
 // The machine and its run.
 
 ghost use Rattle.std.specs.Prelude.{◌≡◌, ◌≢◌, ◌+◌, ◌-◌, ◌*◌, ◌/◌, ◌%◌, ◌≤◌, ◌<◌, ◌^◌, ◌++◌, map, option_map, length, replicate, drop, IfOk, IfErr, OnOk, OnErr};
-ghost use Rattle.rv_machine.specs.Laws.{RunsGoOn, RunsStayOver, OneProgram};
+ghost use Rattle.rv_machine.specs.Laws.{RunsGoOn, RunsStayOver, RunsStopAgain, OneProgram};
 ghost use Rattle.rv_machine.specs.Program.{IsProgram};
 ghost use Rattle.rv_machine.specs.Decoded.{found_of};
 ghost use Rattle.rv_machine.specs.Machine.{fetch};
@@ -161,10 +161,12 @@ fn text_index(address: u64) -> usize
 }
 
 /// The laws of runs and of text. A run that isn't over goes on from where it stands, so a run may be made in parts; one that is
-/// over stays so, whatever more steps it may take; and words have one program.
+/// over stays so, whatever more steps it may take; a machine whose run is over stops so again at its next step; and words have one
+/// program.
 pub fn runs_go_on()
     ensures parts { RunsGoOn }
     ensures over { RunsStayOver }
+    ensures again { RunsStopAgain }
     ensures program { OneProgram }
 {}
 

@@ -5,11 +5,10 @@
 --       if y < 3 then return f(y) end
 --       return [quote var z = int8(y) in int(z) end]
 --     end
-use Rattle.std.specs.Prelude.{◌≡◌, refl, ℕ, true, false, List, [], ◌∷◌, ◌++◌, Some, None}
+use Rattle.std.specs.Prelude.{◌≡◌, refl, ℕ, true, false, [], ◌∷◌, None}
 use Rattle.tl_base.specs.declared.place.Place.{Place}
 use Rattle.tl_base.specs.declared.ids.FnId.{FnId}
 use Rattle.tl_base.specs.declared.ids.SymId.{SymId}
-use Rattle.tl_base.specs.declared.ids.TermId.{TermId}
 use Rattle.tl_base.specs.declared.ids.TypeId.{TypeId}
 use Rattle.terra_words.specs.declared.words.BinaryOperator.TheVariants.{Add, Less}
 use Rattle.terra_types.specs.Opening.{opening_types, int32, boolean}
@@ -17,7 +16,7 @@ use Rattle.terra_term.specs.declared.operators.Constant.TheVariants as constants
 use Rattle.terra_term.specs.declared.operators.Operation.TheVariants as operations
 use Rattle.terra_term.specs.declared.lists.TypedName.{TypedName}
 use Rattle.terra_term.specs.declared.store.FunctionState.TheVariants as states
-use Rattle.terra_term.specs.TypedTerms.{Expression, typed, Constant', Variable, Operate, Let, Expressions, no_more, then_one, Statement, statement, Var, If, Return, Statements, done, and_then, Body, body}
+use Rattle.terra_term.specs.TypedTerms.{Expression, typed, Constant', Variable, Operate, Let, Expressions, no_more, then_one, Statement, statement, Var, If, Return, done, and_then, Body, body}
 use Rattle.terra_term.specs.Events.{Declares, Uses, Mentions, Opens, Closes, body_events, mentions_in, declared_in}
 use Rattle.terra_term.specs.Stores.{Contents}
 use Rattle.terra_term.specs.WellTyped.{body_typed}

@@ -32,7 +32,7 @@ use Rattle.terra_term.specs.Terms as terms
 use Rattle.terra_term.specs.TypedTerms as typed
 use Rattle.terra_term.specs.Sizes as sizes
 use Rattle.terra_term.specs.Sizes.{joined, above, names_size, capped, most, callee_size}
-use Rattle.terra_term.specs.Sizing.{node_size, beside, around, named, expression_in, expression_at, statement_in, statement_at, list_at, block_at, typed_form, typed_doing, typed_sized, form, doing, term_sized, typed_kept, terms_kept, AllHold, AreSized}
+use Rattle.terra_term.specs.Sizing.{node_size, beside, around, expression_in, expression_at, statement_in, list_at, block_at, typed_form, typed_doing, typed_sized, form, doing, term_sized, typed_kept, terms_kept, AllHold, AreSized}
 use Rattle.terra_term.specs.Held.{Held, NamesTyped, QuotesTyped}
 use Rattle.terra_term.specs.declared.store.Quote.{Quote}
 use Rattle.terra_term.specs.declared.store.Quote.TheVariants as quotes

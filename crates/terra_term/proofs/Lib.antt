@@ -1,4 +1,5 @@
 pub mod Statics
+pub mod Finding
 pub mod Steps
 pub mod Texts
 pub mod Trees

@@ -16,6 +16,7 @@ pub mod Stores
 pub mod WellTyped
 -- Views of the code, which private contracts cite.
 pub mod Statics
+pub mod Finding
 pub mod Pieces
 pub mod Lending
 pub mod Sizing

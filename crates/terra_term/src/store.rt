@@ -1,9 +1,10 @@
 // The store of a staging.
 
-ghost use Rattle.std.specs.Prelude.{◌≡◌, ◌≤◌, ◌++◌, ◌∷◌, [], ◌+◌, length, slice_get, IfOk, IfSome, IsOk, OnOk, OnErr};
+ghost use Rattle.std.specs.Prelude.{◌≡◌, ◌≤◌, ◌++◌, ◌∷◌, [], ◌+◌, length, slice_get, IfOk, IfSome, IsOk, OnOk, OnErr, None, true};
 ghost use Rattle.std.specs.Option.{option_copied};
 ghost use Rattle.terra_term.specs.Held.{empty, next_symbol, with_symbol, next_function, with_function, state_of, term_in, standing_in, standing_of, with_defined, with_state, begun, finished, refused, next_quote, with_quote, next_constant, with_constant, next_term, with_term, next_typed, with_typed, NamesTyped, QuotesTyped, ended, text_address, room_for, placed_text, with_text, placed_global, with_global, name_of, name_place, with_name};
 ghost use Rattle.terra_term.specs.Sizes.{size_of_term, size_of_typed};
+ghost use Rattle.terra_term.specs.Finding.{texts_in, found_texts, ids_of};
 
 use crate::lists::TermList;
 use crate::refusal::{Refusal, RefusalKind, Standing};
@@ -11,6 +12,7 @@ use crate::size::{Size, SizedNode};
 use crate::sizing::{size_term, size_typed};
 use crate::term::Term;
 use crate::typed::Typed;
+use indexmap::{IndexMap, IndexSet};
 use std::alloc::Global;
 use std::marker::Model;
 use terra_types::Types;
@@ -107,6 +109,10 @@ pub struct Store {
     constants: Vec<TerraConstant>,
     statics: Vec<Static>,
     names: Vec<TextBytes>,
+    /// The texts among the statics, found by hashing, each with its address.
+    texts: IndexMap<Vec<u8>, u64>,
+    /// The ids of the names, in their order, found by hashing.
+    name_ids: IndexSet<u64>,
     terms: Vec<Term>,
     typed: Vec<Typed>,
     /// The sizes of the nodes, in their order.
@@ -136,9 +142,11 @@ impl Model for Store {
 
     ghost use Rattle.terra_term.specs.Statics.{EndsAt};
     ghost use Rattle.terra_term.specs.Sizing.{AreSized};
+    ghost use Rattle.terra_term.specs.Finding.{AreFound, found_texts};
 
     ghost invariant = { λ s. EndsAt s.statics.items s.statics_end
-        × AreSized s.quotes.items s.terms.items s.typed.items s.term_sizes.items s.typed_sizes.items };
+        × AreSized s.quotes.items s.terms.items s.typed.items s.term_sizes.items s.typed_sizes.items
+        × AreFound s.statics.items (found_texts s.texts.entries) s.names.items s.name_ids.keys };
 }
 
 impl Store {
@@ -159,6 +167,8 @@ impl Store {
             constants: Vec::new(alloc),
             statics: Vec::new(alloc),
             names: Vec::new(alloc),
+            texts: IndexMap::new(alloc),
+            name_ids: IndexSet::new(alloc),
             terms: Vec::new(alloc),
             typed: Vec::new(alloc),
             term_sizes: Vec::new(alloc),
@@ -431,18 +441,20 @@ impl Store {
     {
         let mut bytes = text.to_vec(self.alloc)?;
         bytes.push(0)?;
-        if let Some(address) = address_of_text(&self.statics, &bytes) {
+        if let Some(address) = address_of_text(&self.texts, &self.statics, &bytes) {
             return Ok(Some(address));
         }
         let Some(address) = self.room(memory, bytes.len()) else {
             return Ok(None);
         };
         let end = address + bytes.len() as u64;
-        self.statics.push(Static {
+        push_text(
+            &mut self.statics,
+            &mut self.texts,
+            self.alloc,
             address,
-            is_text: true,
-            bytes: Text2::from_vec(bytes),
-        })?;
+            bytes,
+        )?;
         self.statics_end = end;
         Ok(Some(address))
     }
@@ -495,12 +507,13 @@ impl Store {
         ensures ok { OnOk result (self.new ≡ with_name self.old text bytes) }
         ensures err { OnErr result (self.new ≡ self.old) }
     {
-        match place_of_name(&self.names, text) {
+        match place_of_name(&self.name_ids, &self.names, text) {
             Some(_) => Ok(()),
-            None => {
-                self.names.push(TextBytes { text, bytes })?;
-                Ok(())
-            }
+            None => push_name(
+                &mut self.names,
+                &mut self.name_ids,
+                TextBytes { text, bytes },
+            ),
         }
     }
 
@@ -508,7 +521,7 @@ impl Store {
     pub fn name(&self, text: TextId) -> &[u8]
         ensures { result.now ≡ name_of self.now.names text }
     {
-        match place_of_name(&self.names, text) {
+        match place_of_name(&self.name_ids, &self.names, text) {
             Some(place) => match self.names.get(place) {
                 Some(name) => name.bytes.bytes(),
                 None => &[],
@@ -579,19 +592,61 @@ impl FunctionState {
     }
 }
 
-/// The address of the text with these bytes, its zero byte included.
-fn address_of_text(statics: &[Static], bytes: &[u8]) -> Option<u64>
+/// The address of the text with these bytes, its zero byte included. The statics are read by the clauses alone.
+fn address_of_text(texts: &IndexMap<Vec<u8>, u64>, statics: &[Static], bytes: &[u8]) -> Option<u64>
+    requires { found_texts texts.now.entries ≡ texts_in statics.now }
     ensures { result ≡ text_address statics.now bytes.now }
 {
-    statics
-        .iter()
-        .find(|s| s.is_text && s.bytes.bytes() == bytes)
-        .map(|s| s.address)
+    texts.get(bytes).copied()
 }
 
-/// Where the bytes of a name stand.
-fn place_of_name(names: &[TextBytes], text: TextId) -> Option<usize>
+/// Puts a text that isn't there yet behind the statics, where the next hash finds it. After `NoMemory` the statics are as they were.
+fn push_text(
+    statics: &mut Vec<Static>,
+    texts: &mut IndexMap<Vec<u8>, u64>,
+    alloc: Global,
+    address: u64,
+    bytes: Vec<u8>,
+) -> Result<(), NoMemory>
+    requires same { found_texts texts.old.entries ≡ texts_in statics.old.items }
+    requires absent { text_address statics.old.items bytes.items ≡ None }
+    ensures ok { OnOk result (statics.new.items ≡ statics.old.items ++ record { address = address; is_text = true; bytes = bytes.items } ∷ []) }
+    ensures err { OnErr result (statics.new.items ≡ statics.old.items) }
+    ensures same { found_texts texts.new.entries ≡ texts_in statics.new.items }
+{
+    let key = bytes.to_vec(alloc)?;
+    statics.reserve(1)?;
+    texts.insert(key, address)?;
+    statics.push(Static {
+        address,
+        is_text: true,
+        bytes: Text2::from_vec(bytes),
+    })?;
+    Ok(())
+}
+
+/// Where the bytes of a name stand. The names are read by the clauses alone.
+fn place_of_name(ids: &IndexSet<u64>, names: &[TextBytes], text: TextId) -> Option<usize>
+    requires { ids.now.keys ≡ ids_of names.now }
     ensures { result ≡ name_place names.now text }
 {
-    names.iter().position(|name| name.text.0 == text.0)
+    ids.get_index_of(&text.0)
+}
+
+/// Puts a name that isn't kept yet behind the others, where the next hash finds it. After `NoMemory` the names are as they were.
+fn push_name(
+    names: &mut Vec<TextBytes>,
+    ids: &mut IndexSet<u64>,
+    name: TextBytes,
+) -> Result<(), NoMemory>
+    requires same { ids.old.keys ≡ ids_of names.old.items }
+    requires absent { name_place names.old.items name.text ≡ None }
+    ensures ok { OnOk result (names.new.items ≡ names.old.items ++ name ∷ []) }
+    ensures err { OnErr result (names.new.items ≡ names.old.items) }
+    ensures same { ids.new.keys ≡ ids_of names.new.items }
+{
+    names.reserve(1)?;
+    ids.insert(name.text.0)?;
+    names.push(name)?;
+    Ok(())
 }

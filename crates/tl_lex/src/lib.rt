@@ -93,6 +93,3 @@ pub struct LexError {
     pub kind: SyntaxKind,
     pub place: Place,
 }
-
-#[cfg(test)]
-mod tests;

@@ -1,3 +1,4 @@
 pub mod Giving
 pub mod Looking
 pub mod Indexed
+pub mod Keyed

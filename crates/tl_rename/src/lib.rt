@@ -2,6 +2,8 @@
 #![tactic(auto)]
 
 mod ids;
+mod index;
+mod latest;
 mod search;
 pub mod slots;
 mod standing;

@@ -1,14 +1,19 @@
 // What a name finds.
-ghost use Rattle.std.specs.Prelude.{◌≡◌, suc, IfOk, length, take};
+ghost use Rattle.std.specs.Prelude.{◌≡◌, suc, IfOk, OnOk, length, take};
 ghost use Rattle.tl_tree.specs.Arena.{items_of};
 ghost use Rattle.tl_tree.specs.Nodes.{item_at, last_of};
 ghost use Rattle.tl_tree.specs.Scopes as scopes;
 ghost use Rattle.tl_rename.specs.Counted.{declared_below};
+ghost use Rattle.tl_rename.specs.Latest.{IsIndexed};
 
 use crate::ids::Ids;
+use crate::index::{Index, is_read_up_to, latest_found};
 use crate::standing::Standing;
 use tl_base::{NoMemory, NodeId};
 use tl_tree::{Binder, Node, Scope, Tree};
+
+/// So many declarations are searched one by one, which takes less time than to find one by its name.
+const FEW: usize = 12;
 
 /// Does the declaration have this name?
 fn has_name(tree: &Tree, name: &str, declaration: NodeId) -> bool
@@ -63,16 +68,41 @@ fn declared_in<'d>(tree: &Tree, declared: &'d [Ids], scope: Scope) -> &'d [NodeI
     }
 }
 
+/// The last of the declarations in scope that has the name.
+fn last_in_scope<'a>(
+    index: &mut Index<'a>,
+    tree: &Tree<'a>,
+    declared: &[Ids],
+    name: &'a str,
+    depth: u32,
+    scope: Scope,
+) -> Result<Option<Binder>, NoMemory>
+    requires declared { declared.now ≡ declared_below (items_of tree.now) (suc (last_of (items_of tree.now)).0) }
+    requires indexed { IsIndexed (items_of tree.now) index.old.latest index.old.reached.items }
+    ensures found { IfOk result (λ found. found ≡ scopes.last_found (scopes.has_name (items_of tree.now) name.now) depth 0 (scopes.declared_in (items_of tree.now) scope)) }
+    ensures indexed { OnOk result (IsIndexed (items_of tree.now) index.new.latest index.new.reached.items) }
+{
+    let here = declared_in(tree, declared, scope);
+    if here.len() > FEW && is_read_up_to(index, scope.owner, here.len()) {
+        latest_found(index, tree, name, depth, scope, here)
+    } else {
+        last_found(tree, name, depth, here)
+    }
+}
+
 /// What a name finds that stands there.
-fn found_from(
-    tree: &Tree,
+fn found_from<'a>(
+    index: &mut Index<'a>,
+    tree: &Tree<'a>,
     standing: &Standing,
     declared: &[Ids],
-    name: &str,
+    name: &'a str,
     scope: Option<Scope>,
 ) -> Result<Option<Binder>, NoMemory>
-    requires { declared.now ≡ declared_below (items_of tree.now) (suc (last_of (items_of tree.now)).0) }
-    ensures { IfOk result (λ found. found ≡ scopes.found_from (length standing.now) (items_of tree.now) standing.now (scopes.has_name (items_of tree.now) name.now) 0 scope) }
+    requires declared { declared.now ≡ declared_below (items_of tree.now) (suc (last_of (items_of tree.now)).0) }
+    requires indexed { IsIndexed (items_of tree.now) index.old.latest index.old.reached.items }
+    ensures indexed { OnOk result (IsIndexed (items_of tree.now) index.new.latest index.new.reached.items) }
+    ensures found { IfOk result (λ found. found ≡ scopes.found_from (length standing.now) (items_of tree.now) standing.now (scopes.has_name (items_of tree.now) name.now) 0 scope) }
 {
     let mut depth: u32 = 0;
     let mut from = scope;
@@ -82,7 +112,7 @@ fn found_from(
         let Some(here) = from else {
             return Ok(None);
         };
-        let found = last_found(tree, name, depth, declared_in(tree, declared, here))?;
+        let found = last_in_scope(index, tree, declared, name, depth, here)?;
         if let Some(found) = found {
             return Ok(Some(found));
         }
@@ -96,18 +126,23 @@ fn found_from(
 }
 
 /// Where the use of a local finds its declaration.
-pub fn binder(
-    tree: &Tree,
+pub fn binder<'a>(
+    index: &mut Index<'a>,
+    tree: &Tree<'a>,
     standing: &Standing,
     declared: &[Ids],
     n: NodeId,
 ) -> Result<Option<Binder>, NoMemory>
     requires declared { declared.now ≡ declared_below (items_of tree.now) (suc (last_of (items_of tree.now)).0) }
     requires standing { standing.now ≡ scopes.standing_of (items_of tree.now) }
-    ensures { IfOk result (λ found. found ≡ scopes.binder (items_of tree.now) n) }
+    requires indexed { IsIndexed (items_of tree.now) index.old.latest index.old.reached.items }
+    ensures indexed { OnOk result (IsIndexed (items_of tree.now) index.new.latest index.new.reached.items) }
+    ensures found { IfOk result (λ found. found ≡ scopes.binder (items_of tree.now) n) }
 {
     match tree.node(n) {
-        Node::Name(_, _, text) => found_from(tree, standing, declared, text, standing.scope(n)),
+        Node::Name(_, _, text) => {
+            found_from(index, tree, standing, declared, *text, standing.scope(n))
+        }
         _ => Ok(None),
     }
 }

@@ -4,6 +4,7 @@ ghost use Rattle.tl_base.specs.declared.ids.NodeId as ids;
 ghost use Rattle.tl_tree.specs.Arena.{items_of};
 ghost use Rattle.tl_tree.specs.Scopes as scopes;
 
+use crate::index::new_index;
 use crate::search::binder;
 use crate::standing::{count_to, declared, standing_of};
 use std::alloc::Global;
@@ -62,9 +63,11 @@ pub fn resolve(alloc: Global, tree: &Tree) -> Result<Slots, NoMemory>
     let standing = standing_of(alloc, tree)?;
     let declared = declared(alloc, tree)?;
     let len = count_to(tree.root())?;
+    let mut index = new_index(alloc, tree, len)?;
     let mut binders = Vec::new(alloc);
     for k in 0..len {
-        binders.push(binder(tree, &standing, &declared, NodeId(k))?)?;
+        let found = binder(&mut index, tree, &standing, &declared, NodeId(k))?;
+        binders.push(found)?;
     }
     Ok(Slots { binders })
 }

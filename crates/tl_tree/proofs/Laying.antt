@@ -25,6 +25,8 @@ use Rattle.tl_tree.proofs.TreeAt.{of_item, tree_at, list_behind}
 use Rattle.tl_tree.proofs.TreeAt as of_numbers
 use Rattle.tl_tree.proofs.Fitting.{Slot, One, Many, Any, Fits}
 use Rattle.tl_tree.proofs.Fitting as kind
+use Rattle.tl_tree.proofs.Rows as rows
+use Rattle.tl_tree.proofs.Rows.{Row, NoMore, Next}
 
 -- ---- numbers of what stands somewhere
 
@@ -137,6 +139,7 @@ pub record Lies (s : Slot) (a : Tree) (front xs : List Item) (p : Ref s) : Type 
   pub grows : Grows front xs
   pub first : HasChildrenFirst front → HasChildrenFirst xs
   pub below : Below (length xs) (ids s p)
+  pub row : (items : List Item) → Grows xs items → Row items (length front) (length xs) (ids s p)
   pub reads : (items : List Item) (n : ℕ) → Grows xs items → length xs ≤ n → look s (λ id. tree_at n items id) p ≡ a
 
 abbrev LiesIn : Slot → Tree → List Item → Laid → Type 0
@@ -149,23 +152,35 @@ before {s} {r} {a} {b} {front} {xs} {ys} {p} {q} l m = record {
   grows = further l.grows m.grows;
   first = λ h. m.first (l.first h);
   below = below_more (length xs) (length ys) (ids s p) (longer m.grows) l.below;
+  row = λ items g. rows.later items (length front) (length xs) (length ys) (ids s p) (longer m.grows) (l.row items (further m.grows g));
   reads = λ items n g le. l.reads items n (further m.grows g) (omega (arith, longer m.grows, le));
 }
 
 -- a node behind others that has this tree
 close : (a : Tree) {front : List Item} (ys : List Item) (item : Item) → Grows front ys
     → (HasChildrenFirst front → HasChildrenFirst ys) → Below (length ys) (children_of item)
+    → ((items : List Item) → Grows ys items → Row items (length front) (length ys) (children_of item))
     → ((items : List Item) (n : ℕ) → Grows ys items → length ys ≤ n → of_item (λ id. tree_at n items id) item ≡ a)
     → LiesIn One a front (node ys item)
-close a {front} ys item grows first below reads = record {
+close a {front} ys item grows first below row reads = record {
   grows = further grows (pushed ys item);
   first = λ h. first_pushed ys item (first h) below;
   below = All-cons (λ id. id.0 < length (ys ++ item ∷ [])) (last_of (ys ++ item ∷ [])) []
       (omega (arith, length_pushed ys item, ap (λ (id : NodeId). id.0) (last_number ys item)))
       (All-nil (λ id. id.0 < length (ys ++ item ∷ [])));
+  row = λ items g. Next {l = length front} (omega arith) (among items g) (NoMore (omega (arith, length_pushed ys item, at_end)));
   reads = λ items n g le. read items n g (omega (arith, length_pushed ys item, le));
 }
   where
+    at_end : (last_of (ys ++ item ∷ [])).0 ≡ length ys
+    at_end = ap (λ (id : NodeId). id.0) (last_number ys item)
+
+    among : (items : List Item) → Grows (ys ++ item ∷ []) items
+        → Row items (length front) (last_of (ys ++ item ∷ [])).0 (children_of (item_at items (last_of (ys ++ item ∷ []))))
+    among items g =
+        subst (λ (i : Item). Row items (length front) (last_of (ys ++ item ∷ [])).0 (children_of i)) (sym (last_item ys item g))
+        (subst (λ (n : ℕ). Row items (length front) n (children_of item)) (sym at_end) (row items (further (pushed ys item) g)))
+
     read : (items : List Item) (n : ℕ) → Grows (ys ++ item ∷ []) items → length ys < n
         → tree_at n items (last_of (ys ++ item ∷ [])) ≡ a
     read items zero g lt = absurd (omega (arith, lt))
@@ -179,10 +194,16 @@ close a {front} ys item grows first below reads = record {
 holds : (n : ℕ) (item : Item) (all : List NodeId) → children_of item ≡ all → Below n all → Below n (children_of item)
 holds n item all e h = subst (λ (x : List NodeId). Below n x) (sym e) h
 
+-- and in a row
+rowed : (items : List Item) (a b : ℕ) (item : Item) (all : List NodeId) → children_of item ≡ all → Row items a b all
+    → Row items a b (children_of item)
+rowed items a b item all e h = subst (λ (x : List NodeId). Row items a b x) (sym e) h
+
 leaf : (a : Tree) (item : Item) → children_of item ≡ [] → ((at : NodeId → Tree) → of_item at item ≡ a)
     → (front : List Item) → LiesIn One a front (node front item)
 leaf a item none is front =
     close a front item (same front) (λ h. h) (holds (length front) item [] none (All-nil (λ id. id.0 < length front)))
+    (λ items g. rowed items (length front) (length front) item [] none (NoMore (omega arith)))
     (λ items n g le. is (λ id. tree_at n items id))
 
 module _ (s : Slot) (make : Tree → Tree) (item : Ref s → Item) (has : (p : Ref s) → children_of (item p) ≡ ids s p)
@@ -191,6 +212,7 @@ module _ (s : Slot) (make : Tree → Tree) (item : Ref s → Item) (has : (p : R
       → LiesIn One (make a) front (node xs (item p))
   one {a} {front} {xs} {p} l =
       close (make a) xs (item p) l.grows l.first (holds (length xs) (item p) (ids s p) (has p) l.below)
+      (λ items g. rowed items (length front) (length xs) (item p) (ids s p) (has p) (l.row items g))
       (λ items n g le. is (λ id. tree_at n items id) p ∙ ap (λ (x : Tree). make x) (l.reads items n g le))
 
 joined : (n : ℕ) (xs ys : List NodeId) → Below n xs → Below n ys → Below n (xs ++ ys)
@@ -206,6 +228,8 @@ module _ (s r : Slot) (make : Tree → Tree → Tree) (item : Ref s → Ref r �
       close (make a b) ys (item p q) k.grows k.first
       (holds (length ys) (item p q) (ids s p ++ ids r q) (has p q)
       (joined (length ys) (ids s p) (ids r q) k.below m.below))
+      (λ items g. rowed items (length front) (length ys) (item p q) (ids s p ++ ids r q) (has p q)
+      (rows.behind items (length front) (length xs) (length ys) (ids s p) (ids r q) (l.row items (further m.grows g)) (m.row items g)))
       (λ items n g le.
       is (λ id. tree_at n items id) p q
       ∙ ap (λ (x : Tree). make x (look r (λ id. tree_at n items id) q)) (k.reads items n g le)
@@ -224,6 +248,10 @@ module _ (s r u : Slot) (make : Tree → Tree → Tree → Tree) (item : Ref s �
       (holds (length zs) (item p q w) (ids s p ++ (ids r q ++ ids u w)) (has p q w)
       (joined (length zs) (ids s p) (ids r q ++ ids u w) k.below
       (joined (length zs) (ids r q) (ids u w) j.below o.below)))
+      (λ items g. rowed items (length front) (length zs) (item p q w) (ids s p ++ (ids r q ++ ids u w)) (has p q w)
+      (rows.behind items (length front) (length xs) (length zs) (ids s p) (ids r q ++ ids u w)
+      (l.row items (further (further m.grows o.grows) g))
+      (rows.behind items (length xs) (length ys) (length zs) (ids r q) (ids u w) (m.row items (further o.grows g)) (o.row items g))))
       (λ items n g le. is (λ id. tree_at n items id) p q w
       ∙ agree (k.reads items n g le) (j.reads items n g le) (o.reads items n g le))
     where
@@ -252,6 +280,16 @@ module _ (make : Tree → Tree → Tree → Tree → Tree → Tree)
       (joined (length fs) (q ∷ []) (r ∷ (option_to_list u ++ v ∷ [])) kb.below
       (joined (length fs) (r ∷ []) (option_to_list u ++ v ∷ []) kd.below
       (joined (length fs) (option_to_list u) (v ∷ []) ke.below lf.below)))))
+      (λ items g.
+      let ge = further lf.grows g in
+      let gd = further le.grows ge in
+      let gb = further ld.grows gd in
+      rowed items (length front) (length fs) (item p q r u v) (p ∷ q ∷ r ∷ (option_to_list u ++ v ∷ [])) (has p q r u v)
+      (rows.behind items (length front) (length cs) (length fs) (p ∷ []) (q ∷ r ∷ (option_to_list u ++ v ∷ []))
+      (la.row items (further lb.grows gb))
+      (rows.behind items (length cs) (length bs) (length fs) (q ∷ []) (r ∷ (option_to_list u ++ v ∷ [])) (lb.row items gb)
+      (rows.behind items (length bs) (length ds) (length fs) (r ∷ []) (option_to_list u ++ v ∷ []) (ld.row items gd)
+      (rows.behind items (length ds) (length es) (length fs) (option_to_list u) (v ∷ []) (le.row items ge) (lf.row items g))))))
       (λ items n g h. is (λ id. tree_at n items id) p q r u v
       ∙ agree (ka.reads items n g h) (kb.reads items n g h) (kd.reads items n g h) (ke.reads items n g h)
       (lf.reads items n g h))
@@ -275,6 +313,7 @@ nothing s p none is front = record {
   grows = same front;
   first = λ h. h;
   below = subst (λ (x : List NodeId). Below (length front) x) (sym none) (All-nil (λ id. id.0 < length front));
+  row = λ items g. subst (λ (x : List NodeId). Row items (length front) (length front) x) (sym none) (NoMore (omega arith));
   reads = λ items n g le. is (λ id. tree_at n items id);
 }
 
@@ -286,6 +325,7 @@ more {a} {b} {front} {xs} {ys} {p} {q} l m =
       grows = k.grows;
       first = k.first;
       below = joined (length ys) p (q ∷ []) k.below m.below;
+      row = λ items g. rows.behind items (length front) (length xs) (length ys) p (q ∷ []) (l.row items (further m.grows g)) (m.row items g);
       reads = λ items n g le.
           read_pushed (λ id. tree_at n items id) t.Nothing p q
           ∙ ap (λ (x : Tree). t.More x (tree_at n items q)) (k.reads items n g le)
@@ -297,6 +337,7 @@ just l = record {
   grows = l.grows;
   first = l.first;
   below = l.below;
+  row = l.row;
   reads = λ items n g le.
       ap (λ (x : Tree). t.Just x) (l.reads items n g le);
 }
@@ -598,6 +639,10 @@ no_children id = All-nil (λ child. child.0 < id.0)
 
 pub lays_children_first : LaysChildrenFirst
 lays_children_first a h = (well_laid a h).first no_children
+
+-- the root and what is below it are in a row
+pub root_rowed : (a : Tree) → IsWellFormedBlock a → Row (lay a []) 0 (length (lay a [])) (last_of (lay a []) ∷ [])
+root_rowed a h = (well_laid a h).row (lay a []) (same (lay a []))
 
 -- the tree that stands at the last number is the tree
 pub reads_back : (a : Tree) → IsWellFormedBlock a → (items : List Item) (n : ℕ) → items ≡ lay a [] → length items ≤ n

@@ -28,9 +28,13 @@ pub mod WellFormedTrees
 pub mod OwnNumbers
 pub mod TreeAt
 pub mod Fitting
+pub mod Rows
 pub mod Laying
 pub mod Standings
 pub mod Searching
+pub mod PartsInRows
+pub mod Known
+pub mod OnlyNames
 pub mod Seeing
 pub mod Nameless
 pub mod BindingAlike

@@ -35,7 +35,7 @@ last_is items name depth at [] = tt
 last_is items name depth at (d ∷ ds) =
     joined items name depth at d ds (last_found (has_name items name) depth (at + 1) ds) (last_is items name depth (at + 1) ds) (has_name items name d) refl
 
-nothing_around : (items : Items) (standing : Standing) (asked : NodeId → Bool) (owners depth : ℕ) → found_from owners items standing asked depth None ≡ None
+pub nothing_around : (items : Items) (standing : Standing) (asked : NodeId → Bool) (owners depth : ℕ) → found_from owners items standing asked depth None ≡ None
 nothing_around items standing asked zero depth = refl
 nothing_around items standing asked (suc owners) depth = refl
 

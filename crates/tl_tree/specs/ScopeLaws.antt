@@ -3,7 +3,9 @@ use Rattle.std.specs.Prelude.{◌≡◌, ℕ, ◌+◌, true, false, List, [], �
 use Rattle.tl_base.specs.declared.place.Place.{Place}
 use Rattle.tl_base.specs.declared.ids.NodeId.{NodeId}
 use Rattle.tl_tree.specs.Item as kept
-use Rattle.tl_tree.specs.Nodes.{item_at, last_of}
+use Rattle.tl_tree.specs.Nodes.{item_at, last_of, lay}
+use Rattle.tl_tree.specs.Tree.{Tree}
+use Rattle.tl_tree.specs.Texts.{Reads}
 use Rattle.tl_tree.specs.Code.{Items}
 use Rattle.tl_tree.specs.Binding.{bound}
 use Rattle.tl_tree.specs.declared.scope.Scope.{Scope}
@@ -19,6 +21,11 @@ pub data Stands (items : Items) : NodeId → Scope → Type 0 where
 
 abbrev pub NodesStand : Items → Type 0
 NodesStand items = (n : NodeId) (scope : Scope) → scope_at items n ≡ Some scope → Stands items n scope
+
+-- In the tree of a text it is known of each node that stands somewhere.
+abbrev pub KnowsWhereNodesStand : List ℕ → Type 0
+KnowsWhereNodesStand text =
+    (tree : Tree) → Reads text tree → (n : NodeId) (scope : Scope) → Stands (lay tree []) n scope → scope_at (lay tree []) n ≡ Some scope
 
 -- ---- what a name finds
 
@@ -51,6 +58,27 @@ abbrev pub BinderFinds : Items → Type 0
 BinderFinds items =
     (n : NodeId) (place : Place) (offset : ℕ) (name : List ℕ) (scope : Scope) → item_at items n ≡ kept.Name place offset name
     → scope_at items n ≡ Some scope → Finds items name 0 scope (binder items n)
+
+-- In the tree of a text `binder` is what a name finds from wherever it stands.
+abbrev pub FindsBindersOfText : List ℕ → Type 0
+FindsBindersOfText text =
+    (tree : Tree) → Reads text tree → (n : NodeId) (place : Place) (offset : ℕ) (name : List ℕ) (scope : Scope)
+    → item_at (lay tree []) n ≡ kept.Name place offset name → Stands (lay tree []) n scope
+    → Finds (lay tree []) name 0 scope (binder (lay tree []) n)
+
+-- a name that stands somewhere, and finds this from there
+pub record IsFoundBinder (items : Items) (n : NodeId) (found : Found) : Type 0 where
+  pub place : Place
+  pub offset : ℕ
+  pub name : List ℕ
+  pub scope : Scope
+  pub is_name : item_at items n ≡ kept.Name place offset name
+  pub stands : Stands items n scope
+  pub finds : Finds items name 0 scope (Some found)
+
+-- Only a name that stands somewhere has a binder.
+abbrev pub OnlyNamesHaveBinders : Items → Type 0
+OnlyNamesHaveBinders items = (n : NodeId) (found : Found) → binder items n ≡ Some found → IsFoundBinder items n found
 
 -- ---- what statements see
 

@@ -1,7 +1,7 @@
 //! Laws of scopes. The functions do nothing: their contracts are the laws.
 
 ghost use Rattle.tl_tree.specs.Arena.{items_of};
-ghost use Rattle.tl_tree.specs.ScopeLaws.{NodesStand, BinderFinds, StatementsSeeBefore, BoundDetermines};
+ghost use Rattle.tl_tree.specs.ScopeLaws.{NodesStand, KnowsWhereNodesStand, BinderFinds, FindsBindersOfText, OnlyNamesHaveBinders, StatementsSeeBefore, BoundDetermines};
 
 use crate::tree::Tree;
 
@@ -10,11 +10,27 @@ pub fn nodes_stand(tree: &Tree)
     ensures { NodesStand (items_of tree.now) }
 {}
 
+/// In the tree of a text it is known of each node that stands somewhere: the root, and each part of a node that stands. So it stands at one
+/// place only.
+pub fn knows_where_nodes_stand(text: &str)
+    ensures { KnowsWhereNodesStand text.now }
+{}
+
 /// What `binder` answers for a name that stands somewhere is the search of the scopes from there: the last of the names declared so far that
 /// is equal to it, and where there is none, what it finds around the owner. There is no binder exactly where no owner around declares the
 /// name.
 pub fn binder_finds(tree: &Tree)
     ensures { BinderFinds (items_of tree.now) }
+{}
+
+/// In the tree of a text `binder` answers so for each name that stands somewhere, with nothing known of it before.
+pub fn finds_binders_of_text(text: &str)
+    ensures { FindsBindersOfText text.now }
+{}
+
+/// Only a name that stands somewhere has a binder, and finds it from there.
+pub fn only_names_have_binders(tree: &Tree)
+    ensures { OnlyNamesHaveBinders (items_of tree.now) }
 {}
 
 /// A statement stands in the scope of the names that its owner declares before its block, of what the statements before it declare, and of

@@ -22,6 +22,3 @@ pub use scope::{Binder, Scope};
 pub use spelling::symbol_of;
 pub use symbol::Symbol;
 pub use tree::Tree;
-
-#[cfg(test)]
-mod tests;

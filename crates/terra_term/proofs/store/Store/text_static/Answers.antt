@@ -5,8 +5,12 @@ use Rattle.terra_term.proofs.store.Store.text_static.Goals as goal
 pub invariant_of-self-2 : goal.invariant_of-self-2
 invariant_of-self-2 c = (
   record {
-    same = rw c.in_ok-push-2.ensures.items (rw end-push (cc));
+    same = rw c.in_ok-push_text.ensures.ok (rw end-push (cc));
     within = omega (arith, c.in-Some-room.ensures.within);
   },
   c.self.invariant.1,
+  record {
+    same_texts = c.in_ok-push_text.ensures.same;
+    same_ids = c.self.invariant.2.same_ids;
+  },
 )

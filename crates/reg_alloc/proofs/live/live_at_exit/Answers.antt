@@ -1,0 +1,19 @@
+use Rattle.std.proofs.Common.{◌≡◌, ◌<◌, ℕ, false, replicate, length, get_or, refl, sym, ap, ◌∙◌, subst, arith}
+use Rattle.std.proofs.lemmas.List.{length-replicate, get_or-replicate}
+use Rattle.reg_alloc.specs.Sets.{at, marked}
+use Rattle.reg_alloc.proofs.Joins.{exit-none, exit-turn}
+use Rattle.reg_alloc.proofs.live.live_at_exit.Goals as goal
+
+pub loop-next-init : goal.loop-next-init
+loop-next-init c =
+    exit-none c.args.count c.in_ok-live.live c.mark_all.new.self c.args.block.now c.args.table.now
+    (ap length c.in_ok-live.ensures ∙ length-replicate c.args.count false)
+    (λ t h. ap (λ v. at v t) c.in_ok-live.ensures ∙ get_or-replicate c.args.count t false false h)
+    (c.mark_all.ensures ∙ ap (λ v. marked v c.in_ok-live.live) c.as_slice.ensures)
+
+pub loop-next-preserved : goal.loop-next-preserved
+loop-next-preserved c =
+    let i = c.loop-next.next-index in
+    exit-turn c.args.count i (get_or c.as_slice-next-items.result.now i 0) c.loop-next.live c.join_block.new.live c.args.block.now.reads c.args.block.now.next c.args.table.now
+    (subst (λ v. i < length v) c.as_slice-next-items.ensures c.loop-next-test.true)
+    (ap (λ v. get_or v i 0) (sym c.as_slice-next-items.ensures)) c.loop-next.invariant c.join_block.ensures

@@ -1,0 +1,3 @@
+pub mod Sequences
+pub mod Values
+pub mod Operators

@@ -1,0 +1,4 @@
+-- What a straight sequence of instructions does.
+pub mod Claims
+-- Which sequence stands for an operator at a width.
+pub mod Codes

@@ -1,5 +1,0 @@
-use Rattle.terrac.proofs.OneDue.{one_due}
-use Rattle.terrac.proofs.terrac.one_due.Goals as goal
-
-pub returns : goal.returns
-returns c = one_due

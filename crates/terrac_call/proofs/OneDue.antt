@@ -1,0 +1,58 @@
+-- A job on some bytes has one thing due.
+use Rattle.std.proofs.Common.{◌≡◌, ◌≢◌, ◌+◌, ◌≤◌, ◌<◌, ℕ, List, length, Option, Some, None, refl, sym, ap, subst, ◌∙◌, arith}
+use Rattle.elf_image.specs.declared.error.ImageError.{ImageError}
+use Rattle.elf_image.specs.declared.image.Image.{Image}
+use Rattle.elf_image.specs.declared.image.Symbol.{Symbol}
+use Rattle.elf_image.specs.Calls.{symbol_named}
+use Rattle.elf_image.specs.Loads.{Loads, BadBytes}
+use Rattle.rv_machine.specs.Machine.{Ran}
+use Rattle.rv_machine.proofs.ImageRuns.{one_run}
+use Rattle.terrac_call.specs.declared.status.ImageFault.TheVariants.{Refused}
+use Rattle.terrac_call.specs.Words.{Call, Job, Run, Exec, job_of}
+use Rattle.terrac_call.specs.Arguments.{Arguments, Good, Bad, arguments_of}
+use Rattle.terrac_call.specs.Due.{Due, Reading, after, due_of_call}
+use Rattle.terrac_call.specs.Exec.{due_of_bad_image, due_of_stop, IsRunDue, IsCallDue, IsExecDue, IsLong, IsBad, IsImage}
+use Rattle.terrac_call.specs.Answer.{IsDue}
+use Rattle.terrac_call.specs.Call.{OneDue}
+use Rattle.terrac_call.proofs.OneReading.{one_reading}
+
+due_of_ran : Symbol → Ran → Due
+due_of_ran symbol ran = after ran.output (due_of_stop symbol.result ran.stop)
+
+one_of_run : (image : Image) (symbol : Symbol) (steps : ℕ) (given : Arguments) (one other : Due) → IsRunDue image symbol steps given one → IsRunDue image symbol steps given other → one ≡ other
+unfolding due_of_ran
+one_of_run image symbol steps (Bad position) one other p q = p ∙ sym q
+one_of_run image symbol steps (Good values) one other p q =
+    p.2 ∙ ap (due_of_ran symbol) (one_run image symbol.address values steps p.0 q.0 p.1 q.1) ∙ sym q.2
+
+one_of_call : (image : Image) (call : Call) (steps : ℕ) (symbol : Option Symbol) (one other : Due) → IsCallDue image call steps symbol one → IsCallDue image call steps symbol other → one ≡ other
+one_of_call image call steps None one other p q = p ∙ sym q
+one_of_call image call steps (Some symbol) one other p q = one_of_run image symbol steps (arguments_of symbol.params 1 call.arguments) one other p q
+
+one_fault : (bytes : List ℕ) (e f : ImageError) → BadBytes bytes e → BadBytes bytes f → e ≡ f
+one_fault bytes e f p q = let same : ◌≡◌ {A = Option ImageError} (Some e) (Some f) = sym p ∙ q in cc
+
+no_both : (bytes : List ℕ) (e : ImageError) (image : Image) → BadBytes bytes e → Loads bytes image → ⊥
+no_both bytes e image p q = let bad : ◌≡◌ {A = Option ImageError} (Some e) None = sym p ∙ q.0 in absurd cc
+
+one_of_exec : (call : Call) (steps : ℕ) (bytes : List ℕ) (one other : Due) → IsExecDue call steps bytes one → IsExecDue call steps bytes other → one ≡ other
+one_of_exec call steps bytes one other (IsLong more p) (IsLong long q) = p ∙ sym q
+one_of_exec call steps bytes one other (IsLong more p) (IsBad f few bad q) = absurd (omega arith)
+one_of_exec call steps bytes one other (IsLong more p) (IsImage i few loads q) = absurd (omega arith)
+one_of_exec call steps bytes one other (IsBad e few bad p) (IsLong long q) = absurd (omega arith)
+one_of_exec call steps bytes one other (IsBad e few bad p) (IsBad f less worse q) = p ∙ ap (λ (x : ImageError). due_of_bad_image (Refused x)) (one_fault bytes e f bad worse) ∙ sym q
+one_of_exec call steps bytes one other (IsBad e few bad p) (IsImage i less loads q) = absurd (no_both bytes e i bad loads)
+one_of_exec call steps bytes one other (IsImage i few loads p) (IsLong long q) = absurd (omega arith)
+one_of_exec call steps bytes one other (IsImage i few loads p) (IsBad f less bad q) = absurd (no_both bytes f i bad loads)
+one_of_exec call steps bytes one other (IsImage i few loads p) (IsImage j less read q) =
+    let same : j ≡ i = read.1 ∙ sym loads.1 in
+    one_of_call i call steps (symbol_named call.entry i.exports) one other p
+    (subst (λ (x : Image). IsCallDue x call steps (symbol_named call.entry x.exports) other) same q)
+
+one_of_job : (job : Option Job) (bytes : List ℕ) (one other : Due) → job ≢ None → IsDue job bytes one → IsDue job bytes other → one ≡ other
+one_of_job None bytes one other some p q = absurd (some refl)
+one_of_job (Some (Run call)) bytes one other some p q = p.2 ∙ ap (due_of_call call) (one_reading bytes p.0 q.0 p.1 q.1) ∙ sym q.2
+one_of_job (Some (Exec call steps)) bytes one other some p q = one_of_exec call steps bytes one other p q
+
+pub one_due : OneDue
+one_due words bytes one other some p q = one_of_job (job_of words) bytes one other some p q

@@ -1,0 +1,5 @@
+use Rattle.terrac_call.proofs.OneDue.{one_due}
+use Rattle.terrac_call.proofs.call.one_due.Goals as goal
+
+pub returns : goal.returns
+returns c = one_due

@@ -1,0 +1,91 @@
+-- What a call answers, whatever the source and the sinks do.
+use Rattle.std.specs.Prelude.{ℕ, ◌≡◌, ◌+◌, ◌≤◌, List, [], ◌++◌, length, Option, Some, None, codes, ◌⊎◌, IsSome}
+use Rattle.tl_base.specs.Outside.{with_front, with_back, IsFront}
+use Rattle.terrac_call.specs.declared.status.Status.{Status}
+use Rattle.terrac_call.specs.declared.status.Status.TheVariants as statuses
+use Rattle.terrac_call.specs.Words.{Job, Run, Exec, job_of}
+use Rattle.terrac_call.specs.Due.{Due, line, longest, refused, due_of_usage, IsSourceDue}
+use Rattle.terrac_call.specs.Exec.{longest_image, IsExecDue}
+
+-- ---- what is owed, before it is written
+
+-- the bytes of a source, where it tells them
+abbrev pub IsToldAs : Option (List ℕ) → List ℕ → Type 0
+IsToldAs None bytes = Unit {0}
+IsToldAs (Some whole) bytes = whole ≡ bytes
+
+-- for a job on these bytes, and for words that name none
+abbrev pub IsDue : Option Job → List ℕ → Due → Type 0
+IsDue None bytes due = (text : List ℕ) × (due ≡ due_of_usage text)
+IsDue (Some (Run call)) bytes due = IsSourceDue call bytes due
+IsDue (Some (Exec call steps)) bytes due = IsExecDue call steps bytes due
+
+-- what is due, unless memory runs out: then `out` takes a front of it, and `notes` the line that says so
+pub data IsDueOrCut (Is : Due → Type 0) (due : Due) : Type 0 where
+  IsWhole : Is due → IsDueOrCut Is due
+  IsCut : (whole : Due) → Is whole → IsFront due.out whole.out → due.status ≡ statuses.NoMemory
+      → due.notes ≡ line (codes "no memory") → IsDueOrCut Is due
+
+-- What is owed for a job: what is due on the bytes that the source has left; the line of a read that failed, where there is a job
+-- and the source's count of faults rose; or that of want of memory, which is free.
+pub data Owed (job : Option Job) (left : Option (List ℕ)) (Rose : Type 0) (due : Due) : Type 0 where
+  Answered : (bytes : List ℕ) → IsToldAs left bytes → IsDueOrCut (IsDue job bytes) due → Owed job left Rose due
+  Unread : IsSome job → Rose → due ≡ refused statuses.ReadFault (codes "read fault") → Owed job left Rose due
+  OutOfMemory : due ≡ refused statuses.NoMemory (codes "no memory") → Owed job left Rose due
+
+-- how many bytes are read of a source at most: one more than it may have, which tells that it has too many
+abbrev pub most_read : Option Job → ℕ
+most_read None = 0
+most_read (Some (Run call)) = longest + 1
+most_read (Some (Exec call steps)) = longest_image + 1
+
+-- ---- how it is written
+
+-- a sink took a front of these bytes
+pub record TakesFront (whole : List ℕ) (old new : Option (List ℕ)) : Type 0 where
+  pub part : List ℕ
+  pub is_front : IsFront part whole
+  pub took : new ≡ with_back old part
+
+-- every write was whole
+pub record IsWritten (due : Due) (status : Status) (out notes : List ℕ) : Type 0 where
+  pub same_status : status ≡ due.status
+  pub same_out : out ≡ due.out
+  pub same_notes : notes ≡ due.notes
+
+-- A write failed: the sinks took fronts of what was due, and then `notes` a front of the line `write fault`, which is tried once.
+pub record IsCutOff (due : Due) (status : Status) (out notes : List ℕ) : Type 0 where
+  pub write_fault : status ≡ statuses.WriteFault
+  pub out_front : IsFront out due.out
+  pub due_part : List ℕ
+  pub fault_part : List ℕ
+  pub parts : notes ≡ due_part ++ fault_part
+  pub due_front : IsFront due_part due.notes
+  pub fault_front : IsFront fault_part (line (codes "write fault"))
+
+-- What the sinks took is what was due, or fronts of it where a write failed.
+pub record Delivers (due : Due) (status : Status) (out_old out_new notes_old notes_new : Option (List ℕ)) : Type 0 where
+  pub out : List ℕ
+  pub notes : List ℕ
+  pub ends : IsWritten due status out notes ⊎ IsCutOff due status out notes
+  pub out_took : out_new ≡ with_back out_old out
+  pub notes_took : notes_new ≡ with_back notes_old notes
+
+-- What a call answers: something was owed, and that was delivered. A sink that nothing is due to stays the same.
+pub record Answers
+    (words : List (List ℕ)) (left : Option (List ℕ)) (Rose : Type 0) (status : Status)
+    (out_old out_new notes_old notes_new : Option (List ℕ)) (SameOut : Type 0) : Type 0 where
+  pub due : Due
+  pub owed : Owed (job_of words) left Rose due
+  pub delivered : Delivers due status out_old out_new notes_old notes_new
+  pub quiet_out : due.out ≡ [] → SameOut
+
+-- at most so many bytes were taken from the source
+abbrev pub TookAtMost : ℕ → Option (List ℕ) → Option (List ℕ) → Type 0
+TookAtMost most old new = (front : List ℕ) × (length front ≤ most) × (old ≡ with_front front new)
+
+-- the sinks took all that is due, and the status is that which is due
+pub record GivesDue (due : Due) (status : Status) (out_old out_new notes_old notes_new : Option (List ℕ)) : Type 0 where
+  pub status_is : status ≡ due.status
+  pub out_took : out_new ≡ with_back out_old due.out
+  pub notes_took : notes_new ≡ with_back notes_old due.notes

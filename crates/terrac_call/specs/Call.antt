@@ -1,0 +1,30 @@
+-- What the top call promises where nothing fails.
+use Rattle.std.specs.Prelude.{ℕ, ◌≡◌, ◌≢◌, List, Option, Some, None}
+use Rattle.terrac_call.specs.declared.status.Status.{Status}
+use Rattle.terrac_call.specs.declared.status.Status.TheVariants as statuses
+use Rattle.terrac_call.specs.Words.{job_of}
+use Rattle.terrac_call.specs.Due.{Due}
+use Rattle.terrac_call.specs.Answer.{IsDue, GivesDue}
+
+-- the status and the bytes are those of something that is due
+pub record AnswersDue
+    (words : List (List ℕ)) (bytes : List ℕ) (status : Status)
+    (out_old out_new notes_old notes_new : Option (List ℕ)) : Type 0 where
+  pub due : Due
+  pub is_due : IsDue (job_of words) bytes due
+  pub gives : GivesDue due status out_old out_new notes_old notes_new
+
+-- Where the source tells its bytes and no count rose, the answer is exactly what is due, want of memory aside.
+abbrev pub AnswersExactly :
+    List (List ℕ) → Option (List ℕ) → (RoseSource RoseOut RoseNotes : Type 0) → Status →
+    (out_old out_new notes_old notes_new : Option (List ℕ)) → Type 0
+AnswersExactly words left RoseSource RoseOut RoseNotes status out_old out_new notes_old notes_new =
+    (bytes : List ℕ) → left ≡ Some bytes →
+    (RoseSource → ⊥) → (RoseOut → ⊥) → (RoseNotes → ⊥) → status ≢ statuses.NoMemory →
+    AnswersDue words bytes status out_old out_new notes_old notes_new
+
+-- A job on some bytes has one thing due; only the text of `clap` for words that name none is open.
+abbrev pub OneDue : Type 0
+OneDue =
+    (words : List (List ℕ)) (bytes : List ℕ) (one other : Due) → job_of words ≢ None →
+    IsDue (job_of words) bytes one → IsDue (job_of words) bytes other → one ≡ other

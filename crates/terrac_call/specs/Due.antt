@@ -1,0 +1,133 @@
+-- What is due to the caller: the status, and what `out` and `notes` take.
+use Rattle.std.specs.Prelude.{ℕ, ◌≡◌, ◌<◌, ◌≤◌, List, [], ◌∷◌, ◌++◌, length, replicate, Option, Some, None, if◌then◌else◌, codes}
+use Rattle.std.specs.Str.{bytes_eq}
+use Rattle.std.specs.Fmt.{decimal}
+use Rattle.std.specs.declared.io.ErrorKind.{ErrorKind}
+use Rattle.std.specs.declared.io.ErrorKind.TheVariants.{OutOfMemory}
+use Rattle.std.specs.Str.{IsUtf8}
+use Rattle.tl_base.specs.declared.place.Place.{Place}
+use Rattle.tl_lex.specs.declared.SyntaxKind.{SyntaxKind}
+use Rattle.tl_lex.specs.declared.SyntaxKind.TheVariants.{BadByte, OpenText, BadEscape, BadNumber, NameTooLong, TextTooLong, TooDeep, Ambiguous, Unexpected, TooLong, NotUtf8}
+use Rattle.tl_tree.specs.Tree.{Tree}
+use Rattle.tl_tree.specs.Texts.{Reads, Refuses}
+use Rattle.elf_image.specs.Calls.{result_text}
+use Rattle.first_form.specs.Formula.{SourceFunction}
+use Rattle.first_form.specs.Form.{function_of}
+use Rattle.first_meaning.specs.Meaning.{meaning}
+use Rattle.terrac_call.specs.declared.status.Status.{Status}
+use Rattle.terrac_call.specs.declared.status.Status.TheVariants as statuses
+use Rattle.terrac_call.specs.Words.{Call}
+use Rattle.terrac_call.specs.Arguments.{Arguments, Good, Bad, arguments_of}
+
+pub record Due : Type 0 where
+  pub status : Status
+  pub out : List ℕ
+  pub notes : List ℕ
+
+-- a text with its line end, LF
+abbrev pub line : List ℕ → List ℕ
+line text = text ++ 10 ∷ []
+
+-- a refusal: nothing on `out`, and its line on `notes`
+abbrev pub refused : Status → List ℕ → Due
+refused status text = record { status = status; out = []; notes = line text }
+
+-- what is due behind bytes that were written to `out`
+abbrev pub after : List ℕ → Due → Due
+after printed due = record { status = due.status; out = printed ++ due.out; notes = due.notes }
+
+-- a place, as line and number of the token on it
+abbrev pub place_text : Place → List ℕ
+place_text place = decimal place.line ++ codes ":" ++ decimal place.word
+
+-- the line of a result, whose type has this code
+abbrev pub due_of_result : ℕ → ℕ → Due
+due_of_result code word = record { status = statuses.Ok; out = line (codes "result " ++ result_text code word); notes = [] }
+
+abbrev pub due_of_bad_argument : ℕ → Due
+due_of_bad_argument position = refused (statuses.BadArgument position) (codes "bad argument " ++ decimal position)
+
+abbrev pub due_of_no_entry : List ℕ → Due
+due_of_no_entry entry = refused statuses.NoEntry (codes "no entry " ++ entry)
+
+-- words that `clap` refuses: a line, and then its own text
+abbrev pub due_of_usage : List ℕ → Due
+due_of_usage text = record { status = statuses.Usage; out = []; notes = line (codes "usage") ++ text }
+
+-- the type code of int64
+abbrev pub int64 : ℕ
+int64 = 4
+
+-- for a function that is called with these arguments
+abbrev pub due_of_arguments : SourceFunction → Arguments → Due
+due_of_arguments function (Bad position) = due_of_bad_argument position
+due_of_arguments function (Good values) = due_of_result int64 (meaning function.body values)
+
+-- ---- how a source reads
+
+-- what a source reads as: refused for this reason at this place, this function, or another source
+pub data Reading : Type 0 where
+  IsRefused : SyntaxKind → Place → Reading
+  IsFunction : SourceFunction → Reading
+  IsOther : Reading
+
+-- how many bytes a source may have
+abbrev pub longest : ℕ
+longest = 1048576
+
+-- the place of what concerns a whole source
+abbrev pub nowhere : Place
+nowhere = record { line = 0; word = 0 }
+
+-- the function of a tree, where it is one
+abbrev pub reading_of : Option SourceFunction → Reading
+reading_of None = IsOther
+reading_of (Some function) = IsFunction function
+
+-- A text reads as what its tree is, or is refused.
+pub data IsTextReadAs (text : List ℕ) : Reading → Type 0 where
+  HasTree : (tree : Tree) → Reads text tree → IsTextReadAs text (reading_of (function_of tree))
+  HasNone : (kind : SyntaxKind) (place : Place) → Refuses text kind place → IsTextReadAs text (IsRefused kind place)
+
+-- A source is refused where it is too long; else where it is not UTF-8; and else it reads as its text does.
+pub data IsReadAs (source : List ℕ) : Reading → Type 0 where
+  IsTooLong : longest < length source → IsReadAs source (IsRefused TooLong nowhere)
+  IsNotUtf8 : length source ≤ longest → (IsUtf8 source → ⊥) → IsReadAs source (IsRefused NotUtf8 nowhere)
+  IsText : (reading : Reading) → length source ≤ longest → IsUtf8 source → IsTextReadAs source reading → IsReadAs source reading
+
+-- ---- what is due for it
+
+abbrev pub kind_name : SyntaxKind → List ℕ
+kind_name BadByte = codes "BadByte"
+kind_name OpenText = codes "OpenText"
+kind_name BadEscape = codes "BadEscape"
+kind_name BadNumber = codes "BadNumber"
+kind_name NameTooLong = codes "NameTooLong"
+kind_name TextTooLong = codes "TextTooLong"
+kind_name TooDeep = codes "TooDeep"
+kind_name Ambiguous = codes "Ambiguous"
+kind_name Unexpected = codes "Unexpected"
+kind_name TooLong = codes "TooLong"
+kind_name NotUtf8 = codes "NotUtf8"
+
+-- for a source that is refused
+abbrev pub due_of_syntax : SyntaxKind → Place → Due
+due_of_syntax kind place =
+    refused (statuses.Syntax kind place) (codes "syntax " ++ kind_name kind ++ codes " at " ++ place_text place)
+
+-- for a call on a source that reads so
+abbrev pub due_of_call : Call → Reading → Due
+due_of_call call (IsRefused kind place) = due_of_syntax kind place
+due_of_call call IsOther = refused statuses.NotBuilt (codes "not built")
+due_of_call call (IsFunction function) =
+    if bytes_eq call.entry function.name then due_of_arguments function (arguments_of (replicate function.arity int64) 1 call.arguments)
+    else due_of_no_entry call.entry
+
+-- for a call on the bytes of a source
+abbrev pub IsSourceDue : Call → List ℕ → Due → Type 0
+IsSourceDue call bytes due = (reading : Reading) × IsReadAs bytes reading × (due ≡ due_of_call call reading)
+
+-- for words that could not be collected: memory ran out, or a word is no UTF-8, which names nothing
+abbrev pub due_of_unread : ErrorKind → Due
+due_of_unread OutOfMemory = refused statuses.NoMemory (codes "no memory")
+due_of_unread _ = due_of_usage []

@@ -1,0 +1,39 @@
+-- What a command has done when it ends, and what then remains to be written.
+use Rattle.std.specs.Prelude.{ℕ, ◌≡◌, ◌≢◌, List, [], Option}
+use Rattle.tl_base.specs.Outside.{with_back, IsRisen, IsFront}
+use Rattle.terrac_call.specs.declared.due.Ended.{Ended}
+use Rattle.terrac_call.specs.declared.due.Ended.TheVariants as ends
+use Rattle.terrac_call.specs.declared.due.Due.{Due as DueValue}
+use Rattle.terrac_call.specs.declared.status.Status.{Status}
+use Rattle.terrac_call.specs.declared.status.Status.TheVariants as statuses
+use Rattle.terrac_call.specs.Due.{Due, after}
+use Rattle.terrac_call.specs.DueView.{shown_due}
+
+-- the sink took these bytes, and the rest of what is due remains
+pub record Remains (Is : Due → Type 0) (rest : DueValue) (out_old out_new : Option (List ℕ)) (faults_old faults_new : ℕ) (Same : Type 0) : Type 0 where
+  pub printed : List ℕ
+  pub is_due : Is (after printed (shown_due rest))
+  pub took : out_new ≡ with_back out_old printed
+  pub quiet : faults_new ≡ faults_old
+  pub same : printed ≡ [] → Same
+  pub other : rest.status ≢ statuses.WriteFault
+
+-- the sink failed, and took a front of what is due to it, which is something
+pub record Stopped (Is : Due → Type 0) (out_old out_new : Option (List ℕ)) (faults_old faults_new : ℕ) : Type 0 where
+  pub due : Due
+  pub is_due : Is due
+  pub part : List ℕ
+  pub front : IsFront part due.out
+  pub some : due.out ≢ []
+  pub took : out_new ≡ with_back out_old part
+  pub rose : IsRisen faults_old faults_new
+
+-- one of the two
+abbrev pub Ends : (Is : Due → Type 0) → Ended → (out_old out_new : Option (List ℕ)) (faults_old faults_new : ℕ) (Same : Type 0) → Type 0
+Ends Is (ends.Due rest) out_old out_new faults_old faults_new Same = Remains Is rest out_old out_new faults_old faults_new Same
+Ends Is ends.WriteFault out_old out_new faults_old faults_new Same = Stopped Is out_old out_new faults_old faults_new
+
+-- what the status of the rest is
+abbrev pub IsStatus : Ended → (Status → Type 0) → Type 0
+IsStatus (ends.Due rest) Is = Is rest.status
+IsStatus ends.WriteFault Is = Unit {0}

@@ -1,0 +1,47 @@
+-- What values of the program show of a job and its arguments.
+use Rattle.std.specs.Prelude.{ℕ, ◌≡◌, List, ◌++◌, Option, Some, None, length, map, string_bytes, codes}
+use Rattle.std.specs.Borrow.{Bor}
+use Rattle.terrac_call.specs.declared.words.Call.{Call as CallValue}
+use Rattle.terrac_call.specs.declared.words.Job.{Job as JobValue}
+use Rattle.terrac_call.specs.declared.words.Job.TheVariants as jobs
+use Rattle.terrac_call.specs.declared.words.Asked.{Asked}
+use Rattle.terrac_call.specs.declared.words.Asked.TheVariants as asked
+use Rattle.terrac_call.specs.declared.arguments.Arguments.{Arguments as ArgumentsValue}
+use Rattle.terrac_call.specs.declared.arguments.Arguments.TheVariants as values
+use Rattle.terrac_call.specs.Words.{Call, Job, Run, Exec}
+use Rattle.terrac_call.specs.Arguments.{Arguments, Good, Bad}
+use Rattle.terrac_call.specs.Due.{line}
+
+-- the bytes of texts
+abbrev pub texts_of : List (Bor (List ℕ)) → List (List ℕ)
+texts_of texts = map (λ text. text.now) texts
+
+abbrev pub shown_call : CallValue → Call
+shown_call call = record { entry = call.entry.now; arguments = texts_of call.arguments.items }
+
+abbrev pub shown_job : JobValue → Job
+shown_job (jobs.Run call) = Run (shown_call call)
+shown_job (jobs.Exec call steps) = Exec (shown_call call) steps
+
+-- the job that was asked for, if the words name one
+abbrev pub shown_asked : Asked → Option Job
+shown_asked (asked.Job job) = Some (shown_job job)
+shown_asked (asked.Refused text) = None
+
+abbrev pub shown_arguments : ArgumentsValue → Arguments
+shown_arguments (values.Good words) = Good words.items
+shown_arguments (values.Bad position) = Bad position
+
+-- good arguments are so many
+abbrev pub HasCount : ℕ → ArgumentsValue → Type 0
+HasCount count (values.Good words) = length words.items ≡ count
+HasCount count (values.Bad position) = Unit {0}
+
+-- the line `usage`, with any text behind it
+abbrev pub HasUsageLine : List ℕ → Type 0
+HasUsageLine bytes = (text : List ℕ) × (bytes ≡ line (codes "usage") ++ text)
+
+-- a refusal of the words has that line
+abbrev pub IsUsageText : Asked → Type 0
+IsUsageText (asked.Job job) = Unit {0}
+IsUsageText (asked.Refused text) = HasUsageLine (string_bytes text)

@@ -1,0 +1,90 @@
+// The top call.
+
+ghost use Rattle.std.specs.Prelude.{◌≡◌, ◌≢◌, ◌<◌, ◌⊎◌, None, map, string_bytes};
+ghost use Rattle.tl_base.specs.Outside.{IsRisen};
+ghost use Rattle.terrac_call.specs.Words.{job_of, AreTaken};
+ghost use Rattle.terrac_call.specs.Answer.{Answers, TookAtMost, most_read};
+ghost use Rattle.terrac_call.specs.Answer.{Delivers};
+ghost use Rattle.terrac_call.specs.Call.{AnswersExactly, OneDue};
+ghost use Rattle.terrac_call.specs.Due.{due_of_unread};
+ghost use Rattle.terrac_call.specs.DueView.{shown_due};
+ghost use Rattle.terrac_call.specs.declared.status.Status.TheVariants as statuses;
+
+use crate::delivery::{deliver, write_fault};
+use crate::due::{Due, Ended};
+use crate::lines::{bare_usage_due, no_memory_due};
+use crate::run::run;
+use crate::status::Status;
+use std::alloc::Global;
+use std::io::ErrorKind;
+use tl_base::{Sink, Source};
+
+/// Does what the words ask for: reads `source`, writes results to `out` and the line of a refusal to `notes`, and answers how it
+/// ended. `words` are the program's words, its own name first.
+pub fn terrac<S: Source, K: Sink, N: Sink>(
+    alloc: Global,
+    words: &[String],
+    source: &mut S,
+    out: &mut K,
+    notes: &mut N,
+) -> Status
+    // Where the source tells its bytes and no count of faults rose, the status and the bytes are those that are due.
+    ensures exactly { AnswersExactly (map string_bytes words.now) (S.left source.old)
+        (IsRisen (S.faults source.old) (S.faults source.new)) (IsRisen (K.faults out.old) (K.faults out.new))
+        (IsRisen (N.faults notes.old) (N.faults notes.new))
+        result (K.taken out.old) (K.taken out.new) (N.taken notes.old) (N.taken notes.new) }
+
+    // Whatever the source and the sinks do, the sinks took what was owed, or fronts of it and of the line of a write fault; `out`
+    // isn't called where nothing is due to it.
+    ensures answers { Answers (map string_bytes words.now) (S.left source.old) (IsRisen (S.faults source.old) (S.faults source.new))
+        result (K.taken out.old) (K.taken out.new) (N.taken notes.old) (N.taken notes.new) (out.new ≡ out.old) }
+
+    // A fault comes only where that object's count rose.
+    ensures read_fault { result ≡ statuses.ReadFault → IsRisen (S.faults source.old) (S.faults source.new) }
+    ensures write_fault { result ≡ statuses.WriteFault →
+        IsRisen (K.faults out.old) (K.faults out.new) ⊎ IsRisen (N.faults notes.old) (N.faults notes.new) }
+
+    // Where a count became larger, the status says so, that of a sink first.
+    ensures source_rose { S.faults source.old < S.faults source.new →
+        (result ≡ statuses.ReadFault) ⊎ (result ≡ statuses.WriteFault) }
+    ensures out_rose { K.faults out.old < K.faults out.new → result ≡ statuses.WriteFault }
+    ensures notes_rose { N.faults notes.old < N.faults notes.new → result ≡ statuses.WriteFault }
+
+    // Words that `clap` takes are no bad usage; words that name no job leave the source as it is; a result leaves `notes` as it is.
+    ensures taken { AreTaken (map string_bytes words.now) → result ≢ statuses.Usage }
+    ensures untouched { job_of (map string_bytes words.now) ≡ None → source.new ≡ source.old }
+    ensures quiet_notes { result ≡ statuses.Ok → notes.new ≡ notes.old }
+
+    // No more than one byte past the limit of a source or an image is read.
+    ensures bound { TookAtMost (most_read (job_of (map string_bytes words.now))) (S.left source.old) (S.left source.new) }
+{
+    match run(alloc, words, source, out) {
+        Ended::Due(due) => deliver(&due, out, notes),
+        Ended::WriteFault => write_fault(notes),
+    }
+}
+
+/// What [`terrac`] would do where the program's words can't be collected, by the kind of the error.
+pub fn refuse_unread<K: Sink, N: Sink>(kind: ErrorKind, out: &mut K, notes: &mut N) -> Status
+    ensures delivers { Delivers (due_of_unread kind) result (K.taken out.old) (K.taken out.new) (N.taken notes.old) (N.taken notes.new) }
+    ensures fault { result ≡ statuses.WriteFault →
+        IsRisen (K.faults out.old) (K.faults out.new) ⊎ IsRisen (N.faults notes.old) (N.faults notes.new) }
+{
+    deliver(&unread_words_due(kind), out, notes)
+}
+
+/// What is due where the words could not be collected: memory ran out, or a word is no UTF-8, which names nothing.
+fn unread_words_due(kind: ErrorKind) -> Due
+    ensures due { shown_due result ≡ due_of_unread kind }
+    ensures status { result.status ≢ statuses.WriteFault }
+{
+    match kind {
+        ErrorKind::OutOfMemory => no_memory_due(),
+        _ => bare_usage_due(),
+    }
+}
+
+/// A job on some bytes has one thing due, so that [`terrac`]'s answer is the only one.
+pub fn one_due()
+    ensures { OneDue }
+{}

@@ -1,0 +1,40 @@
+// What is due to the caller.
+
+ghost use Rattle.std.specs.Prelude.{◌≡◌};
+ghost use Rattle.terrac_call.specs.DueView.{line_bytes};
+
+use crate::status::Status;
+
+/// A line, with its line end.
+#[derive(Drop)]
+pub(crate) enum Line {
+    Fixed(&'static str),
+    Made(String),
+}
+
+impl Line {
+    pub(crate) fn as_bytes(&self) -> &[u8]
+        ensures { result.now ≡ line_bytes self.now }
+    {
+        match self {
+            Line::Fixed(text) => text.as_bytes(),
+            Line::Made(text) => text.as_bytes(),
+        }
+    }
+}
+
+/// The status that is due and its line: the result for [`Status::Ok`], and the line on `notes` for every other.
+#[derive(Drop)]
+pub(crate) struct Due {
+    pub status: Status,
+    pub line: Line,
+}
+
+/// How a command ends.
+#[derive(Drop)]
+pub(crate) enum Ended {
+    /// What `out` took is a front of what is due, and this is the rest.
+    Due(Due),
+    /// `out` failed.
+    WriteFault,
+}

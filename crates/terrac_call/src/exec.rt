@@ -1,0 +1,162 @@
+// The command `exec`: from the bytes of an image to what is due.
+
+ghost use Rattle.std.specs.Prelude.{◌≡◌, ◌≢◌, ◌<◌, ◌/◌, ◌%◌, ◌^◌, ◌≤◌, ◌⊎◌, length, codes, IfOk, OnErr};
+ghost use Rattle.elf_image.specs.Lawful.{IsLawful};
+ghost use Rattle.elf_image.specs.Calls.{symbol_named};
+ghost use Rattle.rv_machine.specs.declared.stops.Stop.TheVariants as stops;
+ghost use Rattle.terrac_call.specs.Answer.{IsDueOrCut};
+ghost use Rattle.terrac_call.specs.Arguments.{Good};
+ghost use Rattle.terrac_call.specs.Due.{refused};
+ghost use Rattle.elf_image.specs.declared.error.ImageError.TheVariants as errors;
+ghost use Rattle.terrac_call.specs.declared.status.ImageFault.TheVariants.{Refused};
+ghost use Rattle.terrac_call.specs.Exec.{fault_kind, place_of, due_of_bad_image, due_of_stop, IsRunDue, IsCallDue, IsExecDue};
+ghost use Rattle.terrac_call.specs.Ending.{Ends};
+ghost use Rattle.terrac_call.specs.DueView.{shown_due};
+ghost use Rattle.terrac_call.specs.JobView.{shown_call};
+ghost use Rattle.terrac_call.specs.declared.status.Status.TheVariants as statuses;
+
+use crate::arguments::{Arguments, arguments_of};
+use crate::due::{Due, Ended};
+use crate::lines::{
+    bad_argument_due, bad_image_due, fault_due, machine_fault_due, no_entry_due, no_memory_due,
+    result_due, unfinished_due,
+};
+use crate::status::{FaultKind, ImageFault};
+use crate::words::Call;
+use elf_image::{Image, ImageError, Symbol, read};
+use rv_machine::{Stop, run_image};
+use std::alloc::Global;
+use tl_base::{NoMemory, Place, Sink};
+
+/// How many bytes an image may have.
+pub(crate) const LONGEST_IMAGE: usize = 268_435_456;
+
+/// What is due for a call on the bytes of an image. The output of the run is written on the way.
+pub(crate) fn exec<K: Sink>(
+    alloc: Global,
+    call: &Call<'_>,
+    steps: u64,
+    bytes: &[u8],
+    out: &mut K,
+) -> Result<Ended, NoMemory>
+    ensures ends { IfOk result (λ ended.
+        Ends (IsDueOrCut (IsExecDue (shown_call call.now) steps bytes.now)) ended
+        (K.taken out.old) (K.taken out.new) (K.faults out.old) (K.faults out.new) (out.new ≡ out.old)) }
+    ensures err { OnErr result (out.new ≡ out.old) }
+{
+    if bytes.len() > LONGEST_IMAGE {
+        return Ok(Ended::Due(bad_image_due(alloc, ImageFault::TooLong)?));
+    }
+    match read(alloc, bytes) {
+        Ok(image) => exec_image(alloc, call, steps, &image, out),
+        Err(error) => Ok(Ended::Due(refused_due(alloc, error)?)),
+    }
+}
+
+/// What is due for bytes that are no image, where it isn't want of memory that says so.
+fn refused_due(alloc: Global, error: ImageError) -> Result<Due, NoMemory>
+    ensures other { IfOk result (λ due. error ≢ errors.NoMemory) }
+    ensures due { IfOk result (λ due. shown_due due ≡ due_of_bad_image (Refused error)) }
+    ensures status { IfOk result (λ due. due.status ≡ statuses.BadImage (Refused error)) }
+{
+    match error {
+        ImageError::NoMemory => Err(NoMemory),
+        _ => bad_image_due(alloc, ImageFault::Refused(error)),
+    }
+}
+
+/// What is due for a call on an image.
+fn exec_image<K: Sink>(
+    alloc: Global,
+    call: &Call<'_>,
+    steps: u64,
+    image: &Image,
+    out: &mut K,
+) -> Result<Ended, NoMemory>
+    requires { IsLawful image.now }
+    ensures ends { IfOk result (λ ended.
+        Ends (IsDueOrCut (IsCallDue image.now (shown_call call.now) steps (symbol_named (shown_call call.now).entry image.now.exports))) ended
+        (K.taken out.old) (K.taken out.new) (K.faults out.old) (K.faults out.new) (out.new ≡ out.old)) }
+    ensures err { OnErr result (out.new ≡ out.old) }
+{
+    let Some(symbol) = image.find(call.entry.as_bytes()) else {
+        return Ok(Ended::Due(no_entry_due(alloc, call.entry)?));
+    };
+    match arguments_of(alloc, symbol.params.as_slice(), &call.arguments)? {
+        Arguments::Good(values) => exec_symbol(alloc, image, symbol, &values, steps, out),
+        Arguments::Bad(number) => Ok(Ended::Due(bad_argument_due(alloc, number)?)),
+    }
+}
+
+/// What is due for a run of a function of an image.
+fn exec_symbol<K: Sink>(
+    alloc: Global,
+    image: &Image,
+    symbol: &Symbol,
+    values: &[u64],
+    steps: u64,
+    out: &mut K,
+) -> Result<Ended, NoMemory>
+    requires lawful { IsLawful image.now }
+    requires few { length values.now ≤ 8 }
+    ensures ends { IfOk result (λ ended.
+        Ends (IsDueOrCut (IsRunDue image.now symbol.now steps (Good values.now))) ended
+        (K.taken out.old) (K.taken out.new) (K.faults out.old) (K.faults out.new) (out.new ≡ out.old)) }
+    ensures err { OnErr result (out.new ≡ out.old) }
+{
+    let stop = run_image(alloc, image, symbol.address, values, steps, out)?;
+    match stop {
+        Stop::WriteFault => Ok(Ended::WriteFault),
+        _ => Ok(Ended::Due(stop_due_or_no_memory(alloc, symbol.result, stop))),
+    }
+}
+
+/// What remains due where a run stops so, or the line that says that memory ran out.
+fn stop_due_or_no_memory(alloc: Global, code: u8, stop: Stop) -> Due
+    requires { stop ≢ stops.WriteFault }
+    ensures due { (shown_due result ≡ due_of_stop code stop) ⊎ (shown_due result ≡ refused statuses.NoMemory (codes "no memory")) }
+    ensures status { result.status ≢ statuses.WriteFault }
+{
+    match stop_due(alloc, code, stop) {
+        Ok(due) => due,
+        Err(NoMemory) => no_memory_due(),
+    }
+}
+
+/// What is due where a run stops so, behind its output.
+fn stop_due(alloc: Global, code: u8, stop: Stop) -> Result<Due, NoMemory>
+    requires { stop ≢ stops.WriteFault }
+    ensures due { IfOk result (λ due. shown_due due ≡ due_of_stop code stop) }
+    ensures status { IfOk result (λ due. due.status ≢ statuses.WriteFault) }
+{
+    match stop {
+        Stop::Returned(word) => result_due(alloc, code, word),
+        Stop::TerraFault { kind, place } => fault_due(alloc, fault_kind(kind), place_of(place)),
+        Stop::MachineFault { kind, pc } => machine_fault_due(alloc, kind, pc),
+        Stop::Unfinished => Ok(unfinished_due()),
+        Stop::WriteFault => unreachable!(),
+    }
+}
+
+/// The kind of a fault by its number, which is from 1 to 5.
+fn fault_kind(number: u64) -> FaultKind
+    ensures { result ≡ fault_kind number }
+{
+    match number {
+        1 => FaultKind::BadAddress,
+        2 => FaultKind::DivZero,
+        3 => FaultKind::StackFull,
+        4 => FaultKind::CallDepth,
+        _ => FaultKind::NoReturn,
+    }
+}
+
+/// The place of a fault: the line in the upper half of its word, and the number of the token in the lower.
+fn place_of(place: u64) -> Place
+    ensures { result ≡ place_of place }
+{
+    Place {
+        line: (place / (1 << 32)) as u32,
+        word: (place % (1 << 32)) as u32,
+    }
+}

@@ -1,0 +1,22 @@
+//! The call of the program: from words and a source to results, the lines of refusals and a status.
+//!
+//! [`terrac`] is generic over a source of bytes and two sinks, and its clauses say what they take and give.
+//! [`refuse_unread`] is what the program does where its words can't be collected. `specs/` has the promise.
+#![tactic(auto)]
+
+mod arguments;
+pub mod call;
+mod code;
+mod delivery;
+mod due;
+mod exec;
+mod form;
+mod lines;
+mod reading;
+mod run;
+pub mod status;
+mod words;
+mod writing;
+
+pub use call::{one_due, refuse_unread, terrac};
+pub use status::{FaultKind, ImageFault, Status};

@@ -1,0 +1,187 @@
+// The words of a command line, which `clap` reads.
+
+ghost use Rattle.std.specs.Prelude.{◌≡◌, [], IfOk, IsSome, false, map, unwrap_or, string_bytes};
+ghost use Rattle.clap.specs.Words.{app_of, found_of, rows_of, rule_of, subcommand_rows_of, all_of, first_of};
+ghost use Rattle.terrac_call.specs.Words.{entry_rule, arguments_rule, steps_rule, command_line, call_of, steps_of, number_or_zero, text_or_none, job_of, job_of_command, AreTaken};
+ghost use Rattle.terrac_call.specs.JobView.{texts_of, shown_call, shown_job, shown_asked, HasUsageLine, IsUsageText};
+
+use clap::builder::ValueParser;
+use clap::error::ErrorKind;
+use clap::{Arg, ArgAction, ArgMatches, Command, Error};
+use std::alloc::{AllocError, Global};
+use tl_base::NoMemory;
+
+/// A call of an entry with arguments.
+#[derive(Drop)]
+pub(crate) struct Call<'a> {
+    pub entry: &'a str,
+    pub arguments: Vec<&'a str>,
+}
+
+/// What the words ask for.
+#[derive(Drop)]
+pub(crate) enum Job<'a> {
+    /// To run an entry of a source.
+    Run(Call<'a>),
+    /// To run an entry of an image for at most so many steps.
+    Exec(Call<'a>, u64),
+}
+
+/// The job that words name, or the line `usage` and `clap`'s own text where they name none.
+#[derive(Drop)]
+pub(crate) enum Asked<'a> {
+    Job(Job<'a>),
+    Refused(String),
+}
+
+/// What the words ask for, the program's own name first.
+pub(crate) fn job_of<'a>(alloc: Global, words: &'a [String]) -> Result<Asked<'a>, NoMemory>
+    ensures job { IfOk result (λ asked. shown_asked asked ≡ job_of (map string_bytes words.now)) }
+    ensures taken { AreTaken (map string_bytes words.now) → IfOk result (λ asked. IsSome (shown_asked asked)) }
+    ensures text { IfOk result IsUsageText }
+{
+    let command = command_line(alloc)?;
+    match command.try_get_matches_from(words) {
+        Ok(matches) => Ok(Asked::Job(job_of_matches(alloc, &matches)?)),
+        Err(error) => match error.kind() {
+            ErrorKind::OutOfMemory => Err(NoMemory),
+            _ => Ok(Asked::Refused(usage_text(alloc, &error)?)),
+        },
+    }
+}
+
+// The line `usage`, and the error's own text.
+fn usage_text(alloc: Global, error: &Error) -> Result<String, NoMemory>
+    ensures { IfOk result (λ text. HasUsageLine (string_bytes text)) }
+{
+    let own = format!(in alloc; "{error}")?;
+    let mut text = String::from_str(alloc, "usage\n")?;
+    text.push_str(&own)?;
+    Ok(text)
+}
+
+// The job that was found.
+fn job_of_matches<'a>(alloc: Global, matches: &ArgMatches<'a>) -> Result<Job<'a>, NoMemory>
+    ensures { IfOk result (λ job. shown_job job ≡ job_of_command (subcommand_rows_of matches.now)) }
+{
+    let Some((name, found)) = matches.subcommand() else {
+        return Ok(Job::Run(Call {
+            entry: "",
+            arguments: Vec::new(alloc),
+        }));
+    };
+    let call = call_of(alloc, found)?;
+    if name == "exec" {
+        Ok(Job::Exec(call, steps_of(found)))
+    } else {
+        Ok(Job::Run(call))
+    }
+}
+
+// The call that was found for a command.
+fn call_of<'a>(alloc: Global, found: &ArgMatches<'a>) -> Result<Call<'a>, AllocError>
+    ensures { IfOk result (λ call. shown_call call ≡ call_of (rows_of (found_of found.now))) }
+{
+    let arguments = texts_of(alloc, found, "ARG")?;
+    Ok(Call {
+        entry: text_of(found, "ENTRY"),
+        arguments,
+    })
+}
+
+// The first value that was found for an argument.
+fn text_of<'a>(found: &ArgMatches<'a>, id: &str) -> &'a str
+    ensures { result.now ≡ text_or_none (first_of id.now (rows_of (found_of found.now))) }
+{
+    match found.get_str(id) {
+        Some(text) => text,
+        None => "",
+    }
+}
+
+// All values that were found for an argument.
+fn texts_of<'a>(alloc: Global, found: &ArgMatches<'a>, id: &str) -> Result<Vec<&'a str>, AllocError>
+    ensures { IfOk result (λ texts. texts_of texts.items ≡ unwrap_or (all_of id.now (rows_of (found_of found.now))) []) }
+{
+    match found.get_raw(id) {
+        Some(texts) => Vec::from_slice(alloc, texts),
+        None => Ok(Vec::new(alloc)),
+    }
+}
+
+// The number of steps that was found for a command.
+fn steps_of(found: &ArgMatches<'_>) -> u64
+    ensures { result ≡ steps_of (rows_of (found_of found.now)) }
+{
+    number_or_zero(text_of(found, "steps"))
+}
+
+// The number that a text is; `clap` has tested that it is one.
+fn number_or_zero(text: &str) -> u64
+    ensures { result ≡ number_or_zero text.now }
+{
+    match text.parse::<u64>() {
+        Ok(number) => number,
+        Err(_) => 0,
+    }
+}
+
+// The whole command line: run ENTRY ARG.., and exec ENTRY ARG.. with its option.
+fn command_line<'a>(alloc: Global) -> Result<Command<'a>, AllocError>
+    ensures { IfOk result (λ command. app_of command ≡ command_line) }
+{
+    let run = Command::new(alloc, "run")
+        .about(
+            "Runs a function of a source, read on standard input; writes `result` and its value.",
+        )
+        .after_help("Example: terrac run add 2 3 < add.t")
+        .arg(entry_argument(alloc))?
+        .arg(call_arguments(alloc))?;
+    let exec = Command::new(alloc, "exec")
+        .about(
+            "Runs a function of an image, read on standard input; writes its output, then `result` and its value.",
+        )
+        .after_help("Example: terrac exec five --steps 1000 < five.elf")
+        .arg(steps_argument(alloc))?
+        .arg(entry_argument(alloc))?
+        .arg(call_arguments(alloc))?;
+    let command = Command::new(alloc, "terrac")
+        .about("A compiler of Terra for RISC-V RV64IM.")
+        .subcommand_required(true)
+        .subcommand(run)?
+        .subcommand(exec)?;
+    Ok(command)
+}
+
+// --steps.
+fn steps_argument<'a>(alloc: Global) -> Arg<'a>
+    ensures rule { rule_of result ≡ steps_rule }
+    ensures local { result.global ≡ false }
+{
+    Arg::new(alloc, "steps")
+        .long("steps")
+        .value_name("NUMBER")
+        .help("How many instructions are executed at most, from 1 to 1000000000000")
+        .value_parser(ValueParser::unsigned(1, 1_000_000_000_000))
+        .default_value("100000000")
+}
+
+// ENTRY.
+fn entry_argument<'a>(alloc: Global) -> Arg<'a>
+    ensures rule { rule_of result ≡ entry_rule }
+    ensures local { result.global ≡ false }
+{
+    Arg::new(alloc, "ENTRY").required(true).help(
+        "The name of the function, as the source or the image has it",
+    )
+}
+
+// ARG..
+fn call_arguments<'a>(alloc: Global) -> Arg<'a>
+    ensures rule { rule_of result ≡ arguments_rule }
+    ensures local { result.global ≡ false }
+{
+    Arg::new(alloc, "ARG").action(ArgAction::Append).help(
+        "Its arguments: true or false for bool, else decimal; those that begin with `-` after `--`",
+    )
+}

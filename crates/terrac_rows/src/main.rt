@@ -1,0 +1,101 @@
+//! Makes the calls of `terrac` that the rows of standard input say, one row a line, and writes each row with what came
+//! out. What is expected in `stdout` is by hand from docs/LANGUAGE.md and docs/IMAGE.md.
+//!
+//! In a text a percent sign and two hexadecimal digits stand for a byte.
+#![tactic(auto)]
+
+mod calls;
+mod images;
+mod sources;
+mod texts;
+
+use calls::Faults;
+use images::ImageRows;
+use sources::SourceRows;
+use std::alloc::Global;
+use texts::{bytes_of, count_at};
+use tl_base::NoMemory;
+
+fn main(rt: HostRuntime) -> anyhow::Result<()> {
+    let alloc = rt.alloc();
+    let mut bench = Bench::new(alloc);
+    for line in rt.lines(alloc) {
+        let line = line?;
+        let row = line.as_str();
+        if row.is_empty() || row.starts_with("--") {
+            continue;
+        }
+        let answer = bench.answer(row)?;
+        println!(rt; "{row} = {answer}")?;
+    }
+    Ok(())
+}
+
+/// The source, the image and the faults that stand.
+#[derive(Drop)]
+struct Bench {
+    alloc: Global,
+    sources: SourceRows,
+    images: ImageRows,
+    faults: Faults,
+}
+
+impl Bench {
+    fn new(alloc: Global) -> Bench {
+        Bench {
+            alloc,
+            sources: SourceRows::new(alloc),
+            images: ImageRows::new(alloc),
+            faults: Faults::none(alloc),
+        }
+    }
+
+    /// What comes of a row.
+    fn answer(&mut self, row: &str) -> Result<String, NoMemory> {
+        let alloc = self.alloc;
+        let (word, rest) = match row.split_once(' ') {
+            Some(parts) => parts,
+            None => (row, ""),
+        };
+        let words: Vec<&str> = rest.split_whitespace().collect(alloc)?;
+        match word {
+            "source" => self.sources.replace(bytes_of(alloc, rest)?),
+            "more" => self.sources.more(&words),
+            "image" => self.images.begin(&words),
+            "export" => self.images.export(&words),
+            "file" => match self.images.file()? {
+                Some(bytes) => self.sources.replace(bytes),
+                None => Ok(String::from_str(alloc, "no lawful image")?),
+            },
+            "faults" => {
+                self.faults = Faults::of(alloc, &words)?;
+                Ok(String::from_str(alloc, "set")?)
+            }
+            "call" => calls::answer(alloc, &self.faults, self.sources.bytes(), &words),
+            "fronts" => self.fronts(&words),
+            _ => Ok(String::from_str(alloc, "no such row")?),
+        }
+    }
+
+    /// `fronts FROM TO WORD..`: what comes of the fronts of these lengths, each answer once where it comes again at once.
+    fn fronts(&self, words: &[&str]) -> Result<String, NoMemory> {
+        let alloc = self.alloc;
+        let bytes = self.sources.bytes();
+        let mut text = String::new(alloc);
+        let mut last = String::new(alloc);
+        let (from, to) = (count_at(words, 0), count_at(words, 1));
+        let (_lengths, call) = words.split_at(words.len().min(2));
+        for length in from..to.min(bytes.len()) {
+            let (front, _rest) = bytes.split_at(length);
+            let answer = calls::answer(alloc, &self.faults, front, call)?;
+            if answer.as_str() != last.as_str() {
+                if !text.is_empty() {
+                    text.push_str(" | ")?;
+                }
+                text.push_str(&answer)?;
+                last = answer;
+            }
+        }
+        Ok(text)
+    }
+}
