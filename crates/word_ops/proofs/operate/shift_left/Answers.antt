@@ -1,0 +1,5 @@
+use Rattle.word_ops.proofs.Powers.{left-none}
+use Rattle.word_ops.proofs.operate.shift_left.Goals as goal
+
+pub returns-then-width-eq0 : goal.returns-then-width-eq0
+returns-then-width-eq0 c = left-none c.args.width c.args.x c.args.y c.if-width-eq0.true
