@@ -54,7 +54,7 @@ fn position_of(f: FnId, entries: &[FnId]) -> u64
         }
         position += 1;
     }
-    position
+    0
 }
 
 /// The word of the value at a position.
