@@ -1,8 +1,9 @@
 // Values in the region.
 
-ghost use Rattle.std.specs.Prelude.{◌≡◌, IfOk, IfSome, Some, None};
+ghost use Rattle.std.specs.Prelude.{◌≡◌, ◌<◌, ◌+◌, ◌%◌, ◌^◌, IfOk, Some, None};
 ghost use Rattle.std.specs.Bool.{OnTrue, OnFalse};
 ghost use Rattle.terra_memory.specs.Numbers.{low_bytes, number_of, overwritten, part};
+ghost use Rattle.terra_memory.specs.Region.{is_inside};
 ghost use Rattle.terra_words.specs.Runs.{put_bytes};
 ghost use Rattle.terra_meaning.specs.Values.{decoded, encoded};
 ghost use Rattle.terra_meaning.specs.Meaning.{loaded, stored};
@@ -15,20 +16,35 @@ use crate::value::Value;
 use word_ops::wrap;
 use std::alloc::{AllocError, Global};
 use terra_memory::Region;
-use terra_memory::number::number_at;
+use terra_memory::region::FIRST_ADDRESS;
 use terra_types::Types;
 use terra_words::FaultKind;
 use tl_base::{Place, TypeId};
+
+/// Whether all bytes of a range that isn't empty lie in the region. Past an address that does, 64 bits count on.
+fn is_inside(region: &Region, address: u64, count: u64) -> bool
+    ensures inside { result ≡ is_inside region.now address count }
+    ensures fits { OnTrue result (address + count < 2 ^ 32) }
+{
+    let end = FIRST_ADDRESS + region.memory_size();
+    if address < FIRST_ADDRESS {
+        return false;
+    }
+    match address.checked_add(count) {
+        None => false,
+        Some(last) => last <= end,
+    }
+}
 
 /// Writes bytes to the region, and answers true; false exactly where one of them is outside, and then nothing has changed.
 pub(crate) fn put(region: &mut Region, address: u64, bytes: &[u8]) -> bool
     ensures there { OnTrue result (put_bytes region.old address bytes.now ≡ Some region.new) }
     ensures outside { OnFalse result ((put_bytes region.old address bytes.now ≡ None) × (region.new ≡ region.old)) }
 {
-    if bytes.is_empty() {
+    if bytes.len() == 0 {
         return true;
     }
-    if region.bytes(address, bytes.len() as u64).is_none() {
+    if !is_inside(region, address, bytes.len() as u64) {
         return false;
     }
     for (i, byte) in bytes.iter().enumerate() {
@@ -37,18 +53,17 @@ pub(crate) fn put(region: &mut Region, address: u64, bytes: &[u8]) -> bool
     true
 }
 
-/// The number that the bytes of a word make, the lowest byte first; none where no word has so many.
-pub(crate) fn number_of(bytes: &[u8]) -> Option<u64>
-    ensures { IfSome result (λ n. n ≡ number_of bytes.now) }
+/// The lowest 64 bits of the number that bytes make, the lowest byte first.
+fn number_of(bytes: &[u8]) -> u64
+    ensures { result ≡ number_of bytes.now % 2 ^ 64 }
 {
-    match bytes.len() {
-        0 => Some(0),
-        1 => Some(number_at(bytes, 0, 1)),
-        2 => Some(number_at(bytes, 0, 2)),
-        4 => Some(number_at(bytes, 0, 4)),
-        8 => Some(number_at(bytes, 0, 8)),
-        _ => None,
+    let mut number: u64 = 0;
+    let mut left = bytes.len();
+    while left > 0 {
+        left -= 1;
+        number = number.wrapping_mul(256).wrapping_add(u64::from(bytes[left]));
     }
+    number
 }
 
 /// The lowest bytes of a number, the lowest byte first.
@@ -93,17 +108,16 @@ pub(crate) fn overwritten(
     Ok(all)
 }
 
-/// A value from a type's bytes. No type but an aggregate has more bytes than a word.
+/// A value from a type's bytes. The width of a word takes its lowest bits, of which none is past the 64th.
+#[tactic(auto, using(crate::proofs::Bytes::wrapped_low))]
 pub(crate) fn decode(alloc: Global, types: &Types, of: TypeId, bytes: &[u8]) -> Result<Value, Stop>
     ensures { GaveJust result (decoded types.now of bytes.now) }
 {
     if is_aggregate(types, of) {
         return Ok(Value::from_bytes(bytes.to_vec(alloc)?));
     }
-    match number_of(bytes) {
-        Some(n) => Ok(Value::word(wrap(width_of(types, of), u128::from(n)))),
-        None => Err(Stop::NoMemory),
-    }
+    let number = number_of(bytes);
+    Ok(Value::word(wrap(width_of(types, of), u128::from(number))))
 }
 
 /// The bytes of a value of a type.
