@@ -1,4 +1,5 @@
 pub mod Bytes
+pub mod Called
 pub mod Growing
 pub mod Putting
 pub mod Turns
