@@ -1,6 +1,6 @@
 // What typed nodes do with names, in the order of evaluation.
 
-ghost use Rattle.std.specs.Prelude.{◌≡◌, ◌++◌, ◌∷◌, [], map, length, IfOk, OnOk};
+ghost use Rattle.std.specs.Prelude.{◌≡◌, ◌≤◌, ◌++◌, ◌∷◌, [], map, length, IfOk, OnOk};
 ghost use Rattle.terra_term.specs.Events.{block_events, body_events, declares_all, declared_in, doing_events, events_of, list_events, operation_events, scope, takes};
 ghost use Rattle.terra_meaning.specs.Meaning.{in_block, in_expression, in_list, in_statement};
 ghost use Rattle.terra_eval.specs.Trees.{block_before, callable_tree, expression_before, expression_tree, list_before, statement_before, statement_tree};
@@ -294,15 +294,28 @@ pub(crate) fn block_events(
     Ok(())
 }
 
+/// How many variables an event declares.
+fn declares(event: &Event) -> u64
+    ensures one { result ≤ 1 }
+    ensures declared { result ≡ length (declared_in (event_of event.now ∷ [])) }
+{
+    match event {
+        Event::Declares(_, _) => 1,
+        Event::Opens => 0,
+        Event::Closes => 0,
+        Event::Takes(_) => 0,
+        Event::Uses(_, _, _) => 0,
+        Event::Mentions(_, _) => 0,
+    }
+}
+
 /// How many variables events declare.
 fn declarations(events: &[Event]) -> u64
     ensures { result ≡ length (declared_in (events_in events.now)) }
 {
     let mut count: u64 = 0;
     for event in events {
-        if let Event::Declares(_, _) = event {
-            count += 1;
-        }
+        count += declares(event);
     }
     count
 }
