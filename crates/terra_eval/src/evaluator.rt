@@ -1,6 +1,6 @@
 // The evaluator: the meaning of typed terms, run.
 
-ghost use Rattle.std.specs.Prelude.{◌≡◌, ◌+◌, ◌/◌, ◌≤◌, suc, length, IfOk};
+ghost use Rattle.std.specs.Prelude.{◌≡◌, ◌+◌, ◌-◌, ◌/◌, ◌≤◌, ◌++◌, suc, length, replicate, IfOk, OnOk};
 ghost use Rattle.std.specs.Option.{option_copied};
 ghost use Rattle.terra_memory.specs.Region.{IsMemorySize};
 ghost use Rattle.terra_words.specs.Runs.{word};
@@ -25,6 +25,7 @@ use crate::types::{bytes_at, width_of};
 use crate::value::Value;
 use word_ops::{is_less, is_negative, wrap};
 use terra_memory::Region;
+use terra_memory::region::FIRST_ADDRESS;
 use terra_term::{Operation, Store, TypedExpression, TypedName, TypedStatement};
 use terra_types::Types;
 use terra_words::{FaultKind, Width};
@@ -713,16 +714,24 @@ fn no_value(k: Callable<'_>) -> Result<Value, Stop>
 
 const UNIT: TypeId = TypeId(9);
 
+/// Zeros behind bytes, so many that there are at least `size` bytes.
+fn fill(bytes: &mut Vec<u8>, size: usize) -> Result<(), NoMemory>
+    ensures { OnOk result (bytes.new.items ≡ bytes.old.items ++ replicate (size - length bytes.old.items) 0) }
+{
+    if bytes.len() < size {
+        bytes.resize(size, 0)?;
+    }
+    Ok(())
+}
+
 /// The bytes with which the region begins: the statics at their addresses, with zeros between them.
 fn static_bytes(store: &Store) -> Result<Vec<u8>, NoMemory>
     ensures { IfOk result (λ bytes. bytes.items ≡ static_bytes (contents_of store.now)) }
 {
     let mut bytes = Vec::new(store.allocator());
-    for s in store.statics() {
-        let start = s.address.saturating_sub(0x4000_0000) as usize;
-        if bytes.len() < start {
-            bytes.resize(start, 0)?;
-        }
+    let held = store.statics();
+    for s in held {
+        fill(&mut bytes, s.address.saturating_sub(FIRST_ADDRESS) as usize)?;
         bytes.extend_from_slice(s.bytes.bytes())?;
     }
     Ok(bytes)
