@@ -1,16 +1,18 @@
 // The evaluator: the meaning of typed terms, run.
 
-ghost use Rattle.std.specs.Prelude.{◌≡◌, ◌+◌, ◌-◌, ◌/◌, ◌≤◌, ◌++◌, suc, length, replicate, IfOk, OnOk};
+ghost use Rattle.std.specs.Prelude.{◌≡◌, ◌+◌, ◌-◌, ◌/◌, ◌≤◌, ◌++◌, suc, map, length, replicate, IfOk, OnOk, MatchOption};
 ghost use Rattle.std.specs.Option.{option_copied};
 ghost use Rattle.terra_memory.specs.Region.{IsMemorySize};
-ghost use Rattle.terra_words.specs.Runs.{word};
+ghost use Rattle.terra_words.specs.Runs.{number, value_at, word};
 ghost use Rattle.terra_term.specs.Held as stores;
 ghost use Rattle.terra_term.specs.Stores.{contents_of, static_bytes};
+ghost use Rattle.terra_meaning.specs.Frames as frames;
+ghost use Rattle.terra_meaning.specs.Frames.{home_at};
 ghost use Rattle.terra_meaning.specs.Running.{State, found, scoped};
 ghost use Rattle.terra_meaning.specs.Meaning as meanings;
 ghost use Rattle.terra_meaning.specs.Meaning.{apply, assigned_all, body_run, declared_all, done_all, done_one, for_rounds, kept, meaning, meant, meant_all, operated, rounds};
 ghost use Rattle.terra_eval.specs.Trees.{block_before, callable_tree, expression_before, expression_tree, list_before, statement_before, statement_tree};
-ghost use Rattle.terra_eval.specs.Views.{GaveList, GaveUnit, GaveValue, GaveWay, call_from, call_of, run_view, want_of};
+ghost use Rattle.terra_eval.specs.Views.{GaveList, GaveUnit, GaveValue, GaveWay, call_from, call_of, home_of, run_view, want_of};
 ghost use Rattle.terra_eval.specs.Rounds.{counted_round, round_of};
 
 use crate::call::Call;
@@ -257,6 +259,26 @@ fn evaluate_list(
     Ok(values)
 }
 
+/// The home of a declaration; past the last, a value alone.
+fn home_at(homes: &[Home], number: u64) -> Home
+    ensures { home_of result ≡ home_at (map home_of homes.now) number }
+{
+    match homes.get(number as usize) {
+        Some(home) => *home,
+        None => Home::ByValue,
+    }
+}
+
+/// The word of a value; zero for none.
+fn word_of(v: Option<&Value>) -> u64
+    ensures { MatchOption v.entry (result ≡ 0) (λ v. result ≡ number v.now) }
+{
+    match v {
+        Some(v) => v.number(),
+        None => 0,
+    }
+}
+
 /// The variable of a declaration, with its value or without. An unplaced one without a value is zero, and a placed one holds the
 /// bytes that are there.
 fn declare(
@@ -269,28 +291,39 @@ fn declare(
 ) -> Result<(), Stop>
     ensures { GaveUnit result state.new (meanings.declared (call_of call.now) at name (option_copied v.entry) number state.old) }
 {
-    let home = match call.homes.get(number as usize) {
-        Some(home) => *home,
-        None => Home::ByValue,
-    };
-    match home {
+    match home_at(call.homes, number) {
         Home::ByValue => {
-            let word = match v {
-                Some(v) => v.number(),
-                None => 0,
-            };
+            let word = word_of(v);
             state.declare(name.symbol, Held::Word(word))?;
+            Ok(())
         }
-        Home::InFrame(offset) => {
-            let address = call.base.checked_add(offset).ok_or(NoMemory)?;
-            if let Some(v) = v {
-                let alloc = call.store.allocator();
-                store_value(alloc, call.store.types(), at, name.of, address, v, state)?;
-            }
+        Home::InFrame(offset) => declare_placed(call, at, name, v, offset, state),
+    }
+}
+
+/// The variable of a declaration at an offset of the frame.
+fn declare_placed(
+    call: &Call<'_>,
+    at: Place,
+    name: TypedName,
+    v: Option<&Value>,
+    offset: u64,
+    state: &mut State,
+) -> Result<(), Stop>
+    ensures { GaveUnit result state.new (meanings.declared_at (call_of call.now) at name (option_copied v.entry) (frames.in_frame offset) state.old) }
+{
+    let address = call.base.checked_add(offset).ok_or(NoMemory)?;
+    match v {
+        None => {
             state.declare(name.symbol, Held::At(address))?;
+            Ok(())
+        }
+        Some(v) => {
+            store_value(call.store.allocator(), call.store.types(), at, name.of, address, v, state)?;
+            state.declare(name.symbol, Held::At(address))?;
+            Ok(())
         }
     }
-    Ok(())
 }
 
 /// The variables of declarations, from one on.
@@ -312,19 +345,7 @@ fn declare_all(
     Ok(())
 }
 
-/// The symbol of a place that is a variable without an address.
-fn held_symbol(call: &Call<'_>, below: u64, target: TermId, state: &State) -> Option<SymId> {
-    let e = expression(call.store, below, target)?;
-    match e.form {
-        TypedExpression::Variable(x) => match state.find(*x) {
-            Some(Held::Word(_)) => Some(*x),
-            _ => None,
-        },
-        _ => None,
-    }
-}
-
-/// A value goes to a place that was reached by its address, or to a variable that has none.
+/// A value goes to a place that was reached by its address, or to a variable that has none. What isn't there stands for nil.
 fn assign(
     call: &Call<'_>,
     below: u64,
@@ -335,17 +356,66 @@ fn assign(
 ) -> Result<(), Stop>
     ensures { GaveUnit result state.new (meanings.assigned call.now.store.now.types (expression_before call.now.store.now below target) (word address) v.now state.old) }
 {
-    if let Some(x) = held_symbol(call, below, target, state) {
-        state.set(x, v.number());
-        return Ok(());
+    match expression(call.store, below, target) {
+        None => place_value(call, NOWHERE, RAWSTRING, address, v, state),
+        Some(e) => match e.form {
+            TypedExpression::Variable(x) => match state.find(*x) {
+                Some(Held::Word(_)) => {
+                    state.set(*x, v.number());
+                    Ok(())
+                }
+                Some(Held::At(_)) => place_value(call, e.at, e.of, address, v, state),
+                None => place_value(call, e.at, e.of, address, v, state),
+            },
+            TypedExpression::Constant(_) => place_value(call, e.at, e.of, address, v, state),
+            TypedExpression::Global(_) => place_value(call, e.at, e.of, address, v, state),
+            TypedExpression::Operate(_, _) => place_value(call, e.at, e.of, address, v, state),
+            TypedExpression::Both(_, _) => place_value(call, e.at, e.of, address, v, state),
+            TypedExpression::Either(_, _) => place_value(call, e.at, e.of, address, v, state),
+            TypedExpression::Dereference(_) => place_value(call, e.at, e.of, address, v, state),
+            TypedExpression::Select(_, _) => place_value(call, e.at, e.of, address, v, state),
+            TypedExpression::Follow(_, _) => place_value(call, e.at, e.of, address, v, state),
+            TypedExpression::Element(_, _) => place_value(call, e.at, e.of, address, v, state),
+            TypedExpression::Index(_, _) => place_value(call, e.at, e.of, address, v, state),
+            TypedExpression::Address(_) => place_value(call, e.at, e.of, address, v, state),
+            TypedExpression::Decay(_) => place_value(call, e.at, e.of, address, v, state),
+            TypedExpression::Let(_, _) => place_value(call, e.at, e.of, address, v, state),
+        },
     }
-    let Some(e) = expression(call.store, below, target) else {
-        return Err(Stop::Halted(Halt::Stuck));
-    };
-    let alloc = call.store.allocator();
-    store_value(alloc, call.store.types(), e.at, e.of, address, v, state)
 }
 
+/// A value of a type is stored at an address.
+fn place_value(
+    call: &Call<'_>,
+    at: Place,
+    of: TypeId,
+    address: u64,
+    v: &Value,
+    state: &mut State,
+) -> Result<(), Stop>
+    ensures { GaveUnit result state.new (meanings.stored call.now.store.now.types at of address v.now state.old) }
+{
+    store_value(call.store.allocator(), call.store.types(), at, of, address, v, state)
+}
+
+/// The place of what isn't there.
+const NOWHERE: Place = Place { line: 0, word: 0 };
+
+/// The type of texts, which nil has that stands for what isn't there.
+const RAWSTRING: TypeId = TypeId(10);
+
+/// The value at a position; zero past the end.
+fn value_or<'a>(values: &'a [Value], i: usize, zero: &'a Value) -> &'a Value
+    requires { zero.now ≡ word 0 }
+    ensures { result.now ≡ value_at values.now i }
+{
+    match values.get(i) {
+        Some(v) => v,
+        None => zero,
+    }
+}
+
+/// Values go to places, each to the one of its position.
 fn assign_all(
     call: &Call<'_>,
     below: u64,
@@ -356,12 +426,9 @@ fn assign_all(
 ) -> Result<(), Stop>
     ensures { GaveUnit result state.new (assigned_all call.now.store.now.types (list_before call.now.store.now below targets.now) places.now values.now state.old) }
 {
+    let zero = Value::word(0);
     for (i, target) in targets.iter().enumerate() {
-        let zero = Value::word(0);
-        let v = match values.get(i) {
-            Some(v) => v,
-            None => &zero,
-        };
+        let v = value_or(values, i, &zero);
         assign(call, below, *target, number_at(places, i), v, state)?;
     }
     Ok(())
