@@ -1,6 +1,7 @@
 pub mod Bytes
 pub mod Called
 pub mod Growing
+pub mod Homes
 pub mod Loops
 pub mod Putting
 pub mod Statics

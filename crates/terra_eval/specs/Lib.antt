@@ -4,4 +4,5 @@ pub mod Trees
 pub mod Data
 pub mod Variables
 pub mod Views
+pub mod Framing
 pub mod Rounds
