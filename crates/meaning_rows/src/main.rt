@@ -6,6 +6,7 @@
 
 mod building;
 mod doing;
+mod machine;
 mod operations;
 mod running;
 mod words;
@@ -23,6 +24,7 @@ fn main(rt: HostRuntime) -> anyhow::Result<()> {
         stack: Vec::new(alloc),
         entries: Vec::new(alloc),
         nodes: 0,
+        codes: Vec::new(alloc),
     };
     for line in rt.lines(alloc) {
         let line = line?;

@@ -2,9 +2,12 @@
 
 use crate::building::Work;
 use crate::doing::names_from;
+use crate::machine::{self, Program};
 use crate::words::{bytes_of, count_at, number_at, shown, word_at};
 use std::alloc::Global;
-use terra_eval::{End, Run, Value, evaluate};
+use tac_lower::lower;
+use terra_eval::{End, Run, Value, evaluate, static_bytes};
+use terra_memory::Region;
 use terra_term::{Term, TermList, Typed, ParameterList};
 use terra_types::Entry;
 use terra_words::FaultKind;
@@ -36,9 +39,11 @@ pub fn row(work: &mut Work, word: &str, words: &[&str]) -> Result<Option<String>
                 entries.push(FnId(number_at(words, place)))?;
             }
             work.entries = entries;
+            work.codes = Vec::new(work.store.allocator());
             Ok(None)
         }
         "run" => run(work, words),
+        "lowered" => lowered(work, words),
         _ => Ok(Some(String::from_str(work.store.allocator(), "no such row")?)),
     }
 }
@@ -123,6 +128,39 @@ fn run(work: &Work, words: &[&str]) -> Result<Option<String>, NoMemory> {
     }
     let run = evaluate(&work.store, &work.entries, memory, number_at(words, 3), f, &arguments)?;
     Ok(Some(run_text(alloc, &run)?))
+}
+
+/// `lowered FUNCTION LEAST MOST ARGUMENT..`: the run of lowered code beside that of the terms, at each count from one to another, in a
+/// region of 65,536 bytes
+fn lowered(work: &mut Work, words: &[&str]) -> Result<Option<String>, NoMemory> {
+    let alloc = work.store.allocator();
+    while (work.codes.len() as u64) < work.store.function_count() {
+        let f = FnId(work.codes.len() as u64);
+        let code = lower(&work.store, &work.entries, f)?;
+        work.codes.push(code)?;
+    }
+    let program = Program {
+        codes: &work.codes,
+        entries: &work.entries,
+    };
+    let f = FnId(number_at(words, 1));
+    let memory = 65_536;
+    let mut arguments = Vec::new(alloc);
+    for place in 4..words.len() {
+        arguments.push(Value::word(number_at(words, place)))?;
+    }
+    let statics = static_bytes(&work.store)?;
+    for n in number_at(words, 2)..number_at(words, 3).min(1_000_000) + 1 {
+        let meant = evaluate(&work.store, &work.entries, memory, n, f, &arguments)?;
+        let region = Region::new(alloc, memory, &statics)?;
+        let ran = machine::run(alloc, &program, region, n, f, &arguments)?;
+        let meant = run_text(alloc, &meant)?;
+        let ran = run_text(alloc, &ran)?;
+        if meant.as_str() != ran.as_str() {
+            return Ok(Some(format!(in alloc; "at {n} {meant}, but {ran}")?));
+        }
+    }
+    Ok(Some(String::from_str(alloc, "same")?))
 }
 
 fn run_text(alloc: Global, run: &Run) -> Result<String, NoMemory> {

@@ -664,7 +664,7 @@ fn no_value(k: Callable<'_>) -> Result<Value, Stop> {
 const UNIT: TypeId = TypeId(9);
 
 /// The bytes with which the region begins: the statics at their addresses, with zeros between them.
-fn static_bytes(store: &Store) -> Result<Vec<u8>, NoMemory> {
+pub fn static_bytes(store: &Store) -> Result<Vec<u8>, NoMemory> {
     let mut bytes = Vec::new(store.allocator());
     for s in store.statics() {
         let start = s.address.saturating_sub(0x4000_0000) as usize;
