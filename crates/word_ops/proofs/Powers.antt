@@ -12,6 +12,8 @@ power_below bits h = pow-le-pow_right {n = 2} (lit< tt) h
 pub low_below : (n bits : ℕ) → n % 2 ^ bits < 2 ^ bits
 low_below n bits = mod-lt n (pow_pos bits)
 
+pub ruleset powers = (power_below, low_below)
+
 -- a word of no bits is zero
 none : (s : Bool) (n : ℕ) → 0 ≡ wrapped (record { signed = s; bits = 0 }) n
 unfolding wrapped

@@ -14,7 +14,7 @@ fn power(bits: u64) -> u128
 }
 
 /// The word of a number's low bits.
-#[tactic(auto, using(crate::proofs::Powers::power_below, crate::proofs::Powers::low_below), unfolding(terra_words::specs::Words::wrapped))]
+#[tactic(auto, using(crate::proofs::Powers::powers), unfolding(terra_words::specs::Words::wrapped))]
 pub fn wrap(width: Width, n: u128) -> u64
     requires { width.bits ≤ 64 }
     ensures { result ≡ wrapped width n }

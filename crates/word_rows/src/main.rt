@@ -1,6 +1,6 @@
-//! Applies operators to words as the rows of standard input say, one row a line, and writes each row with what came out. A row is an
-//! operator, whether its width has a sign, the bits of the width, and its operands. `stdin` and `stdout` are written by
-//! `bench/word_rows`, by the rules of C's integers with wrapping.
+//! Applies operators to words as the rows of standard input say, one row a line, and writes each row with what came
+//! out. A row is an operator, whether its width has a sign, the bits of the width, and its operands. `stdin` and
+//! `stdout` are written by `bench/word_rows`, by the rules of C's integers with wrapping.
 #![tactic(auto)]
 
 ghost use Rattle.std.specs.Prelude.{◌≤◌};
