@@ -4,3 +4,4 @@ pub mod Trees
 pub mod Data
 pub mod Variables
 pub mod Views
+pub mod Rounds

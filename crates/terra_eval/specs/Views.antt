@@ -1,5 +1,5 @@
 -- What the code has of a running program, and what its calls give, as the meaning has it.
-use Rattle.std.specs.Prelude.{◌≡◌, ℕ, suc, List, [], ◌∷◌, ◌++◌, map, Result, Ok, Err}
+use Rattle.std.specs.Prelude.{◌≡◌, ℕ, suc, List, [], ◌∷◌, map, Result, Ok, Err}
 use Rattle.tl_base.specs.declared.place.Place.{Place}
 use Rattle.tl_base.specs.declared.ids.FnId.{FnId}
 use Rattle.terra_words.specs.Runs as runs
@@ -69,6 +69,16 @@ OnlyMemory (stops.Halted h) = ⊥
 abbrev pub GaveJust : Result runs.Value Stop → runs.Value → Type 0
 GaveJust (Ok v) value = v ≡ value
 GaveJust (Err e) value = OnlyMemory e
+
+-- the values of a list
+abbrev pub GaveList : {V : Type 0} → (V → List runs.Value) → Result V Stop → State → Got (List runs.Value) → Type 0
+GaveList items (Ok vs) s got = got ≡ Gives (items vs) s
+GaveList items (Err e) s got = Ended e s got
+
+-- a call of a function that is looked for first
+abbrev pub Called : Result FnId Stop → State → Got runs.Value → (FnId → Got runs.Value) → Type 0
+Called (Ok f) s got call = got ≡ call f
+Called (Err e) s got call = Ended e s got
 
 abbrev pub way_of : code_ways.Way → Way
 way_of ways.GoesOn = meanings.goes_on

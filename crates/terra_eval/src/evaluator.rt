@@ -1,11 +1,17 @@
 // The evaluator: the meaning of typed terms, run.
 
-ghost use Rattle.std.specs.Prelude.{◌≡◌, ◌++◌, ◌<◌, ℕ, suc, IfOk};
+ghost use Rattle.std.specs.Prelude.{◌≡◌, ◌+◌, ◌/◌, ◌≤◌, suc, length, IfOk};
+ghost use Rattle.std.specs.Option.{option_copied};
+ghost use Rattle.terra_memory.specs.Region.{IsMemorySize};
+ghost use Rattle.terra_words.specs.Runs.{word};
+ghost use Rattle.terra_term.specs.Held as stores;
+ghost use Rattle.terra_term.specs.Stores.{contents_of, static_bytes};
+ghost use Rattle.terra_meaning.specs.Running.{State, found, scoped};
 ghost use Rattle.terra_meaning.specs.Meaning as meanings;
 ghost use Rattle.terra_meaning.specs.Meaning.{apply, assigned_all, body_run, declared_all, done_all, done_one, for_rounds, kept, meaning, meant, meant_all, operated, rounds};
-ghost use Rattle.terra_term.specs.Stores.{contents_of};
 ghost use Rattle.terra_eval.specs.Trees.{block_before, callable_tree, expression_before, expression_tree, list_before, statement_before, statement_tree};
-ghost use Rattle.terra_eval.specs.Views.{GaveList, GaveUnit, GaveValue, GaveWay, call_of, run_view};
+ghost use Rattle.terra_eval.specs.Views.{GaveList, GaveUnit, GaveValue, GaveWay, call_from, call_of, run_view, want_of};
+ghost use Rattle.terra_eval.specs.Rounds.{counted_round, round_of};
 
 use crate::call::Call;
 use crate::events::{in_block, in_expression, in_list, in_statement};
@@ -76,7 +82,9 @@ fn reached(
     of: TypeId,
     address: u64,
     state: &State,
-) -> Result<Value, Stop> {
+) -> Result<Value, Stop>
+    ensures { GaveValue result state.now (meanings.reached call.now.store.now.types (want_of want) at of address state.now) }
+{
     match want {
         Wanted::Value => load(call.store.allocator(), call.store.types(), at, of, address, state),
         Wanted::Address => Ok(Value::word(address)),
@@ -90,7 +98,9 @@ fn variable(
     of: TypeId,
     x: SymId,
     state: &State,
-) -> Result<Value, Stop> {
+) -> Result<Value, Stop>
+    ensures { GaveValue result state.now (meanings.variable call.now.store.now.types (want_of want) at of (found x state.now) state.now) }
+{
     match state.find(x) {
         None => Err(Stop::Halted(Halt::Stuck)),
         Some(Held::Word(value)) => Ok(Value::word(value)),
@@ -108,7 +118,9 @@ fn evaluate_expression(
     node: TermId,
     from: u64,
     state: &mut State,
-) -> Result<Value, Stop> {
+) -> Result<Value, Stop>
+    ensures { GaveValue result state.new (meant (call_of call.now) (want_of want) (expression_before call.now.store.now below node) from state.old) }
+{
     match expression(call.store, below, node) {
         None => Ok(Value::word(0)),
         Some(e) => evaluate_form(call, want, node.0, e.at, e.of, e.form, from, state),
@@ -126,7 +138,9 @@ fn evaluate_form(
     form: &TypedExpression,
     from: u64,
     state: &mut State,
-) -> Result<Value, Stop> {
+) -> Result<Value, Stop>
+    ensures { GaveValue result state.new (meant (call_of call.now) (want_of want) (expression_tree call.now.store.now below at of form.now) from state.old) }
+{
     match form {
         TypedExpression::Constant(k) => Ok(Value::word(constant(call.entries, *k))),
         TypedExpression::Variable(x) => variable(call, want, at, of, *x, state),
@@ -207,7 +221,9 @@ fn evaluate_operation(
     types: &[TypeId],
     values: &[Value],
     state: &mut State,
-) -> Result<Value, Stop> {
+) -> Result<Value, Stop>
+    ensures { GaveValue result state.new (operated (call_of call.now) at of operation.now types.now values.now state.old) }
+{
     match operation {
         Operation::Call(f) => call_function(call, *f, values, at, state),
         Operation::CallValue => {
@@ -227,7 +243,9 @@ fn evaluate_list(
     nodes: &[TermId],
     from: u64,
     state: &mut State,
-) -> Result<Vec<Value>, Stop> {
+) -> Result<Vec<Value>, Stop>
+    ensures { GaveList (λ vs. vs.items) result state.new (meant_all (call_of call.now) (want_of want) (list_before call.now.store.now below nodes.now) from state.old) }
+{
     let mut values = Vec::new(call.store.allocator());
     let mut next = from;
     for node in nodes {
@@ -247,7 +265,9 @@ fn declare(
     v: Option<&Value>,
     number: u64,
     state: &mut State,
-) -> Result<(), Stop> {
+) -> Result<(), Stop>
+    ensures { GaveUnit result state.new (meanings.declared (call_of call.now) at name (option_copied v.entry) number state.old) }
+{
     let home = match call.homes.get(number as usize) {
         Some(home) => *home,
         None => Home::ByValue,
@@ -280,7 +300,9 @@ fn declare_all(
     values: &[Value],
     from: u64,
     state: &mut State,
-) -> Result<(), Stop> {
+) -> Result<(), Stop>
+    ensures { GaveUnit result state.new (declared_all (call_of call.now) at names.now values.now from state.old) }
+{
     let mut number = from;
     for (i, name) in names.iter().enumerate() {
         declare(call, at, *name, values.get(i), number, state)?;
@@ -309,7 +331,9 @@ fn assign(
     address: u64,
     v: &Value,
     state: &mut State,
-) -> Result<(), Stop> {
+) -> Result<(), Stop>
+    ensures { GaveUnit result state.new (meanings.assigned call.now.store.now.types (expression_before call.now.store.now below target) (word address) v.now state.old) }
+{
     if let Some(x) = held_symbol(call, below, target, state) {
         state.set(x, v.number());
         return Ok(());
@@ -328,7 +352,9 @@ fn assign_all(
     places: &[Value],
     values: &[Value],
     state: &mut State,
-) -> Result<(), Stop> {
+) -> Result<(), Stop>
+    ensures { GaveUnit result state.new (assigned_all call.now.store.now.types (list_before call.now.store.now below targets.now) places.now values.now state.old) }
+{
     for (i, target) in targets.iter().enumerate() {
         let zero = Value::word(0);
         let v = match values.get(i) {
@@ -348,7 +374,9 @@ fn do_statement(
     node: TermId,
     from: u64,
     state: &mut State,
-) -> Result<Way, Stop> {
+) -> Result<Way, Stop>
+    ensures { GaveWay result state.new (done_one (call_of call.now) (statement_before call.now.store.now below node) from state.old) }
+{
     match statement(call.store, below, node) {
         None => Ok(Way::Breaks),
         Some(s) => do_doing(call, node.0, s.at, s.doing, from, state),
@@ -364,7 +392,9 @@ fn do_doing(
     doing: &TypedStatement,
     from: u64,
     state: &mut State,
-) -> Result<Way, Stop> {
+) -> Result<Way, Stop>
+    ensures { GaveWay result state.new (done_one (call_of call.now) (statement_tree call.now.store.now below at doing.now) from state.old) }
+{
     let store = call.store;
     match doing {
         TypedStatement::Var(names, values) => {
@@ -440,7 +470,9 @@ fn do_scope(
     nodes: &[TermId],
     from: u64,
     state: &mut State,
-) -> Result<Way, Stop> {
+) -> Result<Way, Stop>
+    ensures { GaveWay result state.new (scoped state.old (done_all (call_of call.now) (block_before call.now.store.now below nodes.now) from state.old)) }
+{
     let depth = state.depth();
     let way = do_block(call, below, nodes, from, state)?;
     state.leave(depth)?;
@@ -455,7 +487,9 @@ fn do_block(
     nodes: &[TermId],
     from: u64,
     state: &mut State,
-) -> Result<Way, Stop> {
+) -> Result<Way, Stop>
+    ensures { GaveWay result state.new (done_all (call_of call.now) (block_before call.now.store.now below nodes.now) from state.old) }
+{
     let mut next = from;
     for node in nodes {
         match do_statement(call, below, *node, next, state)? {
@@ -475,7 +509,9 @@ fn do_round(
     round: Round<'_>,
     from: u64,
     state: &mut State,
-) -> Result<Way, Stop> {
+) -> Result<Way, Stop>
+    ensures { GaveWay result state.new (round_of (call_of call.now) call.now.store.now below round.entry from state.old) }
+{
     match round {
         Round::While(test, body) => {
             let v = evaluate_expression(call, Wanted::Value, below, test, from, state)?;
@@ -509,7 +545,9 @@ fn do_rounds(
     round: Round<'_>,
     from: u64,
     state: &mut State,
-) -> Result<Way, Stop> {
+) -> Result<Way, Stop>
+    ensures { GaveWay result state.new (rounds (suc call.now.turns) (round_of (call_of call.now) call.now.store.now below round.entry from) state.old) }
+{
     let mut turns = call.turns;
     loop {
         match do_round(call, below, round, from, state)? {
@@ -525,7 +563,9 @@ fn do_rounds(
 }
 
 /// Whether a `for` goes on to a value: below its limit for a step above zero, above it for one below zero.
-fn runs(width: Width, i: u64, limit: u64, step: u64) -> bool {
+fn runs(width: Width, i: u64, limit: u64, step: u64) -> bool
+    ensures { result ≡ meanings.runs width i limit step }
+{
     if step == 0 {
         return false;
     }
@@ -544,7 +584,9 @@ fn do_counting(
     counting: Counting<'_>,
     start: u64,
     state: &mut State,
-) -> Result<Way, Stop> {
+) -> Result<Way, Stop>
+    ensures { GaveWay result state.new (for_rounds (suc call.now.turns) counting.entry.width counting.entry.limit counting.entry.step (counted_round (call_of call.now) call.now.store.now below counting.entry) start state.old) }
+{
     let mut i = start;
     let mut turns = call.turns;
     while runs(counting.width, i, counting.limit, counting.step) {
@@ -576,7 +618,9 @@ fn call_function(
     arguments: &[Value],
     at: Place,
     state: &mut State,
-) -> Result<Value, Stop> {
+) -> Result<Value, Stop>
+    ensures { GaveValue result state.new (call_from (contents_of call.now.store.now) call.now.entries.now call.now.turns call.now.depth call.now.base f arguments.now at state.old) }
+{
     state.count()?;
     if call.turns == 0 {
         return Err(Stop::Halted(Halt::More));
@@ -611,7 +655,9 @@ fn enter(
     arguments: &[Value],
     at: Place,
     state: &mut State,
-) -> Result<Value, Stop> {
+) -> Result<Value, Stop>
+    ensures { GaveValue result state.new (kept state.old.variables (apply (contents_of caller.entry.store.now) caller.entry.entries.now (suc caller.entry.turns) caller.entry.depth caller.entry.top f arguments.now at state.old)) }
+{
     let Some(k) = callable_of(caller.store, f) else {
         return Err(Stop::Halted(Halt::Stuck));
     };
@@ -641,7 +687,9 @@ fn run_body(
     k: Callable<'_>,
     arguments: &[Value],
     state: &mut State,
-) -> Result<Value, Stop> {
+) -> Result<Value, Stop>
+    ensures { GaveValue result state.new (kept state.old.variables (body_run (call_of call.now) (callable_tree call.now.store.now k.entry) arguments.now state.old)) }
+{
     let variables = state.begin_call();
     declare_all(call, k.at, k.parameters, arguments, 0, state)?;
     let way = do_block(call, k.node, k.body, k.parameters.len() as u64, state)?;
@@ -653,7 +701,9 @@ fn run_body(
 }
 
 /// A body that ends gives nothing, which is a fault where a result is due.
-fn no_value(k: Callable<'_>) -> Result<Value, Stop> {
+fn no_value(k: Callable<'_>) -> Result<Value, Stop>
+    ensures { (store : stores.Held) (s : State) → GaveValue result s (meanings.given_back (callable_tree store k.entry) meanings.goes_on s) }
+{
     if k.result.0 == UNIT.0 {
         Ok(Value::word(0))
     } else {
@@ -664,7 +714,9 @@ fn no_value(k: Callable<'_>) -> Result<Value, Stop> {
 const UNIT: TypeId = TypeId(9);
 
 /// The bytes with which the region begins: the statics at their addresses, with zeros between them.
-pub fn static_bytes(store: &Store) -> Result<Vec<u8>, NoMemory> {
+pub fn static_bytes(store: &Store) -> Result<Vec<u8>, NoMemory>
+    ensures { IfOk result (λ bytes. bytes.items ≡ static_bytes (contents_of store.now)) }
+{
     let mut bytes = Vec::new(store.allocator());
     for s in store.statics() {
         let start = s.address.saturating_sub(0x4000_0000) as usize;
@@ -685,7 +737,11 @@ pub fn evaluate(
     n: u64,
     f: FnId,
     arguments: &[Value],
-) -> Result<Run, NoMemory> {
+) -> Result<Run, NoMemory>
+    requires sized { IsMemorySize memory }
+    requires half { length (static_bytes (contents_of store.now)) ≤ memory / 2 }
+    ensures { IfOk result (λ run. run_view run ≡ meaning (contents_of store.now) entries.now memory n f arguments.now) }
+{
     let alloc = store.allocator();
     let statics = static_bytes(store)?;
     let region = Region::new(alloc, memory, &statics)?;

@@ -1,10 +1,15 @@
 // Operations on values, but for calls.
 
-ghost use Rattle.std.specs.Prelude.{◌≡◌, ◌*◌, IfOk, MatchOption};
-ghost use Rattle.terra_words.specs.Words.{moved};
-ghost use Rattle.terra_words.specs.Runs.{number, value_at};
-ghost use Rattle.terra_meaning.specs.Meaning.{behind, constant, constructed, converted, negation, operated, type_at};
-ghost use Rattle.terra_eval.specs.Views.{GaveValue, call_of};
+ghost use Rattle.std.specs.Prelude.{◌≡◌, ◌≤◌, ◌*◌, List, replicate};
+ghost use Rattle.terra_memory.specs.Numbers.{part};
+ghost use Rattle.terra_words.specs.Words.{divides, moved};
+ghost use Rattle.terra_words.specs.Runs.{Value, bytes, bytes_in, number, value_at};
+ghost use Rattle.terra_term.specs.Stores.{callable_of, contents_of};
+ghost use Rattle.terra_meaning.specs.Values.{bytes_at, decoded, form_at};
+ghost use Rattle.terra_meaning.specs.Running.{State};
+ghost use Rattle.terra_meaning.specs.Meaning as meanings;
+ghost use Rattle.terra_meaning.specs.Meaning.{behind, constructed, converted, negation, operated, type_at};
+ghost use Rattle.terra_eval.specs.Views.{Called, GaveJust, GaveValue, call_of};
 
 use crate::call::Call;
 use crate::memory::{decode, encode, overwritten, part};
@@ -28,7 +33,7 @@ const BOOLEAN: TypeId = TypeId(8);
 
 /// A constant's word. A function as a value is its position among the entries, from 1.
 pub fn constant(entries: &[FnId], constant: Constant) -> u64
-    ensures { result ≡ constant entries.now constant }
+    ensures { result ≡ meanings.constant entries.now constant }
 {
     match constant {
         Constant::Number(bits) => bits,
@@ -39,7 +44,9 @@ pub fn constant(entries: &[FnId], constant: Constant) -> u64
     }
 }
 
-fn position_of(f: FnId, entries: &[FnId]) -> u64 {
+fn position_of(f: FnId, entries: &[FnId]) -> u64
+    ensures { result ≡ meanings.position_of f entries.now 1 }
+{
     let mut position = 1;
     for entry in entries {
         if f.0 == entry.0 {
@@ -130,14 +137,19 @@ pub(crate) fn operate(
     }
 }
 
-fn binary(at: Place, width: Width, operator: BinaryOperator, x: u64, y: u64) -> Result<Value, Stop> {
+fn binary(at: Place, width: Width, operator: BinaryOperator, x: u64, y: u64) -> Result<Value, Stop>
+    requires { width.bits ≤ 64 }
+    ensures { (s : State) → GaveValue result s (meanings.binary at width operator x y s) }
+{
     if divides(operator) && y == 0 {
         return Err(Stop::fault(FaultKind::DivZero, at));
     }
     Ok(Value::word(apply(width, operator, x, y)))
 }
 
-fn divides(operator: BinaryOperator) -> bool {
+fn divides(operator: BinaryOperator) -> bool
+    ensures { result ≡ divides operator }
+{
     matches!(operator, BinaryOperator::Divide | BinaryOperator::Modulo)
 }
 
@@ -162,7 +174,9 @@ fn converted(types: &Types, to: TypeId, x: u64) -> u64
 }
 
 /// A distance in bytes, in elements of a size.
-fn in_elements(apart: u64, size: u64) -> Result<Value, Stop> {
+fn in_elements(apart: u64, size: u64) -> Result<Value, Stop>
+    ensures { (s : State) → GaveValue result s (meanings.in_elements apart size s) }
+{
     if size == 0 {
         return Err(Stop::Halted(Halt::Stuck));
     }
@@ -175,7 +189,9 @@ fn extract(
     of: TypeId,
     offset: u64,
     values: &[Value],
-) -> Result<Value, Stop> {
+) -> Result<Value, Stop>
+    ensures { GaveJust result (decoded types.now of (part (bytes_in (value_at values.now 0)) offset (bytes_at types.now of))) }
+{
     let whole: &[u8] = match values.get(0) {
         Some(v) => v.as_bytes(),
         None => &[],
@@ -191,7 +207,9 @@ fn construct(
     offsets: &[u64],
     operands: &[TypeId],
     values: &[Value],
-) -> Result<Value, Stop> {
+) -> Result<Value, Stop>
+    ensures { GaveJust result (bytes (constructed types.now (replicate (bytes_at types.now of) 0) offsets.now operands.now values.now)) }
+{
     let mut all = Vec::new(alloc);
     all.resize(bytes_at(types, of) as usize, 0)?;
     let count = offsets.len().min(operands.len()).min(values.len());
@@ -208,7 +226,9 @@ fn perform(
     x: u64,
     y: u64,
     state: &mut State,
-) -> Result<Value, Stop> {
+) -> Result<Value, Stop>
+    ensures { (vs : List Value) → x ≡ number (value_at vs 0) → y ≡ number (value_at vs 1) → GaveValue result state.new (meanings.primitive at primitive vs state.old) }
+{
     match primitive {
         Primitive::PutByte => {
             state.print(&[(x % 256) as u8])?;
@@ -230,7 +250,9 @@ pub(crate) fn callee(
     at: Place,
     of: TypeId,
     value: u64,
-) -> Result<FnId, Stop> {
+) -> Result<FnId, Stop>
+    ensures { (vs : List Value) (s : State) → Called result s (meanings.called_value (call_of call.now) at (form_at call.now.store.now.types of) (meanings.entry call.now.entries.now value) vs s) (λ f. (call_of call.now).call f vs at s) }
+{
     let fault = Stop::fault(FaultKind::BadCall, at);
     if value == 0 || value > call.entries.len() as u64 {
         return Err(fault);
@@ -244,7 +266,9 @@ pub(crate) fn callee(
 }
 
 /// Whether a function has exactly a type.
-fn has_type(call: &Call<'_>, of: TypeId, f: FnId) -> bool {
+fn has_type(call: &Call<'_>, of: TypeId, f: FnId) -> bool
+    ensures { result ≡ meanings.has_type (form_at call.now.store.now.types of) (callable_of (contents_of call.now.store.now) f) }
+{
     let Some(k) = crate::nodes::callable_of(call.store, f) else {
         return false;
     };
@@ -256,7 +280,9 @@ fn has_type(call: &Call<'_>, of: TypeId, f: FnId) -> bool {
     }
 }
 
-fn same_types(types: &[TypeId], names: &[TypedName]) -> bool {
+fn same_types(types: &[TypeId], names: &[TypedName]) -> bool
+    ensures { result ≡ meanings.same_types types.now names.now }
+{
     if types.len() != names.len() {
         return false;
     }
