@@ -1,0 +1,54 @@
+use Rattle.std.proofs.Common.{List, refl, sym, ap, ◌∙◌}
+use Rattle.tl_base.specs.Plan.{Do}
+use Rattle.tl_base.specs.declared.machine.Step.TheVariants.{Enter}
+use Rattle.lua_value.specs.declared.value.Value.{Value}
+use Rattle.lua_model.specs.declared.job.Job.TheVariants.{Store}
+use Rattle.lua_model.specs.Plans.{fell, on_all}
+use Rattle.lua_model.specs.Calls.{call_library}
+use Rattle.lua_model.specs.Fields.{store_by, store_raw}
+use Rattle.lua_eval.specs.declared.frame.LuaFrame.TheVariants.{All}
+use Rattle.lua_eval.specs.declared.frame.AllFrame.TheVariants.{Done}
+use Rattle.lua_eval.specs.Frames.{after}
+use Rattle.lua_eval.proofs.Below.{moved}
+use Rattle.lua_eval.proofs.Doing.{enters}
+use Rattle.lua_eval.proofs.Reading.{store_by_object}
+use Rattle.lua_table.proofs.Keeping.{keeps_itself}
+use Rattle.lua_eval.proofs.fields.store_by.Goals as goal
+
+pub returns-in_ok-step-in-Nil-clause-means : goal.returns-in_ok-step-in-Nil-clause-means
+returns-in_ok-step-in-Nil-clause-means c = λ items.
+    let a = c.args in
+    let fs = a.frames.now.items in
+    moved items fs fs (store_by a.handler a.table a.key a.value a.place a.outer fell) (store_raw a.table a.key a.value a.place fell)
+    a.heap.now a.heap.now c.store_raw.new.heap a.budget.now c.store_raw.new.budget c.in_ok-step-in-Nil.step
+    (ap (λ (h : Value). store_by h a.table a.key a.value a.place a.outer fell) c.in-Nil.is) refl
+    (c.in_ok-step-in-Nil.ensures.means items fs)
+
+pub returns-in_ok-step-in-Library-clause-means : goal.returns-in_ok-step-in-Library-clause-means
+returns-in_ok-step-in-Library-clause-means c = λ items.
+    let a = c.args in
+    let f = c.in-Library.function in
+    let args = c.in_ok-args-in-Library.args in
+    moved items a.frames.now.items c.done_by_library.new.frames.items (store_by a.handler a.table a.key a.value a.place a.outer fell)
+    (call_library f args a.place a.outer (λ r. on_all r (λ vs. fell)))
+    a.heap.now a.heap.now c.done_by_library.new.heap a.budget.now c.done_by_library.new.budget c.in_ok-step-in-Library.step
+    (ap (λ (h : Value). store_by h a.table a.key a.value a.place a.outer fell) c.in-Library.is
+    ∙ ap (λ (vs : List Value). call_library f vs a.place a.outer (λ r. on_all r (λ us. fell))) (sym c.in_ok-args-in-Library.ensures)) refl
+    (c.in_ok-step-in-Library.ensures.means items)
+
+pub returns-in_ok-push-in_default : goal.returns-in_ok-push-in_default
+returns-in_ok-push-in_default c =
+    let a = c.args in
+    let d = c.in_default in
+    let fs = a.frames.now.items in
+    let pushed = c.push-in_default.new.self.items in
+    let job = Store a.handler a.key a.value a.place a.outer in
+    let f = All Done in
+    record {
+      means = λ items.
+          moved items fs pushed (store_by a.handler a.table a.key a.value a.place a.outer fell) (Do job (after items f))
+          a.heap.now a.heap.now a.heap.now a.budget.now a.budget.now (Enter job)
+          (store_by_object a.handler a.table a.key a.value a.place a.outer fell d.not-Nil d.not-Closure d.not-Library) refl
+          (enters items fs pushed f job a.heap.now a.budget.now c.in_ok-push-in_default.ensures.items);
+      kept = keeps_itself a.heap.now;
+    }

@@ -1,0 +1,14 @@
+use Rattle.lua_model.specs.Plans.{give}
+use Rattle.lua_model.proofs.Composing.{one_passes}
+use Rattle.lua_eval.specs.declared.frame.LuaFrame.TheVariants.{One}
+use Rattle.lua_eval.specs.declared.frame.OneFrame.TheVariants.{Value}
+use Rattle.lua_eval.specs.declared.frame.ValueFrame.TheVariants.{First}
+use Rattle.lua_eval.proofs.Below.{jobs_of, library_below}
+use Rattle.lua_eval.proofs.fields.value_by_library.Goals as goal
+
+pub returns-clause-means : goal.returns-clause-means
+returns-clause-means c = λ items.
+    library_below items c.args.frames.now.items c.push.new.self.items c.call_library.new.frames.items (One (Value First))
+    c.args.heap.now c.call_library.new.heap c.args.budget.now c.call_library.new.budget c.in_ok-step.step
+    c.args.call.function c.args.call.args c.args.call.place c.args.call.outer
+    c.in_ok-push.ensures.items (one_passes (jobs_of items) give) (c.in_ok-step.ensures.means items)

@@ -1,0 +1,28 @@
+use Rattle.std.proofs.Common.{ℤ, refl, sym, ap, Option}
+use Rattle.std.specs.Prelude.{◌+ℤ◌}
+use Rattle.tl_tree.specs.Arena.{items_of}
+use Rattle.lua_value.specs.Numbers.{number_from}
+use Rattle.lua_model.specs.Plans.{LuaPlan}
+use Rattle.lua_model.specs.Loops.{count_from}
+use Rattle.lua_eval.proofs.Below.{moved}
+use Rattle.lua_eval.proofs.loops.next_turn.Goals as goal
+
+pub returns-in_ok-step-in-While-clause-means : goal.returns-in_ok-step-in-While-clause-means
+returns-in_ok-step-in-While-clause-means c =
+    rw c.in-While.is (c.in_ok-step-in-While.ensures.means (items_of c.args.tree.now) c.args.heap.now c.args.budget.now)
+
+pub returns-in_ok-step-in-Repeat-clause-means : goal.returns-in_ok-step-in-Repeat-clause-means
+returns-in_ok-step-in-Repeat-clause-means c =
+    rw c.in-Repeat.is (c.in_ok-step-in-Repeat.ensures.means (items_of c.args.tree.now) c.args.heap.now c.args.budget.now)
+
+pub returns-in-Counted-clause-means : goal.returns-in-Counted-clause-means
+returns-in-Counted-clause-means c =
+    let a = c.args in
+    let m = c.in-Counted in
+    let items = items_of a.tree.now in
+    let fs = a.frames.now.items in
+    let s = a.heap.now in
+    let left = a.budget.now in
+    let plan : Option ℤ → LuaPlan = λ next. count_from a.node a.scope next m.limit m.step a.out in
+    rw m.is (moved items fs fs (plan (number_from (m.at +ℤ m.step))) (plan c.following-next.result) s s s left left
+    c.count_from.result (ap plan (sym c.following-next.ensures)) refl (c.count_from.ensures items s left fs))

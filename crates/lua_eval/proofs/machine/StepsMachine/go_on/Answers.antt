@@ -1,0 +1,18 @@
+use Rattle.tl_tree.specs.Arena.{items_of}
+use Rattle.lua_table.specs.Heap.{shallower}
+use Rattle.lua_table.proofs.Keeping.{keeps_shallower}
+use Rattle.lua_eval.proofs.Keeping.{kept_as}
+use Rattle.lua_eval.proofs.machine.StepsMachine.go_on.Goals as goal
+
+pub returns-in_ok-step-in-Block-clause-means : goal.returns-in_ok-step-in-Block-clause-means
+returns-in_ok-step-in-Block-clause-means c =
+    rw c.in-Block.is (c.in_ok-step-in-Block.ensures.means (items_of c.args.self.now.tree.now) c.args.heap.now c.args.budget.now)
+
+pub returns-in-Library-clause-kept : goal.returns-in-Library-clause-kept
+returns-in-Library-clause-kept c =
+    kept_as c.args.heap.now c.end_call.new.self (shallower c.args.heap.now) c.end_call.ensures (keeps_shallower c.args.heap.now)
+
+pub returns-in-Function-clause-kept : goal.returns-in-Function-clause-kept
+returns-in-Function-clause-kept c =
+    kept_as c.args.heap.now c.end_call-in-Function.new.self (shallower c.args.heap.now) c.end_call-in-Function.ensures
+    (keeps_shallower c.args.heap.now)

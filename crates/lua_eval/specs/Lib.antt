@@ -1,0 +1,23 @@
+-- How frames go on, and the language of a tree.
+pub mod Frames
+-- What the steps do.
+pub mod Steps
+-- Where the uses of locals find their cells.
+pub mod Slots
+pub mod Texts
+-- The environment of a call in progress.
+pub mod Calls
+-- The fields of a constructor.
+pub mod Fields
+-- Paths of function definitions.
+pub mod Paths
+-- The operands of an operator.
+pub mod Operands
+-- The numbers of a numeric `for`.
+pub mod Numbers
+-- What remains of an evaluation that is suspended.
+pub mod Rest
+-- Stores in names.
+pub mod Stores
+-- What values are read from.
+pub mod Reads
