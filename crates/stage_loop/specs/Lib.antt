@@ -1,0 +1,4 @@
+-- The promise: the outcome of a source's staging.
+pub mod Staging
+-- The layers as one stage.
+pub mod Layers

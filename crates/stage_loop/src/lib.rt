@@ -1,0 +1,10 @@
+//! The staging of a source: the layers of its evaluation in one loop, and the outcome.
+//!
+//! - `staged`: the layers as one stage;
+//! - `staging`: the call, and its outcome.
+#![tactic(auto)]
+
+pub mod staged;
+pub mod staging;
+
+pub use staging::{End, Outcome, stage};
