@@ -21,7 +21,8 @@ pub enum Place {
     Private(usize),
 }
 
-/// Where bytes at an address lie wholly, in a region and private memory of these sizes.
+/// Where bytes at an address lie wholly, in a region and private memory of these sizes. The upper half of the address says in which
+/// of the two, since the region ends below private memory.
 #[inline]
 #[tactic(auto, unfolding(crate::specs::Memory::place_of, crate::specs::Memory::offset_in))]
 pub(crate) fn find_place(region: usize, private: usize, address: u64, width: u64) -> Option<Place>
@@ -30,12 +31,16 @@ pub(crate) fn find_place(region: usize, private: usize, address: u64, width: u64
     ensures place { result ≡ place_of region private address width }
     ensures within { IfSome result (FitsIn region private width) }
 {
-    if let Some(at) = offset(PRIVATE, private, address, width) {
-        return Some(Place::Private(at));
-    }
-    match offset(REGION, region, address, width) {
-        Some(at) => Some(Place::Region(at)),
-        None => None,
+    if address < PRIVATE {
+        match offset(REGION, region, address, width) {
+            Some(at) => Some(Place::Region(at)),
+            None => None,
+        }
+    } else {
+        match offset(PRIVATE, private, address, width) {
+            Some(at) => Some(Place::Private(at)),
+            None => None,
+        }
     }
 }
 
