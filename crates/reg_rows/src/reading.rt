@@ -4,7 +4,8 @@ use reg_alloc::{Assignment, Home};
 use std::alloc::Global;
 use tac_form::{
     Address, Block, BlockList, Destination, DestinationList, Edge, Exit, Instruction,
-    InstructionList, Number, Operand, Part, PartList, Signature, Size, SizeList, Spot, Tac, TypeIds,
+    InstructionList, Number, Operand, Part, PartList, Signature, Size, SizeList, Spot, Tac,
+    TypeIds,
 };
 use terra_words::{BinaryOperator, FaultKind};
 use tl_base::{FnId, NoMemory, Place, TypeId};
