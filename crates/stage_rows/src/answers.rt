@@ -38,7 +38,12 @@ pub fn answer(alloc: Global, row: &Row) -> Result<Text2, NoMemory> {
 }
 
 /// Stages a source with so many units, and puts what it prints and a line with its end behind other text.
-fn push_staging(alloc: Global, out: &mut Text2, tree: &Tree<'_>, units: u64) -> Result<(), NoMemory> {
+fn push_staging(
+    alloc: Global,
+    out: &mut Text2,
+    tree: &Tree<'_>,
+    units: u64,
+) -> Result<(), NoMemory> {
     let outcome = stage(alloc, tree, units)?;
     let left = outcome.left;
     out.push_bytes(outcome.printed.bytes())?;
