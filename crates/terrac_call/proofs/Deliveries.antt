@@ -25,6 +25,8 @@ due_with-refusal statuses.ReadFault bytes other = refl
 due_with-refusal statuses.WriteFault bytes other = refl
 due_with-refusal statuses.NoMemory bytes other = refl
 due_with-refusal statuses.NotBuilt bytes other = refl
+due_with-refusal (statuses.Raised text place) bytes other = refl
+due_with-refusal statuses.BudgetSpent bytes other = refl
 
 -- nothing is a front of everything
 none_front : (whole : List ℕ) → IsFront [] whole

@@ -18,6 +18,7 @@ use Rattle.terrac_call.specs.DueView.{shown_due}
 use Rattle.terrac_call.specs.Arguments.{Good}
 use Rattle.terrac_call.specs.Exec.{due_of_stop, IsRunDue}
 use Rattle.terrac_call.specs.Answer.{IsDueOrCut, IsWhole, IsCut}
+use Rattle.terrac_call.specs.Delivery.{StopsShort}
 use Rattle.terrac_call.specs.Ending.{Remains, Stopped, Ends}
 use Rattle.terrac_call.proofs.Pieces.{with_back-none}
 
@@ -38,6 +39,45 @@ nothing_written Is rest due out faults Same shown is same other = record {
   took = with_back-none out;
   quiet = refl;
   same = λ _. same;
+  other = other;
+}
+
+-- the same of a predicate that knows no want of memory
+pub alone : (Is : Due → Type 0) (rest : DueValue) (due : Due) (out : Option (List ℕ)) (faults : ℕ) (Same : Type 0) → shown_due rest ≡ due → Is due → Same →
+    rest.status ≢ statuses.WriteFault → Remains Is rest out out faults faults Same
+alone Is rest due out faults Same shown is same other = record {
+  printed = [];
+  is_due = subst Is (sym shown) is;
+  took = with_back-none out;
+  quiet = refl;
+  same = λ _. same;
+  other = other;
+}
+
+-- what was printed before the rest: up to a write that failed
+pub printed_stopped : (printed : List ℕ) (rest : DueValue) (old new : Option (List ℕ)) (f0 f1 : ℕ) → printed ≢ [] → StopsShort printed old new f0 f1 →
+    Stopped (λ (due : Due). due ≡ after printed (shown_due rest)) old new f0 f1
+printed_stopped printed rest old new f0 f1 some short =
+    let more = (shown_due rest).out in
+    record {
+      due = after printed (shown_due rest);
+      is_due = refl;
+      part = short.front;
+      front = (short.is_front.0 ++ more, ap (λ (o : List ℕ). o ++ more) short.is_front.1 ∙ append_assoc short.front short.is_front.0 more);
+      some = λ none. some (front_none printed more none);
+      took = short.took;
+      rose = short.rose;
+    }
+
+-- and all of it
+pub printed_whole : (printed : List ℕ) (rest : DueValue) (old new : Option (List ℕ)) (f0 f1 : ℕ) (Same : Type 0) → new ≡ with_back old printed → f1 ≡ f0 →
+    (printed ≡ [] → Same) → rest.status ≢ statuses.WriteFault → Remains (λ (due : Due). due ≡ after printed (shown_due rest)) rest old new f0 f1 Same
+printed_whole printed rest old new f0 f1 Same took quiet same other = record {
+  printed = printed;
+  is_due = refl;
+  took = took;
+  quiet = quiet;
+  same = same;
   other = other;
 }
 

@@ -16,4 +16,5 @@ pub mod OneReading
 pub mod Pieces
 pub mod Statuses
 pub mod Telling
+pub mod TerraNodes
 pub mod Top

@@ -1,5 +1,9 @@
 -- A job on some bytes has one thing due.
-use Rattle.std.proofs.Common.{◌≡◌, ◌≢◌, ◌+◌, ◌≤◌, ◌<◌, ℕ, List, length, Option, Some, None, refl, sym, ap, subst, ◌∙◌, arith}
+use Rattle.std.proofs.Common.{◌≡◌, ◌≢◌, ◌+◌, ◌≤◌, ◌<◌, ℕ, true, false, List, [], length, Option, Some, None, refl, sym, ap, subst, ◌∙◌, arith}
+use Rattle.tl_tree.specs.Code.{Items}
+use Rattle.tl_tree.specs.Nodes.{lay}
+use Rattle.stage_loop.specs.declared.staging.Outcome.{Outcome}
+use Rattle.stage_loop.specs.Staging.{outcome}
 use Rattle.elf_image.specs.declared.error.ImageError.{ImageError}
 use Rattle.elf_image.specs.declared.image.Image.{Image}
 use Rattle.elf_image.specs.declared.image.Symbol.{Symbol}
@@ -8,10 +12,11 @@ use Rattle.elf_image.specs.Loads.{Loads, BadBytes}
 use Rattle.rv_machine.specs.Machine.{Ran}
 use Rattle.rv_machine.proofs.ImageRuns.{one_run}
 use Rattle.terrac_call.specs.declared.status.ImageFault.TheVariants.{Refused}
-use Rattle.terrac_call.specs.Words.{Call, Job, Run, Exec, job_of}
+use Rattle.terrac_call.specs.Words.{Call, Job, Run, Exec, Check, job_of}
 use Rattle.terrac_call.specs.Arguments.{Arguments, Good, Bad, arguments_of}
-use Rattle.terrac_call.specs.Due.{Due, Reading, after, due_of_call}
+use Rattle.terrac_call.specs.Due.{Due, Reading, IsRefused, IsTree, after, due_of_call}
 use Rattle.terrac_call.specs.Exec.{due_of_bad_image, due_of_stop, IsRunDue, IsCallDue, IsExecDue, IsLong, IsBad, IsImage}
+use Rattle.terrac_call.specs.Check.{due_of_outcome, IsTreeDue, IsNotBuilt, IsStaged, IsReadingDue}
 use Rattle.terrac_call.specs.Answer.{IsDue}
 use Rattle.terrac_call.specs.Call.{OneDue}
 use Rattle.terrac_call.proofs.OneReading.{one_reading}
@@ -49,10 +54,34 @@ one_of_exec call steps bytes one other (IsImage i few loads p) (IsImage j less r
     one_of_call i call steps (symbol_named call.entry i.exports) one other p
     (subst (λ (x : Image). IsCallDue x call steps (symbol_named call.entry x.exports) other) same q)
 
-one_of_job : (job : Option Job) (bytes : List ℕ) (one other : Due) → job ≢ None → IsDue job bytes one → IsDue job bytes other → one ≡ other
-one_of_job None bytes one other some p q = absurd (some refl)
-one_of_job (Some (Run call)) bytes one other some p q = p.2 ∙ ap (due_of_call call) (one_reading bytes p.0 q.0 p.1 q.1) ∙ sym q.2
-one_of_job (Some (Exec call steps)) bytes one other some p q = one_of_exec call steps bytes one other p q
+-- what a staging comes to, it comes to where it may go deeper
+abbrev pub Settled : Type 0
+Settled = (items : Items) (n m units : ℕ) (out : Outcome) → outcome items n units ≡ Some out → n ≤ m → outcome items m units ≡ Some out
 
-pub one_due : OneDue
-one_due words bytes one other some p q = one_of_job (job_of words) bytes one other some p q
+one_outcome : Settled → (items : Items) (n m units : ℕ) (one other : Outcome) → outcome items n units ≡ Some one → outcome items m units ≡ Some other → one ≡ other
+one_outcome settled items n m units one other p q =
+    let there : ◌≡◌ {A = Option Outcome} (Some one) (Some other) =
+    sym (settled items n (n + m) units one p (omega arith)) ∙ settled items m (n + m) units other q (omega arith) in
+    cc
+
+one_of_tree : Settled → (units : ℕ) (items : Items) (one other : Due) → IsTreeDue units items one → IsTreeDue units items other → one ≡ other
+one_of_tree settled units items one other (IsNotBuilt some p) (IsNotBuilt again q) = p ∙ sym q
+one_of_tree settled units items one other (IsNotBuilt some p) (IsStaged m b none comes q) = let bad : true ≡ false = sym some ∙ none in absurd cc
+one_of_tree settled units items one other (IsStaged n a none comes p) (IsNotBuilt some q) = let bad : true ≡ false = sym some ∙ none in absurd cc
+one_of_tree settled units items one other (IsStaged n a none comes p) (IsStaged m b lacks ends q) =
+    p ∙ ap due_of_outcome (one_outcome settled items n m units a b comes ends) ∙ sym q
+
+one_of_check : Settled → (units : ℕ) (reading : Reading) (one other : Due) → IsReadingDue units reading one → IsReadingDue units reading other → one ≡ other
+one_of_check settled units (IsRefused kind place) one other p q = p ∙ sym q
+one_of_check settled units (IsTree tree) one other p q = one_of_tree settled units (lay tree []) one other p q
+
+one_of_job : Settled → (job : Option Job) (bytes : List ℕ) (one other : Due) → job ≢ None → IsDue job bytes one → IsDue job bytes other → one ≡ other
+one_of_job settled None bytes one other some p q = absurd (some refl)
+one_of_job settled (Some (Run call)) bytes one other some p q = p.2 ∙ ap (due_of_call call) (one_reading bytes p.0 q.0 p.1 q.1) ∙ sym q.2
+one_of_job settled (Some (Exec call steps)) bytes one other some p q = one_of_exec call steps bytes one other p q
+one_of_job settled (Some (Check limits)) bytes one other some p q =
+    one_of_check settled limits.budget p.0 one other p.2
+    (subst (λ (r : Reading). IsReadingDue limits.budget r other) (one_reading bytes q.0 p.0 q.1 p.1) q.2)
+
+pub one_due : Settled → OneDue
+one_due settled words bytes one other some p q = one_of_job settled (job_of words) bytes one other some p q

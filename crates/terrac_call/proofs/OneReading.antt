@@ -5,9 +5,6 @@ use Rattle.tl_lex.specs.declared.SyntaxKind.{SyntaxKind}
 use Rattle.tl_tree.specs.Tokens.{Token, tokens_of, finish_of, place_of}
 use Rattle.tl_tree.specs.Tree.{Tree}
 use Rattle.tl_tree.specs.declared.tree.Tree as code
-use Rattle.tl_tree.specs.Nodes.{lay}
-use Rattle.tl_tree.specs.Kinds.{IsWellFormedBlock}
-use Rattle.tl_tree.specs.Arena.{items_of}
 use Rattle.tl_tree.specs.Refusing.{Language, Answer, Says, IsTree, Refused}
 use Rattle.tl_tree.specs.Laws.{HasOneAnswer, IsChunk}
 use Rattle.tl_tree.specs.Texts as texts
@@ -17,7 +14,11 @@ use Rattle.tl_parse.specs.Whole.{ComesOf}
 use Rattle.first_form.specs.Formula.{SourceFunction, IsWithin}
 use Rattle.first_form.specs.Form.{function_of}
 use Rattle.first_form.proofs.Within.{always_within}
-use Rattle.terrac_call.specs.Due.{Reading, IsRefused, IsFunction, reading_of, IsTextReadAs, HasTree, HasNone, IsReadAs, IsTooLong, IsNotUtf8, IsText}
+use Rattle.terrac_call.specs.declared.parsing.Parsed.{Parsed}
+use Rattle.terrac_call.specs.declared.parsing.Parsed.TheVariants as parsed
+use Rattle.terrac_call.specs.ParsedView.{Shows}
+use Rattle.terrac_call.specs.Due as due
+use Rattle.terrac_call.specs.Due.{Reading, IsRefused, IsTextReadAs, HasTree, HasNone, IsReadAs, IsTooLong, IsNotUtf8, IsText}
 
 -- two answers of a language are one
 one : (Reads : Language Tree) → HasOneAnswer Reads → (ts : List Token) (y z : Answer Tree) → Says Reads ts y → Says Reads ts z → y ≡ z
@@ -52,7 +53,7 @@ one_refusal text kind other place there p q =
         ap (λ (k : SyntaxKind). IsRefused k place) kinds ∙ ap (λ (x : Place). IsRefused other x) places
 
 one_text : (text : List ℕ) (a b : Reading) → IsTextReadAs text a → IsTextReadAs text b → a ≡ b
-one_text text _ _ (HasTree t p) (HasTree u q) = ap (λ (x : Tree). reading_of (function_of x)) (one_tree text t u p q)
+one_text text _ _ (HasTree t p) (HasTree u q) = ap (λ (x : Tree). due.IsTree x) (one_tree text t u p q)
 one_text text _ _ (HasTree t p) (HasNone kind place q) = absurd (no_both text t kind place p q)
 one_text text _ _ (HasNone kind place p) (HasTree u q) = absurd (no_both text u kind place q p)
 one_text text _ _ (HasNone kind place p) (HasNone other there q) = one_refusal text kind other place there p q
@@ -68,26 +69,15 @@ one_reading source _ _ (IsText a l u p) (IsTooLong m) = absurd (omega arith)
 one_reading source _ _ (IsText a l u p) (IsNotUtf8 m n) = absurd (n u)
 one_reading source _ _ (IsText a l u p) (IsText b m v q) = one_text source a b p q
 
--- ---- what a tree is
+-- what a value shows of one reading, it shows of another that follows
+pub shows_into : (P Q : Reading → Type 0) → ((r : Reading) → P r → Q r) → (x : Parsed) → Shows P x → Shows Q x
+shows_into P Q into (parsed.Refused kind place) h = into (IsRefused kind place) h
+shows_into P Q into (parsed.Tree tree) h = (h.0, into (due.IsTree h.0) h.1, h.2, h.3)
 
-function_within : (o : Option SourceFunction) (f : SourceFunction) → ((g : SourceFunction) → o ≡ Some g → IsWithin g) → reading_of o ≡ IsFunction f → IsWithin f
-function_within None f h e = absurd cc
-function_within (Some g) f h e = let same : g ≡ f = cc in subst (λ (x : SourceFunction). IsWithin x) same (h g refl)
+-- the tree of a text
+pub text_tree : (text : List ℕ) (t : code.Tree) → ComesOf text (Ok t) → Shows (IsTextReadAs text) (parsed.Tree t)
+text_tree text t comes = (comes.0, HasTree comes.0 comes.1, comes.2, well_formed_trees text comes.0 comes.1)
 
-text_within : (text : List ℕ) (r : Reading) (f : SourceFunction) → IsTextReadAs text r → r ≡ IsFunction f → IsWithin f
-text_within text _ f (HasTree t p) e = function_within (function_of t) f (always_within t) e
-text_within text _ f (HasNone kind place p) e = absurd cc
-
-source_within : (source : List ℕ) (r : Reading) (f : SourceFunction) → IsReadAs source r → r ≡ IsFunction f → IsWithin f
-source_within source _ f (IsTooLong l) e = absurd cc
-source_within source _ f (IsNotUtf8 l n) e = absurd cc
-source_within source r f (IsText _ l u p) e = text_within source r f p e
-
--- the function that a source reads as is within the bounds
-pub reads_within : (source : List ℕ) (f : SourceFunction) → IsReadAs source (IsFunction f) → IsWithin f
-reads_within source f p = source_within source (IsFunction f) f p refl
-
--- the function that is found of the tree of a text
-pub text_tree : (text : List ℕ) (t : code.Tree) (found : Option SourceFunction) → ComesOf text (Ok t) → ((tree : Tree) → items_of t ≡ lay tree [] → IsWellFormedBlock tree → found ≡ function_of tree) → IsTextReadAs text (reading_of found)
-text_tree text t found comes finds =
-    subst (λ (o : Option SourceFunction). IsTextReadAs text (reading_of o)) (sym (finds comes.0 comes.2 (well_formed_trees text comes.0 comes.1))) (HasTree comes.0 comes.1)
+-- the function that is found of a tree is within the bounds
+pub found_within : (tree : Tree) (found : Option SourceFunction) (f : SourceFunction) → found ≡ function_of tree → found ≡ Some f → IsWithin f
+found_within tree found f is some = always_within tree f (sym is ∙ some)

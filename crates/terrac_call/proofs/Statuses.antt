@@ -1,5 +1,5 @@
 -- No job that is done ends as a refusal of the words, or as a read that failed.
-use Rattle.std.proofs.Common.{◌≡◌, ◌≢◌, ℕ, Bool, true, false, cond, List, Option, Some, None, refl, sym, ap, subst, ◌∙◌}
+use Rattle.std.proofs.Common.{◌≡◌, ◌≢◌, ℕ, Bool, true, false, cond, List, [], Option, Some, None, refl, sym, ap, subst, ◌∙◌}
 use Rattle.std.specs.Prelude.{codes, IsSome}
 use Rattle.std.specs.Str.{bytes_eq}
 use Rattle.elf_image.specs.declared.image.Image.{Image}
@@ -7,13 +7,19 @@ use Rattle.elf_image.specs.declared.image.Symbol.{Symbol}
 use Rattle.elf_image.specs.Calls.{symbol_named}
 use Rattle.rv_machine.specs.declared.stops.Stop.{Stop}
 use Rattle.rv_machine.specs.declared.stops.Stop.TheVariants as stops
+use Rattle.tl_tree.specs.Code.{Items}
+use Rattle.tl_tree.specs.Nodes.{lay}
 use Rattle.first_form.specs.Formula.{SourceFunction}
+use Rattle.first_form.specs.Form.{function_of}
+use Rattle.stage_loop.specs.declared.staging.End.{End}
+use Rattle.stage_loop.specs.declared.staging.End.TheVariants.{Done, Raised, Spent}
 use Rattle.terrac_call.specs.declared.status.Status.{Status}
 use Rattle.terrac_call.specs.declared.status.Status.TheVariants as statuses
-use Rattle.terrac_call.specs.Words.{Call, Job, Run, Exec}
+use Rattle.terrac_call.specs.Words.{Call, Job, Run, Exec, Check}
 use Rattle.terrac_call.specs.Arguments.{Arguments, Good, Bad, arguments_of}
-use Rattle.terrac_call.specs.Due.{Due, after, Reading, IsRefused, IsFunction, IsOther, int64, refused, due_of_arguments, due_of_no_entry, due_of_call}
+use Rattle.terrac_call.specs.Due.{Due, after, Reading, IsRefused, IsTree, int64, refused, due_of_arguments, due_of_no_entry, due_of_function, due_of_call}
 use Rattle.terrac_call.specs.Exec.{due_of_stop, IsRunDue, IsCallDue, IsExecDue, IsLong, IsBad, IsImage}
+use Rattle.terrac_call.specs.Check.{due_of_end, IsTreeDue, IsNotBuilt, IsStaged, IsReadingDue}
 use Rattle.terrac_call.specs.Answer.{IsDue, IsDueOrCut, IsWhole, IsCut, Owed, Answered, Unread, OutOfMemory}
 
 -- the statuses with which a job may end
@@ -31,6 +37,8 @@ ends_job statuses.WriteFault = true
 ends_job statuses.NoMemory = true
 ends_job (statuses.MachineFault kind pc) = true
 ends_job statuses.NotBuilt = true
+ends_job (statuses.Raised text place) = true
+ends_job statuses.BudgetSpent = true
 
 abbrev EndsJob : Due → Type 0
 EndsJob due = ends_job due.status ≡ true
@@ -43,11 +51,14 @@ of_arguments : (function : SourceFunction) (given : Arguments) → EndsJob (due_
 of_arguments function (Good values) = refl
 of_arguments function (Bad position) = refl
 
+of_function : (call : Call) (found : Option SourceFunction) → EndsJob (due_of_function call found)
+of_function call None = refl
+of_function call (Some function) =
+    of_either (bytes_eq call.entry function.name) _ (due_of_no_entry call.entry) (of_arguments function _) refl
+
 of_reading : (call : Call) (reading : Reading) → EndsJob (due_of_call call reading)
 of_reading call (IsRefused kind place) = refl
-of_reading call IsOther = refl
-of_reading call (IsFunction function) =
-    of_either (bytes_eq call.entry function.name) _ (due_of_no_entry call.entry) (of_arguments function _) refl
+of_reading call (IsTree tree) = of_function call (function_of tree)
 
 of_stop : (code : ℕ) (stop : Stop) → EndsJob (due_of_stop code stop)
 of_stop code (stops.Returned word) = refl
@@ -72,9 +83,23 @@ of_exec call steps bytes due (IsLong more is) = as_that due _ is refl
 of_exec call steps bytes due (IsBad error few bad is) = as_that due _ is refl
 of_exec call steps bytes due (IsImage image few loads is) = of_call image call steps (symbol_named call.entry image.exports) due is
 
+of_end : (end : End) → EndsJob (due_of_end end)
+of_end Done = refl
+of_end (Raised text place) = refl
+of_end Spent = refl
+
+of_tree : (units : ℕ) (items : Items) (due : Due) → IsTreeDue units items due → EndsJob due
+of_tree units items due (IsNotBuilt some is) = as_that due _ is refl
+of_tree units items due (IsStaged n out none comes is) = as_that due _ is (of_end out.end)
+
+of_check : (units : ℕ) (reading : Reading) (due : Due) → IsReadingDue units reading due → EndsJob due
+of_check units (IsRefused kind place) due is = as_that due _ is refl
+of_check units (IsTree tree) due is = of_tree units (lay tree []) due is
+
 of_job : (job : Job) (bytes : List ℕ) (due : Due) → IsDue (Some job) bytes due → EndsJob due
 of_job (Run call) bytes due is = as_that due _ is.2 (of_reading call is.0)
 of_job (Exec call steps) bytes due is = of_exec call steps bytes due is
+of_job (Check limits) bytes due is = of_check limits.budget is.0 due is.2
 
 of_job_or_cut : (job : Job) (bytes : List ℕ) (due : Due) → IsDueOrCut (IsDue (Some job) bytes) due → EndsJob due
 of_job_or_cut job bytes due (IsWhole is) = of_job job bytes due is

@@ -2,6 +2,7 @@
 use Rattle.std.proofs.Common.{◌≡◌, ◌⊎◌, inl, inr, ◌+◌, ◌≤◌, ℕ, List, ◌++◌, length, sym, subst, arith, length-append}
 use Rattle.terrac_call.specs.Words.{Call}
 use Rattle.terrac_call.specs.Due.{Due, Reading, IsReadAs, IsTooLong, IsNotUtf8, IsText, longest, IsSourceDue}
+use Rattle.terrac_call.specs.Check.{IsCheckDue}
 
 -- a source is too long that has a front that is
 longer : (text rest : List ℕ) (reading : Reading) → longest + 1 ≤ length text → IsReadAs text reading → IsReadAs (text ++ rest) reading
@@ -15,3 +16,9 @@ pub source_whole : (call : Call) (text bytes : List ℕ) (due : Due) → (text �
 source_whole call text bytes due (inl same) is = subst (λ (b : List ℕ). IsSourceDue call b due) same is
 source_whole call text bytes due (inr long) is =
     subst (λ (b : List ℕ). IsSourceDue call b due) (sym long.1.1) (is.0, longer text long.1.0 is.0 long.0 is.1, is.2)
+
+pub check_whole : (units : ℕ) (text bytes : List ℕ) (due : Due) → (text ≡ bytes) ⊎ ((longest + 1 ≤ length text) × ((back : List ℕ) × (bytes ≡ text ++ back))) →
+    IsCheckDue units text due → IsCheckDue units bytes due
+check_whole units text bytes due (inl same) is = subst (λ (b : List ℕ). IsCheckDue units b due) same is
+check_whole units text bytes due (inr long) is =
+    subst (λ (b : List ℕ). IsCheckDue units b due) (sym long.1.1) (is.0, longer text long.1.0 is.0 long.0 is.1, is.2)

@@ -28,6 +28,8 @@ status_with statuses.ReadFault bytes = refl
 status_with statuses.WriteFault bytes = refl
 status_with statuses.NoMemory bytes = refl
 status_with statuses.NotBuilt bytes = refl
+status_with (statuses.Raised text place) bytes = refl
+status_with statuses.BudgetSpent bytes = refl
 
 status_of : (rest : DueValue) → (shown_due rest).status ≡ rest.status
 status_of rest = status_with rest.status (line_bytes rest.line)

@@ -65,11 +65,10 @@ due_of_arguments function (Good values) = due_of_result int64 (meaning function.
 
 -- ---- how a source reads
 
--- what a source reads as: refused for this reason at this place, this function, or another source
+-- what a source reads as: refused for this reason at this place, or this tree
 pub data Reading : Type 0 where
   IsRefused : SyntaxKind → Place → Reading
-  IsFunction : SourceFunction → Reading
-  IsOther : Reading
+  IsTree : Tree → Reading
 
 -- how many bytes a source may have
 abbrev pub longest : ℕ
@@ -79,14 +78,9 @@ longest = 1048576
 abbrev pub nowhere : Place
 nowhere = record { line = 0; word = 0 }
 
--- the function of a tree, where it is one
-abbrev pub reading_of : Option SourceFunction → Reading
-reading_of None = IsOther
-reading_of (Some function) = IsFunction function
-
--- A text reads as what its tree is, or is refused.
+-- A text reads as its tree, or is refused.
 pub data IsTextReadAs (text : List ℕ) : Reading → Type 0 where
-  HasTree : (tree : Tree) → Reads text tree → IsTextReadAs text (reading_of (function_of tree))
+  HasTree : (tree : Tree) → Reads text tree → IsTextReadAs text (IsTree tree)
   HasNone : (kind : SyntaxKind) (place : Place) → Refuses text kind place → IsTextReadAs text (IsRefused kind place)
 
 -- A source is refused where it is too long; else where it is not UTF-8; and else it reads as its text does.
@@ -115,13 +109,21 @@ abbrev pub due_of_syntax : SyntaxKind → Place → Due
 due_of_syntax kind place =
     refused (statuses.Syntax kind place) (codes "syntax " ++ kind_name kind ++ codes " at " ++ place_text place)
 
+-- for a source of which no part that is built takes care
+abbrev pub due_of_not_built : Due
+due_of_not_built = refused statuses.NotBuilt (codes "not built")
+
+-- for a call on a source that is this function, or none
+abbrev pub due_of_function : Call → Option SourceFunction → Due
+due_of_function call None = due_of_not_built
+due_of_function call (Some function) =
+    if bytes_eq call.entry function.name then due_of_arguments function (arguments_of (replicate function.arity int64) 1 call.arguments)
+    else due_of_no_entry call.entry
+
 -- for a call on a source that reads so
 abbrev pub due_of_call : Call → Reading → Due
 due_of_call call (IsRefused kind place) = due_of_syntax kind place
-due_of_call call IsOther = refused statuses.NotBuilt (codes "not built")
-due_of_call call (IsFunction function) =
-    if bytes_eq call.entry function.name then due_of_arguments function (arguments_of (replicate function.arity int64) 1 call.arguments)
-    else due_of_no_entry call.entry
+due_of_call call (IsTree tree) = due_of_function call (function_of tree)
 
 -- for a call on the bytes of a source
 abbrev pub IsSourceDue : Call → List ℕ → Due → Type 0

@@ -10,6 +10,7 @@ use Rattle.terrac_call.specs.Due.{Due}
 abbrev pub line_bytes : Line → List ℕ
 line_bytes (lines.Fixed text) = text.now
 line_bytes (lines.Made text) = string_bytes text
+line_bytes (lines.Bytes text) = text
 
 -- the result goes to `out`, and any other line to `notes`
 abbrev pub due_with : Status → List ℕ → Due

@@ -2,13 +2,14 @@
 use Rattle.std.specs.Prelude.{ℕ, ◌≡◌, List, ◌++◌, Option, Some, None, length, map, string_bytes, codes}
 use Rattle.std.specs.Borrow.{Bor}
 use Rattle.terrac_call.specs.declared.words.Call.{Call as CallValue}
+use Rattle.terrac_call.specs.declared.words.Limits.{Limits as LimitsValue}
 use Rattle.terrac_call.specs.declared.words.Job.{Job as JobValue}
 use Rattle.terrac_call.specs.declared.words.Job.TheVariants as jobs
 use Rattle.terrac_call.specs.declared.words.Asked.{Asked}
 use Rattle.terrac_call.specs.declared.words.Asked.TheVariants as asked
 use Rattle.terrac_call.specs.declared.arguments.Arguments.{Arguments as ArgumentsValue}
 use Rattle.terrac_call.specs.declared.arguments.Arguments.TheVariants as values
-use Rattle.terrac_call.specs.Words.{Call, Job, Run, Exec}
+use Rattle.terrac_call.specs.Words.{Call, Limits, Job, Run, Exec, Check}
 use Rattle.terrac_call.specs.Arguments.{Arguments, Good, Bad}
 use Rattle.terrac_call.specs.Due.{line}
 
@@ -19,9 +20,13 @@ texts_of texts = map (λ text. text.now) texts
 abbrev pub shown_call : CallValue → Call
 shown_call call = record { entry = call.entry.now; arguments = texts_of call.arguments.items }
 
+abbrev pub shown_limits : LimitsValue → Limits
+shown_limits limits = record { budget = limits.budget; memory = limits.memory }
+
 abbrev pub shown_job : JobValue → Job
 shown_job (jobs.Run call) = Run (shown_call call)
 shown_job (jobs.Exec call steps) = Exec (shown_call call) steps
+shown_job (jobs.Check limits) = Check (shown_limits limits)
 
 -- the job that was asked for, if the words name one
 abbrev pub shown_asked : Asked → Option Job

@@ -7,6 +7,8 @@ pub mod Arguments
 pub mod Due
 -- what is due for `exec`
 pub mod Exec
+-- what is due for `check`
+pub mod Check
 -- the numbers of statuses
 pub mod Codes
 -- what is owed and delivered, whatever the source and the sinks do
@@ -16,7 +18,7 @@ pub mod Call
 -- Views of the code, which private contracts cite.
 pub mod JobView
 pub mod DueView
-pub mod FormView
+pub mod ParsedView
 pub mod Delivery
 pub mod Ending
 pub mod Code

@@ -29,6 +29,24 @@ steps_rule = record (new_rule (codes "steps")) {
   defaults = codes "100000000" ∷ [];
 }
 
+-- --budget: a number from 1 to 4,000,000, at most once, and 1,000,000 where it isn't given
+abbrev pub budget_rule : Rule
+budget_rule = record (new_rule (codes "budget")) {
+  long = Some (codes "budget");
+  value_names = 1;
+  parser = Some (parsers.Unsigned 1 4000000);
+  defaults = codes "1000000" ∷ [];
+}
+
+-- --memory: a number of KiB from 64 to 65,536, at most once, and 1,024 where it isn't given
+abbrev pub memory_rule : Rule
+memory_rule = record (new_rule (codes "memory")) {
+  long = Some (codes "memory");
+  value_names = 1;
+  parser = Some (parsers.Unsigned 64 65536);
+  defaults = codes "1024" ∷ [];
+}
+
 -- run ENTRY ARG..
 abbrev pub run_command : App
 run_command = with_rule (with_rule (new_app (codes "run")) entry_rule) arguments_rule
@@ -37,13 +55,17 @@ run_command = with_rule (with_rule (new_app (codes "run")) entry_rule) arguments
 abbrev pub exec_command : App
 exec_command = with_rule (with_rule (with_rule (new_app (codes "exec")) steps_rule) entry_rule) arguments_rule
 
+-- check, with its options
+abbrev pub check_command : App
+check_command = with_rule (with_rule (new_app (codes "check")) budget_rule) memory_rule
+
 -- the program without a command
 abbrev pub program : App
 program = record { top = record (new_shape (codes "terrac")) { subcommand_required = true }; subs = [] }
 
 -- the program requires one of its commands
 abbrev pub command_line : App
-command_line = with_subcommand (with_subcommand program run_command.top) exec_command.top
+command_line = with_subcommand (with_subcommand (with_subcommand program run_command.top) exec_command.top) check_command.top
 
 -- ---- the job
 
@@ -52,10 +74,16 @@ pub record Call : Type 0 where
   pub entry : Text
   pub arguments : List Text
 
--- to run an entry of a source; to run an entry of an image for at most so many steps
+-- how many units staging may pay, and how many KiB of memory what is compiled has
+pub record Limits : Type 0 where
+  pub budget : ℕ
+  pub memory : ℕ
+
+-- to run an entry of a source; to run an entry of an image for at most so many steps; to check a source within limits
 pub data Job : Type 0 where
   Run : (call : Call) → Job
   Exec : (call : Call) (steps : ℕ) → Job
+  Check : (limits : Limits) → Job
 
 -- What is required or has a default is always there, and a number is one in its range; these definitions say something of other
 -- rows as well.
@@ -77,14 +105,22 @@ call_of rows = record {
   arguments = unwrap_or (all_of (codes "ARG") rows) [];
 }
 
-abbrev pub steps_of : List Row → ℕ
-steps_of rows = number_or_zero (text_or_none (first_of (codes "steps") rows))
+-- the number that was found for an option
+abbrev pub number_found : Text → List Row → ℕ
+number_found id rows = number_or_zero (text_or_none (first_of id rows))
+
+abbrev pub exec_of : List Row → Job
+exec_of rows = Exec (call_of rows) (number_found (codes "steps") rows)
+
+abbrev pub limits_of : List Row → Limits
+limits_of rows = record { budget = number_found (codes "budget") rows; memory = number_found (codes "memory") rows }
 
 -- the job of a command with what was found for its arguments
 abbrev pub job_of_command : Option (Text × List Row) → Job
 job_of_command None = Run (call_of [])
 job_of_command (Some found) =
-    if bytes_eq found.0 (codes "exec") then Exec (call_of found.1) (steps_of found.1) else Run (call_of found.1)
+    if bytes_eq found.0 (codes "exec") then exec_of found.1
+    else (if bytes_eq found.0 (codes "check") then Check (limits_of found.1) else Run (call_of found.1))
 
 -- the job that the words name, the program's own name first: none exactly where `clap` refuses them
 unfoldable pub job_of : List Text → Option Job

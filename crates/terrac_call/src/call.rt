@@ -15,6 +15,7 @@ use crate::due::{Due, Ended};
 use crate::lines::{bare_usage_due, no_memory_due};
 use crate::run::run;
 use crate::status::Status;
+use stage_loop::staging::larger_changes_nothing;
 use std::alloc::Global;
 use std::io::ErrorKind;
 use tl_base::{Sink, Source};
@@ -59,7 +60,7 @@ pub fn terrac<S: Source, K: Sink, N: Sink>(
     ensures bound { TookAtMost (most_read (job_of (map string_bytes words.now))) (S.left source.old) (S.left source.new) }
 {
     match run(alloc, words, source, out) {
-        Ended::Due(due) => deliver(&due, out, notes),
+        Ended::Due(due) => deliver(due, out, notes),
         Ended::WriteFault => write_fault(notes),
     }
 }
@@ -70,7 +71,7 @@ pub fn refuse_unread<K: Sink, N: Sink>(kind: ErrorKind, out: &mut K, notes: &mut
     ensures fault { result ≡ statuses.WriteFault →
         IsRisen (K.faults out.old) (K.faults out.new) ⊎ IsRisen (N.faults notes.old) (N.faults notes.new) }
 {
-    deliver(&unread_words_due(kind), out, notes)
+    deliver(unread_words_due(kind), out, notes)
 }
 
 /// What is due where the words could not be collected: memory ran out, or a word is no UTF-8, which names nothing.
@@ -87,4 +88,6 @@ fn unread_words_due(kind: ErrorKind) -> Due
 /// A job on some bytes has one thing due, so that [`terrac`]'s answer is the only one.
 pub fn one_due()
     ensures { OneDue }
-{}
+{
+    larger_changes_nothing()
+}

@@ -14,23 +14,24 @@ use tl_base::{Failed, Sink};
 
 /// Writes what is due, and answers its status. Where a write fails, the line `write fault` is tried once, and the status takes the
 /// place of the one that was due.
-pub(crate) fn deliver<K: Sink, N: Sink>(due: &Due, out: &mut K, notes: &mut N) -> Status
-    requires { due.now.status ≢ statuses.WriteFault }
-    ensures delivers { Delivers (shown_due due.now) result (K.taken out.old) (K.taken out.new) (N.taken notes.old) (N.taken notes.new) }
+pub(crate) fn deliver<K: Sink, N: Sink>(due: Due, out: &mut K, notes: &mut N) -> Status
+    requires { due.status ≢ statuses.WriteFault }
+    ensures delivers { Delivers (shown_due due) result (K.taken out.old) (K.taken out.new) (N.taken notes.old) (N.taken notes.new) }
     ensures fault { result ≡ statuses.WriteFault → IsRisen (K.faults out.old) (K.faults out.new) ⊎ IsRisen (N.faults notes.old) (N.faults notes.new) }
     ensures out_rose { K.faults out.old < K.faults out.new → result ≡ statuses.WriteFault }
     ensures notes_rose { N.faults notes.old < N.faults notes.new → result ≡ statuses.WriteFault }
-    ensures quiet_out { (shown_due due.now).out ≡ [] → out.new ≡ out.old }
-    ensures kept { (result ≡ due.now.status) ⊎ (result ≡ statuses.WriteFault) }
+    ensures quiet_out { (shown_due due).out ≡ [] → out.new ≡ out.old }
+    ensures kept { (result ≡ due.status) ⊎ (result ≡ statuses.WriteFault) }
     ensures quiet_notes { result ≡ statuses.Ok → notes.new ≡ notes.old }
 {
-    match due.status {
-        Status::Ok => deliver_result(due.line.as_bytes(), out, notes),
-        status => deliver_refusal(status, due.line.as_bytes(), notes),
+    let Due { status, line } = due;
+    match status {
+        Status::Ok => deliver_result(line.as_bytes(), out, notes),
+        status => deliver_refusal(status, line.as_bytes(), notes),
     }
 }
 
-/// Writes the result line to `out`.
+/// Writes the result line to `out`, if there is one.
 fn deliver_result<K: Sink, N: Sink>(line: &[u8], out: &mut K, notes: &mut N) -> Status
     ensures delivers { Delivers (due_with statuses.Ok line.now) result (K.taken out.old) (K.taken out.new) (N.taken notes.old) (N.taken notes.new) }
     ensures fault { result ≡ statuses.WriteFault → IsRisen (K.faults out.old) (K.faults out.new) }

@@ -4,12 +4,15 @@ ghost use Rattle.std.specs.Prelude.{◌≡◌};
 ghost use Rattle.terrac_call.specs.DueView.{line_bytes};
 
 use crate::status::Status;
+use tl_base::Text2;
 
 /// A line, with its line end.
 #[derive(Drop)]
 pub(crate) enum Line {
     Fixed(&'static str),
     Made(String),
+    /// One that may be no UTF-8.
+    Bytes(Text2),
 }
 
 impl Line {
@@ -19,11 +22,12 @@ impl Line {
         match self {
             Line::Fixed(text) => text.as_bytes(),
             Line::Made(text) => text.as_bytes(),
+            Line::Bytes(text) => text.bytes(),
         }
     }
 }
 
-/// The status that is due and its line: the result for [`Status::Ok`], and the line on `notes` for every other.
+/// The status that is due and its line: the result for [`Status::Ok`], if there is one, and the line on `notes` for every other.
 #[derive(Drop)]
 pub(crate) struct Due {
     pub status: Status,

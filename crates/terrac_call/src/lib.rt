@@ -6,12 +6,13 @@
 
 mod arguments;
 pub mod call;
+mod check;
 mod code;
 mod delivery;
 mod due;
 mod exec;
-mod form;
 mod lines;
+mod parsing;
 mod reading;
 mod run;
 pub mod status;

@@ -1,17 +1,19 @@
 // The lines that a call may owe.
 
 ghost use Rattle.std.specs.Prelude.{◌≡◌, ◌≢◌, [], ◌++◌, IfOk, codes, string_bytes};
-ghost use Rattle.terrac_call.specs.Due.{refused, due_of_result, due_of_syntax, due_of_no_entry, due_of_bad_argument, due_of_usage, kind_name};
+ghost use Rattle.terrac_call.specs.Check.{due_of_end};
+ghost use Rattle.terrac_call.specs.Due.{due_of_not_built, refused, due_of_result, due_of_syntax, due_of_no_entry, due_of_bad_argument, due_of_usage, kind_name};
 ghost use Rattle.terrac_call.specs.Exec.{due_of_bad_image, due_of_fault, due_of_machine_fault, fault_text, image_fault_text, machine_fault_text};
 ghost use Rattle.terrac_call.specs.DueView.{shown_due};
 ghost use Rattle.terrac_call.specs.declared.status.Status.TheVariants as statuses;
+ghost use Rattle.stage_loop.specs.declared.staging.End.TheVariants as stagings;
 
 use crate::due::{Due, Line};
 use crate::status::{FaultKind, ImageFault, Status};
 use elf_image::{ImageError, result_text};
 use rv_machine::MachineKind;
 use std::alloc::Global;
-use tl_base::{NoMemory, Place};
+use tl_base::{NoMemory, Place, Text2};
 use tl_lex::SyntaxKind;
 
 /// The result line of a word, whose type has this code.
@@ -105,12 +107,52 @@ pub(crate) fn bare_usage_due() -> Due
 
 /// The refusal of a source that is not built yet.
 pub(crate) fn not_built_due() -> Due
-    ensures due { shown_due result ≡ refused statuses.NotBuilt (codes "not built") }
+    ensures due { shown_due result ≡ due_of_not_built }
     ensures status { result.status ≡ statuses.NotBuilt }
 {
     Due {
         status: Status::NotBuilt,
         line: Line::Fixed("not built\n"),
+    }
+}
+
+/// What is due behind what was printed where a staging ends by itself.
+pub(crate) fn done_due() -> Due
+    ensures due { shown_due result ≡ due_of_end stagings.Done }
+    ensures status { result.status ≡ statuses.Ok }
+{
+    Due {
+        status: Status::Ok,
+        line: Line::Fixed(""),
+    }
+}
+
+/// The end of a staging by an error with this text, whose place is this.
+pub(crate) fn raised_due(alloc: Global, text: Text2, place: Place) -> Result<Due, NoMemory>
+    ensures due { IfOk result (λ due. shown_due due ≡ due_of_end (stagings.Raised text place)) }
+    ensures status { IfOk result (λ due. due.status ≡ statuses.Raised text place) }
+{
+    let row = place.line;
+    let word = place.word;
+    let behind = format!(in alloc; " at {row}:{word}\n")?;
+    let mut line = Text2::new(alloc);
+    line.push_bytes(b"raised ")?;
+    line.push_bytes(text.bytes())?;
+    line.push_bytes(behind.as_bytes())?;
+    Ok(Due {
+        status: Status::Raised { text, place },
+        line: Line::Bytes(line),
+    })
+}
+
+/// The end of a staging whose budget doesn't suffice.
+pub(crate) fn spent_due() -> Due
+    ensures due { shown_due result ≡ due_of_end stagings.Spent }
+    ensures status { result.status ≡ statuses.BudgetSpent }
+{
+    Due {
+        status: Status::BudgetSpent,
+        line: Line::Fixed("budget spent\n"),
     }
 }
 

@@ -3,9 +3,9 @@
 ghost use Rattle.std.specs.Prelude.{◌≡◌, ◌≢◌, ◌⊎◌, ◌<◌, Some, None, Err, IfOk, OnErr, IsSome, length, map, string_bytes};
 ghost use Rattle.tl_base.specs.Outside.{IsRisen};
 ghost use Rattle.first_form.specs.Formula.{shown, IsWithin};
-ghost use Rattle.terrac_call.specs.Words.{Run, Exec, job_of, AreTaken};
-ghost use Rattle.terrac_call.specs.Due.{due_of_call, IsFunction, IsSourceDue};
-ghost use Rattle.terrac_call.specs.JobView.{shown_call};
+ghost use Rattle.terrac_call.specs.Words.{Run, Exec, Check, job_of, AreTaken};
+ghost use Rattle.terrac_call.specs.Due.{due_of_function, IsSourceDue};
+ghost use Rattle.terrac_call.specs.JobView.{shown_call, shown_limits};
 ghost use Rattle.terrac_call.specs.DueView.{shown_due};
 ghost use Rattle.terrac_call.specs.Answer.{Owed, TookAtMost, most_read};
 ghost use Rattle.terrac_call.specs.Ending.{Ends, IsStatus};
@@ -13,17 +13,18 @@ ghost use Rattle.terrac_call.specs.declared.status.Status.TheVariants as statuse
 ghost use Rattle.terrac_call.specs.declared.reading.ReadError.TheVariants as errors;
 
 use crate::arguments::{Arguments, arguments_of};
+use crate::check::check;
 use crate::code::execute;
 use crate::due::{Due, Ended};
 use crate::exec::{LONGEST_IMAGE, exec};
-use crate::form::{Form, read_form};
 use crate::lines::{
     bad_argument_due, no_entry_due, no_memory_due, not_built_due, read_fault_due, result_due,
     syntax_due, usage_due,
 };
+use crate::parsing::{Parsed, parse_source};
 use crate::reading::{ReadError, read_source};
-use crate::words::{Asked, Call, Job, job_of};
-use first_form::Function;
+use crate::words::{Asked, Call, Job, Limits, job_of};
+use first_form::{Function, function_of};
 use std::alloc::Global;
 use tl_base::{NoMemory, Sink, Source};
 use tl_lex::LONGEST_TEXT;
@@ -40,7 +41,7 @@ fn entry_due<K: Sink>(
 ) -> Result<Due, NoMemory>
     requires { IsWithin (shown function.now) }
     ensures due { IfOk result (λ due.
-        shown_due due ≡ due_of_call (shown_call call.now) (IsFunction (shown function.now))) }
+        shown_due due ≡ due_of_function (shown_call call.now) (Some (shown function.now))) }
     ensures no_fault { IfOk result (λ due. due.status ≢ statuses.WriteFault) }
     ensures quiet { out.new ≡ out.old }
 {
@@ -68,10 +69,13 @@ fn run_source<K: Sink>(
     ensures no_fault { IfOk result (λ due. due.status ≢ statuses.WriteFault) }
     ensures quiet { out.new ≡ out.old }
 {
-    match read_form(alloc, bytes)? {
-        Form::Refused(kind, place) => syntax_due(alloc, kind, place),
-        Form::Function(function) => entry_due(alloc, call, &function, out),
-        Form::Other => Ok(not_built_due()),
+    let parsed = parse_source(alloc, bytes)?;
+    match parsed {
+        Parsed::Refused(kind, place) => syntax_due(alloc, kind, place),
+        Parsed::Tree(tree) => match function_of(alloc, &tree)? {
+            Some(function) => entry_due(alloc, call, &function, out),
+            None => Ok(not_built_due()),
+        },
     }
 }
 
@@ -116,6 +120,26 @@ fn exec_call<S: Source, K: Sink>(
     Ok(ended)
 }
 
+/// How `check` ends, likewise.
+fn check_call<S: Source, K: Sink>(
+    alloc: Global,
+    limits: Limits,
+    source: &mut S,
+    out: &mut K,
+) -> Result<Ended, ReadError>
+    ensures owed { IfOk result (λ ended.
+        Ends (Owed (Some (Check (shown_limits limits))) (S.left source.old) (IsRisen (S.faults source.old) (S.faults source.new))) ended
+        (K.taken out.old) (K.taken out.new) (K.faults out.old) (K.faults out.new) (out.new ≡ out.old)) }
+    ensures bound { TookAtMost 1048577 (S.left source.old) (S.left source.new) }
+    ensures unread { result ≡ Err errors.Unread → IsRisen (S.faults source.old) (S.faults source.new) }
+    ensures quiet { result ≢ Err errors.Unread → S.faults source.new ≡ S.faults source.old }
+    ensures err { OnErr result (out.new ≡ out.old) }
+{
+    let bytes = read_source(alloc, source, LONGEST_TEXT + 1)?;
+    let ended = check(alloc, limits.budget, &bytes, out)?;
+    Ok(ended)
+}
+
 /// How the work for the words ends, with what may cut it off.
 fn try_run<S: Source, K: Sink>(
     alloc: Global,
@@ -138,6 +162,7 @@ fn try_run<S: Source, K: Sink>(
         Asked::Refused(text) => Ok(Ended::Due(usage_due(text))),
         Asked::Job(Job::Run(call)) => run_call(alloc, &call, source, out),
         Asked::Job(Job::Exec(call, steps)) => exec_call(alloc, &call, steps, source, out),
+        Asked::Job(Job::Check(limits)) => check_call(alloc, limits, source, out),
     }
 }
 

@@ -5,18 +5,22 @@ ghost use Rattle.terrac_call.specs.Codes.{code_of};
 
 use elf_image::ImageError;
 use rv_machine::MachineKind;
-use tl_base::Place;
+use tl_base::{Place, Text2};
 use tl_lex::SyntaxKind;
 
 /// How a call ends. Each status but [`Status::Ok`] has a line on `notes`.
-#[derive(Clone, Copy, Debug, PartialEq, Eq)]
+#[derive(Debug, Drop)]
 pub enum Status {
-    /// The result was written.
+    /// What was asked for was written.
     Ok,
     /// The words name no job.
     Usage,
     /// The source is refused for this reason: the token at this place, or at 0:0 the whole source.
     Syntax { kind: SyntaxKind, place: Place },
+    /// Staging ended by an error with this text, which none of the source's calls caught, at the place of what raised it.
+    Raised { text: Text2, place: Place },
+    /// Staging came to a payment above what was left of its budget.
+    BudgetSpent,
     /// The source or the image has no function of the entry's name.
     NoEntry,
     /// The word at this position, from 1, is the first that is bad, missing or one too many.
@@ -72,6 +76,8 @@ impl Status {
             Status::Ok => 0,
             Status::Usage => 2,
             Status::Syntax { kind: _, place: _ } => 3,
+            Status::Raised { text: _, place: _ } => 4,
+            Status::BudgetSpent => 5,
             Status::NoEntry => 6,
             Status::BadArgument { number: _ } => 7,
             Status::Fault { kind: _, place: _ } => 8,

@@ -2,8 +2,8 @@
 
 ghost use Rattle.std.specs.Prelude.{◌≡◌, [], IfOk, IsSome, false, map, unwrap_or, string_bytes};
 ghost use Rattle.clap.specs.Words.{app_of, found_of, rows_of, rule_of, subcommand_rows_of, all_of, first_of};
-ghost use Rattle.terrac_call.specs.Words.{entry_rule, arguments_rule, steps_rule, command_line, call_of, steps_of, number_or_zero, text_or_none, job_of, job_of_command, AreTaken};
-ghost use Rattle.terrac_call.specs.JobView.{texts_of, shown_call, shown_job, shown_asked, HasUsageLine, IsUsageText};
+ghost use Rattle.terrac_call.specs.Words.{entry_rule, arguments_rule, steps_rule, budget_rule, memory_rule, command_line, call_of, limits_of, number_found, number_or_zero, text_or_none, job_of, job_of_command, AreTaken};
+ghost use Rattle.terrac_call.specs.JobView.{texts_of, shown_call, shown_limits, shown_job, shown_asked, HasUsageLine, IsUsageText};
 
 use clap::builder::ValueParser;
 use clap::error::ErrorKind;
@@ -18,6 +18,15 @@ pub(crate) struct Call<'a> {
     pub arguments: Vec<&'a str>,
 }
 
+/// The limits of a check.
+#[derive(Clone, Copy, Drop)]
+pub(crate) struct Limits {
+    /// How many units staging may pay.
+    pub budget: u64,
+    /// How many KiB of memory what is compiled has. Nothing that is built looks at it yet.
+    pub memory: u64,
+}
+
 /// What the words ask for.
 #[derive(Drop)]
 pub(crate) enum Job<'a> {
@@ -25,6 +34,8 @@ pub(crate) enum Job<'a> {
     Run(Call<'a>),
     /// To run an entry of an image for at most so many steps.
     Exec(Call<'a>, u64),
+    /// To check a source within these limits.
+    Check(Limits),
 }
 
 /// The job that words name, or the line `usage` and `clap`'s own text where they name none.
@@ -70,11 +81,13 @@ fn job_of_matches<'a>(alloc: Global, matches: &ArgMatches<'a>) -> Result<Job<'a>
             arguments: Vec::new(alloc),
         }));
     };
-    let call = call_of(alloc, found)?;
     if name == "exec" {
-        Ok(Job::Exec(call, steps_of(found)))
+        let call = call_of(alloc, found)?;
+        Ok(Job::Exec(call, number_found(found, "steps")))
+    } else if name == "check" {
+        Ok(Job::Check(limits_of(found)))
     } else {
-        Ok(Job::Run(call))
+        Ok(Job::Run(call_of(alloc, found)?))
     }
 }
 
@@ -109,11 +122,21 @@ fn texts_of<'a>(alloc: Global, found: &ArgMatches<'a>, id: &str) -> Result<Vec<&
     }
 }
 
-// The number of steps that was found for a command.
-fn steps_of(found: &ArgMatches<'_>) -> u64
-    ensures { result ≡ steps_of (rows_of (found_of found.now)) }
+// The limits that were found for a command.
+fn limits_of(found: &ArgMatches<'_>) -> Limits
+    ensures { shown_limits result ≡ limits_of (rows_of (found_of found.now)) }
 {
-    number_or_zero(text_of(found, "steps"))
+    Limits {
+        budget: number_found(found, "budget"),
+        memory: number_found(found, "memory"),
+    }
+}
+
+// The number that was found for an option.
+fn number_found(found: &ArgMatches<'_>, id: &str) -> u64
+    ensures { result ≡ number_found id.now (rows_of (found_of found.now)) }
+{
+    number_or_zero(text_of(found, id))
 }
 
 // The number that a text is; `clap` has tested that it is one.
@@ -126,7 +149,7 @@ fn number_or_zero(text: &str) -> u64
     }
 }
 
-// The whole command line: run ENTRY ARG.., and exec ENTRY ARG.. with its option.
+// The whole command line: run ENTRY ARG.., exec ENTRY ARG.. with its option, and check with its options.
 fn command_line<'a>(alloc: Global) -> Result<Command<'a>, AllocError>
     ensures { IfOk result (λ command. app_of command ≡ command_line) }
 {
@@ -145,12 +168,46 @@ fn command_line<'a>(alloc: Global) -> Result<Command<'a>, AllocError>
         .arg(steps_argument(alloc))?
         .arg(entry_argument(alloc))?
         .arg(call_arguments(alloc))?;
+    let check = Command::new(alloc, "check")
+        .about(
+            "Stages a source, read on standard input: runs its Lua code, and writes what that prints.",
+        )
+        .after_help("Example: terrac check --budget 1000 < counters.t")
+        .arg(budget_argument(alloc))?
+        .arg(memory_argument(alloc))?;
     let command = Command::new(alloc, "terrac")
         .about("A compiler of Terra for RISC-V RV64IM.")
         .subcommand_required(true)
         .subcommand(run)?
-        .subcommand(exec)?;
+        .subcommand(exec)?
+        .subcommand(check)?;
     Ok(command)
+}
+
+// --budget.
+fn budget_argument<'a>(alloc: Global) -> Arg<'a>
+    ensures rule { rule_of result ≡ budget_rule }
+    ensures local { result.global ≡ false }
+{
+    Arg::new(alloc, "budget")
+        .long("budget")
+        .value_name("NUMBER")
+        .help("How many units staging may pay, from 1 to 4000000")
+        .value_parser(ValueParser::unsigned(1, 4_000_000))
+        .default_value("1000000")
+}
+
+// --memory.
+fn memory_argument<'a>(alloc: Global) -> Arg<'a>
+    ensures rule { rule_of result ≡ memory_rule }
+    ensures local { result.global ≡ false }
+{
+    Arg::new(alloc, "memory")
+        .long("memory")
+        .value_name("KIB")
+        .help("How much memory compiled functions have, from 64 to 65536 KiB")
+        .value_parser(ValueParser::unsigned(64, 65_536))
+        .default_value("1024")
 }
 
 // --steps.

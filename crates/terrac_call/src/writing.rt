@@ -1,6 +1,6 @@
 // Pieces that go out.
 
-ghost use Rattle.std.specs.Prelude.{◌≡◌, ◌≤◌, [], OnOk, OnErr};
+ghost use Rattle.std.specs.Prelude.{◌≡◌, ◌≢◌, ◌≤◌, [], OnOk, OnErr};
 ghost use Rattle.tl_base.specs.Outside.{with_back};
 ghost use Rattle.terrac_call.specs.Delivery.{StopsShort};
 
@@ -13,6 +13,7 @@ pub(crate) fn write_piece<K: Sink>(sink: &mut K, piece: &[u8]) -> Result<(), Fai
     ensures whole { OnOk result (K.taken sink.new ≡ with_back (K.taken sink.old) piece.now) }
     ensures quiet { OnOk result (K.faults sink.new ≡ K.faults sink.old) }
     ensures never_falls { K.faults sink.old ≤ K.faults sink.new }
+    ensures some { OnErr result (piece.now ≢ []) }
     ensures short { OnErr result (StopsShort piece.now (K.taken sink.old) (K.taken sink.new) (K.faults sink.old) (K.faults sink.new)) }
 {
     let mut rest = piece;

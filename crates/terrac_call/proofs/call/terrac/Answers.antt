@@ -50,3 +50,8 @@ returns-in-Due-clause-taken g c =
     (IsRisen (g.S.Source.faults c.args.source.now) (g.S.Source.faults c.run.new.source)) c.in-Due.due
     (g.K.Sink.taken c.args.out.now) (g.K.Sink.taken c.run.new.out) (g.K.Sink.faults c.args.out.now) (g.K.Sink.faults c.run.new.out)
     (c.run.new.out ≡ c.args.out.now) c.in-Due.ensures.owed c.deliver.result c.deliver.ensures.kept (c.in-Due.ensures.taken are)
+
+pub returns-in-Due-clause-write_fault : goal.returns-in-Due-clause-write_fault
+returns-in-Due-clause-write_fault g c =
+    λ is. rose_since (g.K.Sink.faults c.args.out.now) (g.K.Sink.faults c.run.new.out) (g.K.Sink.faults c.deliver.new.out)
+    (IsRisen (g.N.Sink.faults c.args.notes.now) (g.N.Sink.faults c.deliver.new.notes)) c.in-Due.ensures.owed.quiet (c.deliver.ensures.fault is)

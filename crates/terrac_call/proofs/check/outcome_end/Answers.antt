@@ -1,0 +1,11 @@
+use Rattle.std.proofs.Common.{◌≡◌, ap, ap₂, ◌∙◌, List, ℕ}
+use Rattle.terrac_call.specs.Due.{Due, after}
+use Rattle.terrac_call.specs.Check.{due_of_end, due_of_outcome}
+use Rattle.terrac_call.specs.DueView.{shown_due}
+use Rattle.terrac_call.proofs.Endings.{ends_into}
+use Rattle.terrac_call.proofs.check.outcome_end.Goals as goal
+
+pub returns-clause-ends : goal.returns-clause-ends
+returns-clause-ends g c =
+    ends_into (λ (due : Due). due ≡ after c.bytes.result.now (shown_due c.in_ok-rest.rest)) (λ (due : Due). due ≡ due_of_outcome c.args.outcome)
+    (λ due is. is ∙ ap₂ after c.bytes.ensures c.in_ok-rest.ensures.due) c.print.result _ _ _ _ _ c.print.ensures
