@@ -1,7 +1,7 @@
 // What comes of a row.
 
 use crate::rows::Row;
-use stage_loop::{End, stage};
+use stage_loop::{End, Outcome, stage};
 use std::alloc::Global;
 use tl_base::{NoMemory, Text2};
 use tl_lex::LONGEST_TEXT;
@@ -44,10 +44,9 @@ fn push_staging(
     tree: &Tree<'_>,
     units: u64,
 ) -> Result<(), NoMemory> {
-    let outcome = stage(alloc, tree, units)?;
-    let left = outcome.left;
-    out.push_bytes(outcome.printed.bytes())?;
-    match outcome.end {
+    let Outcome { printed, end, left } = stage(alloc, tree, units)?;
+    out.push_bytes(printed.bytes())?;
+    match end {
         End::Done => {
             let line = format!(in alloc; "-- {units} units: done, {left} left\n")?;
             out.push_bytes(line.as_bytes())
