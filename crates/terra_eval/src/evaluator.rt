@@ -792,7 +792,7 @@ fn fill(bytes: &mut Vec<u8>, size: usize) -> Result<(), NoMemory>
 }
 
 /// The bytes with which the region begins: the statics at their addresses, with zeros between them.
-fn static_bytes(store: &Store) -> Result<Vec<u8>, NoMemory>
+pub fn static_bytes(store: &Store) -> Result<Vec<u8>, NoMemory>
     ensures { IfOk result (λ bytes. bytes.items ≡ static_bytes (contents_of store.now)) }
 {
     let mut bytes = Vec::new(store.allocator());

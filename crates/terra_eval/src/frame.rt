@@ -23,16 +23,16 @@ use tl_base::{NoMemory, TypeId};
 
 /// Where a declaration's variable is: a value alone, or at an offset of the frame.
 #[derive(Clone, Copy, Debug)]
-pub(crate) enum Home {
+pub enum Home {
     ByValue,
     InFrame(u64),
 }
 
 /// A frame: the homes of the declarations in order, and how many bytes it has.
 #[derive(Debug, Drop)]
-pub(crate) struct Frame {
-    pub(crate) homes: Vec<Home>,
-    pub(crate) size: u64,
+pub struct Frame {
+    pub homes: Vec<Home>,
+    pub size: u64,
 }
 
 /// The first multiple of an alignment at or after an offset; none past 64 bits.
@@ -131,7 +131,7 @@ fn frame_from(
 }
 
 /// The frame of a function. One of more bytes than 64 bits count finds no memory.
-pub(crate) fn frame_of(alloc: Global, store: &Store, k: &Callable<'_>) -> Result<Frame, NoMemory>
+pub fn frame_of(alloc: Global, store: &Store, k: &Callable<'_>) -> Result<Frame, NoMemory>
     ensures { IfOk result (λ f. frame_view f ≡ frame_of store.now.types (callable_tree store.now k.now).body) }
 {
     let events = body_events(alloc, store, k)?;

@@ -7,16 +7,16 @@
 mod call;
 mod evaluator;
 mod events;
-mod frame;
+pub mod frame;
 mod laying;
-mod memory;
-mod nodes;
-mod operate;
+pub mod memory;
+pub mod nodes;
+pub mod operate;
 mod state;
 mod stop;
-mod types;
+pub mod types;
 mod value;
 
-pub use evaluator::evaluate;
+pub use evaluator::{evaluate, static_bytes};
 pub use stop::{End, Run};
 pub use value::Value;

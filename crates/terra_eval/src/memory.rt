@@ -37,7 +37,7 @@ fn is_inside(region: &Region, address: u64, count: u64) -> bool
 }
 
 /// Writes bytes to the region, and answers true; false exactly where one of them is outside, and then nothing has changed.
-pub(crate) fn put(region: &mut Region, address: u64, bytes: &[u8]) -> bool
+pub fn put(region: &mut Region, address: u64, bytes: &[u8]) -> bool
     ensures there { OnTrue result (put_bytes region.old address bytes.now ≡ Some region.new) }
     ensures outside { OnFalse result ((put_bytes region.old address bytes.now ≡ None) × (region.new ≡ region.old)) }
 {

@@ -15,27 +15,27 @@ use tl_base::{FnId, Place, TermId, TypeId};
 
 /// A node that stands as an expression.
 #[derive(Clone, Copy)]
-pub(crate) struct ExpressionNode<'a> {
-    pub(crate) at: Place,
-    pub(crate) of: TypeId,
-    pub(crate) form: &'a TypedExpression,
+pub struct ExpressionNode<'a> {
+    pub at: Place,
+    pub of: TypeId,
+    pub form: &'a TypedExpression,
 }
 
 /// A node that stands as a statement.
 #[derive(Clone, Copy)]
-pub(crate) struct StatementNode<'a> {
-    pub(crate) at: Place,
-    pub(crate) doing: &'a TypedStatement,
+pub struct StatementNode<'a> {
+    pub at: Place,
+    pub doing: &'a TypedStatement,
 }
 
 /// A function that can be called: its place, and the number, the parameters, the result and the body of its typed term.
 #[derive(Clone, Copy)]
-pub(crate) struct Callable<'a> {
-    pub(crate) at: Place,
-    pub(crate) node: u64,
-    pub(crate) parameters: &'a [TypedName],
-    pub(crate) result: TypeId,
-    pub(crate) body: &'a [TermId],
+pub struct Callable<'a> {
+    pub at: Place,
+    pub node: u64,
+    pub parameters: &'a [TypedName],
+    pub result: TypeId,
+    pub body: &'a [TermId],
 }
 
 /// A node before a number; `None` exactly where it is none of them.
@@ -51,7 +51,7 @@ fn node_before(store: &Store, below: u64, node: TermId) -> Option<&Typed>
 }
 
 /// The expression of a node among those before a number; none where it is no expression, and stands for nil.
-pub(crate) fn expression(store: &Store, below: u64, node: TermId) -> Option<ExpressionNode<'_>>
+pub fn expression(store: &Store, below: u64, node: TermId) -> Option<ExpressionNode<'_>>
     ensures before { IfSome result (λ _. node.0 < below) }
     ensures tree { MatchOption result (expression_before store.now below node ≡ absent_typed)
         (λ e. expression_before store.now below node ≡ expression_tree store.now node.0 e.at e.of e.form.now) }
@@ -69,7 +69,7 @@ pub(crate) fn expression(store: &Store, below: u64, node: TermId) -> Option<Expr
 }
 
 /// The statement of a node among those before a number; none where it is no statement, and stands for a break.
-pub(crate) fn statement(store: &Store, below: u64, node: TermId) -> Option<StatementNode<'_>>
+pub fn statement(store: &Store, below: u64, node: TermId) -> Option<StatementNode<'_>>
     ensures before { IfSome result (λ _. node.0 < below) }
     ensures tree { MatchOption result (statement_before store.now below node ≡ absent_statement)
         (λ s. statement_before store.now below node ≡ statement_tree store.now node.0 s.at s.doing.now) }
@@ -83,7 +83,7 @@ pub(crate) fn statement(store: &Store, below: u64, node: TermId) -> Option<State
 }
 
 /// The type of an expression.
-pub(crate) fn type_of(store: &Store, below: u64, node: TermId) -> TypeId
+pub fn type_of(store: &Store, below: u64, node: TermId) -> TypeId
     ensures { result ≡ type_of (expression_before store.now below node) }
 {
     match expression(store, below, node) {
@@ -96,7 +96,7 @@ pub(crate) fn type_of(store: &Store, below: u64, node: TermId) -> TypeId
 const RAWSTRING: TypeId = TypeId(10);
 
 /// The types of expressions.
-pub(crate) fn types_of(
+pub fn types_of(
     store: &Store,
     below: u64,
     nodes: &[TermId],
@@ -111,7 +111,7 @@ pub(crate) fn types_of(
 }
 
 /// A function that can be called; none where the function isn't typed.
-pub(crate) fn callable_of(store: &Store, f: FnId) -> Option<Callable<'_>>
+pub fn callable_of(store: &Store, f: FnId) -> Option<Callable<'_>>
     ensures before { IfSome result (λ k. k.node < length store.now.typed) }
     ensures callable { option_map (callable_tree store.now) result ≡ callable_of (contents_of store.now) f }
 {

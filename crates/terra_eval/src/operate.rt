@@ -32,7 +32,7 @@ const LONG: Width = Width {
 const BOOLEAN: TypeId = TypeId(8);
 
 /// A constant's word. A function as a value is its position among the entries, from 1.
-pub(crate) fn constant(entries: &[FnId], constant: Constant) -> u64
+pub fn constant(entries: &[FnId], constant: Constant) -> u64
     ensures { result ≡ meanings.constant entries.now constant }
 {
     match constant {

@@ -10,21 +10,21 @@ use terra_words::Width;
 use tl_base::TypeId;
 
 /// How many bytes a type has; none where it has no size.
-pub(crate) fn bytes_at(types: &Types, t: TypeId) -> u64
+pub fn bytes_at(types: &Types, t: TypeId) -> u64
     ensures { result ≡ bytes_at types.now t }
 {
     types.size_of(t).unwrap_or(0)
 }
 
 /// What addresses of a type are multiples of; one where it has no size.
-pub(crate) fn align_at(types: &Types, t: TypeId) -> u64
+pub fn align_at(types: &Types, t: TypeId) -> u64
     ensures { result ≡ unwrap_or (align_of types.now t) 1 }
 {
     types.align_of(t).unwrap_or(1)
 }
 
 /// Whether a type's values are arrays or structs.
-pub(crate) fn is_aggregate(types: &Types, t: TypeId) -> bool
+pub fn is_aggregate(types: &Types, t: TypeId) -> bool
     ensures { result ≡ is_aggregate types.now t }
 {
     match types.form(t) {
@@ -40,7 +40,7 @@ pub(crate) fn is_aggregate(types: &Types, t: TypeId) -> bool
 }
 
 /// The width of a type's words.
-pub(crate) fn width_of(types: &Types, t: TypeId) -> Width
+pub fn width_of(types: &Types, t: TypeId) -> Width
     ensures width { result ≡ width_of types.now t }
     ensures fits { result.bits ≤ 64 }
 {
@@ -78,7 +78,7 @@ fn address_width() -> Width
 }
 
 /// The type to which a pointer points.
-pub(crate) fn target_of(types: &Types, t: TypeId) -> TypeId
+pub fn target_of(types: &Types, t: TypeId) -> TypeId
     ensures { result ≡ target_of types.now t }
 {
     match types.form(t) {
