@@ -9,7 +9,8 @@ use Rattle.terra_meaning.specs.Values.{AreValues}
 use Rattle.terra_meaning.specs.Meaning.{meaning}
 use Rattle.tac_form.specs.declared.tac.Tac.{Tac}
 use Rattle.tac_form.specs.Flow.{Program, TacRun}
-use Rattle.tac_form.specs.Weights.{Counted, Fits, Sized}
+use Rattle.tac_form.specs.Weights.{Sized}
+use Rattle.tac_form.specs.Fits.{Counted, Fits}
 
 -- every function of a store that can be called is one that typing leaves
 abbrev pub AreTyped : Contents → Type 0

@@ -3,25 +3,26 @@
 use std::alloc::Global;
 use std::mem;
 use tac_form::{
-    Address, Block, Destination, Edge, Exit, Instruction, InstructionList, Operand, Part, Spot,
+    Address, Block, Destination, Edge, Exit, Instruction, InstructionList, Number, Operand, Part,
+    Size, Spot,
 };
 use terra_eval::frame::Home;
-use terra_eval::types::{bytes_at, is_aggregate, width_of};
+use terra_eval::types::{bytes_at, is_aggregate};
 use terra_term::Store;
-use terra_types::Types;
-use terra_words::{BinaryOperator, Width};
+use terra_types::{Integer, TypeForm, Types};
+use terra_words::BinaryOperator;
 use tl_base::{FnId, NoMemory, Place, SymId, TypeId};
 
-/// The width of addresses, and of words as a whole.
-pub(crate) const WORD: Width = Width {
+/// What addresses and words as a whole are. Bools are 0 or 1, so operators on them are those of words.
+pub(crate) const WORD: Number = Number {
     signed: false,
-    bits: 64,
+    size: Size::Eight,
 };
 
-/// The width of 64 bits with a sign.
-pub(crate) const LONG: Width = Width {
+/// Numbers of 64 bits with a sign.
+pub(crate) const LONG: Number = Number {
     signed: true,
-    bits: 64,
+    size: Size::Eight,
 };
 
 pub(crate) const BOOLEAN: TypeId = TypeId(8);
@@ -98,12 +99,12 @@ impl<'a> Builder<'a> {
     pub(crate) fn compute(
         &mut self,
         operator: BinaryOperator,
-        width: Width,
+        number: Number,
         a: Operand,
         b: Operand,
     ) -> Result<Operand, NoMemory> {
         let d = self.temp()?;
-        self.put(Instruction::Compute(d, operator, width, a, b))?;
+        self.put(Instruction::Compute(d, operator, number, a, b))?;
         Ok(Operand::Temp(d))
     }
 
@@ -140,8 +141,11 @@ impl<'a> Builder<'a> {
             return Ok(ZERO);
         }
         let d = self.temp()?;
-        let width = width_of(self.types(), of);
-        self.put(Instruction::Load(d, width, size, from))?;
+        self.put(Instruction::Load(d, number_of(self.types(), of), from))?;
+        if is_bool(self.types(), of) {
+            let bit = self.compute(BinaryOperator::And, WORD, Operand::Temp(d), Operand::Constant(1))?;
+            return Ok(Part::Word(bit));
+        }
         Ok(Part::Word(Operand::Temp(d)))
     }
 
@@ -153,7 +157,22 @@ impl<'a> Builder<'a> {
         }
         match v {
             Part::Area(n) => self.put(Instruction::Move(to, Spot::Area(n, 0), size)),
-            Part::Word(a) => self.put(Instruction::Store(to, size, a)),
+            Part::Word(a) => {
+                let number = number_of(self.types(), of);
+                self.put(Instruction::Store(to, number.size, a))
+            }
+        }
+    }
+
+    /// A value of a type goes to a variable. A word of no bytes is stored nowhere, and read all the same, since each parameter is to be
+    /// live where the code is entered.
+    fn placed(&mut self, of: TypeId, to: Spot, v: Part) -> Result<(), NoMemory> {
+        match v {
+            Part::Word(a) if bytes_at(self.types(), of) == 0 => {
+                self.copied(a)?;
+                Ok(())
+            }
+            _ => self.stored(of, to, v),
         }
     }
 
@@ -226,7 +245,7 @@ impl<'a> Builder<'a> {
             }
             Home::InFrame(offset) => {
                 if let Some(v) = v {
-                    self.stored(of, Spot::Region(at, Address::Frame(offset)), v)?;
+                    self.placed(of, Spot::Region(at, Address::Frame(offset)), v)?;
                 }
                 Holder::Frame(offset)
             }
@@ -234,6 +253,36 @@ impl<'a> Builder<'a> {
         self.scope.push(Bound { symbol: x, holder })?;
         Ok(())
     }
+}
+
+/// How words of a type stand in memory. A bool is a byte; types without words are taken for addresses.
+pub(crate) fn number_of(types: &Types, of: TypeId) -> Number {
+    match types.form(of) {
+        Some(TypeForm::Integer(i)) => integer(*i),
+        Some(TypeForm::Bool) => Number {
+            signed: false,
+            size: Size::One,
+        },
+        _ => WORD,
+    }
+}
+
+fn is_bool(types: &Types, of: TypeId) -> bool {
+    matches!(types.form(of), Some(TypeForm::Bool))
+}
+
+fn integer(of: Integer) -> Number {
+    let (signed, size) = match of {
+        Integer::Int8 => (true, Size::One),
+        Integer::Int16 => (true, Size::Two),
+        Integer::Int32 => (true, Size::Four),
+        Integer::Int64 => (true, Size::Eight),
+        Integer::Uint8 => (false, Size::One),
+        Integer::Uint16 => (false, Size::Two),
+        Integer::Uint32 => (false, Size::Four),
+        Integer::Uint64 => (false, Size::Eight),
+    };
+    Number { signed, size }
 }
 
 /// The way to a later block.

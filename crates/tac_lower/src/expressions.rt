@@ -1,18 +1,12 @@
 // Expressions.
 
-use crate::builder::{Builder, ZERO, word_of};
+use crate::builder::{Builder, WORD, ZERO, word_of};
 use tac_form::{Instruction, Operand, Part};
 use terra_eval::nodes::expression;
 use terra_eval::operate::constant;
 use terra_term::TypedExpression;
-use terra_words::{BinaryOperator, Width};
+use terra_words::BinaryOperator;
 use tl_base::{NoMemory, TermId};
-
-/// The width of truth values.
-pub(crate) const BIT: Width = Width {
-    signed: false,
-    bits: 1,
-};
 
 impl<'a> Builder<'a> {
     /// The value of an expression, in a temporary or area of its own, or a constant.
@@ -78,7 +72,7 @@ impl<'a> Builder<'a> {
         let test = if goes_on {
             Operand::Temp(d)
         } else {
-            self.compute(BinaryOperator::Xor, BIT, Operand::Temp(d), Operand::Constant(1))?
+            self.compute(BinaryOperator::Xor, WORD, Operand::Temp(d), Operand::Constant(1))?
         };
         let tested = self.end_by_test(test)?;
         let second = self.value(below, b)?;

@@ -1,10 +1,9 @@
 // Operations.
 
-use crate::builder::{BOOLEAN, Builder, LONG, WORD, ZERO, word_of};
-use crate::expressions::BIT;
+use crate::builder::{BOOLEAN, Builder, LONG, WORD, ZERO, number_of, word_of};
 use tac_form::{Destination, Instruction, Operand, Part, PartList, Signature, Spot, TypeIds};
 use terra_eval::nodes::{ExpressionNode, type_of};
-use terra_eval::types::{bytes_at, target_of, width_of};
+use terra_eval::types::{bytes_at, target_of};
 use terra_term::{Operation, Primitive};
 use terra_types::TypeForm;
 use terra_words::BinaryOperator;
@@ -51,16 +50,16 @@ impl<'a> Builder<'a> {
         x: Operand,
         y: Operand,
     ) -> Result<Operand, NoMemory> {
-        let width = width_of(self.types(), of);
+        let number = number_of(self.types(), of);
         match operation {
             Operation::Negate => {
-                self.compute(BinaryOperator::Subtract, width, Operand::Constant(0), x)
+                self.compute(BinaryOperator::Subtract, number, Operand::Constant(0), x)
             }
             Operation::Not => {
                 if of.0 == BOOLEAN.0 {
-                    return self.compute(BinaryOperator::Xor, BIT, x, Operand::Constant(1));
+                    return self.compute(BinaryOperator::Xor, WORD, x, Operand::Constant(1));
                 }
-                self.compute(BinaryOperator::Xor, width, x, Operand::Constant(u64::MAX))
+                self.compute(BinaryOperator::Xor, number, x, Operand::Constant(u64::MAX))
             }
             Operation::Binary(operator) => {
                 self.binary(at, *operator, first, x, y)
@@ -86,7 +85,7 @@ impl<'a> Builder<'a> {
                 if of.0 == BOOLEAN.0 {
                     return self.compute(BinaryOperator::NotEqual, WORD, x, Operand::Constant(0));
                 }
-                self.compute(BinaryOperator::Add, width, x, Operand::Constant(0))
+                self.compute(BinaryOperator::Add, number, x, Operand::Constant(0))
             }
         }
     }
@@ -103,8 +102,8 @@ impl<'a> Builder<'a> {
         if divides {
             self.put(Instruction::TestDivisor(at, y))?;
         }
-        let width = width_of(self.types(), of);
-        self.compute(operator, width, x, y)
+        let number = number_of(self.types(), of);
+        self.compute(operator, number, x, y)
     }
 
     fn extract(&mut self, of: TypeId, offset: u64, whole: Part) -> Result<Part, NoMemory> {

@@ -1,20 +1,18 @@
 // Statements.
 
-use crate::builder::{Builder, WORD, ZERO, back, edge, word_of};
-use crate::expressions::BIT;
+use crate::builder::{Builder, WORD, ZERO, back, edge, number_of, word_of};
 use crate::operations::part_at;
 use crate::places::Reached;
-use tac_form::{Exit, Instruction, Operand, Part, Spot};
+use tac_form::{Exit, Instruction, Number, Operand, Part, Spot};
 use terra_eval::nodes::{expression, statement};
-use terra_eval::types::width_of;
 use terra_term::{TypedName, TypedStatement};
-use terra_words::{BinaryOperator, Width};
+use terra_words::BinaryOperator;
 use tl_base::{NoMemory, Place, TermId};
 
-/// A `for`: its width, and what holds its value, its limit and its step.
+/// A `for`: its numbers, and what holds its value, its limit and its step.
 #[derive(Clone, Copy)]
 struct Counting {
-    width: Width,
+    number: Number,
     value: u64,
     limit: Operand,
     step: Operand,
@@ -208,7 +206,7 @@ impl<'a> Builder<'a> {
         let value = self.temp()?;
         self.put(Instruction::Copy(value, word_of(part_at(&values, 0))))?;
         let counting = Counting {
-            width: width_of(self.types(), name.of),
+            number: number_of(self.types(), name.of),
             value,
             limit: word_of(part_at(&values, 1)),
             step: if values.len() < 3 {
@@ -228,8 +226,8 @@ impl<'a> Builder<'a> {
         self.scope.truncate(depth);
         // The value goes on behind the count, so that a loop that stops there has the value that it had; nothing reads it then.
         let operator = BinaryOperator::Add;
-        let width = counting.width;
-        self.put(Instruction::Compute(value, operator, width, Operand::Temp(value), counting.step))?;
+        let number = counting.number;
+        self.put(Instruction::Compute(value, operator, number, Operand::Temp(value), counting.step))?;
         self.end_block(Exit::Jump(back(start)))?;
         self.lead_here(tested);
         self.end_loop(outer);
@@ -239,7 +237,7 @@ impl<'a> Builder<'a> {
     /// Whether a `for` goes on to its value: below its limit for a step above zero, above it for one below zero.
     fn runs(&mut self, c: Counting) -> Result<Operand, NoMemory> {
         let value = Operand::Temp(c.value);
-        let below = self.compute(BinaryOperator::Less, c.width, value, c.limit)?;
+        let below = self.compute(BinaryOperator::Less, c.number, value, c.limit)?;
         if let Operand::Constant(step) = c.step {
             if step == 1 {
                 return Ok(below);
@@ -247,15 +245,15 @@ impl<'a> Builder<'a> {
         }
         let zero = Operand::Constant(0);
         let moves = self.compute(BinaryOperator::NotEqual, WORD, c.step, zero)?;
-        if !c.width.signed {
-            return self.compute(BinaryOperator::And, BIT, below, moves);
+        if !c.number.signed {
+            return self.compute(BinaryOperator::And, WORD, below, moves);
         }
-        let above = self.compute(BinaryOperator::Less, c.width, c.limit, value)?;
-        let falls = self.compute(BinaryOperator::Less, c.width, c.step, zero)?;
-        let rises = self.compute(BinaryOperator::Greater, c.width, c.step, zero)?;
-        let falling = self.compute(BinaryOperator::And, BIT, falls, above)?;
-        let rising = self.compute(BinaryOperator::And, BIT, rises, below)?;
-        self.compute(BinaryOperator::Or, BIT, falling, rising)
+        let above = self.compute(BinaryOperator::Less, c.number, c.limit, value)?;
+        let falls = self.compute(BinaryOperator::Less, c.number, c.step, zero)?;
+        let rises = self.compute(BinaryOperator::Greater, c.number, c.step, zero)?;
+        let falling = self.compute(BinaryOperator::And, WORD, falls, above)?;
+        let rising = self.compute(BinaryOperator::And, WORD, rises, below)?;
+        self.compute(BinaryOperator::Or, WORD, falling, rising)
     }
 
     /// A body that ends gives nothing, which is a fault where a result is due.
