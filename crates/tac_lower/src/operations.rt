@@ -1,6 +1,6 @@
 // Operations.
 
-use crate::builder::{BOOLEAN, Builder, LONG, WORD, ZERO, number_of, word_of};
+use crate::builder::{BOOLEAN, Builder, LONG, UNIT, WORD, ZERO, number_of, word_of};
 use tac_form::{Destination, Instruction, Operand, Part, PartList, Signature, Spot, TypeIds};
 use terra_eval::nodes::{ExpressionNode, type_of};
 use terra_eval::types::{bytes_at, target_of};
@@ -23,7 +23,7 @@ impl<'a> Builder<'a> {
         let y = word_of(part_at(&values, 1));
         let first = match nodes.get(0) {
             Some(node) => type_of(self.store, below, *node),
-            None => TypeId(0),
+            None => UNIT,
         };
         match operation {
             Operation::Call(f) => self.call(e, *f, values),
