@@ -1,5 +1,6 @@
 pub mod Bytes
 pub mod Called
+pub mod Calling
 pub mod Growing
 pub mod Homes
 pub mod Loops
