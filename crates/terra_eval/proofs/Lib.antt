@@ -1,5 +1,7 @@
 pub mod Bytes
 pub mod Called
+pub mod Callees
+pub mod Entries
 pub mod Calling
 pub mod Growing
 pub mod Homes

@@ -1,6 +1,6 @@
 // The evaluator: the meaning of typed terms, run.
 
-ghost use Rattle.std.specs.Prelude.{◌≡◌, ◌+◌, ◌-◌, ◌/◌, ◌≤◌, ◌++◌, suc, if◌then◌else◌, map, length, replicate, IfOk, OnOk, MatchOption};
+ghost use Rattle.std.specs.Prelude.{◌≡◌, ◌+◌, ◌-◌, ◌/◌, ◌≤◌, ◌++◌, suc, if◌then◌else◌, map, length, replicate, slice_get, IfOk, OnOk, MatchOption};
 ghost use Rattle.std.specs.Option.{option_copied};
 ghost use Rattle.terra_memory.specs.Region.{IsMemorySize};
 ghost use Rattle.terra_words.specs.Runs.{is_true, number, value_at, word};
@@ -326,6 +326,13 @@ fn declare_placed(
     }
 }
 
+/// The value at a position, if there is one.
+fn given(values: &[Value], i: usize) -> Option<&Value>
+    ensures { option_copied result ≡ slice_get values.now i }
+{
+    values.get(i)
+}
+
 /// The variables of declarations, from one on.
 fn declare_all(
     call: &Call<'_>,
@@ -339,7 +346,7 @@ fn declare_all(
 {
     let mut number = from;
     for (i, name) in names.iter().enumerate() {
-        declare(call, at, *name, values.get(i), number, state)?;
+        declare(call, at, *name, given(values, i), number, state)?;
         number = later(number, 1)?;
     }
     Ok(())
