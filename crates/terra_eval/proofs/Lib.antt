@@ -1,5 +1,8 @@
 pub mod Bytes
 pub mod Called
+pub mod Callees
+pub mod Entries
+pub mod Calling
 pub mod Growing
 pub mod Homes
 pub mod Loops

@@ -40,3 +40,10 @@ way_next r s before x got go same behind = subst (λ (g : Got _). GaveWay r s (n
 pub way_scoped : (way : Way) (s around : State) (got : Got Way) → got ≡ Gives way s
     → scoped around got ≡ Gives way (record s { variables = drop (length s.variables - length around.variables) s.variables })
 way_scoped way s around got same = ap (λ (g : Got Way). scoped around g) same
+
+-- a part in a scope gave something, and the scope is left
+pub scope_left : {A : Type 0} (x : A) (around s after : State) (count : ℕ) (got : Got A) → got ≡ Gives x s → count ≡ length around.variables
+    → after ≡ record s { variables = drop (length s.variables - count) s.variables } → scoped around got ≡ Gives x after
+scope_left x around s after count got same many left =
+    ap (λ (g : Got _). scoped around g) same
+    ∙ sym (ap (λ (t : State). Gives x t) (left ∙ ap (λ (n : ℕ). record s { variables = drop (length s.variables - n) s.variables }) many))

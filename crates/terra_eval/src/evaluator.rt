@@ -1,9 +1,9 @@
 // The evaluator: the meaning of typed terms, run.
 
-ghost use Rattle.std.specs.Prelude.{◌≡◌, ◌+◌, ◌-◌, ◌/◌, ◌≤◌, ◌++◌, suc, map, length, replicate, IfOk, OnOk, MatchOption};
+ghost use Rattle.std.specs.Prelude.{◌≡◌, ◌+◌, ◌-◌, ◌/◌, ◌≤◌, ◌++◌, suc, if◌then◌else◌, map, length, replicate, slice_get, IfOk, OnOk, MatchOption};
 ghost use Rattle.std.specs.Option.{option_copied};
 ghost use Rattle.terra_memory.specs.Region.{IsMemorySize};
-ghost use Rattle.terra_words.specs.Runs.{number, value_at, word};
+ghost use Rattle.terra_words.specs.Runs.{is_true, number, value_at, word};
 ghost use Rattle.terra_term.specs.Held as stores;
 ghost use Rattle.terra_term.specs.Stores.{contents_of, static_bytes};
 ghost use Rattle.terra_meaning.specs.Frames as frames;
@@ -12,7 +12,7 @@ ghost use Rattle.terra_meaning.specs.Running.{State, found, scoped};
 ghost use Rattle.terra_meaning.specs.Meaning as meanings;
 ghost use Rattle.terra_meaning.specs.Meaning.{apply, assigned_all, body_run, declared_all, done_all, done_one, for_rounds, kept, meaning, meant, meant_all, operated, rounds};
 ghost use Rattle.terra_eval.specs.Trees.{block_before, callable_tree, expression_before, expression_tree, list_before, statement_before, statement_tree};
-ghost use Rattle.terra_eval.specs.Views.{GaveList, GaveUnit, GaveValue, GaveWay, call_from, call_of, home_of, run_view, want_of};
+ghost use Rattle.terra_eval.specs.Views.{GaveList, GaveUnit, GaveValue, GaveWay, call_from, call_of, home_of, run_view, want_of, way_of};
 ghost use Rattle.terra_eval.specs.Rounds.{counted_round, round_of};
 
 use crate::call::Call;
@@ -326,6 +326,13 @@ fn declare_placed(
     }
 }
 
+/// The value at a position, if there is one.
+fn given(values: &[Value], i: usize) -> Option<&Value>
+    ensures { option_copied result ≡ slice_get values.now i }
+{
+    values.get(i)
+}
+
 /// The variables of declarations, from one on.
 fn declare_all(
     call: &Call<'_>,
@@ -339,7 +346,7 @@ fn declare_all(
 {
     let mut number = from;
     for (i, name) in names.iter().enumerate() {
-        declare(call, at, *name, values.get(i), number, state)?;
+        declare(call, at, *name, given(values, i), number, state)?;
         number = later(number, 1)?;
     }
     Ok(())
@@ -481,19 +488,22 @@ fn do_doing(
             assign_all(call, below, nodes, &places, &given, state)?;
             Ok(Way::GoesOn)
         }
-        TypedStatement::If(test, then_block, other) => {
+        TypedStatement::If(test, then_block, None) => {
+            let v = evaluate_expression(call, Wanted::Value, below, *test, from, state)?;
+            if !v.is_true() {
+                return Ok(Way::GoesOn);
+            }
+            let next = later(from, in_expression(store, below, *test)?)?;
+            do_scope(call, below, then_block.as_slice(), next, state)
+        }
+        TypedStatement::If(test, then_block, Some(else_block)) => {
             let v = evaluate_expression(call, Wanted::Value, below, *test, from, state)?;
             let next = later(from, in_expression(store, below, *test)?)?;
             if v.is_true() {
                 return do_scope(call, below, then_block.as_slice(), next, state);
             }
-            match other {
-                None => Ok(Way::GoesOn),
-                Some(else_block) => {
-                    let next = later(next, in_block(store, below, then_block.as_slice())?)?;
-                    do_scope(call, below, else_block.as_slice(), next, state)
-                }
-            }
+            let next = later(next, in_block(store, below, then_block.as_slice())?)?;
+            do_scope(call, below, else_block.as_slice(), next, state)
         }
         TypedStatement::While(test, body) => {
             do_rounds(call, below, Round::While(*test, body.as_slice()), from, state)
@@ -512,7 +522,7 @@ fn do_doing(
                 from: next,
                 width: width_of(store.types(), name.of),
                 limit: number_at(&given, 1),
-                step: if given.len() < 3 { 1 } else { number_at(&given, 2) },
+                step: step_of(&given),
             };
             do_counting(call, below, counting, number_at(&given, 0), state)
         }
@@ -527,6 +537,16 @@ fn do_doing(
             evaluate_expression(call, Wanted::Value, below, *e, from, state)?;
             Ok(Way::GoesOn)
         }
+    }
+}
+
+/// The step of a `for`: what stands behind its start and its limit; 1 where nothing does.
+fn step_of(bounds: &[Value]) -> u64
+    ensures { result ≡ meanings.step_of (meanings.behind (meanings.behind bounds.now)) }
+{
+    match bounds.get(2) {
+        Some(v) => v.number(),
+        None => 1,
     }
 }
 
@@ -591,17 +611,30 @@ fn do_round(
         }
         Round::Repeat(body, test) => {
             let depth = state.depth();
-            let mut way = do_block(call, below, body, from, state)?;
-            if let Way::GoesOn = way {
-                let next = later(from, in_block(call.store, below, body)?)?;
-                let v = evaluate_expression(call, Wanted::Value, below, test, next, state)?;
-                if v.is_true() {
-                    way = Way::Breaks;
+            match do_block(call, below, body, from, state)? {
+                Way::GoesOn => {
+                    let next = later(from, in_block(call.store, below, body)?)?;
+                    let v = evaluate_expression(call, Wanted::Value, below, test, next, state)?;
+                    state.leave(depth)?;
+                    Ok(until(&v))
+                }
+                way => {
+                    state.leave(depth)?;
+                    Ok(way)
                 }
             }
-            state.leave(depth)?;
-            Ok(way)
         }
+    }
+}
+
+/// Where a loop is left that goes on until a value is true.
+fn until(v: &Value) -> Way
+    ensures { way_of result ≡ (if is_true v.now then meanings.breaks else meanings.goes_on) }
+{
+    if v.is_true() {
+        Way::Breaks
+    } else {
+        Way::GoesOn
     }
 }
 

@@ -1,6 +1,6 @@
 // Operations on values, but for calls.
 
-ghost use Rattle.std.specs.Prelude.{◌≡◌, ◌≤◌, ◌*◌, List, replicate};
+ghost use Rattle.std.specs.Prelude.{◌≡◌, ◌≤◌, ◌*◌, List, replicate, IfOk};
 ghost use Rattle.terra_memory.specs.Numbers.{part};
 ghost use Rattle.terra_words.specs.Words.{divides, moved};
 ghost use Rattle.terra_words.specs.Runs.{Value, bytes, bytes_in, number, value_at};
@@ -18,7 +18,7 @@ use crate::stop::{Halt, Stop};
 use crate::types::{bytes_at, target_of, width_of};
 use crate::value::Value;
 use word_ops::{apply, complement, is_negative, negate, wrap};
-use std::alloc::Global;
+use std::alloc::{AllocError, Global};
 use terra_term::{Constant, Operation, Primitive, TypedName};
 use terra_types::{TypeForm, Types};
 use terra_words::{BinaryOperator, FaultKind, Width};
@@ -192,11 +192,26 @@ fn extract(
 ) -> Result<Value, Stop>
     ensures { GaveJust result (decoded types.now of (part (bytes_in (value_at values.now 0)) offset (bytes_at types.now of))) }
 {
-    let whole: &[u8] = match values.get(0) {
+    let whole = first_bytes(values);
+    decode(alloc, types, of, part(whole, offset, bytes_at(types, of)))
+}
+
+/// The bytes of the first value; none where it is a word.
+fn first_bytes(values: &[Value]) -> &[u8]
+    ensures { result.now ≡ bytes_in (value_at values.now 0) }
+{
+    match values.get(0) {
         Some(v) => v.as_bytes(),
         None => &[],
-    };
-    decode(alloc, types, of, part(whole, offset, bytes_at(types, of)))
+    }
+}
+
+fn zeros(alloc: Global, count: usize) -> Result<Vec<u8>, AllocError>
+    ensures { IfOk result (λ bs. bs.items ≡ replicate count 0) }
+{
+    let mut bytes = Vec::new(alloc);
+    bytes.resize(count, 0)?;
+    Ok(bytes)
 }
 
 /// A struct: its entries at their offsets, and zeros.
@@ -210,8 +225,7 @@ fn construct(
 ) -> Result<Value, Stop>
     ensures { GaveJust result (bytes (constructed types.now (replicate (bytes_at types.now of) 0) offsets.now operands.now values.now)) }
 {
-    let mut all = Vec::new(alloc);
-    all.resize(bytes_at(types, of) as usize, 0)?;
+    let mut all = zeros(alloc, bytes_at(types, of) as usize)?;
     let count = offsets.len().min(operands.len()).min(values.len());
     for i in 0..count {
         let entry = encode(alloc, types, operands[i], &values[i])?;
