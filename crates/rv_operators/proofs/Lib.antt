@@ -1,3 +1,9 @@
 pub mod Sequences
 pub mod Values
+pub mod Signed
+pub mod Cuts
+pub mod Lows
 pub mod Operators
+pub mod Runs
+pub mod Short
+pub mod Unary

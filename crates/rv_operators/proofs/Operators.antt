@@ -1,67 +1,24 @@
--- What each sequence computes, operator by operator.
-use Rattle.std.proofs.Common.{◌≡◌, ◌≢◌, ℕ, ◌+◌, ◌-◌, ◌*◌, ◌/◌, ◌%◌, ◌^◌, ◌<◌, Bool, true, false, not, List, [], ◌∷◌, Option, Some, None, refl, sym, ap, ◌∙◌, subst, ⊎_elim, arith}
-use Rattle.std.specs.Prelude.{if◌then◌else◌, nat_eq, nat_lt, bit_and, bit_or, bit_xor, int_lt}
-use Rattle.std.proofs.lemmas.Bool.{cases_eq, eq-eqb, ne_eqb}
-use Rattle.std.proofs.lemmas.Nat.{or_lt, xor_lt}
+-- What each sequence of the table computes.
+use Rattle.std.proofs.Common.{◌≡◌, ℕ, ◌+◌, ◌*◌, ◌%◌, ◌^◌, Bool, true, false, not, List, [], ◌∷◌, refl, sym, ap, ◌∙◌, subst, ⊎_elim}
+use Rattle.std.specs.Prelude.{if◌then◌else◌, nat_eq, nat_lt, bit_xor, int_lt, ◌&&◌}
+use Rattle.std.proofs.lemmas.Bool.{cases_eq, ne_eqb}
 use Rattle.rv_isa.specs.declared.instr.Instr.{Instr}
-use Rattle.rv_isa.specs.declared.instr.Instr.TheVariants.{Addiw, Shift, RegisterImmediate, RegisterRegister, RegisterRegisterWord}
+use Rattle.rv_isa.specs.declared.instr.Instr.TheVariants.{RegisterImmediate, RegisterRegister, RegisterRegisterWord}
 use Rattle.rv_isa.specs.declared.operation.ImmediateOp.TheVariants as immediates
-use Rattle.rv_isa.specs.declared.operation.ShiftOp.TheVariants.{Slli, Srli}
-use Rattle.rv_isa.specs.declared.operation.RegisterOp.{RegisterOp}
 use Rattle.rv_isa.specs.declared.operation.RegisterOp.TheVariants as ops
 use Rattle.rv_isa.specs.declared.operation.RegisterWordOp.TheVariants as word_ops
-use Rattle.rv_machine.specs.Word.{low, difference, signed, extended_word}
-use Rattle.rv_machine.specs.Machine.{State, at_with}
-use Rattle.rv_machine.specs.Arithmetic.{flag, register_value, shifted_left, shifted_right, word_shifted_left, quotient_unsigned, remainder_unsigned}
+use Rattle.rv_machine.specs.Word.{difference, signed, extended_word}
+use Rattle.rv_machine.specs.Arithmetic.{flag, word_shifted_left}
 use Rattle.terra_words.specs.declared.words.Width.{Width}
 use Rattle.terra_words.specs.declared.words.BinaryOperator.{BinaryOperator}
 use Rattle.terra_words.specs.declared.words.BinaryOperator.TheVariants.{Add, Subtract, Multiply, Divide, Modulo, Xor, And, Or, ShiftLeft, ShiftRight, Equal, NotEqual, Less, LessEqual, Greater, GreaterEqual}
-use Rattle.terra_words.specs.Words.{wrapped, applied, divides}
-use Rattle.rv_operators.specs.Claims.{Computes, Leads}
-use Rattle.rv_operators.specs.Codes.{mask_8, mask_16, mask_32, gap_8, gap_16, gap_32, narrow_unsigned, x0, x5, x6, one_immediate, zero_immediate, comparison, of_64_bits, of_32_bits, code_of}
-use Rattle.rv_operators.proofs.Sequences.{one, two, three, six-first}
-use Rattle.rv_operators.proofs.Values.{width, wrapped-64, wrapped-32, mixed, and-small, divided, left-over, equal-words, other-words, turned, difference-32, added-nothing, signed-less, shifted-small, zeros-8, zeros-16, zeros-32, low-8, low-16, low-32, count-8, count-16, count-32, quotient-is, remainder-is}
-
--- 64 bits
-add-64 : (sg : Bool) → Computes (RegisterRegister ops.Add x5 x5 x6 ∷ []) (width sg 64) Add
-unfolding applied
-add-64 sg s x y d = one _ s (low (s.registers 5 + s.registers 6)) _ refl (sym (wrapped-64 sg (s.registers 5 + s.registers 6)))
-
-subtract-64 : (sg : Bool) → Computes (RegisterRegister ops.Sub x5 x5 x6 ∷ []) (width sg 64) Subtract
-unfolding applied difference
-subtract-64 sg s x y d = one _ s (difference (s.registers 5) (s.registers 6)) _ refl (sym (wrapped-64 sg (s.registers 5 + (2 ^ 64 - s.registers 6))))
-
-multiply-64 : (sg : Bool) → Computes (RegisterRegister ops.Mul x5 x5 x6 ∷ []) (width sg 64) Multiply
-unfolding applied
-multiply-64 sg s x y d = one _ s (low (s.registers 5 * s.registers 6)) _ refl (sym (wrapped-64 sg (s.registers 5 * s.registers 6)))
-
-divide-64 : Computes (RegisterRegister ops.Divu x5 x5 x6 ∷ []) (width false 64) Divide
-unfolding applied
-divide-64 s x y d = one _ s (quotient_unsigned (s.registers 5) (s.registers 6)) _ refl (divided (s.registers 5) (s.registers 6) x (d refl))
-
-modulo-64 : Computes (RegisterRegister ops.Remu x5 x5 x6 ∷ []) (width false 64) Modulo
-unfolding applied
-modulo-64 s x y d = one _ s (remainder_unsigned (s.registers 5) (s.registers 6)) _ refl (left-over (s.registers 5) (s.registers 6) y (d refl))
-
-xor-64 : (sg : Bool) → Computes (RegisterRegister ops.Xor x5 x5 x6 ∷ []) (width sg 64) Xor
-unfolding applied
-xor-64 sg s x y d = one _ s (bit_xor (s.registers 5) (s.registers 6)) _ refl (mixed (bit_xor (s.registers 5) (s.registers 6)) sg (xor_lt 64 (s.registers 5) (s.registers 6) x y))
-
-and-64 : (sg : Bool) → Computes (RegisterRegister ops.And x5 x5 x6 ∷ []) (width sg 64) And
-unfolding applied
-and-64 sg s x y d = one _ s (bit_and (s.registers 5) (s.registers 6)) _ refl (mixed (bit_and (s.registers 5) (s.registers 6)) sg (and-small (s.registers 5) (s.registers 6) x))
-
-or-64 : (sg : Bool) → Computes (RegisterRegister ops.Or x5 x5 x6 ∷ []) (width sg 64) Or
-unfolding applied
-or-64 sg s x y d = one _ s (bit_or (s.registers 5) (s.registers 6)) _ refl (mixed (bit_or (s.registers 5) (s.registers 6)) sg (or_lt 64 (s.registers 5) (s.registers 6) x y))
-
-shift-left-64 : (sg : Bool) → Computes (RegisterRegister ops.Sll x5 x5 x6 ∷ []) (width sg 64) ShiftLeft
-unfolding applied shifted_left
-shift-left-64 sg s x y d = one _ s (low (s.registers 5 * 2 ^ (s.registers 6 % 2 ^ 6))) _ refl (sym (wrapped-64 sg (s.registers 5 * 2 ^ (s.registers 6 % 64))))
-
-shift-right-64 : Computes (RegisterRegister ops.Srl x5 x5 x6 ∷ []) (width false 64) ShiftRight
-unfolding applied shifted_right
-shift-right-64 s x y d = one _ s (s.registers 5 / 2 ^ (s.registers 6 % 2 ^ 6)) _ refl (shifted-small (s.registers 5) (s.registers 6 % 64) x)
+use Rattle.terra_words.specs.Words.{applied}
+use Rattle.rv_operators.specs.Claims.{Computes}
+use Rattle.rv_operators.specs.Codes.{is_width, x0, x5, x6, one_immediate, is_comparison, operation, word_operation, in_one, in_parts, code_of}
+use Rattle.rv_operators.proofs.Sequences.{one, two}
+use Rattle.rv_operators.proofs.Values.{width, wrapped-32, equal-words, other-words, turned, difference-32, signed-less}
+use Rattle.rv_operators.proofs.Cuts.{then-cut}
+use Rattle.rv_operators.proofs.Lows.{add-low, subtract-low, multiply-low, divide-low, modulo-low, signed-divide-low, signed-modulo-low, xor-low, and-low, or-low, shift-left-low, shift-right-low, signed-shift-right-low}
 
 -- 32 bits with a sign
 shift-left-32 : Computes (RegisterRegisterWord word_ops.Sllw x5 x5 x6 ∷ []) (width true 32) ShiftLeft
@@ -79,18 +36,6 @@ subtract-32 s x y d = one _ s (extended_word (difference (s.registers 5) (s.regi
 multiply-32 : Computes (RegisterRegisterWord word_ops.Mulw x5 x5 x6 ∷ []) (width true 32) Multiply
 unfolding applied
 multiply-32 s x y d = one _ s (extended_word (s.registers 5 * s.registers 6)) _ refl (wrapped-32 (s.registers 5 * s.registers 6))
-
-xor-32 : Computes (RegisterRegister ops.Xor x5 x5 x6 ∷ Addiw x5 x5 zero_immediate ∷ []) (width true 32) Xor
-unfolding applied
-xor-32 s x y d = two _ _ s (bit_xor (s.registers 5) (s.registers 6)) (extended_word (bit_xor (s.registers 5) (s.registers 6) + 0)) _ refl refl (added-nothing (bit_xor (s.registers 5) (s.registers 6)))
-
-and-32 : Computes (RegisterRegister ops.And x5 x5 x6 ∷ Addiw x5 x5 zero_immediate ∷ []) (width true 32) And
-unfolding applied
-and-32 s x y d = two _ _ s (bit_and (s.registers 5) (s.registers 6)) (extended_word (bit_and (s.registers 5) (s.registers 6) + 0)) _ refl refl (added-nothing (bit_and (s.registers 5) (s.registers 6)))
-
-or-32 : Computes (RegisterRegister ops.Or x5 x5 x6 ∷ Addiw x5 x5 zero_immediate ∷ []) (width true 32) Or
-unfolding applied
-or-32 s x y d = two _ _ s (bit_or (s.registers 5) (s.registers 6)) (extended_word (bit_or (s.registers 5) (s.registers 6) + 0)) _ refl refl (added-nothing (bit_or (s.registers 5) (s.registers 6)))
 
 -- comparisons, at any number of bits
 equal-is : (w : Width) → Computes (RegisterRegister ops.Sub x5 x5 x6 ∷ RegisterImmediate immediates.Sltiu x5 x5 one_immediate ∷ []) w Equal
@@ -137,231 +82,86 @@ signed-greater-equal-is bits s x y d =
     let t = int_lt (signed (s.registers 5)) (signed (s.registers 6)) in
     two _ _ s (flag t) (bit_xor (flag t) 1) _ refl refl (turned t ∙ ap (λ b. flag (not b)) (signed-less (s.registers 5) (s.registers 6) x y))
 
--- the sequence that the table names
-the-code : (a code : List Instr) (w : Width) (op : BinaryOperator) → Some a ≡ Some code → Computes a w op → Computes code w op
-the-code a code w op e h = let same : a ≡ code = cc in subst (λ c. Computes c w op) same h
+compares : (sg : Bool) (bits : ℕ) (op : BinaryOperator) → is_comparison op ≡ true → Computes (operation (width sg bits) op) (width sg bits) op
+compares sg bits Equal e = equal-is (width sg bits)
+compares sg bits NotEqual e = not-equal-is (width sg bits)
+compares false bits Less e = less-is bits
+compares false bits LessEqual e = less-equal-is bits
+compares false bits Greater e = greater-is bits
+compares false bits GreaterEqual e = greater-equal-is bits
+compares true bits Less e = signed-less-is bits
+compares true bits LessEqual e = signed-less-equal-is bits
+compares true bits Greater e = signed-greater-is bits
+compares true bits GreaterEqual e = signed-greater-equal-is bits
+compares sg bits Add e = cc
+compares sg bits Subtract e = cc
+compares sg bits Multiply e = cc
+compares sg bits Divide e = cc
+compares sg bits Modulo e = cc
+compares sg bits Xor e = cc
+compares sg bits And e = cc
+compares sg bits Or e = cc
+compares sg bits ShiftLeft e = cc
+compares sg bits ShiftRight e = cc
 
-no-code : (code : List Instr) (w : Width) (op : BinaryOperator) → None ≡ Some code → Computes code w op
-no-code code w op e = cc
+-- an operation and its cut
+by-parts : (sg : Bool) (bits : ℕ) (op : BinaryOperator) → is_width bits ≡ true → is_comparison op ≡ false → Computes (in_parts (width sg bits) op) (width sg bits) op
+unfolding applied
+by-parts sg bits Add w e s x y d = then-cut sg bits w _ s _ (add-low s bits w)
+by-parts sg bits Subtract w e s x y d = then-cut sg bits w _ s _ (subtract-low s bits w)
+by-parts sg bits Multiply w e s x y d = then-cut sg bits w _ s _ (multiply-low s bits w)
+by-parts false bits Divide w e s x y d = then-cut false bits w _ s _ (divide-low s bits x (d refl))
+by-parts true bits Divide w e s x y d = then-cut true bits w _ s _ (signed-divide-low s bits w x y (d refl))
+by-parts false bits Modulo w e s x y d = then-cut false bits w _ s _ (modulo-low s bits x (d refl))
+by-parts true bits Modulo w e s x y d = then-cut true bits w _ s _ (signed-modulo-low s bits w x y (d refl))
+by-parts sg bits Xor w e s x y d = then-cut sg bits w _ s _ (xor-low s bits x y)
+by-parts sg bits And w e s x y d = then-cut sg bits w _ s _ (and-low s bits x)
+by-parts sg bits Or w e s x y d = then-cut sg bits w _ s _ (or-low s bits x y)
+by-parts sg bits ShiftLeft w e s x y d = then-cut sg bits w _ s _ (shift-left-low s bits w)
+by-parts false bits ShiftRight w e s x y d = then-cut false bits w _ s _ (shift-right-low s bits w x)
+by-parts true bits ShiftRight w e s x y d = then-cut true bits w _ s _ (signed-shift-right-low s bits w x)
+by-parts sg bits Equal w e s x y d = cc
+by-parts sg bits NotEqual w e s x y d = cc
+by-parts sg bits Less w e s x y d = cc
+by-parts sg bits LessEqual w e s x y d = cc
+by-parts sg bits Greater w e s x y d = cc
+by-parts sg bits GreaterEqual w e s x y d = cc
 
-compares : (sg : Bool) (bits : ℕ) (op : BinaryOperator) (code : List Instr) → comparison sg op ≡ Some code → Computes code (width sg bits) op
-compares sg bits Equal code e = the-code _ code (width sg bits) Equal e (equal-is (width sg bits))
-compares sg bits NotEqual code e = the-code _ code (width sg bits) NotEqual e (not-equal-is (width sg bits))
-compares false bits Less code e = the-code _ code (width false bits) Less e (less-is bits)
-compares false bits LessEqual code e = the-code _ code (width false bits) LessEqual e (less-equal-is bits)
-compares false bits Greater code e = the-code _ code (width false bits) Greater e (greater-is bits)
-compares false bits GreaterEqual code e = the-code _ code (width false bits) GreaterEqual e (greater-equal-is bits)
-compares true bits Less code e = the-code _ code (width true bits) Less e (signed-less-is bits)
-compares true bits LessEqual code e = the-code _ code (width true bits) LessEqual e (signed-less-equal-is bits)
-compares true bits Greater code e = the-code _ code (width true bits) Greater e (signed-greater-is bits)
-compares true bits GreaterEqual code e = the-code _ code (width true bits) GreaterEqual e (signed-greater-equal-is bits)
-compares false bits Add code e = no-code code (width false bits) Add e
-compares true bits Add code e = no-code code (width true bits) Add e
-compares false bits Subtract code e = no-code code (width false bits) Subtract e
-compares true bits Subtract code e = no-code code (width true bits) Subtract e
-compares false bits Multiply code e = no-code code (width false bits) Multiply e
-compares true bits Multiply code e = no-code code (width true bits) Multiply e
-compares false bits Divide code e = no-code code (width false bits) Divide e
-compares true bits Divide code e = no-code code (width true bits) Divide e
-compares false bits Modulo code e = no-code code (width false bits) Modulo e
-compares true bits Modulo code e = no-code code (width true bits) Modulo e
-compares false bits Xor code e = no-code code (width false bits) Xor e
-compares true bits Xor code e = no-code code (width true bits) Xor e
-compares false bits And code e = no-code code (width false bits) And e
-compares true bits And code e = no-code code (width true bits) And e
-compares false bits Or code e = no-code code (width false bits) Or e
-compares true bits Or code e = no-code code (width true bits) Or e
-compares false bits ShiftLeft code e = no-code code (width false bits) ShiftLeft e
-compares true bits ShiftLeft code e = no-code code (width true bits) ShiftLeft e
-compares false bits ShiftRight code e = no-code code (width false bits) ShiftRight e
-compares true bits ShiftRight code e = no-code code (width true bits) ShiftRight e
-
-of-64 : (sg : Bool) (op : BinaryOperator) (code : List Instr) → of_64_bits sg op ≡ Some code → Computes code (width sg 64) op
-of-64 sg Add code e = the-code _ code (width sg 64) Add e (add-64 sg)
-of-64 sg Subtract code e = the-code _ code (width sg 64) Subtract e (subtract-64 sg)
-of-64 sg Multiply code e = the-code _ code (width sg 64) Multiply e (multiply-64 sg)
-of-64 false Divide code e = the-code _ code (width false 64) Divide e divide-64
-of-64 true Divide code e = compares true 64 Divide code e
-of-64 false Modulo code e = the-code _ code (width false 64) Modulo e modulo-64
-of-64 true Modulo code e = compares true 64 Modulo code e
-of-64 sg Xor code e = the-code _ code (width sg 64) Xor e (xor-64 sg)
-of-64 sg And code e = the-code _ code (width sg 64) And e (and-64 sg)
-of-64 sg Or code e = the-code _ code (width sg 64) Or e (or-64 sg)
-of-64 sg ShiftLeft code e = the-code _ code (width sg 64) ShiftLeft e (shift-left-64 sg)
-of-64 false ShiftRight code e = the-code _ code (width false 64) ShiftRight e shift-right-64
-of-64 true ShiftRight code e = compares true 64 ShiftRight code e
-of-64 sg Equal code e = compares sg 64 Equal code e
-of-64 sg NotEqual code e = compares sg 64 NotEqual code e
-of-64 sg Less code e = compares sg 64 Less code e
-of-64 sg LessEqual code e = compares sg 64 LessEqual code e
-of-64 sg Greater code e = compares sg 64 Greater code e
-of-64 sg GreaterEqual code e = compares sg 64 GreaterEqual code e
-
-of-32 : (op : BinaryOperator) (code : List Instr) → of_32_bits op ≡ Some code → Computes code (width true 32) op
-of-32 Add code e = the-code _ code (width true 32) Add e add-32
-of-32 Subtract code e = the-code _ code (width true 32) Subtract e subtract-32
-of-32 Multiply code e = the-code _ code (width true 32) Multiply e multiply-32
-of-32 Xor code e = the-code _ code (width true 32) Xor e xor-32
-of-32 And code e = the-code _ code (width true 32) And e and-32
-of-32 Or code e = the-code _ code (width true 32) Or e or-32
-of-32 Divide code e = compares true 32 Divide code e
-of-32 Modulo code e = compares true 32 Modulo code e
-of-32 ShiftLeft code e = the-code _ code (width true 32) ShiftLeft e shift-left-32
-of-32 ShiftRight code e = compares true 32 ShiftRight code e
-of-32 Equal code e = compares true 32 Equal code e
-of-32 NotEqual code e = compares true 32 NotEqual code e
-of-32 Less code e = compares true 32 Less code e
-of-32 LessEqual code e = compares true 32 LessEqual code e
-of-32 Greater code e = compares true 32 Greater code e
-of-32 GreaterEqual code e = compares true 32 GreaterEqual code e
-
--- fewer bits without a sign: what is left of any 64-bit operation whose low bits are right
-unsigned-32 : (op : RegisterOp) (n : State → ℕ) (s : State) →
-    register_value op (s.registers 5) (s.registers 6) % 2 ^ 32 ≡ n s % 2 ^ 32 →
-    Leads (RegisterRegister op x5 x5 x6 ∷ Shift Slli x5 x5 gap_32 ∷ Shift Srli x5 x5 gap_32 ∷ []) s (wrapped (width false 32) (n s))
-unfolding shifted_left shifted_right
-unsigned-32 op n s e =
-    let v = register_value op (s.registers 5) (s.registers 6) in
-    three _ _ _ s v (low (v * 2 ^ 32)) (low (v * 2 ^ 32) / 2 ^ 32) _ refl refl refl (zeros-32 v (n s) e)
-
-narrow-32 : (op : BinaryOperator) (code : List Instr) → narrow_unsigned mask_32 gap_32 op ≡ Some code → Computes code (width false 32) op
-unfolding applied difference shifted_left shifted_right
-narrow-32 Add code e = the-code _ code (width false 32) Add e
-    (λ s x y d. unsigned-32 ops.Add (λ t. t.registers 5 + t.registers 6) s (low-32 (s.registers 5 + s.registers 6)))
-narrow-32 Subtract code e = the-code _ code (width false 32) Subtract e
-    (λ s x y d. unsigned-32 ops.Sub (λ t. t.registers 5 + (2 ^ 64 - t.registers 6)) s (low-32 (s.registers 5 + (2 ^ 64 - s.registers 6))))
-narrow-32 Multiply code e = the-code _ code (width false 32) Multiply e
-    (λ s x y d. unsigned-32 ops.Mul (λ t. t.registers 5 * t.registers 6) s (low-32 (s.registers 5 * s.registers 6)))
-narrow-32 Divide code e = the-code _ code (width false 32) Divide e
-    (λ s x y d. unsigned-32 ops.Divu (λ t. t.registers 5 / t.registers 6) s (ap (λ q. q % 2 ^ 32) (quotient-is (s.registers 5) (s.registers 6) (d refl))))
-narrow-32 Modulo code e = the-code _ code (width false 32) Modulo e
-    (λ s x y d. unsigned-32 ops.Remu (λ t. t.registers 5 % t.registers 6) s (ap (λ q. q % 2 ^ 32) (remainder-is (s.registers 5) (s.registers 6) (d refl))))
-narrow-32 Xor code e = the-code _ code (width false 32) Xor e
-    (λ s x y d. unsigned-32 ops.Xor (λ t. bit_xor (t.registers 5) (t.registers 6)) s refl)
-narrow-32 And code e = the-code _ code (width false 32) And e
-    (λ s x y d. unsigned-32 ops.And (λ t. bit_and (t.registers 5) (t.registers 6)) s refl)
-narrow-32 Or code e = the-code _ code (width false 32) Or e
-    (λ s x y d. unsigned-32 ops.Or (λ t. bit_or (t.registers 5) (t.registers 6)) s refl)
-narrow-32 ShiftLeft code e = the-code _ code (width false 32) ShiftLeft e
-    (λ s x y d. six-first _ _ s (bit_and (s.registers 6) 31) _ refl
-    (unsigned-32 ops.Sll (λ t. s.registers 5 * 2 ^ (s.registers 6 % 32)) (at_with s (low (s.pc + 4)) 6 (bit_and (s.registers 6) 31))
-    (low-32 (s.registers 5 * 2 ^ (bit_and (s.registers 6) 31 % 2 ^ 6)) ∙ ap (λ c. s.registers 5 * 2 ^ c % 2 ^ 32) (count-32 (s.registers 6)))))
-narrow-32 ShiftRight code e = the-code _ code (width false 32) ShiftRight e
-    (λ s x y d. six-first _ _ s (bit_and (s.registers 6) 31) _ refl
-    (unsigned-32 ops.Srl (λ t. s.registers 5 / 2 ^ (s.registers 6 % 32)) (at_with s (low (s.pc + 4)) 6 (bit_and (s.registers 6) 31))
-    (ap (λ c. s.registers 5 / 2 ^ c % 2 ^ 32) (count-32 (s.registers 6)))))
-narrow-32 Equal code e = compares false 32 Equal code e
-narrow-32 NotEqual code e = compares false 32 NotEqual code e
-narrow-32 Less code e = compares false 32 Less code e
-narrow-32 LessEqual code e = compares false 32 LessEqual code e
-narrow-32 Greater code e = compares false 32 Greater code e
-narrow-32 GreaterEqual code e = compares false 32 GreaterEqual code e
-
--- fewer bits without a sign: what is left of any 64-bit operation whose low bits are right
-unsigned-16 : (op : RegisterOp) (n : State → ℕ) (s : State) →
-    register_value op (s.registers 5) (s.registers 6) % 2 ^ 16 ≡ n s % 2 ^ 16 →
-    Leads (RegisterRegister op x5 x5 x6 ∷ Shift Slli x5 x5 gap_16 ∷ Shift Srli x5 x5 gap_16 ∷ []) s (wrapped (width false 16) (n s))
-unfolding shifted_left shifted_right
-unsigned-16 op n s e =
-    let v = register_value op (s.registers 5) (s.registers 6) in
-    three _ _ _ s v (low (v * 2 ^ 48)) (low (v * 2 ^ 48) / 2 ^ 48) _ refl refl refl (zeros-16 v (n s) e)
-
-narrow-16 : (op : BinaryOperator) (code : List Instr) → narrow_unsigned mask_16 gap_16 op ≡ Some code → Computes code (width false 16) op
-unfolding applied difference shifted_left shifted_right
-narrow-16 Add code e = the-code _ code (width false 16) Add e
-    (λ s x y d. unsigned-16 ops.Add (λ t. t.registers 5 + t.registers 6) s (low-16 (s.registers 5 + s.registers 6)))
-narrow-16 Subtract code e = the-code _ code (width false 16) Subtract e
-    (λ s x y d. unsigned-16 ops.Sub (λ t. t.registers 5 + (2 ^ 64 - t.registers 6)) s (low-16 (s.registers 5 + (2 ^ 64 - s.registers 6))))
-narrow-16 Multiply code e = the-code _ code (width false 16) Multiply e
-    (λ s x y d. unsigned-16 ops.Mul (λ t. t.registers 5 * t.registers 6) s (low-16 (s.registers 5 * s.registers 6)))
-narrow-16 Divide code e = the-code _ code (width false 16) Divide e
-    (λ s x y d. unsigned-16 ops.Divu (λ t. t.registers 5 / t.registers 6) s (ap (λ q. q % 2 ^ 16) (quotient-is (s.registers 5) (s.registers 6) (d refl))))
-narrow-16 Modulo code e = the-code _ code (width false 16) Modulo e
-    (λ s x y d. unsigned-16 ops.Remu (λ t. t.registers 5 % t.registers 6) s (ap (λ q. q % 2 ^ 16) (remainder-is (s.registers 5) (s.registers 6) (d refl))))
-narrow-16 Xor code e = the-code _ code (width false 16) Xor e
-    (λ s x y d. unsigned-16 ops.Xor (λ t. bit_xor (t.registers 5) (t.registers 6)) s refl)
-narrow-16 And code e = the-code _ code (width false 16) And e
-    (λ s x y d. unsigned-16 ops.And (λ t. bit_and (t.registers 5) (t.registers 6)) s refl)
-narrow-16 Or code e = the-code _ code (width false 16) Or e
-    (λ s x y d. unsigned-16 ops.Or (λ t. bit_or (t.registers 5) (t.registers 6)) s refl)
-narrow-16 ShiftLeft code e = the-code _ code (width false 16) ShiftLeft e
-    (λ s x y d. six-first _ _ s (bit_and (s.registers 6) 15) _ refl
-    (unsigned-16 ops.Sll (λ t. s.registers 5 * 2 ^ (s.registers 6 % 16)) (at_with s (low (s.pc + 4)) 6 (bit_and (s.registers 6) 15))
-    (low-16 (s.registers 5 * 2 ^ (bit_and (s.registers 6) 15 % 2 ^ 6)) ∙ ap (λ c. s.registers 5 * 2 ^ c % 2 ^ 16) (count-16 (s.registers 6)))))
-narrow-16 ShiftRight code e = the-code _ code (width false 16) ShiftRight e
-    (λ s x y d. six-first _ _ s (bit_and (s.registers 6) 15) _ refl
-    (unsigned-16 ops.Srl (λ t. s.registers 5 / 2 ^ (s.registers 6 % 16)) (at_with s (low (s.pc + 4)) 6 (bit_and (s.registers 6) 15))
-    (ap (λ c. s.registers 5 / 2 ^ c % 2 ^ 16) (count-16 (s.registers 6)))))
-narrow-16 Equal code e = compares false 16 Equal code e
-narrow-16 NotEqual code e = compares false 16 NotEqual code e
-narrow-16 Less code e = compares false 16 Less code e
-narrow-16 LessEqual code e = compares false 16 LessEqual code e
-narrow-16 Greater code e = compares false 16 Greater code e
-narrow-16 GreaterEqual code e = compares false 16 GreaterEqual code e
-
--- fewer bits without a sign: what is left of any 64-bit operation whose low bits are right
-unsigned-8 : (op : RegisterOp) (n : State → ℕ) (s : State) →
-    register_value op (s.registers 5) (s.registers 6) % 2 ^ 8 ≡ n s % 2 ^ 8 →
-    Leads (RegisterRegister op x5 x5 x6 ∷ Shift Slli x5 x5 gap_8 ∷ Shift Srli x5 x5 gap_8 ∷ []) s (wrapped (width false 8) (n s))
-unfolding shifted_left shifted_right
-unsigned-8 op n s e =
-    let v = register_value op (s.registers 5) (s.registers 6) in
-    three _ _ _ s v (low (v * 2 ^ 56)) (low (v * 2 ^ 56) / 2 ^ 56) _ refl refl refl (zeros-8 v (n s) e)
-
-narrow-8 : (op : BinaryOperator) (code : List Instr) → narrow_unsigned mask_8 gap_8 op ≡ Some code → Computes code (width false 8) op
-unfolding applied difference shifted_left shifted_right
-narrow-8 Add code e = the-code _ code (width false 8) Add e
-    (λ s x y d. unsigned-8 ops.Add (λ t. t.registers 5 + t.registers 6) s (low-8 (s.registers 5 + s.registers 6)))
-narrow-8 Subtract code e = the-code _ code (width false 8) Subtract e
-    (λ s x y d. unsigned-8 ops.Sub (λ t. t.registers 5 + (2 ^ 64 - t.registers 6)) s (low-8 (s.registers 5 + (2 ^ 64 - s.registers 6))))
-narrow-8 Multiply code e = the-code _ code (width false 8) Multiply e
-    (λ s x y d. unsigned-8 ops.Mul (λ t. t.registers 5 * t.registers 6) s (low-8 (s.registers 5 * s.registers 6)))
-narrow-8 Divide code e = the-code _ code (width false 8) Divide e
-    (λ s x y d. unsigned-8 ops.Divu (λ t. t.registers 5 / t.registers 6) s (ap (λ q. q % 2 ^ 8) (quotient-is (s.registers 5) (s.registers 6) (d refl))))
-narrow-8 Modulo code e = the-code _ code (width false 8) Modulo e
-    (λ s x y d. unsigned-8 ops.Remu (λ t. t.registers 5 % t.registers 6) s (ap (λ q. q % 2 ^ 8) (remainder-is (s.registers 5) (s.registers 6) (d refl))))
-narrow-8 Xor code e = the-code _ code (width false 8) Xor e
-    (λ s x y d. unsigned-8 ops.Xor (λ t. bit_xor (t.registers 5) (t.registers 6)) s refl)
-narrow-8 And code e = the-code _ code (width false 8) And e
-    (λ s x y d. unsigned-8 ops.And (λ t. bit_and (t.registers 5) (t.registers 6)) s refl)
-narrow-8 Or code e = the-code _ code (width false 8) Or e
-    (λ s x y d. unsigned-8 ops.Or (λ t. bit_or (t.registers 5) (t.registers 6)) s refl)
-narrow-8 ShiftLeft code e = the-code _ code (width false 8) ShiftLeft e
-    (λ s x y d. six-first _ _ s (bit_and (s.registers 6) 7) _ refl
-    (unsigned-8 ops.Sll (λ t. s.registers 5 * 2 ^ (s.registers 6 % 8)) (at_with s (low (s.pc + 4)) 6 (bit_and (s.registers 6) 7))
-    (low-8 (s.registers 5 * 2 ^ (bit_and (s.registers 6) 7 % 2 ^ 6)) ∙ ap (λ c. s.registers 5 * 2 ^ c % 2 ^ 8) (count-8 (s.registers 6)))))
-narrow-8 ShiftRight code e = the-code _ code (width false 8) ShiftRight e
-    (λ s x y d. six-first _ _ s (bit_and (s.registers 6) 7) _ refl
-    (unsigned-8 ops.Srl (λ t. s.registers 5 / 2 ^ (s.registers 6 % 8)) (at_with s (low (s.pc + 4)) 6 (bit_and (s.registers 6) 7))
-    (ap (λ c. s.registers 5 / 2 ^ c % 2 ^ 8) (count-8 (s.registers 6)))))
-narrow-8 Equal code e = compares false 8 Equal code e
-narrow-8 NotEqual code e = compares false 8 NotEqual code e
-narrow-8 Less code e = compares false 8 Less code e
-narrow-8 LessEqual code e = compares false 8 LessEqual code e
-narrow-8 Greater code e = compares false 8 Greater code e
-narrow-8 GreaterEqual code e = compares false 8 GreaterEqual code e
-
--- by the number of bits
-by-sign : (bits : ℕ) (op : BinaryOperator) (code : List Instr) (signed unsigned : Option (List Instr)) →
-    (signed ≡ Some code → Computes code (width true bits) op) → (unsigned ≡ Some code → Computes code (width false bits) op) →
-    (sg : Bool) → (if sg then signed else unsigned) ≡ Some code → Computes code (width sg bits) op
-by-sign bits op code signed unsigned f g true e = f e
-by-sign bits op code signed unsigned f g false e = g e
+-- 32 bits with a sign: an instruction, or parts
+by-word : (op : BinaryOperator) (other : List Instr) → Computes other (width true 32) op → Computes (in_one (word_operation op) other) (width true 32) op
+by-word Add other h = add-32
+by-word Subtract other h = subtract-32
+by-word Multiply other h = multiply-32
+by-word ShiftLeft other h = shift-left-32
+by-word Divide other h = h
+by-word Modulo other h = h
+by-word Xor other h = h
+by-word And other h = h
+by-word Or other h = h
+by-word ShiftRight other h = h
+by-word Equal other h = h
+by-word NotEqual other h = h
+by-word Less other h = h
+by-word LessEqual other h = h
+by-word Greater other h = h
+by-word GreaterEqual other h = h
 
 -- one test of the number of bits
-by-bits : (sg : Bool) (bits n : ℕ) (op : BinaryOperator) (code : List Instr) (here rest : Option (List Instr)) →
-    (here ≡ Some code → Computes code (width sg n) op) → (rest ≡ Some code → Computes code (width sg bits) op) →
-    (if nat_eq bits n then here else rest) ≡ Some code → Computes code (width sg bits) op
-by-bits sg bits n op code here rest f g e =
+by-32 : (sg : Bool) (bits : ℕ) (op : BinaryOperator) (other : List Instr) → Computes other (width sg bits) op →
+    Computes (if sg && nat_eq bits 32 then in_one (word_operation op) other else other) (width sg bits) op
+by-32 false bits op other h = h
+by-32 true bits op other h =
     ⊎_elim
-    (λ same. subst (λ m. Computes code (width sg m) op) (sym same) (f (sym (ap (λ b. if b then here else rest) (eq-eqb bits n same)) ∙ e)))
-    (λ other. g (sym (ap (λ b. if b then here else rest) (ne_eqb bits n other)) ∙ e))
-    (cases_eq bits n)
+    (λ same.
+    subst (λ b. Computes other (width true b) op → Computes (if nat_eq b 32 then in_one (word_operation op) other else other) (width true b) op) (sym same)
+    (by-word op other) h)
+    (λ n. subst (λ b. Computes (if b then in_one (word_operation op) other else other) (width true bits) op) (sym (ne_eqb bits 32 n)) h)
+    (cases_eq bits 32)
 
-pub computed : (w : Width) (op : BinaryOperator) (code : List Instr) → code_of w op ≡ Some code → Computes code w op
-computed w op code e =
-    by-bits w.signed w.bits 64 op code _ _ (of-64 w.signed op code)
-    (by-bits w.signed w.bits 32 op code _ _ (by-sign 32 op code _ _ (of-32 op code) (narrow-32 op code) w.signed)
-    (by-bits w.signed w.bits 16 op code _ _ (by-sign 16 op code _ _ (compares true 16 op code) (narrow-16 op code) w.signed)
-    (by-bits w.signed w.bits 8 op code _ _ (by-sign 8 op code _ _ (compares true 8 op code) (narrow-8 op code) w.signed)
-    (no-code code w op)))) e
+by-comparison : (b : Bool) (sg : Bool) (bits : ℕ) (op : BinaryOperator) → is_comparison op ≡ b → is_width bits ≡ true →
+    Computes (if b then operation (width sg bits) op else (if sg && nat_eq bits 32 then in_one (word_operation op) (in_parts (width sg bits) op) else in_parts (width sg bits) op)) (width sg bits) op
+by-comparison true sg bits op e w = compares sg bits op e
+by-comparison false sg bits op e w = by-32 sg bits op (in_parts (width sg bits) op) (by-parts sg bits op w e)
+
+pub computed : (w : Width) (op : BinaryOperator) → is_width w.bits ≡ true → Computes (code_of w op) w op
+computed w op h = by-comparison (is_comparison op) w.signed w.bits op refl h

@@ -1,10 +1,11 @@
--- One and two instructions that write x5.
-use Rattle.std.proofs.Common.{◌≡◌, ◌≢◌, ℕ, ◌+◌, ◌*◌, ◌%◌, ◌^◌, ◌<◌, List, [], ◌∷◌, suc, length, refl, sym, ap, ◌∙◌, arith}
+-- Sequences by their parts.
+use Rattle.std.proofs.Common.{◌≡◌, ◌≢◌, ℕ, ◌+◌, ◌*◌, ◌^◌, ◌<◌, List, [], ◌∷◌, ◌++◌, suc, length, refl, sym, ap, ◌∙◌, arith}
 use Rattle.std.specs.Prelude.{if◌then◌else◌}
 use Rattle.std.proofs.lemmas.Bool.{ne_eqb}
+use Rattle.std.proofs.lemmas.List.{length-append}
 use Rattle.rv_isa.specs.declared.instr.Instr.{Instr}
 use Rattle.rv_machine.specs.Word.{low}
-use Rattle.rv_machine.specs.Machine.{State, GoesOn, act, at_with}
+use Rattle.rv_machine.specs.Machine.{State, Moved, GoesOn, Writes, Faults, Throws, act, at_with}
 use Rattle.rv_operators.specs.Claims.{acts, then_on, Leads}
 
 -- the next instruction, with this word in x5
@@ -45,19 +46,6 @@ two i j s v w result h k e = record {
   private = refl;
 }
 
-pub three : (i j k : Instr) (s : State) (v w u result : ℕ) → act i s ≡ GoesOn (next s v) → act j (next s v) ≡ GoesOn (next (next s v) w) →
-    act k (next (next s v) w) ≡ GoesOn (next (next (next s v) w) u) → u ≡ result → Leads (i ∷ j ∷ k ∷ []) s result
-three i j k s v w u result h g f e = record {
-  after = next (next (next s v) w) u;
-  goes = ap (λ m. then_on m (λ t. then_on (act j t) (λ r. then_on (act k r) (λ q. GoesOn q)))) h
-      ∙ (ap (λ m. then_on m (λ r. then_on (act k r) (λ q. GoesOn q))) g ∙ ap (λ m. then_on m (λ q. GoesOn q)) f);
-  gives = e;
-  behind = ap (λ p. low (low (p + 4) + 4)) (low-first s.pc) ∙ (ap (λ p. low (p + 4)) (low-twice s.pc 1 2 refl) ∙ low-twice s.pc 2 3 refl);
-  keeps = λ r five six seven. next-keeps (next (next s v) w) u r five ∙ (next-keeps (next s v) w r five ∙ next-keeps s v r five);
-  region = refl;
-  private = refl;
-}
-
 low-more : (p n : ℕ) → low (low (p + 4) + 4 * n) ≡ low (p + 4 * suc n)
 unfolding low
 low-more p n = omega arith
@@ -74,3 +62,33 @@ six-first i rest s v result h l = record {
   region = l.region;
   private = l.private;
 }
+
+-- one sequence after another
+then-both : (m : Moved) (f g h : State → Moved) → ((t : State) → f t ≡ then_on (g t) h) → then_on m f ≡ then_on (then_on m g) h
+then-both (GoesOn t) f g h e = e t
+then-both (Writes t bytes) f g h e = refl
+then-both (Faults kind) f g h e = refl
+then-both (Throws kind place) f g h e = refl
+
+pub acts-both : (a b : List Instr) (s : State) → acts (a ++ b) s ≡ then_on (acts a s) (λ t. acts b t)
+acts-both [] b s = refl
+acts-both (i ∷ is) b s = then-both (act i s) (λ t. acts (is ++ b) t) (λ t. acts is t) (λ t. acts b t) (λ t. acts-both is b t)
+
+low-both : (p n m : ℕ) → low (low (p + 4 * n) + 4 * m) ≡ low (p + 4 * (n + m))
+unfolding low
+low-both p n m = omega arith
+
+pub then-code : (a b : List Instr) (s : State) (v result : ℕ) (l : Leads a s v) → Leads b l.after result → Leads (a ++ b) s result
+then-code a b s v result l k = record {
+  after = k.after;
+  goes = acts-both a b s ∙ (ap (λ m. then_on m (λ t. acts b t)) l.goes ∙ k.goes);
+  gives = k.gives;
+  behind = k.behind ∙ (ap (λ p. low (p + 4 * length b)) l.behind ∙ (low-both s.pc (length a) (length b) ∙ ap (λ n. low (s.pc + 4 * n)) (sym (length-append a b))));
+  keeps = λ r five six seven. k.keeps r five six seven ∙ l.keeps r five six seven;
+  region = k.region ∙ l.region;
+  private = k.private ∙ l.private;
+}
+
+pub low-here : (p : ℕ) → p < 2 ^ 64 → p ≡ low (p + 4 * 0)
+unfolding low
+low-here p h = omega arith

@@ -5,7 +5,7 @@ use Rattle.rv_machine.specs.Word.{low}
 use Rattle.rv_machine.specs.Machine.{State, Moved, GoesOn, Writes, Faults, Throws, act}
 use Rattle.terra_words.specs.declared.words.Width.{Width}
 use Rattle.terra_words.specs.declared.words.BinaryOperator.{BinaryOperator}
-use Rattle.terra_words.specs.Words.{applied, divides}
+use Rattle.terra_words.specs.Words.{wrapped, applied, divides}
 
 abbrev pub then_on : Moved → (State → Moved) → Moved
 then_on (GoesOn s) go = go s
@@ -34,3 +34,7 @@ abbrev pub Computes : List Instr → Width → BinaryOperator → Type 0
 Computes code w op =
     (s : State) → s.registers 5 < 2 ^ 64 → s.registers 6 < 2 ^ 64 →
     (divides op ≡ true → s.registers 6 ≢ 0) → Leads code s (applied w op (s.registers 5) (s.registers 6))
+
+-- From any word in x5 it leads to the word of its low bits.
+abbrev pub Cuts : List Instr → Width → Type 0
+Cuts code w = (s : State) → s.registers 5 < 2 ^ 64 → s.pc < 2 ^ 64 → Leads code s (wrapped w (s.registers 5))

@@ -1,20 +1,25 @@
--- Which sequence stands for an operator at a width: of x5 and x6, to x5. An operation of 64 bits needs no more than
--- itself, and one of 32 bits with a sign is an operation of its own, or is extended by ADDIW.
-use Rattle.std.specs.Prelude.{ℕ, pos, Bool, true, false, nat_eq, if◌then◌else◌, List, [], ◌∷◌, ◌++◌, Option, Some, None}
+-- Which sequence stands for an operator at a width: of x5 and x6, to x5. An operation of 64 bits leaves a word whose low bits
+-- are those of the result, and the word is then cut to the width: its other bits become zeros, or copies of the sign.
+use Rattle.std.specs.Prelude.{ℕ, pos, Bool, true, false, ◌&&◌, ◌||◌, nat_eq, if◌then◌else◌, List, [], ◌∷◌, ◌++◌, Option, Some, None}
+use Rattle.std.proofs.Common.{lit≤}
 use Rattle.rv_isa.specs.declared.instr.Instr.{Instr}
 use Rattle.rv_isa.specs.declared.instr.Instr.TheVariants.{Addiw, Shift, RegisterImmediate, RegisterRegister, RegisterRegisterWord}
 use Rattle.rv_isa.specs.declared.operation.ImmediateOp.TheVariants as immediates
-use Rattle.rv_isa.specs.declared.operation.ShiftOp.TheVariants.{Slli, Srli}
+use Rattle.rv_isa.specs.declared.operation.ShiftOp.TheVariants.{Slli, Srli, Srai}
 use Rattle.rv_isa.specs.declared.operation.RegisterOp.{RegisterOp}
 use Rattle.rv_isa.specs.declared.operation.RegisterOp.TheVariants as ops
+use Rattle.rv_isa.specs.declared.operation.RegisterWordOp.{RegisterWordOp}
 use Rattle.rv_isa.specs.declared.operation.RegisterWordOp.TheVariants as word_ops
-use Rattle.terra_words.specs.declared.words.Width.{Width}
-use Rattle.terra_words.specs.declared.words.BinaryOperator.{BinaryOperator}
-use Rattle.terra_words.specs.declared.words.BinaryOperator.TheVariants.{Add, Subtract, Multiply, Divide, Modulo, Xor, And, Or, ShiftLeft, ShiftRight, Equal, NotEqual, Less, LessEqual, Greater, GreaterEqual}
-use Rattle.std.proofs.Common.{lit≤}
 use Rattle.rv_isa.specs.declared.operand.Register.{Register}
 use Rattle.rv_isa.specs.declared.operand.Immediate.{Immediate}
 use Rattle.rv_isa.specs.declared.operand.ShiftCount.{ShiftCount}
+use Rattle.terra_words.specs.declared.words.Width.{Width}
+use Rattle.terra_words.specs.declared.words.BinaryOperator.{BinaryOperator}
+use Rattle.terra_words.specs.declared.words.BinaryOperator.TheVariants.{Add, Subtract, Multiply, Divide, Modulo, Xor, And, Or, ShiftLeft, ShiftRight, Equal, NotEqual, Less, LessEqual, Greater, GreaterEqual}
+
+-- the widths of types: a bool is one bit
+abbrev pub is_width : ℕ → Bool
+is_width bits = nat_eq bits 64 || (nat_eq bits 32 || (nat_eq bits 16 || (nat_eq bits 8 || nat_eq bits 1)))
 
 -- the first operand and the result, the second operand, and the register that reads as zero
 abbrev pub x5 : Register
@@ -33,57 +38,33 @@ one_immediate = record { value = pos 1; lowest = record { le = tt }; highest = r
 abbrev pub zero_immediate : Immediate
 zero_immediate = record { value = pos 0; lowest = record { le = tt }; highest = record { le = tt } }
 
--- comparisons, which don't depend on how many bits there are
-abbrev pub comparison : Bool → BinaryOperator → Option (List Instr)
-comparison signed Equal = Some (RegisterRegister ops.Sub x5 x5 x6 ∷ RegisterImmediate immediates.Sltiu x5 x5 one_immediate ∷ [])
-comparison signed NotEqual = Some (RegisterRegister ops.Sub x5 x5 x6 ∷ RegisterRegister ops.Sltu x5 x0 x5 ∷ [])
-comparison true Less = Some (RegisterRegister ops.Slt x5 x5 x6 ∷ [])
-comparison true LessEqual = Some (RegisterRegister ops.Slt x5 x6 x5 ∷ RegisterImmediate immediates.Xori x5 x5 one_immediate ∷ [])
-comparison true Greater = Some (RegisterRegister ops.Slt x5 x6 x5 ∷ [])
-comparison true GreaterEqual = Some (RegisterRegister ops.Slt x5 x5 x6 ∷ RegisterImmediate immediates.Xori x5 x5 one_immediate ∷ [])
-comparison false Less = Some (RegisterRegister ops.Sltu x5 x5 x6 ∷ [])
-comparison false LessEqual = Some (RegisterRegister ops.Sltu x5 x6 x5 ∷ RegisterImmediate immediates.Xori x5 x5 one_immediate ∷ [])
-comparison false Greater = Some (RegisterRegister ops.Sltu x5 x6 x5 ∷ [])
-comparison false GreaterEqual = Some (RegisterRegister ops.Sltu x5 x5 x6 ∷ RegisterImmediate immediates.Xori x5 x5 one_immediate ∷ [])
-comparison signed _ = None
+-- one instruction of x5 and x6
+abbrev pub of_both : RegisterOp → List Instr
+of_both op = RegisterRegister op x5 x5 x6 ∷ []
 
--- an operator of 64 bits
-abbrev pub of_64_bits : Bool → BinaryOperator → Option (List Instr)
-of_64_bits signed Add = Some (RegisterRegister ops.Add x5 x5 x6 ∷ [])
-of_64_bits signed Subtract = Some (RegisterRegister ops.Sub x5 x5 x6 ∷ [])
-of_64_bits signed Multiply = Some (RegisterRegister ops.Mul x5 x5 x6 ∷ [])
-of_64_bits false Divide = Some (RegisterRegister ops.Divu x5 x5 x6 ∷ [])
-of_64_bits false Modulo = Some (RegisterRegister ops.Remu x5 x5 x6 ∷ [])
-of_64_bits signed Xor = Some (RegisterRegister ops.Xor x5 x5 x6 ∷ [])
-of_64_bits signed And = Some (RegisterRegister ops.And x5 x5 x6 ∷ [])
-of_64_bits signed Or = Some (RegisterRegister ops.Or x5 x5 x6 ∷ [])
-of_64_bits signed ShiftLeft = Some (RegisterRegister ops.Sll x5 x5 x6 ∷ [])
-of_64_bits false ShiftRight = Some (RegisterRegister ops.Srl x5 x5 x6 ∷ [])
-of_64_bits signed op = comparison signed op
+-- a test of the operands in turn, and one whose result is turned round
+abbrev pub test_turned : RegisterOp → List Instr
+test_turned op = RegisterRegister op x5 x6 x5 ∷ []
 
--- an operator of 32 bits with a sign
-abbrev pub of_32_bits : BinaryOperator → Option (List Instr)
-of_32_bits Add = Some (RegisterRegisterWord word_ops.Addw x5 x5 x6 ∷ [])
-of_32_bits Subtract = Some (RegisterRegisterWord word_ops.Subw x5 x5 x6 ∷ [])
-of_32_bits Multiply = Some (RegisterRegisterWord word_ops.Mulw x5 x5 x6 ∷ [])
-of_32_bits ShiftLeft = Some (RegisterRegisterWord word_ops.Sllw x5 x5 x6 ∷ [])
-of_32_bits Xor = Some (RegisterRegister ops.Xor x5 x5 x6 ∷ Addiw x5 x5 zero_immediate ∷ [])
-of_32_bits And = Some (RegisterRegister ops.And x5 x5 x6 ∷ Addiw x5 x5 zero_immediate ∷ [])
-of_32_bits Or = Some (RegisterRegister ops.Or x5 x5 x6 ∷ Addiw x5 x5 zero_immediate ∷ [])
-of_32_bits op = comparison true op
+abbrev pub with_other_result : List Instr → List Instr
+with_other_result code = code ++ RegisterImmediate immediates.Xori x5 x5 one_immediate ∷ []
 
--- the upper bits become zeros by two shifts
-abbrev pub gap_32 : ShiftCount
-gap_32 = record { count = 32; in_range = lit≤ tt }
+-- the test whether one word is below another
+abbrev pub below : Bool → RegisterOp
+below true = ops.Slt
+below false = ops.Sltu
 
-abbrev pub gap_16 : ShiftCount
-gap_16 = record { count = 48; in_range = lit≤ tt }
+abbrev pub divided : Bool → RegisterOp
+divided true = ops.Div
+divided false = ops.Divu
 
-abbrev pub gap_8 : ShiftCount
-gap_8 = record { count = 56; in_range = lit≤ tt }
+abbrev pub left_over : Bool → RegisterOp
+left_over true = ops.Rem
+left_over false = ops.Remu
 
-abbrev pub then_zeros : ShiftCount → RegisterOp → Option (List Instr)
-then_zeros gap op = Some (RegisterRegister op x5 x5 x6 ∷ Shift Slli x5 x5 gap ∷ Shift Srli x5 x5 gap ∷ [])
+abbrev pub shifted_down : Bool → RegisterOp
+shifted_down true = ops.Sra
+shifted_down false = ops.Srl
 
 -- the masks of counts of shifts
 abbrev pub mask_32 : Immediate
@@ -95,28 +76,96 @@ mask_16 = record { value = pos 15; lowest = record { le = tt }; highest = record
 abbrev pub mask_8 : Immediate
 mask_8 = record { value = pos 7; lowest = record { le = tt }; highest = record { le = tt } }
 
--- a shift by the low bits of its count
-abbrev pub masked : Immediate → ShiftCount → RegisterOp → Option (List Instr)
-masked mask gap op =
-    Some (RegisterImmediate immediates.Andi x6 x6 mask ∷ RegisterRegister op x5 x5 x6 ∷ Shift Slli x5 x5 gap ∷ Shift Srli x5 x5 gap ∷ [])
+abbrev pub mask_of : ℕ → Immediate
+mask_of bits =
+    if nat_eq bits 32 then mask_32
+    else (if nat_eq bits 16 then mask_16
+    else (if nat_eq bits 8 then mask_8
+    else zero_immediate))
 
--- an operator of fewer than 64 bits without a sign: that of 64 bits, and zeros
-abbrev pub narrow_unsigned : Immediate → ShiftCount → BinaryOperator → Option (List Instr)
-narrow_unsigned mask gap Add = then_zeros gap ops.Add
-narrow_unsigned mask gap Subtract = then_zeros gap ops.Sub
-narrow_unsigned mask gap Multiply = then_zeros gap ops.Mul
-narrow_unsigned mask gap Divide = then_zeros gap ops.Divu
-narrow_unsigned mask gap Modulo = then_zeros gap ops.Remu
-narrow_unsigned mask gap Xor = then_zeros gap ops.Xor
-narrow_unsigned mask gap And = then_zeros gap ops.And
-narrow_unsigned mask gap Or = then_zeros gap ops.Or
-narrow_unsigned mask gap ShiftLeft = masked mask gap ops.Sll
-narrow_unsigned mask gap ShiftRight = masked mask gap ops.Srl
-narrow_unsigned mask gap op = comparison false op
+-- A shift goes by its count modulo the bits of the width. One of 64 bits looks at no other bits of its count.
+abbrev pub counted : ℕ → List Instr
+counted bits = if nat_eq bits 64 then [] else RegisterImmediate immediates.Andi x6 x6 (mask_of bits) ∷ []
 
-abbrev pub code_of : Width → BinaryOperator → Option (List Instr)
+-- x5 gets a word whose low bits are those of the result, and a comparison the result
+abbrev pub operation : Width → BinaryOperator → List Instr
+operation w Add = of_both ops.Add
+operation w Subtract = of_both ops.Sub
+operation w Multiply = of_both ops.Mul
+operation w Divide = of_both (divided w.signed)
+operation w Modulo = of_both (left_over w.signed)
+operation w Xor = of_both ops.Xor
+operation w And = of_both ops.And
+operation w Or = of_both ops.Or
+operation w ShiftLeft = counted w.bits ++ of_both ops.Sll
+operation w ShiftRight = counted w.bits ++ of_both (shifted_down w.signed)
+operation w Equal = of_both ops.Sub ++ RegisterImmediate immediates.Sltiu x5 x5 one_immediate ∷ []
+operation w NotEqual = of_both ops.Sub ++ RegisterRegister ops.Sltu x5 x0 x5 ∷ []
+operation w Less = of_both (below w.signed)
+operation w LessEqual = with_other_result (test_turned (below w.signed))
+operation w Greater = test_turned (below w.signed)
+operation w GreaterEqual = with_other_result (of_both (below w.signed))
+
+-- 1 and 0 are words of every width
+abbrev pub is_comparison : BinaryOperator → Bool
+is_comparison Equal = true
+is_comparison NotEqual = true
+is_comparison Less = true
+is_comparison LessEqual = true
+is_comparison Greater = true
+is_comparison GreaterEqual = true
+is_comparison _ = false
+
+-- how far a word of a width is from the upper end
+abbrev pub gap_32 : ShiftCount
+gap_32 = record { count = 32; in_range = lit≤ tt }
+
+abbrev pub gap_16 : ShiftCount
+gap_16 = record { count = 48; in_range = lit≤ tt }
+
+abbrev pub gap_8 : ShiftCount
+gap_8 = record { count = 56; in_range = lit≤ tt }
+
+abbrev pub gap_1 : ShiftCount
+gap_1 = record { count = 63; in_range = lit≤ tt }
+
+abbrev pub gap_of : ℕ → ShiftCount
+gap_of bits =
+    if nat_eq bits 32 then gap_32
+    else (if nat_eq bits 16 then gap_16
+    else (if nat_eq bits 8 then gap_8
+    else gap_1))
+
+-- two shifts to and fro leave the low bits, and ADDIW leaves 32 with their sign
+abbrev pub to_and_fro : Bool → ShiftCount → List Instr
+to_and_fro signed gap = Shift Slli x5 x5 gap ∷ Shift (if signed then Srai else Srli) x5 x5 gap ∷ []
+
+-- x5 gets the word of its low bits
+abbrev pub cut : Width → List Instr
+cut w =
+    if nat_eq w.bits 64 then []
+    else (if w.signed && nat_eq w.bits 32 then Addiw x5 x5 zero_immediate ∷ []
+    else to_and_fro w.signed (gap_of w.bits))
+
+-- the operators of 32 bits with a sign that are an instruction of their own
+abbrev pub word_operation : BinaryOperator → Option RegisterWordOp
+word_operation Add = Some word_ops.Addw
+word_operation Subtract = Some word_ops.Subw
+word_operation Multiply = Some word_ops.Mulw
+word_operation ShiftLeft = Some word_ops.Sllw
+word_operation _ = None
+
+abbrev pub in_one : Option RegisterWordOp → List Instr → List Instr
+in_one (Some op) other = RegisterRegisterWord op x5 x5 x6 ∷ []
+in_one None other = other
+
+-- an operator's operation, and the cut to its width
+abbrev pub in_parts : Width → BinaryOperator → List Instr
+in_parts w op = operation w op ++ cut w
+
+-- The table. The words of x5 and x6 are any, and the result is a word of the width.
+abbrev pub code_of : Width → BinaryOperator → List Instr
 code_of w op =
-    if nat_eq w.bits 64 then of_64_bits w.signed op
-    else (if nat_eq w.bits 32 then (if w.signed then of_32_bits op else narrow_unsigned mask_32 gap_32 op)
-    else (if nat_eq w.bits 16 then (if w.signed then comparison true op else narrow_unsigned mask_16 gap_16 op)
-    else (if nat_eq w.bits 8 then (if w.signed then comparison true op else narrow_unsigned mask_8 gap_8 op) else None)))
+    if is_comparison op then operation w op
+    else (if w.signed && nat_eq w.bits 32 then in_one (word_operation op) (in_parts w op)
+    else in_parts w op)

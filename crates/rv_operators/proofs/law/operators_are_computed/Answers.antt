@@ -1,5 +1,12 @@
 use Rattle.rv_operators.proofs.Operators.{computed}
+use Rattle.rv_operators.proofs.Short.{code-short}
 use Rattle.rv_operators.proofs.law.operators_are_computed.Goals as goal
 
-pub returns : goal.returns
-returns c = computed
+pub returns-clause-computes : goal.returns-clause-computes
+returns-clause-computes c = computed
+
+pub returns-clause-short : goal.returns-clause-short
+returns-clause-short c w op = (code-short w op).short
+
+pub returns-clause-straight : goal.returns-clause-straight
+returns-clause-straight c w op = (code-short w op).straight
