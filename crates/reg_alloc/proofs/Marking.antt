@@ -3,9 +3,9 @@ use Rattle.std.proofs.Common.{◌≡◌, ◌≢◌, ℕ, zero, suc, ◌+◌, ◌
 use Rattle.std.proofs.lemmas.List.{length-set, get_or-set_same, get_or-set_other, set_past, drop_more}
 use Rattle.std.proofs.lemmas.Bool.{or_right}
 use Rattle.std.proofs.lemmas.Bool.Decides.{eqb_tells}
-use Rattle.reg_alloc.specs.declared.graph.Step.{Step}
-use Rattle.reg_alloc.specs.declared.graph.FlowBlock.{FlowBlock}
-use Rattle.reg_alloc.specs.Live.{has, is_written, before_step, before_exit}
+use Rattle.tac_form.specs.declared.graph.Step.{Step}
+use Rattle.tac_form.specs.declared.graph.FlowBlock.{FlowBlock}
+use Rattle.tac_form.specs.Live.{has, is_written, before_step, before_exit}
 use Rattle.reg_alloc.specs.Sets.{at, marked, unmarked, with_written, set_before, IsSet, before_steps, before_from}
 
 pub at-mark : (xs : List Bool) (u t : ℕ) → t < length xs → at (set xs u true) t ≡ (eqb u t || at xs t)

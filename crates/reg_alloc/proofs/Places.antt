@@ -5,9 +5,9 @@ use Rattle.std.proofs.lemmas.List.{drop_more}
 use Rattle.std.proofs.lemmas.Option.{slice_get-get_or}
 use Rattle.std.proofs.lemmas.Bool.{cases_eq, false≢true}
 use Rattle.reg_alloc.specs.declared.assignment.Home.{Home}
-use Rattle.reg_alloc.specs.declared.graph.Step.{Step}
-use Rattle.reg_alloc.specs.declared.graph.FlowBlock.{FlowBlock}
-use Rattle.reg_alloc.specs.Live.{has, is_written, before_step, before_exit, step_writes}
+use Rattle.tac_form.specs.declared.graph.Step.{Step}
+use Rattle.tac_form.specs.declared.graph.FlowBlock.{FlowBlock}
+use Rattle.tac_form.specs.Live.{has, is_written, before_step, before_exit, step_writes}
 use Rattle.reg_alloc.specs.Sets.{at, with_written, set_before, in_table, before_steps, before_from, IsSet}
 use Rattle.reg_alloc.specs.Homes.{AreRightBelow, IsRightSet, just_written, used_from, IsBlockRight, AreBlocksRight}
 use Rattle.reg_alloc.proofs.Marking.{with_written-long, with_written-at, set_before-long, set_before-at}

@@ -5,9 +5,9 @@ use Rattle.std.proofs.lemmas.List.{length-set, get_or-set_same, get_or-set_other
 use Rattle.std.proofs.lemmas.List.Sums.{sum_by-set}
 use Rattle.std.proofs.lemmas.Option.{slice_get_within, get_or_from_slice_get, slice_get-get_or}
 use Rattle.std.proofs.lemmas.Bool.{or_cases, or_right, cases_eq, cases_lt, cases_Bool, true≢false, false≢true}
-use Rattle.reg_alloc.specs.declared.graph.Step.{Step}
-use Rattle.reg_alloc.specs.declared.graph.FlowBlock.{FlowBlock}
-use Rattle.reg_alloc.specs.Live.{IsLive, read_within, at_place}
+use Rattle.tac_form.specs.declared.graph.Step.{Step}
+use Rattle.tac_form.specs.declared.graph.FlowBlock.{FlowBlock}
+use Rattle.tac_form.specs.Live.{IsLive, read_within, at_place}
 use Rattle.reg_alloc.specs.Sets.{at, missing, missing_all, in_table, before_from, IsSet, IsJoined, IsWidened, IsTable, IsRound, IsClosedAt, IsLiveTable}
 use Rattle.reg_alloc.proofs.Ways.{before-live, live-before}
 

@@ -8,10 +8,10 @@ use Rattle.std.proofs.lemmas.Bool.{cases_eq, cases_lt, cases_Bool, or_cases, or_
 use Rattle.tac_form.specs.declared.tac.Tac.{Tac}
 use Rattle.reg_alloc.specs.declared.assignment.Home.{Home}
 use Rattle.reg_alloc.specs.declared.assignment.Home.TheVariants.{Slot}
-use Rattle.reg_alloc.specs.declared.graph.Step.{Step}
-use Rattle.reg_alloc.specs.declared.graph.FlowBlock.{FlowBlock}
-use Rattle.reg_alloc.specs.Graph.{graph_of}
-use Rattle.reg_alloc.specs.Live.{has, is_written, before_step, before_exit, at_step, at_place, read_within, IsLive, step_writes, written_in, is_just_written, InUse}
+use Rattle.tac_form.specs.declared.graph.Step.{Step}
+use Rattle.tac_form.specs.declared.graph.FlowBlock.{FlowBlock}
+use Rattle.tac_form.specs.Graph.{graph_of}
+use Rattle.tac_form.specs.Live.{has, is_written, before_step, before_exit, at_step, at_place, read_within, IsLive, step_writes, written_in, is_just_written, InUse}
 use Rattle.reg_alloc.specs.Right.{is_some_home, has_home, IsRight}
 use Rattle.reg_alloc.specs.Sets.{in_table, before_steps, before_from, IsLiveTable}
 use Rattle.reg_alloc.specs.Homes.{AreRightBelow, just_written, used_from, IsBlockRight, AreBlocksRight, all_below, write_below, step_below, steps_below, block_below, are_below, own_slots}

@@ -3,9 +3,9 @@ use Rattle.std.specs.Prelude.{◌≡◌, ◌≢◌, ℕ, zero, suc, ◌+◌, ◌
 use Rattle.std.specs.List.{list_all}
 use Rattle.reg_alloc.specs.declared.assignment.Home.{Home}
 use Rattle.reg_alloc.specs.declared.assignment.Home.TheVariants.{Register, Slot}
-use Rattle.reg_alloc.specs.declared.graph.Step.{Step}
-use Rattle.reg_alloc.specs.declared.graph.FlowBlock.{FlowBlock}
-use Rattle.reg_alloc.specs.Live.{step_writes}
+use Rattle.tac_form.specs.declared.graph.Step.{Step}
+use Rattle.tac_form.specs.declared.graph.FlowBlock.{FlowBlock}
+use Rattle.tac_form.specs.Live.{step_writes}
 use Rattle.reg_alloc.specs.Right.{has_home}
 use Rattle.reg_alloc.specs.Sets.{at, in_table, before_from}
 

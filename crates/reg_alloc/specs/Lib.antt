@@ -1,7 +1,3 @@
--- What of three-address code matters for registers.
-pub mod Graph
--- Where a temporary is in use.
-pub mod Live
 -- Which assignments are right.
 pub mod Right
 -- Views of the code, which private contracts cite.

@@ -3,8 +3,8 @@ use Rattle.std.specs.Prelude.{◌≡◌, ◌≢◌, ℕ, Bool, true, false, ◌&
 use Rattle.tac_form.specs.declared.tac.Tac.{Tac}
 use Rattle.reg_alloc.specs.declared.assignment.Home.{Home}
 use Rattle.reg_alloc.specs.declared.assignment.Home.TheVariants.{Register, Slot}
-use Rattle.reg_alloc.specs.Graph.{graph_of}
-use Rattle.reg_alloc.specs.Live.{InUse}
+use Rattle.tac_form.specs.Graph.{graph_of}
+use Rattle.tac_form.specs.Live.{InUse}
 
 -- one of the registers from x18 to x27, which calls keep, or a slot: an assignment has as many as temporaries
 abbrev pub is_home : (slots : ℕ) → Home → Bool

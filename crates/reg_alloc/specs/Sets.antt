@@ -2,10 +2,10 @@
 -- ones has come.
 use Rattle.std.specs.Prelude.{◌≡◌, ℕ, zero, suc, ◌+◌, ◌<◌, ◌≤◌, ◌↔◌, Bool, true, false, not, ◌&&◌, ◌||◌, nat_lt, List, [], ◌∷◌, length, drop, Option, Some, None, slice_get, slice_set, slice_index_or, sum_by, count_by, ◌≢◌}
 use Rattle.std.specs.List.{list_all}
-use Rattle.reg_alloc.specs.declared.graph.Step.{Step}
-use Rattle.reg_alloc.specs.declared.graph.FlowBlock.{FlowBlock}
+use Rattle.tac_form.specs.declared.graph.Step.{Step}
+use Rattle.tac_form.specs.declared.graph.FlowBlock.{FlowBlock}
 use Rattle.reg_alloc.specs.declared.assignment.Home.{Home}
-use Rattle.reg_alloc.specs.Live.{before_step, before_exit, IsLive}
+use Rattle.tac_form.specs.Live.{before_step, before_exit, IsLive}
 use Rattle.reg_alloc.specs.Right.{has_home}
 
 abbrev pub at : List Bool → ℕ → Bool

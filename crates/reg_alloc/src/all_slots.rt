@@ -6,10 +6,9 @@ ghost use Rattle.reg_alloc.specs.Right.{IsRight};
 
 use crate::assignment::{Assignment, Home};
 use crate::check::is_graph_below;
-use crate::graph::FlowBlock;
 use crate::uses::flow_graph;
 use std::alloc::Global;
-use tac_form::Tac;
+use tac_form::{FlowBlock, Tac};
 use tl_base::NoMemory;
 
 /// Numbers of temporaries from here on leave no room for a list of homes.

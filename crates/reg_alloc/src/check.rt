@@ -2,17 +2,16 @@
 
 ghost use Rattle.std.specs.Prelude.{◌≡◌, ◌+◌, ◌^◌, ◌<◌, ◌↔◌, true, length, IfOk, IsTrue};
 ghost use Rattle.std.specs.List.{list_all};
-ghost use Rattle.reg_alloc.specs.Graph.{graph_of};
+ghost use Rattle.tac_form.specs.Graph.{graph_of};
 ghost use Rattle.reg_alloc.specs.Right.{IsRight};
 ghost use Rattle.reg_alloc.specs.Homes.{home_number, Takes, TakesIf, IsRightSet, IsBlockRight, AreBlocksRight, all_below, write_below, step_below, steps_below, block_below, are_below};
 
 use crate::assignment::{Assignment, Home};
-use crate::graph::{FlowBlock, Step};
 use crate::live::{live_at_begins, live_at_exit};
 use crate::marks::TempSet;
 use crate::uses::flow_graph;
 use std::alloc::Global;
-use tac_form::Tac;
+use tac_form::{FlowBlock, Step, Tac};
 use tl_base::NoMemory;
 
 /// The first of the registers that calls keep and that hold temporaries, the last, and how many they are.

@@ -1,13 +1,12 @@
 //! Registers and slots for the temporaries of three-address code.
 //!
-//! `specs/Live.antt` says where a temporary is in use, and `specs/Right.antt` which assignments are right.
+//! `tac_form` says where a temporary is in use, and `specs/Right.antt` which assignments are right.
 //! `check_assignment` answers that exactly, for an assignment made in any way, and `assign` makes only such.
 #![tactic(auto)]
 
 pub mod all_slots;
 pub mod assignment;
 pub mod check;
-pub mod graph;
 mod live;
 mod marks;
 mod uses;
@@ -15,4 +14,3 @@ mod uses;
 pub use all_slots::assign;
 pub use assignment::{Assignment, Home};
 pub use check::check_assignment;
-pub use graph::{FlowBlock, Step, StepList, TempList};

@@ -3,12 +3,12 @@
 // not written in it, until a round puts nothing in.
 
 ghost use Rattle.std.specs.Prelude.{◌≡◌, ◌<◌, ◌||◌, false, length, replicate, IfOk};
-ghost use Rattle.reg_alloc.specs.Live.{before_exit};
+ghost use Rattle.tac_form.specs.Live.{before_exit};
 ghost use Rattle.reg_alloc.specs.Sets.{at, in_table, before_from, IsSet, IsWidened, IsTable, IsRound, IsLiveTable};
 
-use crate::graph::FlowBlock;
 use crate::marks::{TempSet, either};
 use std::alloc::Global;
+use tac_form::FlowBlock;
 use tl_base::NoMemory;
 
 /// Puts in what is live where a block begins.

@@ -3,9 +3,9 @@
 ghost use Rattle.std.specs.Prelude.{◌≡◌, ◌<◌, ◌||◌, true, false, length, slice_set, replicate, IfOk};
 ghost use Rattle.reg_alloc.specs.Sets.{at, marked, unmarked, with_written, set_before, JoinsAt, IsJoined};
 
-use crate::graph::Step;
 use std::alloc::Global;
 use std::marker::Model;
+use tac_form::Step;
 use tl_base::NoMemory;
 
 /// The temporaries that are live where a block begins. Contracts see the flags.

@@ -1,11 +1,13 @@
 // The flow graph is made from the code.
 
 ghost use Rattle.std.specs.Prelude.{◌≡◌, ◌++◌, IfOk};
-ghost use Rattle.reg_alloc.specs.Graph.{operand_reads, spot_reads, part_reads, parts_reads, instruction_reads, instruction_write, destination_write, exit_reads, exit_next, step_of, steps_of, block_of, graph_of};
+ghost use Rattle.tac_form.specs.Graph.{operand_reads, spot_reads, part_reads, parts_reads, instruction_reads, instruction_write, destination_write, exit_reads, exit_next, step_of, steps_of, block_of, graph_of};
 
-use crate::graph::{FlowBlock, Step, StepList, TempList};
 use std::alloc::Global;
-use tac_form::{Address, Block, Destination, Exit, Instruction, Operand, Part, Spot, Tac};
+use tac_form::{
+    Address, Block, Destination, Exit, FlowBlock, Instruction, Operand, Part, Spot, Step, StepList,
+    Tac, TempList,
+};
 use tl_base::NoMemory;
 
 fn push_operand(reads: &mut Vec<u64>, operand: Operand) -> Result<(), NoMemory>
@@ -59,7 +61,7 @@ fn push_instruction(reads: &mut Vec<u64>, instruction: &Instruction) -> Result<(
         Instruction::TestDivisor(_, a) => push_operand(reads, *a),
         Instruction::Copy(_, a) => push_operand(reads, *a),
         Instruction::Locate(_, _) => Ok(()),
-        Instruction::Load(_, _, _, spot) => push_spot(reads, *spot),
+        Instruction::Load(_, _, spot) => push_spot(reads, *spot),
         Instruction::Store(spot, _, a) => {
             push_spot(reads, *spot)?;
             push_operand(reads, *a)
@@ -99,7 +101,7 @@ fn written_by(instruction: &Instruction) -> Option<u64>
         Instruction::Compute(d, _, _, _, _) => Some(*d),
         Instruction::Copy(d, _) => Some(*d),
         Instruction::Locate(d, _) => Some(*d),
-        Instruction::Load(d, _, _, _) => Some(*d),
+        Instruction::Load(d, _, _) => Some(*d),
         Instruction::Call(to, _, _, _) => written_by_call(*to),
         Instruction::CallValue(to, _, _, _, _) => written_by_call(*to),
         Instruction::Alloc(d, _) => Some(*d),

@@ -4,16 +4,16 @@ use reg_alloc::{Assignment, Home};
 use std::alloc::Global;
 use tac_form::{
     Address, Block, BlockList, Destination, DestinationList, Edge, Exit, Instruction,
-    InstructionList, Operand, Part, PartList, Signature, SizeList, Spot, Tac, TypeIds,
+    InstructionList, Number, Operand, Part, PartList, Signature, Size, SizeList, Spot, Tac, TypeIds,
 };
-use terra_words::{BinaryOperator, FaultKind, Width};
+use terra_words::{BinaryOperator, FaultKind};
 use tl_base::{FnId, NoMemory, Place, TypeId};
 
 const HERE: Place = Place { line: 1, word: 1 };
 
-const INT: Width = Width {
+const INT: Number = Number {
     signed: true,
-    bits: 32,
+    size: Size::Four,
 };
 
 /// The homes that the first word writes: `A` to `J` for x18 to x27, `y` for x17 and `z` for x28, a digit for a slot.
@@ -124,8 +124,8 @@ fn instruction_of(alloc: Global, letters: &[u8]) -> Result<Instruction, NoMemory
         ),
         Some(b'y') => Instruction::Copy(to, temp(letters, 2)),
         Some(b'k') => Instruction::Copy(to, Operand::Constant(to)),
-        Some(b'l') => Instruction::Load(to, INT, 4, spot(letters, 2)),
-        Some(b's') => Instruction::Store(spot(letters, 1), 4, temp(letters, 2)),
+        Some(b'l') => Instruction::Load(to, INT, spot(letters, 2)),
+        Some(b's') => Instruction::Store(spot(letters, 1), Size::Four, temp(letters, 2)),
         Some(b'm') => Instruction::Move(spot(letters, 1), spot(letters, 2), 4),
         Some(b't') => Instruction::TestDivisor(HERE, temp(letters, 1)),
         Some(b'a') => Instruction::Alloc(to, temp(letters, 2)),

@@ -5,7 +5,8 @@ use Rattle.std.specs.Prelude.{◌≡◌, refl, ℕ, true, false, List, [], ◌�
 use Rattle.tl_base.specs.declared.place.Place.{Place}
 use Rattle.terra_memory.specs.Numbers.{number_of, low_bytes}
 use Rattle.terra_memory.specs.Region.{range_of}
-use Rattle.terra_words.specs.declared.words.Width.{Width}
+use Rattle.tac_form.specs.declared.tac.Size.TheVariants.{Four}
+use Rattle.tac_form.specs.declared.tac.Number.{Number}
 use Rattle.terra_words.specs.declared.words.BinaryOperator.TheVariants.{Add, Divide, Less}
 use Rattle.terra_words.specs.declared.words.FaultKind.TheVariants.{DivZero, StackFull, CallDepth}
 use Rattle.terra_words.specs.Words.{wrapped, applied}
@@ -21,10 +22,11 @@ use Rattle.tac_form.specs.declared.tac.Edge.{Edge}
 use Rattle.tac_form.specs.declared.tac.Exit.TheVariants.{Jump, Branch, Return}
 use Rattle.tac_form.specs.declared.tac.Tac.{Tac}
 use Rattle.tac_form.specs.Flow.{Program, Moved, Stops, steps, begun}
-use Rattle.tac_form.specs.Weights.{code_words, Counted, Fits}
+use Rattle.tac_form.specs.Weights.{code_words}
+use Rattle.tac_form.specs.Fits.{Counted, is_within}
 
-abbrev int : Width
-int = record { signed = true; bits = 32 }
+abbrev int : Number
+int = record { signed = true; size = Four }
 
 abbrev edge : ℕ → Edge
 edge n = record { block = n; counts = false }
@@ -73,7 +75,7 @@ words = refl
 pub counted : Counted sum
 counted = refl
 
-pub fits : Fits sum
+pub fits : is_within sum ≡ true
 fits = refl
 
 -- One block of instructions, in a frame of so many bytes and with an area of 16, that gives its first temporary; it may
@@ -115,14 +117,14 @@ unfolding wrapped applied
 divides_untested = refl
 
 -- an area through the frame and back
-pub moves : ran 9 (block 16 (Clear 0 16 ∷ Store (spots.Area 0 8) 4 (Constant 770) ∷ Move (spots.Region here (Frame 0))
+pub moves : ran 9 (block 16 (Clear 0 16 ∷ Store (spots.Area 0 8) Four (Constant 770) ∷ Move (spots.Region here (Frame 0))
     (spots.Area 0 0) 16 ∷
-    Load 0 int 4 (spots.Region here (Frame 8)) ∷ [])) ≡ gives 770
+    Load 0 int (spots.Region here (Frame 8)) ∷ [])) ≡ gives 770
 unfolding wrapped applied number_of low_bytes range_of put_bytes
 moves = refl
 
 -- bytes of an area that hold nothing yet
-pub reads_nothing : ran 9 (block 0 (Load 0 int 4 (spots.Area 0 0) ∷ [])) ≡ Stops (Over Stuck [])
+pub reads_nothing : ran 9 (block 0 (Load 0 int (spots.Area 0 0) ∷ [])) ≡ Stops (Over Stuck [])
 unfolding wrapped applied number_of low_bytes range_of put_bytes
 reads_nothing = refl
 

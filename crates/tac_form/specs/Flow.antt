@@ -1,7 +1,7 @@
 -- What three-address code does, in small steps, with the same count as the meaning of typed terms. Code that lowering
 -- doesn't give is stuck: where it divides by zero without a test, reads bytes of an area that hold nothing yet,
 -- passes what isn't taken so, or goes to what isn't there.
-use Rattle.std.specs.Prelude.{◌≡◌, ℕ, zero, suc, ◌+◌, ◌-◌, ◌%◌, Bool, true, false, ◌&&◌, nat_eq, nat_le, nat_lt, if◌then◌else◌, List, [], ◌∷◌, ◌++◌, length, replicate, Option, Some, None, slice_get, unwrap_or}
+use Rattle.std.specs.Prelude.{◌≡◌, ℕ, zero, suc, ◌+◌, ◌-◌, ◌*◌, ◌%◌, Bool, true, false, ◌&&◌, nat_eq, nat_le, nat_lt, if◌then◌else◌, List, [], ◌∷◌, ◌++◌, length, replicate, Option, Some, None, slice_get, unwrap_or}
 use Rattle.tl_base.specs.declared.place.Place.{Place}
 use Rattle.tl_base.specs.declared.ids.FnId.{FnId}
 use Rattle.tl_base.specs.declared.ids.TypeId.{TypeId}
@@ -9,8 +9,12 @@ use Rattle.terra_memory.specs.Numbers.{number_of, low_bytes, part, overwritten}
 use Rattle.terra_memory.specs.Region.{Contents, range_of, alloc_of, end_address, heap_limit, fresh}
 use Rattle.terra_words.specs.declared.words.FaultKind.{FaultKind}
 use Rattle.terra_words.specs.declared.words.FaultKind.TheVariants.{BadAddress, DivZero, StackFull, CallDepth, BadCall}
+use Rattle.terra_words.specs.declared.words.Width.{Width}
 use Rattle.terra_words.specs.Words.{wrapped, applied, divides, signed, is_negative, most_calls}
 use Rattle.terra_words.specs.Runs.{Value, word, bytes, number, bytes_in, put_bytes, End, Returned, Fault, Stuck, Run, Over, More}
+use Rattle.tac_form.specs.declared.tac.Size.{Size}
+use Rattle.tac_form.specs.declared.tac.Size.TheVariants.{One, Two, Four, Eight}
+use Rattle.tac_form.specs.declared.tac.Number.{Number}
 use Rattle.tac_form.specs.declared.tac.Operand.{Operand}
 use Rattle.tac_form.specs.declared.tac.Operand.TheVariants.{Temp, Constant}
 use Rattle.tac_form.specs.declared.tac.Address.{Address}
@@ -29,6 +33,16 @@ use Rattle.tac_form.specs.declared.tac.Exit.TheVariants.{Jump, Branch, Return, F
 use Rattle.tac_form.specs.declared.tac.Block.{Block}
 use Rattle.tac_form.specs.declared.tac.Signature.{Signature}
 use Rattle.tac_form.specs.declared.tac.Tac.{Tac}
+
+-- how many bytes a number has, and the width of its words
+abbrev pub bytes_of : Size → ℕ
+bytes_of One = 1
+bytes_of Two = 2
+bytes_of Four = 4
+bytes_of Eight = 8
+
+abbrev pub width_of : Number → Width
+width_of n = record { signed = n.signed; bits = 8 * bytes_of n.size }
 
 -- temporaries and areas by their numbers
 abbrev pub Temps : Type 0
@@ -202,14 +216,15 @@ allocated d s given = Goes (ahead (set_temp d given.0 (record s { region = given
 
 -- one instruction
 abbrev act : Program → Instruction → State → Moved
-act p (Compute d op w a b) s =
+act p (Compute d op form a b) s =
     if divides op && nat_eq (operand s b) 0 then stop s Stuck
-    else Goes (ahead (set_temp d (applied w op (operand s a) (operand s b)) s))
+    else Goes (ahead (set_temp d (applied (width_of form) op (operand s a) (operand s b)) s))
 act p (TestDivisor at a) s = if nat_eq (operand s a) 0 then fault DivZero at s else Goes (ahead s)
 act p (Copy d a) s = Goes (ahead (set_temp d (operand s a) s))
 act p (Locate d offset) s = Goes (ahead (set_temp d (s.here.base + offset) s))
-act p (Load d w size spot) s = from_spot spot size s (λ bs. Goes (ahead (set_temp d (wrapped w (number_of bs)) s)))
-act p (Store spot size a) s = to_spot spot (low_bytes size (operand s a)) s
+act p (Load d form spot) s =
+    from_spot spot (bytes_of form.size) s (λ bs. Goes (ahead (set_temp d (wrapped (width_of form) (number_of bs)) s)))
+act p (Store spot size a) s = to_spot spot (low_bytes (bytes_of size) (operand s a)) s
 act p (Move to from size) s = from_spot from size s (λ bs. to_spot to bs s)
 act p (Clear n size) s = Goes (ahead (set_area n (replicate size 0) s))
 act p (Call to at f arguments) s = call p to at f (values_of s arguments) s

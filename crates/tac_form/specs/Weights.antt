@@ -1,7 +1,5 @@
 -- How many words of machine code and private bytes three-address code may take.
-use Rattle.std.specs.Prelude.{ℕ, suc, ◌+◌, ◌*◌, ◌≤◌, Bool, true, false, not, ◌&&◌, ◌||◌, nat_eq, nat_le, nat_lt, IsTrue, List, [], ◌∷◌, length, sum_by}
-use Rattle.std.specs.List.{list_all}
-use Rattle.terra_memory.specs.Numbers.{is_access_size}
+use Rattle.std.specs.Prelude.{ℕ, ◌+◌, ◌*◌, ◌≤◌, List, length, sum_by}
 use Rattle.tac_form.specs.declared.tac.Destination.{Destination}
 use Rattle.tac_form.specs.declared.tac.Destination.TheVariants as destinations
 use Rattle.tac_form.specs.declared.tac.Spot.{Spot}
@@ -15,7 +13,6 @@ use Rattle.tac_form.specs.declared.tac.Edge.{Edge}
 use Rattle.tac_form.specs.declared.tac.Block.{Block}
 use Rattle.tac_form.specs.declared.tac.Part.{Part}
 use Rattle.tac_form.specs.declared.tac.Tac.{Tac}
-use Rattle.tac_form.specs.Flow.{area_size}
 
 -- the words that take an operand into a scratch register: a constant of 64 bits takes eight, a slot three
 abbrev taken : ℕ
@@ -59,11 +56,11 @@ abbrev passed : List Part → ℕ
 passed parts = (taken + placed) * length parts
 
 abbrev pub words_of : Instruction → ℕ
-words_of (Compute d op w a b) = taken + taken + 4 + placed
+words_of (Compute d op form a b) = taken + taken + 4 + placed
 words_of (TestDivisor at a) = taken + 1 + failed
 words_of (Copy d a) = taken + placed
 words_of (Locate d offset) = 9 + placed
-words_of (Load d w size spot) = reached spot + 2 + placed
+words_of (Load d form spot) = reached spot + 2 + placed
 words_of (Store spot size a) = reached spot + taken + 1
 words_of (Move to from size) = reached to + reached from + copied
 words_of (Clear n size) = placed + 16
@@ -107,49 +104,3 @@ private_bytes code = 8 * code.temps + 8 * length code.parameters + sum_by full_a
 pub record Sized (code : Tac) : Type 0 where
   pub in_words : code_words code ≤ 250 * code.nodes
   pub in_bytes : private_bytes code ≤ 136 * code.nodes + 65536
-
--- every way round the graph counts: an edge that doesn't count leads to a later block
-abbrev edge_counts : (from : ℕ) → Edge → Bool
-edge_counts from e = e.counts || nat_lt from e.block
-
-abbrev exit_counts : (from : ℕ) → Exit → Bool
-exit_counts from (Jump e) = edge_counts from e
-exit_counts from (Branch a e f) = edge_counts from e && edge_counts from f
-exit_counts from _ = true
-
-abbrev blocks_count : (from : ℕ) → List Block → Bool
-blocks_count from [] = true
-blocks_count from (b ∷ bs) = exit_counts from b.exit && blocks_count (suc from) bs
-
-abbrev pub Counted : Tac → Type 0
-Counted code = IsTrue (blocks_count 0 code.blocks)
-
--- an access of so many bytes at a spot lies wholly in the frame, or in the area, where it is one of these
-abbrev spot_fits : Tac → ℕ → Spot → Bool
-spot_fits code size (spots.Region at (Word a)) = true
-spot_fits code size (spots.Region at (Frame offset)) = nat_le (offset + size) code.frame
-spot_fits code size (spots.Area n offset) = nat_le (offset + size) (area_size code n)
-
--- bytes are moved a few at a time, so the two spots share none: at most one is in the region, and areas are two
-abbrev are_apart : Spot → Spot → Bool
-are_apart (spots.Region at a) (spots.Region other b) = false
-are_apart (spots.Area n offset) (spots.Area m other) = not (nat_eq n m)
-are_apart _ _ = true
-
-abbrev instruction_fits : Tac → Instruction → Bool
-instruction_fits code (Load d w size spot) = is_access_size size && spot_fits code size spot
-instruction_fits code (Store spot size a) = is_access_size size && spot_fits code size spot
-instruction_fits code (Move to from size) =
-    spot_fits code size to && spot_fits code size from && are_apart to from && nat_le size most_moved
-instruction_fits code (Clear n size) = nat_le size (area_size code n)
-instruction_fits code _ = true
-
-abbrev block_fits : Tac → Block → Bool
-block_fits code b = list_all (instruction_fits code) b.instructions
-
-abbrev area_fits : ℕ → Bool
-area_fits size = nat_le size most_moved
-
--- each offset is of an access wholly in the frame or in an area, and no area has more than 128 bytes
-abbrev pub Fits : Tac → Type 0
-Fits code = IsTrue (list_all (block_fits code) code.blocks && list_all area_fits code.areas)

@@ -3,8 +3,24 @@
 ghost use Rattle.std.specs.Prelude.{◌≡◌};
 
 use std::marker::Model;
-use terra_words::{BinaryOperator, FaultKind, Width};
+use terra_words::{BinaryOperator, FaultKind};
 use tl_base::{FnId, Place, TypeId};
+
+/// How many bytes a number has.
+#[derive(Clone, Copy, Debug, PartialEq, Eq)]
+pub enum Size {
+    One,
+    Two,
+    Four,
+    Eight,
+}
+
+/// What a word stands for: a number of a size, and whether the bits above repeat its sign or are zero.
+#[derive(Clone, Copy, Debug, PartialEq, Eq)]
+pub struct Number {
+    pub signed: bool,
+    pub size: Size,
+}
 
 /// A temporary, or a constant of 64 bits.
 #[derive(Clone, Copy, Debug, PartialEq, Eq)]
@@ -144,17 +160,17 @@ pub struct Signature {
 /// An instruction. A temporary that it writes stands first.
 #[derive(Debug, Drop)]
 pub enum Instruction {
-    /// An operator at a width. Of a division the divisor is a constant other than 0, or was tested.
-    Compute(u64, BinaryOperator, Width, Operand, Operand),
+    /// An operator on numbers of a form. Of a division the divisor is a constant other than 0, or was tested.
+    Compute(u64, BinaryOperator, Number, Operand, Operand),
     /// Faults with `DivZero` where the word is zero.
     TestDivisor(Place, Operand),
     Copy(u64, Operand),
     /// The address of an offset in the frame.
     Locate(u64, u64),
-    /// A word of a width from so many bytes.
-    Load(u64, Width, u64, Spot),
-    /// So many low bytes of a word.
-    Store(Spot, u64, Operand),
+    /// The word of a number.
+    Load(u64, Number, Spot),
+    /// The low bytes of a word.
+    Store(Spot, Size, Operand),
     /// So many bytes, at most 128, from one spot to another.
     Move(Spot, Spot, u64),
     /// Zeros to the first bytes of an area.

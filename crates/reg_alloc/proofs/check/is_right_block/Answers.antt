@@ -1,7 +1,7 @@
 use Rattle.std.proofs.Common.{◌≡◌, ◌+◌, ◌-◌, ◌≤◌, ◌<◌, ◌↔◌, Bool, true, length, get_or, refl, sym, ap, ◌∙◌, subst, arith}
 use Rattle.std.proofs.lemmas.Bool.{false≢true}
 use Rattle.std.proofs.lemmas.List.{get_or_default}
-use Rattle.reg_alloc.specs.declared.graph.Step.{Step}
+use Rattle.tac_form.specs.declared.graph.Step.{Step}
 use Rattle.reg_alloc.specs.Sets.{set_before, with_written, in_table, before_from, IsSet}
 use Rattle.reg_alloc.specs.Homes.{IsRightSet, IsBlockRight}
 use Rattle.reg_alloc.proofs.Places.{unwritten-set, places-more, place-holds, place-fails, block-ends, ok-along}

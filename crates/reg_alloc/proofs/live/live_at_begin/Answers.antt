@@ -1,5 +1,5 @@
 use Rattle.std.proofs.Common.{◌≡◌, ◌+◌, ◌-◌, ◌≤◌, ◌<◌, length, get_or, sym, ap, ◌∙◌, subst, refl, arith}
-use Rattle.reg_alloc.specs.Live.{before_exit}
+use Rattle.tac_form.specs.Live.{before_exit}
 use Rattle.reg_alloc.specs.Sets.{in_table, before_from, IsSet}
 use Rattle.reg_alloc.proofs.Marking.{stepped-back}
 use Rattle.reg_alloc.proofs.live.live_at_begin.Goals as goal

@@ -1,6 +1,6 @@
 use Rattle.std.proofs.Common.{◌||◌, take}
 use Rattle.std.specs.List.{list_any}
-use Rattle.reg_alloc.specs.Live.{has}
+use Rattle.tac_form.specs.Live.{has}
 use Rattle.reg_alloc.specs.Sets.{in_table, IsSet}
 use Rattle.reg_alloc.proofs.live.live_at_exit.Given as goal
 

@@ -1,5 +1,5 @@
 use Rattle.std.proofs.Common.{◌≡◌, take, map}
-use Rattle.reg_alloc.specs.Graph.{block_of}
+use Rattle.tac_form.specs.Graph.{block_of}
 use Rattle.reg_alloc.proofs.uses.flow_graph.Given as goal
 
 abbrev pub invariant-loop-block : goal.invariant-loop-block

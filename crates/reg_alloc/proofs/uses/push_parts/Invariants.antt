@@ -1,5 +1,5 @@
 use Rattle.std.proofs.Common.{◌≡◌, ◌++◌, drop}
-use Rattle.reg_alloc.specs.Graph.{parts_reads}
+use Rattle.tac_form.specs.Graph.{parts_reads}
 use Rattle.reg_alloc.proofs.uses.push_parts.Given as goal
 
 -- with those of the parts that are left, all are there

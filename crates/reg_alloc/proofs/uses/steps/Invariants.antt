@@ -1,5 +1,5 @@
 use Rattle.std.proofs.Common.{◌≡◌, take}
-use Rattle.reg_alloc.specs.Graph.{steps_of}
+use Rattle.tac_form.specs.Graph.{steps_of}
 use Rattle.reg_alloc.proofs.uses.steps.Given as goal
 
 abbrev pub invariant-loop-instruction : goal.invariant-loop-instruction

@@ -49,7 +49,7 @@ pub struct StepList {
 
 impl Model for StepList {
     ghost use Rattle.std.specs.Prelude.{List};
-    ghost use Rattle.reg_alloc.specs.declared.graph.Step.{Step};
+    ghost use Rattle.tac_form.specs.declared.graph.Step.{Step};
 
     ghost Value = { List Step };
 

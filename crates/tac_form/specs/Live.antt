@@ -2,8 +2,8 @@
 -- behind the last, before the block's exit.
 use Rattle.std.specs.Prelude.{ℕ, zero, suc, ◌+◌, Bool, true, false, not, ◌&&◌, ◌||◌, nat_eq, IsTrue, List, Option, Some, None, slice_get, ◌⊎◌}
 use Rattle.std.specs.List.{list_any}
-use Rattle.reg_alloc.specs.declared.graph.Step.{Step}
-use Rattle.reg_alloc.specs.declared.graph.FlowBlock.{FlowBlock}
+use Rattle.tac_form.specs.declared.graph.Step.{Step}
+use Rattle.tac_form.specs.declared.graph.FlowBlock.{FlowBlock}
 
 abbrev pub has : List ℕ → ℕ → Bool
 has ts t = list_any (λ u. nat_eq u t) ts

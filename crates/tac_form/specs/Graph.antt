@@ -18,8 +18,8 @@ use Rattle.tac_form.specs.declared.tac.Exit.{Exit}
 use Rattle.tac_form.specs.declared.tac.Exit.TheVariants.{Jump, Branch, Return, Fail}
 use Rattle.tac_form.specs.declared.tac.Block.{Block}
 use Rattle.tac_form.specs.declared.tac.Tac.{Tac}
-use Rattle.reg_alloc.specs.declared.graph.Step.{Step}
-use Rattle.reg_alloc.specs.declared.graph.FlowBlock.{FlowBlock}
+use Rattle.tac_form.specs.declared.graph.Step.{Step}
+use Rattle.tac_form.specs.declared.graph.FlowBlock.{FlowBlock}
 
 abbrev pub operand_reads : Operand → List ℕ
 operand_reads (Temp t) = t ∷ []
@@ -46,7 +46,7 @@ instruction_reads (Compute d op w a b) = operand_reads a ++ operand_reads b
 instruction_reads (TestDivisor at a) = operand_reads a
 instruction_reads (Copy d a) = operand_reads a
 instruction_reads (Locate d offset) = []
-instruction_reads (Load d w size spot) = spot_reads spot
+instruction_reads (Load d form spot) = spot_reads spot
 instruction_reads (Store spot size a) = spot_reads spot ++ operand_reads a
 instruction_reads (Move to from size) = spot_reads to ++ spot_reads from
 instruction_reads (Clear n size) = []
@@ -66,7 +66,7 @@ instruction_write (Compute d op w a b) = Some d
 instruction_write (TestDivisor at a) = None
 instruction_write (Copy d a) = Some d
 instruction_write (Locate d offset) = Some d
-instruction_write (Load d w size spot) = Some d
+instruction_write (Load d form spot) = Some d
 instruction_write (Store spot size a) = None
 instruction_write (Move to from size) = None
 instruction_write (Clear n size) = None

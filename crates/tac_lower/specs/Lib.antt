@@ -1,0 +1,2 @@
+-- What is promised of lowered code.
+pub mod Laws
