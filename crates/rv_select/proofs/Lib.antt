@@ -1,0 +1,6 @@
+pub mod Operands
+pub mod Bytes
+pub mod Takes
+pub mod Puts
+pub mod Small
+pub mod Moves
