@@ -1,14 +1,15 @@
 -- Memory: where bytes lie, and what loads and stores of each width do. The region lies at 0x40000000 and private memory at
--- 2 ^ 32; both are read and written, misaligned too.
+-- 2 ^ 32; both are read and written, misaligned too. A number lies in its bytes with the lowest first, as `byteorder` has it.
 use Rattle.std.specs.Prelude.{ℕ, ◌+◌, ◌-◌, ◌^◌, ◌≤◌, nat_lt, nat_le, if◌then◌else◌, List, ◌++◌, length, take, drop, Option, Some, None}
 use Rattle.std.specs.Int.{w8, w16, w32, cast_signed}
+use Rattle.byteorder.specs.Endian.{little_number}
 use Rattle.rv_isa.specs.declared.operation.LoadOp.{LoadOp}
 use Rattle.rv_isa.specs.declared.operation.LoadOp.TheVariants.{Lb, Lh, Lw, Ld, Lbu, Lhu, Lwu}
 use Rattle.rv_isa.specs.declared.operation.StoreOp.{StoreOp}
 use Rattle.rv_isa.specs.declared.operation.StoreOp.TheVariants.{Sb, Sh, Sw, Sd}
 use Rattle.rv_machine.specs.declared.memory.Place.{Place}
 use Rattle.rv_machine.specs.declared.memory.Place.TheVariants.{Region, Private}
-use Rattle.rv_machine.specs.Word.{word, number_of}
+use Rattle.rv_machine.specs.Word.{word}
 
 -- where bytes at an address lie in an area of so many bytes that begins at `start`, if they lie wholly in it
 unfoldable pub offset_in : (start size address width : ℕ) → Option ℕ
@@ -56,13 +57,13 @@ store_width Sd = 8
 
 -- what a load makes of its bytes: LB, LH and LW extend them by their sign, the others by zeros
 abbrev pub load_value : LoadOp → List ℕ → ℕ
-load_value Lb bytes = word (cast_signed w8 (number_of bytes))
-load_value Lh bytes = word (cast_signed w16 (number_of bytes))
-load_value Lw bytes = word (cast_signed w32 (number_of bytes))
-load_value Ld bytes = number_of bytes
-load_value Lbu bytes = number_of bytes
-load_value Lhu bytes = number_of bytes
-load_value Lwu bytes = number_of bytes
+load_value Lb bytes = word (cast_signed w8 (little_number 1 bytes))
+load_value Lh bytes = word (cast_signed w16 (little_number 2 bytes))
+load_value Lw bytes = word (cast_signed w32 (little_number 4 bytes))
+load_value Ld bytes = little_number 8 bytes
+load_value Lbu bytes = little_number 1 bytes
+load_value Lhu bytes = little_number 2 bytes
+load_value Lwu bytes = little_number 4 bytes
 
 -- so many bytes at a place lie within the areas of these sizes
 abbrev pub FitsIn : (region private width : ℕ) → Place → Type 0

@@ -1,9 +1,10 @@
 // Memory: where bytes lie, and loads and stores of each width.
 
 ghost use Rattle.std.specs.Prelude.{◌≡◌, ◌+◌, ◌^◌, ◌<◌, ◌≤◌, length, take, drop, IfSome};
-ghost use Rattle.rv_machine.specs.Word.{number_of, bytes_of};
+ghost use Rattle.byteorder.specs.Endian.{little_number, little_bytes};
 ghost use Rattle.rv_machine.specs.Memory.{offset_in, place_of, FitsIn, with_bytes, load_width, load_value, store_width};
 
+use byteorder::{ByteOrder, LittleEndian};
 use rv_isa::{LoadOp, StoreOp};
 
 /// The address of the first byte of the region.
@@ -21,7 +22,8 @@ pub enum Place {
     Private(usize),
 }
 
-/// Where bytes at an address lie wholly, in a region and private memory of these sizes.
+/// Where bytes at an address lie wholly, in a region and private memory of these sizes. The upper half of the address says in which
+/// of the two, since the region ends below private memory.
 #[inline]
 #[tactic(auto, unfolding(crate::specs::Memory::place_of, crate::specs::Memory::offset_in))]
 pub(crate) fn find_place(region: usize, private: usize, address: u64, width: u64) -> Option<Place>
@@ -30,12 +32,16 @@ pub(crate) fn find_place(region: usize, private: usize, address: u64, width: u64
     ensures place { result ≡ place_of region private address width }
     ensures within { IfSome result (FitsIn region private width) }
 {
-    if let Some(at) = offset(PRIVATE, private, address, width) {
-        return Some(Place::Private(at));
-    }
-    match offset(REGION, region, address, width) {
-        Some(at) => Some(Place::Region(at)),
-        None => None,
+    if address < PRIVATE {
+        match offset(REGION, region, address, width) {
+            Some(at) => Some(Place::Region(at)),
+            None => None,
+        }
+    } else {
+        match offset(PRIVATE, private, address, width) {
+            Some(at) => Some(Place::Private(at)),
+            None => None,
+        }
     }
 }
 
@@ -99,38 +105,29 @@ pub(crate) fn load_value(op: LoadOp, memory: &[u8], at: usize) -> u64
 
 fn half_at(memory: &[u8], at: usize) -> u16
     requires { at + 2 ≤ length memory.now }
-    ensures { result ≡ number_of (take 2 (drop at memory.now)) }
+    ensures { result ≡ little_number 2 (take 2 (drop at memory.now)) }
 {
-    u16::from_le_bytes([memory[at], memory[at + 1]])
+    LittleEndian::read_u16(&memory[at..at + 2])
 }
 
 fn word_at(memory: &[u8], at: usize) -> u32
     requires { at + 4 ≤ length memory.now }
-    ensures { result ≡ number_of (take 4 (drop at memory.now)) }
+    ensures { result ≡ little_number 4 (take 4 (drop at memory.now)) }
 {
-    u32::from_le_bytes([memory[at], memory[at + 1], memory[at + 2], memory[at + 3]])
+    LittleEndian::read_u32(&memory[at..at + 4])
 }
 
 fn double_at(memory: &[u8], at: usize) -> u64
     requires { at + 8 ≤ length memory.now }
-    ensures { result ≡ number_of (take 8 (drop at memory.now)) }
+    ensures { result ≡ little_number 8 (take 8 (drop at memory.now)) }
 {
-    u64::from_le_bytes([
-        memory[at],
-        memory[at + 1],
-        memory[at + 2],
-        memory[at + 3],
-        memory[at + 4],
-        memory[at + 5],
-        memory[at + 6],
-        memory[at + 7],
-    ])
+    LittleEndian::read_u64(&memory[at..at + 8])
 }
 
 /// Puts the lowest bytes of a value into memory, the lowest of all first.
 pub(crate) fn put_value(op: StoreOp, memory: &mut [u8], at: usize, value: u64)
     requires { at + store_width op ≤ length memory.old }
-    ensures { memory.new ≡ with_bytes memory.old at (bytes_of (store_width op) value) }
+    ensures { memory.new ≡ with_bytes memory.old at (little_bytes (store_width op) value) }
 {
     match op {
         StoreOp::Sb => put_byte(memory, at, value),
@@ -142,28 +139,28 @@ pub(crate) fn put_value(op: StoreOp, memory: &mut [u8], at: usize, value: u64)
 
 fn put_byte(memory: &mut [u8], at: usize, value: u64)
     requires { at + 1 ≤ length memory.old }
-    ensures { memory.new ≡ with_bytes memory.old at (bytes_of 1 value) }
+    ensures { memory.new ≡ with_bytes memory.old at (little_bytes 1 value) }
 {
     memory[at..at + 1].copy_from_slice(&value.to_le_bytes()[..1]);
 }
 
 fn put_half(memory: &mut [u8], at: usize, value: u64)
     requires { at + 2 ≤ length memory.old }
-    ensures { memory.new ≡ with_bytes memory.old at (bytes_of 2 value) }
+    ensures { memory.new ≡ with_bytes memory.old at (little_bytes 2 value) }
 {
     memory[at..at + 2].copy_from_slice(&value.to_le_bytes()[..2]);
 }
 
 fn put_word(memory: &mut [u8], at: usize, value: u64)
     requires { at + 4 ≤ length memory.old }
-    ensures { memory.new ≡ with_bytes memory.old at (bytes_of 4 value) }
+    ensures { memory.new ≡ with_bytes memory.old at (little_bytes 4 value) }
 {
     memory[at..at + 4].copy_from_slice(&value.to_le_bytes()[..4]);
 }
 
 fn put_double(memory: &mut [u8], at: usize, value: u64)
     requires { at + 8 ≤ length memory.old }
-    ensures { memory.new ≡ with_bytes memory.old at (bytes_of 8 value) }
+    ensures { memory.new ≡ with_bytes memory.old at (little_bytes 8 value) }
 {
     memory[at..at + 8].copy_from_slice(&value.to_le_bytes());
 }

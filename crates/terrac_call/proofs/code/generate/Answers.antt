@@ -8,9 +8,9 @@ use Rattle.terrac_call.proofs.code.generate.Goals as goal
 pub returns-clause-computes : goal.returns-clause-computes
 returns-clause-computes c =
     let same : c.extend_from_slice.new.self.items ≡ function_words (formula_of c.args.body.now) = grind (arith, common_steps) in
-    generated (formula_of c.args.body.now) c.extend_from_slice.new.self.items c.depth.result c.requires.literals c.requires.operators same c.depth.ensures.depth
+    generated (formula_of c.args.body.now) c.extend_from_slice.new.self.items c.image_of.result c.requires.literals c.requires.operators same c.image_of.ensures.image
 
-pub returns-clause-short : goal.returns-clause-short
-returns-clause-short c =
+pub image_of-requires : goal.image_of-requires
+image_of-requires c =
     let same : c.extend_from_slice.new.self.items ≡ function_words (formula_of c.args.body.now) = grind (arith, common_steps) in
     length-generated (formula_of c.args.body.now) c.extend_from_slice.new.self.items c.requires.operators same
