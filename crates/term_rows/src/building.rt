@@ -30,7 +30,7 @@ impl Work {
     pub fn take(&mut self, count: usize) -> Result<TermList, NoMemory> {
         let from = self.stack.len().saturating_sub(count);
         let items = self.stack.split_off(from)?;
-        Ok(TermList::from_vec(items))
+        TermList::from_vec(items)
     }
 
     /// A new node's size, as a row shows it.
@@ -155,7 +155,7 @@ fn named_constructor(work: &mut Work, words: &[&str]) -> Result<Option<String>, 
         fields.push(TextId(number_at(words, place)))?;
     }
     let list = work.take(fields.len())?;
-    let entries = Initialiser::Named(FieldList::from_vec(fields), list);
+    let entries = Initialiser::Named(FieldList::from_vec(fields)?, list);
     work.put_expression(Expression::New(of, entries))
 }
 

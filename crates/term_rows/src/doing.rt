@@ -3,7 +3,7 @@
 use crate::building::{HERE, Work};
 use crate::words::{count_at, number_at, word_at};
 use std::alloc::Global;
-use terra_term::{Parameter, ParameterList, Statement, Term, VarName, VarNameList};
+use terra_term::{LoopName, Parameter, ParameterList, Statement, Term, VarName, VarNameList};
 use tl_base::{NoMemory, SymId, TypeId};
 
 /// A statement, or a function.
@@ -57,10 +57,10 @@ fn names_from(alloc: Global, words: &[&str], from: usize) -> Result<Vec<VarName>
 fn declaration(work: &mut Work, word: &str, words: &[&str]) -> Result<Option<String>, NoMemory> {
     let alloc = work.store.allocator();
     if word == "declare" {
-        let names = VarNameList::from_vec(names_from(alloc, words, 1)?);
+        let names = VarNameList::from_vec(names_from(alloc, words, 1)?)?;
         return work.put(Term::Statement(HERE, Statement::Var(names, None)));
     }
-    let names = VarNameList::from_vec(names_from(alloc, words, 2)?);
+    let names = VarNameList::from_vec(names_from(alloc, words, 2)?)?;
     let values = work.take(count_at(words, 1))?;
     work.put(Term::Statement(HERE, Statement::Var(names, Some(values))))
 }
@@ -99,7 +99,7 @@ fn guarded(work: &mut Work, word: &str, words: &[&str]) -> Result<Option<String>
 fn counting(work: &mut Work, words: &[&str]) -> Result<Option<String>, NoMemory> {
     let block = work.take(count_at(words, 3))?;
     let bounds = work.take(count_at(words, 2))?;
-    let name = name_of(word_at(words, 1));
+    let name = LoopName::new(work.store.allocator(), name_of(word_at(words, 1)))?;
     work.put(Term::Statement(HERE, Statement::For(name, bounds, block)))
 }
 
@@ -121,5 +121,6 @@ fn function(work: &mut Work, words: &[&str]) -> Result<Option<String>, NoMemory>
         _ => Some(TypeId(number_at(words, 2))),
     };
     let body = work.take(count_at(words, 1))?;
-    work.put(Term::Function(ParameterList::from_vec(parameters), of, body))
+    let parameters = ParameterList::from_vec(parameters)?;
+    work.put(Term::Function(parameters, of, body))
 }

@@ -5,6 +5,7 @@
 //! (`specs/Terms.antt`, `specs/TypedTerms.antt`). `store` has the functions, symbols, quotes, globals, constants and statics.
 #![tactic(auto)]
 
+mod heap_list;
 mod laws;
 pub mod lists;
 pub mod operators;
@@ -19,8 +20,8 @@ pub mod text;
 pub mod typed;
 
 pub use lists::{
-    FieldList, OffsetList, Parameter, ParameterList, TermList, TypedName, TypedNameList, VarName,
-    VarNameList,
+    FieldList, LoopName, OffsetList, Parameter, ParameterList, TermList, TypedName, TypedNameList,
+    VarName, VarNameList,
 };
 pub use operators::{Constant, Operation, Primitive, UnaryOperator};
 pub use refusal::{Refusal, RefusalKind, Standing};

@@ -502,7 +502,13 @@ pub fn pieces_of_statement(
             &[CLOSE, SPACE, part(*test, below), CLOSE],
         ),
         Statement::For(name, bounds, body) => {
-            pieces_of_for(alloc, below, name, bounds.as_slice(), body.as_slice())
+            pieces_of_for(
+                alloc,
+                below,
+                name.name(),
+                bounds.as_slice(),
+                body.as_slice(),
+            )
         }
         Statement::Do(body) => with_parts(
             alloc,

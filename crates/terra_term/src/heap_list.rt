@@ -1,0 +1,40 @@
+// Lists behind one pointer, so that a node that holds some stays small.
+
+ghost use Rattle.std.specs.Prelude.{◌≡◌, IfOk};
+
+use std::marker::Model;
+use tl_base::NoMemory;
+
+/// Items in order, behind one pointer. Contracts see the list.
+#[derive(Debug, Drop)]
+pub struct HeapList<T> {
+    items: Box<Vec<T>>,
+}
+
+impl<T> Model for HeapList<T> {
+    ghost use Rattle.std.specs.Prelude.{List};
+
+    ghost Value = { List T };
+
+    ghost view = { λ l. l.items.value.items };
+}
+
+impl<T> HeapList<T> {
+    /// The list that takes over these items.
+    pub fn from_vec(items: Vec<T>) -> Result<HeapList<T>, NoMemory>
+        where T: Drop
+        ensures { IfOk result (λ l. l ≡ items.items) }
+    {
+        let alloc = *items.allocator();
+        Ok(HeapList {
+            items: Box::new(alloc, items)?,
+        })
+    }
+
+    /// These items.
+    pub fn as_slice(&self) -> &[T]
+        ensures { result.now ≡ self.now }
+    {
+        &self.items
+    }
+}
