@@ -36,6 +36,7 @@ pub fn row(work: &mut Work, word: &str, words: &[&str]) -> Result<Option<String>
         "new_global" => global(work, words)?,
         "keep" => kept(work, words)?,
         "pointer" | "array" | "struct" => new_type(work, word, words)?,
+        "function_type" => function_type(work, words)?,
         "held" => held(work, words)?,
         "chain" => return chain(work, words),
         "double" => return doubled(work, words),
@@ -225,6 +226,35 @@ fn make_type(types: &mut Types, word: &str, of: TypeId, count: u64) -> Result<Ty
     match word {
         "pointer" => types.pointer_to(of),
         _ => types.array_of(of, count),
+    }
+}
+
+/// `function_type RESULT PARAMETER..` with at most two parameters, of types that are there
+fn function_type(work: &mut Work, words: &[&str]) -> Result<String, NoMemory> {
+    let alloc = work.store.allocator();
+    let returns = TypeId(number_at(words, 1));
+    let first = TypeId(number_at(words, 2));
+    let second = TypeId(number_at(words, 3));
+    let id = make_function_type(work.store.types_mut(), returns, first, second, words.len())?;
+    let number = id.0;
+    Ok(format!(in alloc; "{number}")?)
+}
+
+fn make_function_type(
+    types: &mut Types,
+    returns: TypeId,
+    first: TypeId,
+    second: TypeId,
+    words: usize,
+) -> Result<TypeId, NoMemory> {
+    let count = types.len();
+    if returns.0 >= count || first.0 >= count || second.0 >= count {
+        return Ok(returns);
+    }
+    match words {
+        2 => types.function_of(&[], returns),
+        3 => types.function_of(&[first], returns),
+        _ => types.function_of(&[first, second], returns),
     }
 }
 
