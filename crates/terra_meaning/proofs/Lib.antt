@@ -7,5 +7,6 @@ mod Limits
 pub mod Meant
 mod Operators
 mod Rows
+mod Sampled
 pub mod Scopes
 pub mod Scoping
