@@ -22,7 +22,8 @@ impl<T> Model for HeapList<T> {
 impl<T> HeapList<T> {
     /// The list that takes over these items.
     pub fn from_vec(items: Vec<T>) -> Result<HeapList<T>, NoMemory>
-        where T: Drop
+    where
+        T: Drop,
         ensures { IfOk result (λ l. l ≡ items.items) }
     {
         let alloc = *items.allocator();
