@@ -17,8 +17,8 @@ use Rattle.terra_types.specs.Grown.{grown}
 use Rattle.terra_types.specs.Sizes.{is_signed}
 use Rattle.terra_term.specs.declared.operators.UnaryOperator.{UnaryOperator}
 use Rattle.terra_term.specs.declared.operators.UnaryOperator.TheVariants as unary
-use Rattle.terra_term.specs.declared.operators.Primitive.{Primitive}
-use Rattle.terra_term.specs.declared.operators.Primitive.TheVariants.{PutByte, Write, Alloc}
+use Rattle.lua_value.specs.declared.primitive.Primitive.{Primitive}
+use Rattle.lua_value.specs.declared.primitive.Primitive.TheVariants.{PutByte, Write, Alloc}
 use Rattle.terra_term.specs.declared.lists.Parameter.{Parameter}
 use Rattle.terra_term.specs.declared.lists.VarName.{VarName}
 use Rattle.terra_term.specs.declared.store.TerraGlobal.{TerraGlobal}

@@ -4,7 +4,8 @@ ghost use Rattle.std.specs.Prelude.{◌≡◌};
 ghost use Rattle.terra_term.specs.Pieces.{word_text, part_of};
 ghost use Rattle.terra_term.specs.TermText.{unary_text, binary_text, primitive_text, integer_text};
 
-use crate::operators::{Primitive, UnaryOperator};
+use crate::operators::UnaryOperator;
+use lua_value::Primitive;
 use terra_types::Integer;
 use terra_words::BinaryOperator;
 use tl_base::{FnId, MacroId, SymId, TermId, TextId, TypeId};
