@@ -4,10 +4,8 @@ use Rattle.std.specs.Fmt.{decimal, signed_decimal}
 use Rattle.lua_value.specs.declared.value.Value.{Value}
 use Rattle.lua_value.specs.declared.value.Value.TheVariants as values
 use Rattle.lua_value.specs.Kinds.{kind_text}
-use Rattle.lua_value.specs.Library.{library_text}
+use Rattle.lua_value.specs.Library.{library_text, primitive_text}
 use Rattle.lua_value.specs.Values.{kind_of}
-use Rattle.lua_value.specs.declared.primitive.Primitive.{Primitive}
-use Rattle.lua_value.specs.declared.primitive.Primitive.TheVariants.{PutByte, Write, Alloc}
 use Rattle.lua_table.specs.LuaState.{LuaState}
 use Rattle.lua_table.specs.Heap.{text_at}
 
@@ -18,12 +16,6 @@ numbered v id = kind_text (kind_of v) ++ codes ": " ++ decimal (id + 1)
 -- a kind, and the name of a value that no source made
 abbrev pub named : Value → List ℕ → List ℕ
 named v name = kind_text (kind_of v) ++ codes ": " ++ name
-
--- the name of a primitive of Terra
-abbrev pub primitive_text : Primitive → List ℕ
-primitive_text PutByte = codes "putbyte"
-primitive_text Write = codes "write"
-primitive_text Alloc = codes "alloc"
 
 -- the text of a value: of what has none it is the kind with a number, or with a name where no source made it
 abbrev pub value_text : LuaState → Value → List ℕ

@@ -1,15 +1,14 @@
 // The texts of values.
 
 ghost use Rattle.std.specs.Prelude.{◌≡◌, ◌++◌, OnOk};
-ghost use Rattle.lua_base.specs.Texts.{named, numbered, primitive_text, value_text, tabs_before};
+ghost use Rattle.lua_base.specs.Texts.{named, numbered, value_text, tabs_before};
 
 use lua_table::Heap;
-use lua_value::{Primitive, Value};
+use lua_value::Value;
 use tl_base::{NoMemory, Text2};
 
 /// Puts the text of a value behind a line: that of a text is its bytes, and that of what has none is its kind, and its number among those of
-/// its kind, from 1. A function of the library, and a primitive of Terra, has
-/// its name in place of the number.
+/// its kind, from 1. A function of the library, and a primitive of Terra, has its name in place of the number.
 pub fn push_text(heap: &Heap, line: &mut Text2, value: Value) -> Result<(), NoMemory>
     ensures { OnOk result (line.new ≡ line.old ++ value_text heap.now value) }
 {
@@ -33,18 +32,7 @@ pub fn push_text(heap: &Heap, line: &mut Text2, value: Value) -> Result<(), NoMe
         Value::Macro(id) => push_numbered(heap, line, value, id.0),
         Value::Global(id) => push_numbered(heap, line, value, id.0),
         Value::Constant(id) => push_numbered(heap, line, value, id.0),
-        Value::Primitive(primitive) => { push_named(heap, line, value, primitive_name(primitive)) }
-    }
-}
-
-/// The name of a primitive of Terra.
-fn primitive_name(primitive: Primitive) -> &'static str
-    ensures { result.now ≡ primitive_text primitive }
-{
-    match primitive {
-        Primitive::PutByte => "putbyte",
-        Primitive::Write => "write",
-        Primitive::Alloc => "alloc",
+        Value::Primitive(primitive) => push_named(heap, line, value, primitive.name()),
     }
 }
 

@@ -28,7 +28,7 @@ use Rattle.terra_types.specs.declared.types.TypeForm.TheVariants as forms
 use Rattle.terra_types.specs.Opening.{opening_types}
 use Rattle.terra_term.specs.declared.operators.Constant.TheVariants as constants
 use Rattle.terra_term.specs.declared.operators.Operation.TheVariants as operations
-use Rattle.terra_term.specs.declared.operators.Primitive.TheVariants.{PutByte}
+use Rattle.lua_value.specs.declared.primitive.Primitive.TheVariants.{PutByte}
 use Rattle.terra_term.specs.declared.lists.TypedName.{TypedName}
 use Rattle.terra_term.specs.declared.store.Function.{Function}
 use Rattle.terra_term.specs.declared.store.FunctionState.TheVariants as states

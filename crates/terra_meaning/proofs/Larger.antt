@@ -4,7 +4,8 @@ use Rattle.std.proofs.Common.{append-nil, append_assoc, ◌≡◌, ℕ, zero, su
 use Rattle.std.specs.Prelude.{if◌then◌else◌}
 use Rattle.terra_words.specs.Words.{wrapped}
 use Rattle.terra_words.specs.declared.words.Width.{Width}
-use Rattle.terra_words.specs.Runs.{Value, IsFront, Over, More, output_of}
+use Rattle.tl_base.specs.Outside.{IsFront}
+use Rattle.terra_words.specs.Runs.{Value, Over, More, output_of}
 use Rattle.terra_meaning.specs.Running.{State, Variable, Got, Gives, Ends, next, need_more, counted_from, counted, leaving, scoped}
 use Rattle.terra_meaning.specs.Meaning.{Way, goes_on, breaks, gives_back, along, turned, rounds, runs, for_rounds, kept}
 

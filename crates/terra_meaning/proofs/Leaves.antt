@@ -12,12 +12,13 @@ use Rattle.terra_words.specs.declared.words.FaultKind.{FaultKind}
 use Rattle.terra_words.specs.declared.words.FaultKind.TheVariants.{BadAddress, DivZero, BadCall}
 use Rattle.terra_words.specs.declared.words.Width.{Width}
 use Rattle.terra_words.specs.Words.{applied, divides, is_negative}
-use Rattle.terra_words.specs.Runs.{IsFront, Value, word, number, value_at, put_bytes}
+use Rattle.tl_base.specs.Outside.{IsFront}
+use Rattle.terra_words.specs.Runs.{Value, word, number, value_at, put_bytes}
 use Rattle.terra_types.specs.declared.types.TypeForm.{TypeForm}
 use Rattle.terra_term.specs.declared.operators.Operation.{Operation}
 use Rattle.terra_term.specs.declared.operators.Operation.TheVariants as operations
-use Rattle.terra_term.specs.declared.operators.Primitive.{Primitive}
-use Rattle.terra_term.specs.declared.operators.Primitive.TheVariants.{PutByte, Write, Alloc}
+use Rattle.lua_value.specs.declared.primitive.Primitive.{Primitive}
+use Rattle.lua_value.specs.declared.primitive.Primitive.TheVariants.{PutByte, Write, Alloc}
 use Rattle.terra_term.specs.declared.lists.TypedName.{TypedName}
 use Rattle.terra_term.specs.TypedTerms.{Expression, typed, Constant', Variable, Global, Operate, Both, Either, Dereference, Select, Follow, Element, Index, Address, Decay, Let, Expressions, no_more, then_one}
 use Rattle.terra_term.specs.Stores.{callable_of}

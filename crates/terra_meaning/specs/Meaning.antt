@@ -20,8 +20,8 @@ use Rattle.terra_term.specs.declared.operators.Constant.{Constant}
 use Rattle.terra_term.specs.declared.operators.Constant.TheVariants as constants
 use Rattle.terra_term.specs.declared.operators.Operation.{Operation}
 use Rattle.terra_term.specs.declared.operators.Operation.TheVariants as operations
-use Rattle.terra_term.specs.declared.operators.Primitive.{Primitive}
-use Rattle.terra_term.specs.declared.operators.Primitive.TheVariants.{PutByte, Write, Alloc}
+use Rattle.lua_value.specs.declared.primitive.Primitive.{Primitive}
+use Rattle.lua_value.specs.declared.primitive.Primitive.TheVariants.{PutByte, Write, Alloc}
 use Rattle.terra_term.specs.declared.lists.TypedName.{TypedName}
 use Rattle.terra_term.specs.TypedTerms.{Expression, typed, Constant', Variable, Global, Operate, Both, Either, Dereference, Select, Follow, Element, Index, Address, Decay, Let, Expressions, no_more, then_one, Statement, statement, Var, Assign, If, IfElse, While, Repeat, For, Do, Break, Finish, Return, Perform, Statements, done, and_then, type_of}
 use Rattle.terra_term.specs.Stores.{Contents, Callable, callable_of, static_bytes}

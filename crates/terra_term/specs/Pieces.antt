@@ -23,7 +23,8 @@ use Rattle.terra_term.specs.declared.term.Initialiser as initialisers
 use Rattle.terra_term.specs.declared.term.Initialiser.TheVariants.{Positional, Named}
 use Rattle.terra_term.specs.Planted.{trees, term_at, statement_at}
 use Rattle.terra_term.specs.Held.{Held, name_of}
-use Rattle.terra_term.specs.TermText.{text_of, statement_text, symbol_text, function_name, number_digits, made, type_texts, type_text, integer_text, unary_text, binary_text, primitive_text, global_address}
+use Rattle.lua_value.specs.Library.{primitive_text}
+use Rattle.terra_term.specs.TermText.{text_of, statement_text, symbol_text, function_name, number_digits, made, type_texts, type_text, integer_text, unary_text, binary_text, global_address}
 
 abbrev pub word_text : Word → List ℕ
 word_text words.Open = codes "("

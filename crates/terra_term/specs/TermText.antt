@@ -17,8 +17,7 @@ use Rattle.terra_types.specs.Grown.{grown}
 use Rattle.terra_types.specs.Sizes.{is_signed}
 use Rattle.terra_term.specs.declared.operators.UnaryOperator.{UnaryOperator}
 use Rattle.terra_term.specs.declared.operators.UnaryOperator.TheVariants as unary
-use Rattle.terra_term.specs.declared.operators.Primitive.{Primitive}
-use Rattle.terra_term.specs.declared.operators.Primitive.TheVariants.{PutByte, Write, Alloc}
+use Rattle.lua_value.specs.Library.{primitive_text}
 use Rattle.terra_term.specs.declared.lists.Parameter.{Parameter}
 use Rattle.terra_term.specs.declared.lists.VarName.{VarName}
 use Rattle.terra_term.specs.declared.store.TerraGlobal.{TerraGlobal}
@@ -110,11 +109,6 @@ number_digits types bits of = if has_sign types of && is_negative bits then code
 
 abbrev pub number_text : List TypeForm → ℕ → TypeId → Bytes
 number_text types bits of = number_digits types bits of ++ codes ":" ++ type_text types of
-
-abbrev pub primitive_text : Primitive → Bytes
-primitive_text PutByte = codes "putbyte"
-primitive_text Write = codes "write"
-primitive_text Alloc = codes "alloc"
 
 abbrev pub unary_text : UnaryOperator → Bytes
 unary_text unary.Negate = codes "neg"

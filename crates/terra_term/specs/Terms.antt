@@ -10,7 +10,7 @@ use Rattle.tl_base.specs.declared.ids.MacroId.{MacroId}
 use Rattle.tl_base.specs.declared.ids.TermId.{TermId}
 use Rattle.terra_term.specs.declared.operators.UnaryOperator.{UnaryOperator}
 use Rattle.terra_words.specs.declared.words.BinaryOperator.{BinaryOperator}
-use Rattle.terra_term.specs.declared.operators.Primitive.{Primitive}
+use Rattle.lua_value.specs.declared.primitive.Primitive.{Primitive}
 use Rattle.terra_term.specs.declared.lists.Parameter.{Parameter}
 use Rattle.terra_term.specs.declared.lists.VarName.{VarName}
 

@@ -23,7 +23,8 @@ pub use lists::{
     FieldList, LoopName, OffsetList, Parameter, ParameterList, TermList, TypedName, TypedNameList,
     VarName, VarNameList,
 };
-pub use operators::{Constant, Operation, Primitive, UnaryOperator};
+pub use lua_value::Primitive;
+pub use operators::{Constant, Operation, UnaryOperator};
 pub use refusal::{Refusal, RefusalKind, Standing};
 pub use size::Size;
 pub use store::{

@@ -1,10 +1,12 @@
 // The pieces that a text is put together from.
 
 ghost use Rattle.std.specs.Prelude.{◌≡◌};
+ghost use Rattle.lua_value.specs.Library.{primitive_text};
 ghost use Rattle.terra_term.specs.Pieces.{word_text, part_of};
-ghost use Rattle.terra_term.specs.TermText.{unary_text, binary_text, primitive_text, integer_text};
+ghost use Rattle.terra_term.specs.TermText.{unary_text, binary_text, integer_text};
 
-use crate::operators::{Primitive, UnaryOperator};
+use crate::operators::UnaryOperator;
+use lua_value::Primitive;
 use terra_types::Integer;
 use terra_words::BinaryOperator;
 use tl_base::{FnId, MacroId, SymId, TermId, TextId, TypeId};
@@ -188,11 +190,7 @@ pub fn text_of_binary(operator: BinaryOperator) -> &'static [u8]
 pub fn text_of_primitive(primitive: Primitive) -> &'static [u8]
     ensures { result.now ≡ primitive_text primitive }
 {
-    match primitive {
-        Primitive::PutByte => b"putbyte",
-        Primitive::Write => b"write",
-        Primitive::Alloc => b"alloc",
-    }
+    primitive.name().as_bytes()
 }
 
 /// The text of an integer type.
