@@ -96,9 +96,13 @@ most_moved = 128
 abbrev full_area : ℕ → ℕ
 full_area size = most_moved
 
--- a word for each temporary and parameter, and a full area for each area
+-- the return address and the ten registers that a function keeps for its caller, a word each
+abbrev pub kept_bytes : ℕ
+kept_bytes = 8 * 11
+
+-- what is kept for the caller, a word for each temporary and parameter, and a full area for each area
 abbrev pub private_bytes : Tac → ℕ
-private_bytes code = 8 * code.temps + 8 * length code.parameters + sum_by full_area code.areas
+private_bytes code = kept_bytes + 8 * code.temps + 8 * length code.parameters + sum_by full_area code.areas
 
 -- The whole code keeps within 250 words and 136 private bytes for each typed node, and 65,536 private bytes more.
 pub record Sized (code : Tac) : Type 0 where
