@@ -1,7 +1,8 @@
 -- From what was read to what is owed, and from what is owed to what is answered.
 use Rattle.std.proofs.Common.{◌≡◌, ◌≢◌, ◌⊎◌, inl, inr, ℕ, ◌+◌, ◌≤◌, List, [], ◌++◌, length, Option, Some, None, refl, sym, ap, subst, ◌∙◌, append_assoc, append-nil, arith, length-append}
-use Rattle.std.specs.Prelude.{codes, IsSome}
+use Rattle.std.specs.Prelude.{IsSome}
 use Rattle.tl_base.specs.Outside.{with_front, with_back, IsAtEnd, IsRisen, IsFront}
+use Rattle.terrac_call.specs.Statuses.{text_of}
 use Rattle.terrac_call.specs.declared.status.Status.{Status}
 use Rattle.terrac_call.specs.declared.status.Status.TheVariants as statuses
 use Rattle.terrac_call.specs.declared.due.Due.{Due as DueValue}
@@ -115,7 +116,7 @@ delivered_behind due status printed out_old out_mid out_new notes_old notes_new 
 
 -- what a sink took that failed, and then `notes` of the line
 pub delivered_stopped : (Is : Due → Type 0) (status : Status) (out_old out_new notes_old notes_new : Option (List ℕ)) (f0 f1 : ℕ) → (h : Stopped Is out_old out_new f0 f1) →
-    status ≡ statuses.WriteFault → TakesFront (line (codes "write fault")) notes_old notes_new → Delivers h.due status out_old out_new notes_old notes_new
+    status ≡ statuses.WriteFault → TakesFront (line (text_of statuses.WriteFault)) notes_old notes_new → Delivers h.due status out_old out_new notes_old notes_new
 delivered_stopped Is status out_old out_new notes_old notes_new f0 f1 h is fault = record {
   out = h.part;
   notes = fault.part;

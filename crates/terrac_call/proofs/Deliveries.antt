@@ -2,6 +2,7 @@
 use Rattle.std.proofs.Common.{◌≡◌, ◌≢◌, ℕ, List, [], ◌++◌, Option, inl, inr, refl, ap, ◌∙◌}
 use Rattle.std.specs.Prelude.{codes}
 use Rattle.tl_base.specs.Outside.{with_back, IsFront}
+use Rattle.terrac_call.specs.Statuses.{text_of}
 use Rattle.terrac_call.specs.declared.status.Status.{Status}
 use Rattle.terrac_call.specs.declared.status.Status.TheVariants as statuses
 use Rattle.terrac_call.specs.Due.{line}
@@ -45,7 +46,7 @@ result_whole bytes out_old out_new notes took = record {
 
 -- the result line was taken up to a write that failed
 pub result_short : (bytes : List ℕ) (status : Status) (out_old out_new notes_old notes_new : Option (List ℕ)) (f0 f1 : ℕ) →
-    StopsShort bytes out_old out_new f0 f1 → status ≡ statuses.WriteFault → TakesFront (line (codes "write fault")) notes_old notes_new →
+    StopsShort bytes out_old out_new f0 f1 → status ≡ statuses.WriteFault → TakesFront (line (text_of statuses.WriteFault)) notes_old notes_new →
     Delivers (due_with statuses.Ok bytes) status out_old out_new notes_old notes_new
 result_short bytes status out_old out_new notes_old notes_new f0 f1 short is_fault fault = record {
   out = short.front;
@@ -76,7 +77,7 @@ refusal_whole status bytes out notes_old notes_new other took = rw (due_with-ref
 
 -- a refusal's line was taken up to a write that failed
 pub refusal_short : (status after : Status) (bytes : List ℕ) (out notes_old notes_mid notes_new : Option (List ℕ)) (f0 f1 : ℕ) → status ≢ statuses.Ok →
-    StopsShort bytes notes_old notes_mid f0 f1 → after ≡ statuses.WriteFault → TakesFront (line (codes "write fault")) notes_mid notes_new →
+    StopsShort bytes notes_old notes_mid f0 f1 → after ≡ statuses.WriteFault → TakesFront (line (text_of statuses.WriteFault)) notes_mid notes_new →
     Delivers (due_with status bytes) after out out notes_old notes_new
 refusal_short status after bytes out notes_old notes_mid notes_new f0 f1 other short is_fault fault = rw (due_with-refusal status bytes other) (record {
   out = [];

@@ -136,7 +136,7 @@ module _ (image : Image) (symbol : Symbol) (values : List ℕ) (steps : ℕ) (be
 
   -- a run that stopped by itself
   pub run_remains : (stop : Stop) (rest : DueValue) (Same : Type 0) → RanImage image symbol.address values steps stop before now Same →
-      (shown_due rest ≡ due_of_stop symbol.result stop) ⊎ (shown_due rest ≡ refused statuses.NoMemory (codes "no memory")) → f1 ≡ f0 → rest.status ≢ statuses.WriteFault →
+      (shown_due rest ≡ due_of_stop symbol.result stop) ⊎ (shown_due rest ≡ refused statuses.NoMemory) → f1 ≡ f0 → rest.status ≢ statuses.WriteFault →
       Remains (IsDueOrCut (IsRunDue image symbol steps (Good values))) rest before now f0 f1 Same
   run_remains stop rest Same h shown quiet other = record {
     printed = h.ran.output;
@@ -147,7 +147,7 @@ module _ (image : Image) (symbol : Symbol) (values : List ℕ) (steps : ℕ) (be
     other = other;
   }
     where
-      is_due : (shown_due rest ≡ due_of_stop symbol.result stop) ⊎ (shown_due rest ≡ refused statuses.NoMemory (codes "no memory")) →
+      is_due : (shown_due rest ≡ due_of_stop symbol.result stop) ⊎ (shown_due rest ≡ refused statuses.NoMemory) →
           IsDueOrCut (IsRunDue image symbol steps (Good values)) (after h.ran.output (shown_due rest))
       is_due (inl e) = IsWhole (h.ran, h.runs, ap (after h.ran.output) (e ∙ ap (due_of_stop symbol.result) (sym h.stops)))
       is_due (inr e) =

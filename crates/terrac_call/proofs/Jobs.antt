@@ -1,6 +1,6 @@
 -- How the work ends for the words as a whole: where they name no job, and where a read fails or memory isn't found.
 use Rattle.std.proofs.Common.{◌≡◌, ◌≢◌, ℕ, List, [], ◌++◌, Option, Some, None, refl, sym, ap, subst, ◌∙◌}
-use Rattle.std.specs.Prelude.{codes, IsSome}
+use Rattle.std.specs.Prelude.{IsSome}
 use Rattle.tl_base.specs.Outside.{IsRisen}
 use Rattle.terrac_call.specs.declared.due.Due.{Due as DueValue}
 use Rattle.terrac_call.specs.declared.due.Ended.{Ended}
@@ -34,13 +34,13 @@ module _ (job : Option Job) (left : Option (List ℕ)) (Rose : Type 0) (rest : D
       owed_alone left Rose job rest out faults Same owed same (λ fault. let bad : statuses.Usage ≡ statuses.WriteFault = sym status ∙ fault in absurd cc)
 
   -- a read that failed
-  pub unread_ends : IsSome job → Rose → shown_due rest ≡ refused statuses.ReadFault (codes "read fault") → rest.status ≡ statuses.ReadFault → Same →
+  pub unread_ends : IsSome job → Rose → shown_due rest ≡ refused statuses.ReadFault → rest.status ≡ statuses.ReadFault → Same →
       Remains (Owed job left Rose) rest out out faults faults Same
   unread_ends some rose shown status same =
       owed_alone left Rose job rest out faults Same (Unread some rose shown) same (λ fault. let bad : statuses.ReadFault ≡ statuses.WriteFault = sym status ∙ fault in absurd cc)
 
   -- memory that isn't found
-  pub memory_ends : shown_due rest ≡ refused statuses.NoMemory (codes "no memory") → rest.status ≡ statuses.NoMemory → Same →
+  pub memory_ends : shown_due rest ≡ refused statuses.NoMemory → rest.status ≡ statuses.NoMemory → Same →
       Remains (Owed job left Rose) rest out out faults faults Same
   memory_ends shown status same =
       owed_alone left Rose job rest out faults Same (OutOfMemory shown) same (λ fault. let bad : statuses.NoMemory ≡ statuses.WriteFault = sym status ∙ fault in absurd cc)

@@ -1,7 +1,8 @@
 -- From how the work ended and what was delivered to what the call answers.
 use Rattle.std.proofs.Common.{◌≡◌, ◌≢◌, ◌⊎◌, inl, inr, ℕ, List, [], Option, refl, sym, ap, subst, ◌∙◌}
-use Rattle.std.specs.Prelude.{codes, IsSome}
+use Rattle.std.specs.Prelude.{IsSome}
 use Rattle.tl_base.specs.Outside.{IsRisen}
+use Rattle.terrac_call.specs.Statuses.{text_of}
 use Rattle.terrac_call.specs.declared.status.Status.{Status}
 use Rattle.terrac_call.specs.declared.status.Status.TheVariants as statuses
 use Rattle.terrac_call.specs.declared.due.Due.{Due as DueValue}
@@ -49,7 +50,7 @@ answers_rest words left Rose rest status out_old out_mid out_new notes_old notes
 -- `out` failed on the way
 pub answers_stopped : (words : List (List ℕ)) (left : Option (List ℕ)) (Rose : Type 0) (status : Status)
     (out_old out_new notes_old notes_new : Option (List ℕ)) (f0 f1 : ℕ) (SameAll : Type 0) →
-    Stopped (Owed (job_of words) left Rose) out_old out_new f0 f1 → status ≡ statuses.WriteFault → TakesFront (line (codes "write fault")) notes_old notes_new →
+    Stopped (Owed (job_of words) left Rose) out_old out_new f0 f1 → status ≡ statuses.WriteFault → TakesFront (line (text_of statuses.WriteFault)) notes_old notes_new →
     Answers words left Rose status out_old out_new notes_old notes_new SameAll
 answers_stopped words left Rose status out_old out_new notes_old notes_new f0 f1 SameAll h is front = record {
   due = h.due;

@@ -1,8 +1,9 @@
 -- What a call answers, whatever the source and the sinks do.
-use Rattle.std.specs.Prelude.{ℕ, ◌≡◌, ◌+◌, ◌≤◌, List, [], ◌++◌, length, Option, Some, None, codes, ◌⊎◌, IsSome}
+use Rattle.std.specs.Prelude.{ℕ, ◌≡◌, ◌+◌, ◌≤◌, List, [], ◌++◌, length, Option, Some, None, ◌⊎◌, IsSome}
 use Rattle.tl_base.specs.Outside.{with_front, with_back, IsFront}
 use Rattle.terrac_call.specs.declared.status.Status.{Status}
 use Rattle.terrac_call.specs.declared.status.Status.TheVariants as statuses
+use Rattle.terrac_call.specs.Statuses.{text_of}
 use Rattle.terrac_call.specs.Words.{Job, Run, Exec, Check, job_of}
 use Rattle.terrac_call.specs.Due.{Due, line, longest, refused, due_of_usage, IsSourceDue}
 use Rattle.terrac_call.specs.Exec.{longest_image, IsExecDue}
@@ -26,14 +27,14 @@ IsDue (Some (Check limits)) bytes due = IsCheckDue limits.budget bytes due
 pub data IsDueOrCut (Is : Due → Type 0) (due : Due) : Type 0 where
   IsWhole : Is due → IsDueOrCut Is due
   IsCut : (whole : Due) → Is whole → IsFront due.out whole.out → due.status ≡ statuses.NoMemory
-      → due.notes ≡ line (codes "no memory") → IsDueOrCut Is due
+      → due.notes ≡ line (text_of statuses.NoMemory) → IsDueOrCut Is due
 
 -- What is owed for a job: what is due on the bytes that the source has left; the line of a read that failed, where there is a job
 -- and the source's count of faults rose; or that of want of memory, which is free.
 pub data Owed (job : Option Job) (left : Option (List ℕ)) (Rose : Type 0) (due : Due) : Type 0 where
   Answered : (bytes : List ℕ) → IsToldAs left bytes → IsDueOrCut (IsDue job bytes) due → Owed job left Rose due
-  Unread : IsSome job → Rose → due ≡ refused statuses.ReadFault (codes "read fault") → Owed job left Rose due
-  OutOfMemory : due ≡ refused statuses.NoMemory (codes "no memory") → Owed job left Rose due
+  Unread : IsSome job → Rose → due ≡ refused statuses.ReadFault → Owed job left Rose due
+  OutOfMemory : due ≡ refused statuses.NoMemory → Owed job left Rose due
 
 -- how many bytes are read of a source at most: one more than it may have, which tells that it has too many
 abbrev pub most_read : Option Job → ℕ
@@ -64,7 +65,7 @@ pub record IsCutOff (due : Due) (status : Status) (out notes : List ℕ) : Type 
   pub fault_part : List ℕ
   pub parts : notes ≡ due_part ++ fault_part
   pub due_front : IsFront due_part due.notes
-  pub fault_front : IsFront fault_part (line (codes "write fault"))
+  pub fault_front : IsFront fault_part (line (text_of statuses.WriteFault))
 
 -- What the sinks took is what was due, or fronts of it where a write failed.
 pub record Delivers (due : Due) (status : Status) (out_old out_new notes_old notes_new : Option (List ℕ)) : Type 0 where

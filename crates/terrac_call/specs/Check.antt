@@ -1,5 +1,5 @@
 -- What is due for `check`: a source is staged with a budget, and what it printed and how it ended is told.
-use Rattle.std.specs.Prelude.{ℕ, ◌≡◌, Bool, true, false, List, [], ◌++◌, Option, Some, codes}
+use Rattle.std.specs.Prelude.{ℕ, ◌≡◌, Bool, true, false, List, [], Option, Some}
 use Rattle.std.specs.List.{list_any}
 use Rattle.tl_base.specs.declared.place.Place.{Place}
 use Rattle.tl_tree.specs.declared.node.BinaryOperator.{BinaryOperator}
@@ -19,7 +19,7 @@ use Rattle.stage_loop.specs.declared.staging.End.TheVariants.{Done, Raised, Spen
 use Rattle.stage_loop.specs.declared.staging.Outcome.{Outcome}
 use Rattle.stage_loop.specs.Staging.{outcome}
 use Rattle.terrac_call.specs.declared.status.Status.TheVariants as statuses
-use Rattle.terrac_call.specs.Due.{Due, refused, after, place_text, due_of_syntax, due_of_not_built, Reading, IsRefused, IsTree, IsReadAs}
+use Rattle.terrac_call.specs.Due.{Due, refused, after, due_of_syntax, due_of_not_built, Reading, IsRefused, IsTree, IsReadAs}
 
 -- ---- trees with Terra code
 
@@ -65,9 +65,8 @@ has_terra items = list_any is_terra items
 -- what a staging that ends so owes behind what was printed
 abbrev pub due_of_end : End → Due
 due_of_end Done = record { status = statuses.Ok; out = []; notes = [] }
-due_of_end (Raised text place) =
-    refused (statuses.Raised text place) (codes "raised " ++ text ++ codes " at " ++ place_text place)
-due_of_end Spent = refused statuses.BudgetSpent (codes "budget spent")
+due_of_end (Raised text place) = refused (statuses.Raised text place)
+due_of_end Spent = refused statuses.BudgetSpent
 
 -- for what a staging comes to: whatever its end, what was printed, and then that
 abbrev pub due_of_outcome : Outcome → Due

@@ -1,13 +1,12 @@
 -- What is due to the caller: the status, and what `out` and `notes` take.
 use Rattle.std.specs.Prelude.{ℕ, ◌≡◌, ◌<◌, ◌≤◌, List, [], ◌∷◌, ◌++◌, length, replicate, Option, Some, None, if◌then◌else◌, codes}
 use Rattle.std.specs.Str.{bytes_eq}
-use Rattle.std.specs.Fmt.{decimal}
 use Rattle.std.specs.declared.io.ErrorKind.{ErrorKind}
 use Rattle.std.specs.declared.io.ErrorKind.TheVariants.{OutOfMemory}
 use Rattle.std.specs.Str.{IsUtf8}
 use Rattle.tl_base.specs.declared.place.Place.{Place}
 use Rattle.tl_lex.specs.declared.SyntaxKind.{SyntaxKind}
-use Rattle.tl_lex.specs.declared.SyntaxKind.TheVariants.{BadByte, OpenText, BadEscape, BadNumber, NameTooLong, TextTooLong, TooDeep, Ambiguous, Unexpected, TooLong, NotUtf8}
+use Rattle.tl_lex.specs.declared.SyntaxKind.TheVariants.{TooLong, NotUtf8}
 use Rattle.tl_tree.specs.Tree.{Tree}
 use Rattle.tl_tree.specs.Texts.{Reads, Refuses}
 use Rattle.elf_image.specs.Calls.{result_text}
@@ -16,6 +15,7 @@ use Rattle.first_form.specs.Form.{function_of}
 use Rattle.first_meaning.specs.Meaning.{meaning}
 use Rattle.terrac_call.specs.declared.status.Status.{Status}
 use Rattle.terrac_call.specs.declared.status.Status.TheVariants as statuses
+use Rattle.terrac_call.specs.Statuses.{text_of}
 use Rattle.terrac_call.specs.Words.{Call}
 use Rattle.terrac_call.specs.Arguments.{Arguments, Good, Bad, arguments_of}
 
@@ -28,31 +28,28 @@ pub record Due : Type 0 where
 abbrev pub line : List ℕ → List ℕ
 line text = text ++ 10 ∷ []
 
--- a refusal: nothing on `out`, and its line on `notes`
-abbrev pub refused : Status → List ℕ → Due
-refused status text = record { status = status; out = []; notes = line text }
+-- a refusal: nothing on `out`, and the status's line on `notes`
+abbrev pub refused : Status → Due
+refused status = record { status = status; out = []; notes = line (text_of status) }
 
 -- what is due behind bytes that were written to `out`
 abbrev pub after : List ℕ → Due → Due
 after printed due = record { status = due.status; out = printed ++ due.out; notes = due.notes }
-
--- a place, as line and number of the token on it
-abbrev pub place_text : Place → List ℕ
-place_text place = decimal place.line ++ codes ":" ++ decimal place.word
 
 -- the line of a result, whose type has this code
 abbrev pub due_of_result : ℕ → ℕ → Due
 due_of_result code word = record { status = statuses.Ok; out = line (codes "result " ++ result_text code word); notes = [] }
 
 abbrev pub due_of_bad_argument : ℕ → Due
-due_of_bad_argument position = refused (statuses.BadArgument position) (codes "bad argument " ++ decimal position)
+due_of_bad_argument position = refused (statuses.BadArgument position)
 
+-- the line of an entry that isn't there ends with its name
 abbrev pub due_of_no_entry : List ℕ → Due
-due_of_no_entry entry = refused statuses.NoEntry (codes "no entry " ++ entry)
+due_of_no_entry entry = record { status = statuses.NoEntry; out = []; notes = line (text_of statuses.NoEntry ++ entry) }
 
 -- words that `clap` refuses: a line, and then its own text
 abbrev pub due_of_usage : List ℕ → Due
-due_of_usage text = record { status = statuses.Usage; out = []; notes = line (codes "usage") ++ text }
+due_of_usage text = record { status = statuses.Usage; out = []; notes = line (text_of statuses.Usage) ++ text }
 
 -- the type code of int64
 abbrev pub int64 : ℕ
@@ -91,27 +88,13 @@ pub data IsReadAs (source : List ℕ) : Reading → Type 0 where
 
 -- ---- what is due for it
 
-abbrev pub kind_name : SyntaxKind → List ℕ
-kind_name BadByte = codes "BadByte"
-kind_name OpenText = codes "OpenText"
-kind_name BadEscape = codes "BadEscape"
-kind_name BadNumber = codes "BadNumber"
-kind_name NameTooLong = codes "NameTooLong"
-kind_name TextTooLong = codes "TextTooLong"
-kind_name TooDeep = codes "TooDeep"
-kind_name Ambiguous = codes "Ambiguous"
-kind_name Unexpected = codes "Unexpected"
-kind_name TooLong = codes "TooLong"
-kind_name NotUtf8 = codes "NotUtf8"
-
 -- for a source that is refused
 abbrev pub due_of_syntax : SyntaxKind → Place → Due
-due_of_syntax kind place =
-    refused (statuses.Syntax kind place) (codes "syntax " ++ kind_name kind ++ codes " at " ++ place_text place)
+due_of_syntax kind place = refused (statuses.Syntax kind place)
 
 -- for a source of which no part that is built takes care
 abbrev pub due_of_not_built : Due
-due_of_not_built = refused statuses.NotBuilt (codes "not built")
+due_of_not_built = refused statuses.NotBuilt
 
 -- for a call on a source that is this function, or none
 abbrev pub due_of_function : Call → Option SourceFunction → Due
@@ -131,5 +114,5 @@ IsSourceDue call bytes due = (reading : Reading) × IsReadAs bytes reading × (d
 
 -- for words that could not be collected: memory ran out, or a word is no UTF-8, which names nothing
 abbrev pub due_of_unread : ErrorKind → Due
-due_of_unread OutOfMemory = refused statuses.NoMemory (codes "no memory")
+due_of_unread OutOfMemory = refused statuses.NoMemory
 due_of_unread _ = due_of_usage []

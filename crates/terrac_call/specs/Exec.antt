@@ -1,15 +1,11 @@
 -- What is due for `exec`: an image is read, a function of it is called, and the run of the image says how that ends.
-use Rattle.std.specs.Prelude.{ℕ, ◌≡◌, ◌/◌, ◌%◌, ◌^◌, ◌<◌, ◌≤◌, ◌==◌, if◌then◌else◌, List, [], ◌++◌, length, Option, Some, None, codes}
-use Rattle.std.specs.Fmt.{decimal}
+use Rattle.std.specs.Prelude.{ℕ, ◌≡◌, ◌/◌, ◌%◌, ◌^◌, ◌<◌, ◌≤◌, ◌==◌, if◌then◌else◌, List, length, Option, Some, None}
 use Rattle.tl_base.specs.declared.place.Place.{Place}
-use Rattle.elf_image.specs.declared.error.ImageError.{ImageError}
-use Rattle.elf_image.specs.declared.error.ImageError.TheVariants.{Short, BadMagic, BadField, Overlap, BadSymbol, NoMemory}
 use Rattle.elf_image.specs.declared.image.Image.{Image}
 use Rattle.elf_image.specs.declared.image.Symbol.{Symbol}
 use Rattle.elf_image.specs.Calls.{symbol_named}
 use Rattle.elf_image.specs.Loads.{Loads, BadBytes}
 use Rattle.rv_machine.specs.declared.stops.MachineKind.{MachineKind}
-use Rattle.rv_machine.specs.declared.stops.MachineKind.TheVariants.{IllegalWord, BadFetch, BadAccess, BadCall, Break}
 use Rattle.rv_machine.specs.declared.stops.Stop.{Stop}
 use Rattle.rv_machine.specs.declared.stops.Stop.TheVariants as stops
 use Rattle.rv_machine.specs.Machine.{Ran}
@@ -21,7 +17,7 @@ use Rattle.terrac_call.specs.declared.status.ImageFault.{ImageFault}
 use Rattle.terrac_call.specs.declared.status.ImageFault.TheVariants.{TooLong, Refused}
 use Rattle.terrac_call.specs.Words.{Call}
 use Rattle.terrac_call.specs.Arguments.{Arguments, Good, Bad, arguments_of}
-use Rattle.terrac_call.specs.Due.{Due, refused, after, due_of_result, due_of_bad_argument, due_of_no_entry, place_text}
+use Rattle.terrac_call.specs.Due.{Due, refused, after, due_of_result, due_of_bad_argument, due_of_no_entry}
 
 -- ---- bytes that are no image
 
@@ -29,20 +25,8 @@ use Rattle.terrac_call.specs.Due.{Due, refused, after, due_of_result, due_of_bad
 abbrev pub longest_image : ℕ
 longest_image = 268435456
 
-abbrev pub error_text : ImageError → List ℕ
-error_text Short = codes "Short"
-error_text BadMagic = codes "BadMagic"
-error_text (BadField offset) = codes "BadField " ++ decimal offset
-error_text Overlap = codes "Overlap"
-error_text BadSymbol = codes "BadSymbol"
-error_text NoMemory = codes "NoMemory"
-
-abbrev pub image_fault_text : ImageFault → List ℕ
-image_fault_text TooLong = codes "TooLong"
-image_fault_text (Refused error) = error_text error
-
 abbrev pub due_of_bad_image : ImageFault → Due
-due_of_bad_image fault = refused (statuses.BadImage fault) (codes "bad image " ++ image_fault_text fault)
+due_of_bad_image fault = refused (statuses.BadImage fault)
 
 -- ---- how a run ends
 
@@ -55,39 +39,23 @@ fault_kind number =
     else (if number == 4 then CallDepth
     else NoReturn)))
 
-abbrev pub fault_text : FaultKind → List ℕ
-fault_text BadAddress = codes "BadAddress"
-fault_text DivZero = codes "DivZero"
-fault_text StackFull = codes "StackFull"
-fault_text CallDepth = codes "CallDepth"
-fault_text NoReturn = codes "NoReturn"
-
 -- the place of a fault: the line in the upper half of its word, and the number of the token on it in the lower
 abbrev pub place_of : ℕ → Place
 place_of place = record { line = place / 2 ^ 32; word = place % 2 ^ 32 }
 
 abbrev pub due_of_fault : FaultKind → Place → Due
-due_of_fault kind place =
-    refused (statuses.Fault kind place) (codes "fault " ++ fault_text kind ++ codes " at " ++ place_text place)
-
-abbrev pub machine_fault_text : MachineKind → List ℕ
-machine_fault_text IllegalWord = codes "IllegalWord"
-machine_fault_text BadFetch = codes "BadFetch"
-machine_fault_text BadAccess = codes "BadAccess"
-machine_fault_text BadCall = codes "BadCall"
-machine_fault_text Break = codes "Break"
+due_of_fault kind place = refused (statuses.Fault kind place)
 
 abbrev pub due_of_machine_fault : MachineKind → ℕ → Due
-due_of_machine_fault kind pc =
-    refused (statuses.MachineFault kind pc) (codes "machine fault " ++ machine_fault_text kind ++ codes " at " ++ decimal pc)
+due_of_machine_fault kind pc = refused (statuses.MachineFault kind pc)
 
 -- what is due where a run stops so, behind its output. A defined run has no write that fails
 abbrev pub due_of_stop : ℕ → Stop → Due
 due_of_stop code (stops.Returned word) = due_of_result code word
 due_of_stop code (stops.TerraFault kind place) = due_of_fault (fault_kind kind) (place_of place)
 due_of_stop code (stops.MachineFault kind pc) = due_of_machine_fault kind pc
-due_of_stop code stops.Unfinished = refused statuses.Unfinished (codes "unfinished")
-due_of_stop code stops.WriteFault = refused statuses.WriteFault (codes "write fault")
+due_of_stop code stops.Unfinished = refused statuses.Unfinished
+due_of_stop code stops.WriteFault = refused statuses.WriteFault
 
 -- ---- the whole
 

@@ -1,6 +1,7 @@
 -- What values of the program show of a job and its arguments.
-use Rattle.std.specs.Prelude.{ℕ, ◌≡◌, List, ◌++◌, Option, Some, None, length, map, string_bytes, codes}
+use Rattle.std.specs.Prelude.{ℕ, ◌≡◌, List, ◌++◌, Option, Some, None, length, map, string_bytes}
 use Rattle.std.specs.Borrow.{Bor}
+use Rattle.terrac_call.specs.Statuses.{text_of}
 use Rattle.terrac_call.specs.declared.words.Call.{Call as CallValue}
 use Rattle.terrac_call.specs.declared.words.Limits.{Limits as LimitsValue}
 use Rattle.terrac_call.specs.declared.words.Job.{Job as JobValue}
@@ -44,7 +45,7 @@ HasCount count (values.Bad position) = Unit {0}
 
 -- the line `usage`, with any text behind it
 abbrev pub HasUsageLine : List ℕ → Type 0
-HasUsageLine bytes = (text : List ℕ) × (bytes ≡ line (codes "usage") ++ text)
+HasUsageLine bytes = (text : List ℕ) × (bytes ≡ line (text_of statuses.Usage) ++ text)
 
 -- a refusal of the words has that line
 abbrev pub IsUsageText : Asked → Type 0

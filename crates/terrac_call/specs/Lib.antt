@@ -1,16 +1,16 @@
 -- The promise. A reader can stop here.
+-- the statuses, with their numbers and lines
+pub mod Statuses
 -- the words, and the job that they name
 pub mod Words
 -- the words of arguments
 pub mod Arguments
--- what is due for `run`, and the lines
+-- what is due for `run`
 pub mod Due
 -- what is due for `exec`
 pub mod Exec
 -- what is due for `check`
 pub mod Check
--- the numbers of statuses
-pub mod Codes
 -- what is owed and delivered, whatever the source and the sinks do
 pub mod Answer
 -- what is answered where nothing fails

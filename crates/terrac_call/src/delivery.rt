@@ -1,7 +1,8 @@
 // What is due goes out.
 
-ghost use Rattle.std.specs.Prelude.{◌≡◌, ◌≢◌, ◌<◌, ◌≤◌, ◌⊎◌, ℕ, List, [], Option, codes};
+ghost use Rattle.std.specs.Prelude.{◌≡◌, ◌≢◌, ◌<◌, ◌≤◌, ◌⊎◌, ℕ, List, [], Option};
 ghost use Rattle.tl_base.specs.Outside.{IsRisen};
+ghost use Rattle.terrac_call.specs.Statuses.{text_of};
 ghost use Rattle.terrac_call.specs.Answer.{Delivers, TakesFront};
 ghost use Rattle.terrac_call.specs.Due.{line};
 ghost use Rattle.terrac_call.specs.DueView.{due_with, shown_due};
@@ -66,7 +67,7 @@ fn deliver_refusal<N: Sink>(status: Status, line: &[u8], notes: &mut N) -> Statu
 /// Tries the line `write fault`, once.
 pub(crate) fn write_fault<N: Sink>(notes: &mut N) -> Status
     ensures status { result ≡ statuses.WriteFault }
-    ensures front { TakesFront (line (codes "write fault")) (N.taken notes.old) (N.taken notes.new) }
+    ensures front { TakesFront (line (text_of statuses.WriteFault)) (N.taken notes.old) (N.taken notes.new) }
     ensures never_falls { N.faults notes.old ≤ N.faults notes.new }
 {
     match write_piece(notes, b"write fault\n") {

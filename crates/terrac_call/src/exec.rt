@@ -1,6 +1,6 @@
 // The command `exec`: from the bytes of an image to what is due.
 
-ghost use Rattle.std.specs.Prelude.{◌≡◌, ◌≢◌, ◌<◌, ◌/◌, ◌%◌, ◌^◌, ◌≤◌, ◌⊎◌, length, codes, IfOk, OnErr};
+ghost use Rattle.std.specs.Prelude.{◌≡◌, ◌≢◌, ◌<◌, ◌/◌, ◌%◌, ◌^◌, ◌≤◌, ◌⊎◌, length, IfOk, OnErr};
 ghost use Rattle.elf_image.specs.Lawful.{IsLawful};
 ghost use Rattle.elf_image.specs.Calls.{symbol_named};
 ghost use Rattle.rv_machine.specs.declared.stops.Stop.TheVariants as stops;
@@ -114,7 +114,7 @@ fn exec_symbol<K: Sink>(
 /// What remains due where a run stops so, or the line that says that memory ran out.
 fn stop_due_or_no_memory(alloc: Global, code: u8, stop: Stop) -> Due
     requires { stop ≢ stops.WriteFault }
-    ensures due { (shown_due result ≡ due_of_stop code stop) ⊎ (shown_due result ≡ refused statuses.NoMemory (codes "no memory")) }
+    ensures due { (shown_due result ≡ due_of_stop code stop) ⊎ (shown_due result ≡ refused statuses.NoMemory) }
     ensures status { result.status ≢ statuses.WriteFault }
 {
     match stop_due(alloc, code, stop) {

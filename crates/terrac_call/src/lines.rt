@@ -1,9 +1,10 @@
 // The lines that a call may owe.
 
-ghost use Rattle.std.specs.Prelude.{◌≡◌, ◌≢◌, [], ◌++◌, IfOk, codes, string_bytes};
+ghost use Rattle.std.specs.Prelude.{◌≡◌, ◌≢◌, [], ◌++◌, IfOk, string_bytes};
 ghost use Rattle.terrac_call.specs.Check.{due_of_end};
-ghost use Rattle.terrac_call.specs.Due.{due_of_not_built, refused, due_of_result, due_of_syntax, due_of_no_entry, due_of_bad_argument, due_of_usage, kind_name};
-ghost use Rattle.terrac_call.specs.Exec.{due_of_bad_image, due_of_fault, due_of_machine_fault, fault_text, image_fault_text, machine_fault_text};
+ghost use Rattle.terrac_call.specs.Due.{due_of_not_built, refused, due_of_result, due_of_syntax, due_of_no_entry, due_of_bad_argument, due_of_usage};
+ghost use Rattle.terrac_call.specs.Statuses.{kind_name, fault_text, image_fault_text, machine_fault_text};
+ghost use Rattle.terrac_call.specs.Exec.{due_of_bad_image, due_of_fault, due_of_machine_fault};
 ghost use Rattle.terrac_call.specs.DueView.{shown_due};
 ghost use Rattle.terrac_call.specs.declared.status.Status.TheVariants as statuses;
 ghost use Rattle.stage_loop.specs.declared.staging.End.TheVariants as stagings;
@@ -158,7 +159,7 @@ pub(crate) fn spent_due() -> Due
 
 /// What is due after a read that failed.
 pub(crate) fn read_fault_due() -> Due
-    ensures due { shown_due result ≡ refused statuses.ReadFault (codes "read fault") }
+    ensures due { shown_due result ≡ refused statuses.ReadFault }
     ensures status { result.status ≡ statuses.ReadFault }
 {
     Due {
@@ -169,7 +170,7 @@ pub(crate) fn read_fault_due() -> Due
 
 /// What is due where memory was not found.
 pub(crate) fn no_memory_due() -> Due
-    ensures due { shown_due result ≡ refused statuses.NoMemory (codes "no memory") }
+    ensures due { shown_due result ≡ refused statuses.NoMemory }
     ensures status { result.status ≡ statuses.NoMemory }
 {
     Due {
@@ -180,7 +181,7 @@ pub(crate) fn no_memory_due() -> Due
 
 /// The refusal of a run that isn't over after its steps.
 pub(crate) fn unfinished_due() -> Due
-    ensures due { shown_due result ≡ refused statuses.Unfinished (codes "unfinished") }
+    ensures due { shown_due result ≡ refused statuses.Unfinished }
     ensures status { result.status ≡ statuses.Unfinished }
 {
     Due {

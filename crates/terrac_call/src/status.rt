@@ -1,7 +1,7 @@
 // How a call of the program ends.
 
 ghost use Rattle.std.specs.Prelude.{◌≡◌};
-ghost use Rattle.terrac_call.specs.Codes.{code_of};
+ghost use Rattle.terrac_call.specs.Statuses.{code_of};
 
 use elf_image::ImageError;
 use rv_machine::MachineKind;
