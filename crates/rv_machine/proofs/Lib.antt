@@ -1,3 +1,4 @@
+pub mod Files
 pub mod Registers
 pub mod Taken
 pub mod Runs

@@ -1,6 +1,7 @@
 -- What the machine does: its state, each instruction, one step and a run. Addresses and the program counter wrap at 2 ^ 64. The
 -- rows are those of the RISC-V Unprivileged ISA manual, chapters "RV32I", "RV64I" and "M".
 use Rattle.std.specs.Prelude.{ℕ, zero, suc, ◌+◌, ◌-◌, ◌*◌, ◌/◌, ◌%◌, ◌^◌, Bool, ◌&&◌, nat_eq, nat_lt, nat_le, if◌then◌else◌, List, [], ◌++◌, length, Option, Some, None, slice_get, slice_index}
+use Rattle.terra_memory.specs.Numbers.{low_bytes, overwritten}
 use Rattle.rv_isa.specs.declared.operand.Register.{Register}
 use Rattle.rv_isa.specs.declared.operand.UpperImmediate.{UpperImmediate}
 use Rattle.rv_isa.specs.declared.operand.BranchOffset.{BranchOffset}
@@ -14,9 +15,9 @@ use Rattle.rv_machine.specs.declared.stops.MachineKind.{MachineKind}
 use Rattle.rv_machine.specs.declared.stops.MachineKind.TheVariants.{IllegalWord, BadFetch, BadAccess, BadCall, Break}
 use Rattle.rv_machine.specs.declared.stops.Stop.{Stop}
 use Rattle.rv_machine.specs.declared.stops.Stop.TheVariants.{Returned, TerraFault, MachineFault, Unfinished}
-use Rattle.rv_machine.specs.Word.{low, word, extended_word, bytes_of}
+use Rattle.rv_machine.specs.Word.{low, word, extended_word}
 use Rattle.rv_machine.specs.Arithmetic.{register_value, register_word_value, immediate_value, shift_value, shift_word_value, is_taken}
-use Rattle.rv_machine.specs.Memory.{place_of, bytes_at, with_bytes, load_width, store_width, load_value}
+use Rattle.rv_machine.specs.Memory.{place_of, bytes_at, load_width, store_width, load_value}
 
 -- the address of the next instruction, the registers by their numbers, and the bytes of the region and of private memory
 pub record State : Type 0 where
@@ -76,13 +77,13 @@ loads s op d address = loads_from s op d (place_of (length s.region) (length s.p
 abbrev pub stores_to : State → List ℕ → Option Place → Moved
 stores_to s bytes None = Faults BadAccess
 stores_to s bytes (Some (Region at)) =
-    GoesOn (record { pc = low (s.pc + 4); registers = s.registers; region = with_bytes s.region at bytes; private = s.private })
+    GoesOn (record { pc = low (s.pc + 4); registers = s.registers; region = overwritten s.region at bytes; private = s.private })
 stores_to s bytes (Some (Private at)) =
-    GoesOn (record { pc = low (s.pc + 4); registers = s.registers; region = s.region; private = with_bytes s.private at bytes })
+    GoesOn (record { pc = low (s.pc + 4); registers = s.registers; region = s.region; private = overwritten s.private at bytes })
 
 abbrev pub stores : State → StoreOp → ℕ → ℕ → Moved
 stores s op address value =
-    stores_to s (bytes_of (store_width op) value) (place_of (length s.region) (length s.private) address (store_width op))
+    stores_to s (low_bytes (store_width op) value) (place_of (length s.region) (length s.private) address (store_width op))
 
 -- The call `write`: x10 names the output, which has the number 1, x11 is where the bytes lie and x12 how many they are. It
 -- puts their number into x10.
@@ -183,10 +184,6 @@ run_of program s zero = unless_returned s (stands Unfinished s)
 run_of program s (suc steps) =
     unless_returned s (after_step (step program s) s (λ next. run_of program next steps))
 
--- the end of a region, which a machine without one has at 0
-abbrev pub region_end : List ℕ → ℕ
-region_end region = if nat_eq (length region) 0 then 0 else 0x40000000 + length region
-
 -- the registers at the start: x2 is the end of private memory, x3 where the heap begins, x4 the end of the region, x10 and
 -- those after it the arguments
 abbrev pub start_registers : (end heap limit : ℕ) → List ℕ → ℕ → ℕ
@@ -201,7 +198,7 @@ abbrev pub start_state : (address heap : ℕ) → (arguments region private : Li
 start_state address heap arguments region private =
     record {
       pc = address;
-      registers = start_registers (2 ^ 32 + length private) heap (region_end region) arguments;
+      registers = start_registers (2 ^ 32 + length private) heap (0x40000000 + length region) arguments;
       region = region;
       private = private;
     }

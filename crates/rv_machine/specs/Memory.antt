@@ -1,5 +1,5 @@
 -- Memory: where bytes lie, and what loads and stores of each width do. The region lies at 0x40000000 and private memory at
--- 2 ^ 32; both are read and written, misaligned too.
+-- 2 ^ 32; both are read and written, misaligned too. Numbers lie in them as in Terra's memory, the lowest byte first.
 use Rattle.std.specs.Prelude.{ℕ, ◌+◌, ◌-◌, ◌^◌, ◌≤◌, nat_lt, nat_le, if◌then◌else◌, List, ◌++◌, length, take, drop, Option, Some, None}
 use Rattle.std.specs.Int.{w8, w16, w32, cast_signed}
 use Rattle.rv_isa.specs.declared.operation.LoadOp.{LoadOp}
@@ -8,7 +8,8 @@ use Rattle.rv_isa.specs.declared.operation.StoreOp.{StoreOp}
 use Rattle.rv_isa.specs.declared.operation.StoreOp.TheVariants.{Sb, Sh, Sw, Sd}
 use Rattle.rv_machine.specs.declared.memory.Place.{Place}
 use Rattle.rv_machine.specs.declared.memory.Place.TheVariants.{Region, Private}
-use Rattle.rv_machine.specs.Word.{word, number_of}
+use Rattle.terra_memory.specs.Numbers.{number_of, part}
+use Rattle.rv_machine.specs.Word.{word}
 
 -- where bytes at an address lie in an area of so many bytes that begins at `start`, if they lie wholly in it
 unfoldable pub offset_in : (start size address width : ℕ) → Option ℕ
@@ -31,12 +32,8 @@ place_of region private address width =
 
 -- the bytes at a place
 abbrev pub bytes_at : (region private : List ℕ) → Place → ℕ → List ℕ
-bytes_at region private (Region at) width = take width (drop at region)
-bytes_at region private (Private at) width = take width (drop at private)
-
--- memory with bytes put at an offset
-abbrev pub with_bytes : List ℕ → ℕ → List ℕ → List ℕ
-with_bytes memory at bytes = take at memory ++ (bytes ++ drop (at + length bytes) memory)
+bytes_at region private (Region at) width = part region at width
+bytes_at region private (Private at) width = part private at width
 
 -- how many bytes a load reads and a store writes
 abbrev pub load_width : LoadOp → ℕ

@@ -63,13 +63,10 @@ impl Hart {
         requires { length arguments.now ≤ 8 }
         ensures { hart_state self.new ≡ start_state address heap arguments.now (hart_state self.old).region (hart_state self.old).private }
     {
-        let limit = if self.region.is_empty() {
-            0
-        } else {
-            REGION + self.region.len() as u64
-        };
+        let end = PRIVATE + self.private.len() as u64;
+        let limit = REGION + self.region.len() as u64;
         self.pc = address;
-        self.registers = registers_for(PRIVATE + self.private.len() as u64, heap, limit, arguments);
+        self.registers = registers_for(end, heap, limit, arguments);
     }
 
     /// Carries out a word of text. One that stops the run leaves the hart as it was.

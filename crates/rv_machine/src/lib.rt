@@ -1,9 +1,9 @@
 //! A RISC-V machine that runs all of RV64IM.
 //!
 //! A machine has words of text at 0x10000, which are fetched only; a region at 0x40000000 and private memory at 2^32, which are
-//! read and written, misaligned too. [`Machine::load`] takes all the memory of a run of an image, and [`Machine::load_words`] that
-//! of words without a region. Both decode the text once. [`Machine::start`] sets the registers to those of the start, and
-//! [`Machine::run`] takes at most so many steps and says why it stopped. [`run_image`] is the three together.
+//! read and written, misaligned too. [`Machine::load`] takes all the memory of a run of an image, and decodes its text once.
+//! [`Machine::start`] sets the registers to those of the start, and [`Machine::run`] takes at most so many steps and says why it
+//! stopped. [`run_image`] is the three together.
 //!
 //! A program ends where the program counter is 0, with x10 as its result. It has two calls, by ECALL with their number in x17: 64
 //! writes x12 bytes from x11 to the output, which x10 names by the number 1; and 1024 ends the run by a fault of its own, with its

@@ -55,22 +55,6 @@ impl Machine {
         })
     }
 
-    /// A machine with this text and so many zero bytes of private memory, and without a region.
-    pub fn load_words(alloc: Global, text: &[u32], private: u64) -> Result<Machine, NoMemory>
-        requires small { private ≤ 603979776 }
-        ensures program { IfOk result (λ machine. IsProgram text.now (program_of machine)) }
-        ensures heap { IfOk result (λ machine. heap_of machine ≡ 0) }
-        ensures state { IfOk result (λ machine. state_of machine ≡ loaded_state [] (replicate private 0)) }
-    {
-        let text = decode_text(alloc, text)?;
-        let bytes = zeros(alloc, private)?;
-        Ok(Machine {
-            text,
-            heap: 0,
-            hart: Hart::new(Vec::new(alloc), bytes),
-        })
-    }
-
     /// Makes the machine ready to run from `address` with at most eight arguments. Its memory stays as it is.
     pub fn start(&mut self, address: u64, arguments: &[u64])
         requires { length arguments.now ≤ 8 }

@@ -1,10 +1,12 @@
 // Memory: where bytes lie, and loads and stores of each width.
 
-ghost use Rattle.std.specs.Prelude.{◌≡◌, ◌+◌, ◌^◌, ◌<◌, ◌≤◌, length, take, drop, IfSome};
-ghost use Rattle.rv_machine.specs.Word.{number_of, bytes_of};
-ghost use Rattle.rv_machine.specs.Memory.{offset_in, place_of, FitsIn, with_bytes, load_width, load_value, store_width};
+ghost use Rattle.std.specs.Prelude.{◌≡◌, ℕ, ◌+◌, ◌^◌, ◌<◌, ◌≤◌, List, length, take, IfSome};
+ghost use Rattle.byteorder.specs.Endian.{little_number, little_bytes};
+ghost use Rattle.terra_memory.specs.Numbers.{number_of, low_bytes, overwritten, part};
+ghost use Rattle.rv_machine.specs.Memory.{offset_in, place_of, FitsIn, load_width, load_value, store_width};
 
 use rv_isa::{LoadOp, StoreOp};
+use terra_memory::number::{number_at, put_number};
 
 /// The address of the first byte of the region.
 pub const REGION: u64 = 0x4000_0000;
@@ -89,86 +91,34 @@ pub(crate) fn store_width(op: StoreOp) -> u64
 /// What a load makes of the bytes of memory from an offset on.
 pub(crate) fn load_value(op: LoadOp, memory: &[u8], at: usize) -> u64
     requires { at + load_width op ≤ length memory.now }
-    ensures { result ≡ load_value op (take (load_width op) (drop at memory.now)) }
+    ensures { result ≡ load_value op (part memory.now at (load_width op)) }
 {
     match op {
-        LoadOp::Lb => i64::from(memory[at].cast_signed()).cast_unsigned(),
-        LoadOp::Lh => i64::from(half_at(memory, at).cast_signed()).cast_unsigned(),
-        LoadOp::Lw => i64::from(word_at(memory, at).cast_signed()).cast_unsigned(),
-        LoadOp::Ld => double_at(memory, at),
-        LoadOp::Lbu => u64::from(memory[at]),
-        LoadOp::Lhu => u64::from(half_at(memory, at)),
-        LoadOp::Lwu => u64::from(word_at(memory, at)),
+        LoadOp::Lb => i64::from((number_at(memory, at, 1) as u8).cast_signed()).cast_unsigned(),
+        LoadOp::Lh => i64::from((number_at(memory, at, 2) as u16).cast_signed()).cast_unsigned(),
+        LoadOp::Lw => i64::from((number_at(memory, at, 4) as u32).cast_signed()).cast_unsigned(),
+        LoadOp::Ld => number_at(memory, at, 8),
+        LoadOp::Lbu => number_at(memory, at, 1),
+        LoadOp::Lhu => number_at(memory, at, 2),
+        LoadOp::Lwu => number_at(memory, at, 4),
     }
-}
-
-fn half_at(memory: &[u8], at: usize) -> u16
-    requires { at + 2 ≤ length memory.now }
-    ensures { result ≡ number_of (take 2 (drop at memory.now)) }
-{
-    u16::from_le_bytes([memory[at], memory[at + 1]])
-}
-
-fn word_at(memory: &[u8], at: usize) -> u32
-    requires { at + 4 ≤ length memory.now }
-    ensures { result ≡ number_of (take 4 (drop at memory.now)) }
-{
-    u32::from_le_bytes([memory[at], memory[at + 1], memory[at + 2], memory[at + 3]])
-}
-
-fn double_at(memory: &[u8], at: usize) -> u64
-    requires { at + 8 ≤ length memory.now }
-    ensures { result ≡ number_of (take 8 (drop at memory.now)) }
-{
-    u64::from_le_bytes([
-        memory[at],
-        memory[at + 1],
-        memory[at + 2],
-        memory[at + 3],
-        memory[at + 4],
-        memory[at + 5],
-        memory[at + 6],
-        memory[at + 7],
-    ])
 }
 
 /// Puts the lowest bytes of a value into memory, the lowest of all first.
 pub(crate) fn put_value(op: StoreOp, memory: &mut [u8], at: usize, value: u64)
     requires { at + store_width op ≤ length memory.old }
-    ensures { memory.new ≡ with_bytes memory.old at (bytes_of (store_width op) value) }
+    ensures { memory.new ≡ overwritten memory.old at (low_bytes (store_width op) value) }
 {
     match op {
-        StoreOp::Sb => put_byte(memory, at, value),
-        StoreOp::Sh => put_half(memory, at, value),
-        StoreOp::Sw => put_word(memory, at, value),
-        StoreOp::Sd => put_double(memory, at, value),
+        StoreOp::Sb => put_number(memory, at, 1, value),
+        StoreOp::Sh => put_number(memory, at, 2, value),
+        StoreOp::Sw => put_number(memory, at, 4, value),
+        StoreOp::Sd => put_number(memory, at, 8, value),
     }
 }
 
-fn put_byte(memory: &mut [u8], at: usize, value: u64)
-    requires { at + 1 ≤ length memory.old }
-    ensures { memory.new ≡ with_bytes memory.old at (bytes_of 1 value) }
-{
-    memory[at..at + 1].copy_from_slice(&value.to_le_bytes()[..1]);
-}
-
-fn put_half(memory: &mut [u8], at: usize, value: u64)
-    requires { at + 2 ≤ length memory.old }
-    ensures { memory.new ≡ with_bytes memory.old at (bytes_of 2 value) }
-{
-    memory[at..at + 2].copy_from_slice(&value.to_le_bytes()[..2]);
-}
-
-fn put_word(memory: &mut [u8], at: usize, value: u64)
-    requires { at + 4 ≤ length memory.old }
-    ensures { memory.new ≡ with_bytes memory.old at (bytes_of 4 value) }
-{
-    memory[at..at + 4].copy_from_slice(&value.to_le_bytes()[..4]);
-}
-
-fn put_double(memory: &mut [u8], at: usize, value: u64)
-    requires { at + 8 ≤ length memory.old }
-    ensures { memory.new ≡ with_bytes memory.old at (bytes_of 8 value) }
-{
-    memory[at..at + 8].copy_from_slice(&value.to_le_bytes());
-}
+/// The numbers in the fields of an image's file, which `byteorder` reads and writes, are those that memory holds.
+pub fn files_hold_numbers_as_memory_does()
+    ensures read { (count : ℕ) (bytes : List ℕ) → count ≤ length bytes → little_number count bytes ≡ number_of (take count bytes) }
+    ensures written { (count value : ℕ) → little_bytes count value ≡ low_bytes count value }
+{}

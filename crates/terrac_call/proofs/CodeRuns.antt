@@ -1,9 +1,9 @@
 -- The run of an expression's code, by recursion on its tree.
-use Rattle.std.proofs.Common.{◌≡◌, ℕ, zero, suc, ◌+◌, ◌-◌, ◌*◌, ◌/◌, ◌%◌, ◌^◌, ◌<◌, ◌≤◌, true, false, List, [], ◌∷◌, ◌++◌, length, take, drop, Some, None, refl, sym, ap, ◌∙◌, subst, arith}
+use Rattle.std.proofs.Common.{◌≡◌, ℕ, zero, suc, ◌+◌, ◌-◌, ◌*◌, ◌/◌, ◌%◌, ◌^◌, ◌<◌, ◌≤◌, true, false, List, [], ◌∷◌, ◌++◌, length, take, drop, Some, None, refl, sym, ap, ◌∙◌, subst, arith, append_assoc}
 use Rattle.std.specs.Prelude.{Option, nat_eq, nat_lt, nat_le, if◌then◌else◌, slice_index}
 use Rattle.std.proofs.Math.Nat.{pow-suc}
 use Rattle.std.proofs.lemmas.Bool.{ne_eqb, le-ltb, le-leb, lt-leb}
-use Rattle.std.proofs.lemmas.List.{length-append, length-drop, length-take-le, drop_at, drop-drop}
+use Rattle.std.proofs.lemmas.List.{length-append, length-drop, length-take-le, drop_at, take_at, drop-drop}
 use Rattle.first_form.specs.declared.function.Operator.{Operator}
 use Rattle.first_form.specs.declared.function.Operator.TheVariants as operator
 use Rattle.first_form.specs.Formula.{Formula, Parameter, Literal, Binary, HasParametersBelow, HasLiteralsUpTo}
@@ -18,8 +18,11 @@ use Rattle.rv_isa.specs.declared.operation.LoadOp.TheVariants.{Ld}
 use Rattle.rv_isa.specs.declared.operation.StoreOp.TheVariants.{Sd}
 use Rattle.rv_isa.specs.declared.operation.RegisterOp.TheVariants.{Add, Sub, Mul}
 use Rattle.rv_machine.specs.declared.memory.Place.TheVariants.{Private}
-use Rattle.rv_machine.specs.Word.{low, difference, word as word_bits, number_of, bytes_of}
-use Rattle.rv_machine.specs.Memory.{offset_in, place_in, place_of, with_bytes}
+use Rattle.terra_memory.specs.Numbers.{number_of, low_bytes, overwritten}
+use Rattle.terra_memory.proofs.Bytes.{length-low_bytes, number_of-low_bytes}
+use Rattle.terra_memory.proofs.Overwriting.{length-overwritten}
+use Rattle.rv_machine.specs.Word.{low, difference, word as word_bits}
+use Rattle.rv_machine.specs.Memory.{offset_in, place_in, place_of}
 use Rattle.rv_machine.specs.Machine.{State, GoesOn, value_at, written, writes, loads_from, stores_to, act}
 use Rattle.terrac_call.specs.Code.{parameter_word, literal_word, operator_word, push_words, pop_words, expression_words, depth_of}
 use Rattle.terrac_call.proofs.CodeSteps.{at, at-next, Leads, leads_on, steps_to, Stands, stands_front, stands_back, argument, up_to, x0, x2, x5, x6, none, eight, less_eight, At, word-down, word-push, word-pop, word-up, word-add, word-sub, word-mul, word-parameter, word-literal}
@@ -66,39 +69,37 @@ offset_in-top size q inside =
     ∙ ap (λ b. if b then Some (2 ^ 32 + q - 2 ^ 32) else None) fits
     ∙ ap (λ n. Some n) place
 
--- and not in a region of no bytes
-offset_in-none : (q : ℕ) → offset_in 0x40000000 0 (2 ^ 32 + q) 8 ≡ None
+-- and not in a region, which ends below
+offset_in-none : (size q : ℕ) → size ≤ 67108864 → offset_in 0x40000000 size (2 ^ 32 + q) 8 ≡ None
 unfolding offset_in
-offset_in-none q =
+offset_in-none size q small =
     let past : nat_lt (2 ^ 32 + q) 0x40000000 ≡ false = le-ltb (2 ^ 32 + q) 0x40000000 (omega arith) in
-    let over : nat_le (2 ^ 32 + q - 0x40000000 + 8) 0 ≡ false = lt-leb (2 ^ 32 + q - 0x40000000 + 8) 0 (omega arith) in
-    ap (λ b. if b then None else (if nat_le (2 ^ 32 + q - 0x40000000 + 8) 0 then Some (2 ^ 32 + q - 0x40000000) else None)) past
+    let over : nat_le (2 ^ 32 + q - 0x40000000 + 8) size ≡ false = lt-leb (2 ^ 32 + q - 0x40000000 + 8) size (omega arith) in
+    ap (λ b. if b then None else (if nat_le (2 ^ 32 + q - 0x40000000 + 8) size then Some (2 ^ 32 + q - 0x40000000) else None)) past
     ∙ ap (λ b. if b then Some (2 ^ 32 + q - 0x40000000) else None) over
 
-place_of-top : (region size q : ℕ) → region ≡ 0 → q + 8 ≤ size → size < 2 ^ 32 → place_of region size (low (2 ^ 32 + q + 0)) 8 ≡ Some (Private q)
+place_of-top : (region size q : ℕ) → region ≤ 67108864 → q + 8 ≤ size → size < 2 ^ 32 → place_of region size (low (2 ^ 32 + q + 0)) 8 ≡ Some (Private q)
 unfolding place_of
-place_of-top region size q bare inside small =
-    ap (λ r. place_in (offset_in 0x40000000 r (low (2 ^ 32 + q + 0)) 8) (offset_in (2 ^ 32) size (low (2 ^ 32 + q + 0)) 8)) bare
-    ∙ ap (λ a. place_in (offset_in 0x40000000 0 a 8) (offset_in (2 ^ 32) size a 8)) (low-top q (omega arith))
-    ∙ ap (λ o. place_in o (offset_in (2 ^ 32) size (2 ^ 32 + q) 8)) (offset_in-none q)
+place_of-top region size q apart inside small =
+    ap (λ a. place_in (offset_in 0x40000000 region a 8) (offset_in (2 ^ 32) size a 8)) (low-top q (omega arith))
+    ∙ ap (λ o. place_in o (offset_in (2 ^ 32) size (2 ^ 32 + q) 8)) (offset_in-none region q apart)
     ∙ ap (λ o. place_in None o) (offset_in-top size q inside)
 
--- bytes give the number back
-number_of-bytes_of : (count n : ℕ) → n < 256 ^ count → number_of (bytes_of count n) ≡ n
-number_of-bytes_of zero n small = omega arith
-number_of-bytes_of (suc count) n small =
-    let power : 256 ^ suc count ≡ 256 ^ count * 256 = pow-suc 256 count in
-    let rest : n / 256 < 256 ^ count = omega (arith, power) in
-    ap (λ k. n % 256 + 256 * k) (number_of-bytes_of count (n / 256) rest) ∙ (omega arith)
+-- eight bytes give the number back
+number_of-bytes : (n : ℕ) (rest : List ℕ) → n < 2 ^ 64 → number_of (take 8 (low_bytes 8 n ++ rest)) ≡ n
+number_of-bytes n rest small =
+    let whole : n % 2 ^ 64 ≡ n = omega arith in
+    ap number_of (take_at (low_bytes 8 n) rest 8 (length-low_bytes 8 n)) ∙ (number_of-low_bytes 8 n ∙ whole)
 
 -- memory with eight bytes at a place
-drop-with_bytes : (memory : List ℕ) (q v : ℕ) → q + 8 ≤ length memory → drop q (with_bytes memory q (bytes_of 8 v)) ≡ bytes_of 8 v ++ drop (q + 8) memory
-drop-with_bytes memory q v inside = drop_at (take q memory) (bytes_of 8 v ++ drop (q + 8) memory) q (length-take-le q memory (omega arith))
+drop-overwritten : (memory : List ℕ) (q v : ℕ) → q + 8 ≤ length memory → drop q (overwritten memory q (low_bytes 8 v)) ≡ low_bytes 8 v ++ drop (q + 8) memory
+drop-overwritten memory q v inside =
+    ap (drop q) (append_assoc (take q memory) (low_bytes 8 v) (drop (q + length (low_bytes 8 v)) memory))
+    ∙ (drop_at (take q memory) (low_bytes 8 v ++ drop (q + length (low_bytes 8 v)) memory) q (length-take-le q memory (omega arith))
+    ∙ ap (λ n. low_bytes 8 v ++ drop (q + n) memory) (length-low_bytes 8 v))
 
-length-with_bytes : (memory : List ℕ) (q v : ℕ) → q + 8 ≤ length memory → length (with_bytes memory q (bytes_of 8 v)) ≡ length memory
-length-with_bytes memory q v inside =
-    let front = length-take-le q memory (omega arith) in
-    omega (arith, length-append (take q memory) (bytes_of 8 v ++ drop (q + 8) memory), length-append (bytes_of 8 v) (drop (q + 8) memory), length-drop (q + 8) memory)
+length-with_word : (memory : List ℕ) (q v : ℕ) → q + 8 ≤ length memory → length (overwritten memory q (low_bytes 8 v)) ≡ length memory
+length-with_word memory q v inside = length-overwritten memory (low_bytes 8 v) q (omega (arith, length-low_bytes 8 v))
 
 -- an argument's register is none of those that the code writes
 written-argument : (r : ℕ → ℕ) (d v k : ℕ) → 0 < d → d < 10 → written r d v (10 + k) ≡ r (10 + k)
@@ -115,7 +116,7 @@ writes_to s d v v' pc' next value =
 pub record Ready (arguments : List ℕ) (w place : ℕ) (s : State) : Type 0 where
   pub here : s.pc ≡ at w
   pub back : s.registers 1 ≡ 0
-  pub bare : length s.region ≡ 0
+  pub apart : length s.region ≤ 67108864
   pub top : s.registers 2 ≡ 2 ^ 32 + place
   pub given : (k : ℕ) → k < 8 → s.registers (10 + k) ≡ slice_index arguments k
 
@@ -134,7 +135,7 @@ record Pushed (text : List (Option Instr)) (arguments : List ℕ) (w q : ℕ) (s
   pub leads : Leads text s 2 after
   pub ready : Ready arguments (w + 2) q after
   pub long : length after.private ≡ length s.private
-  pub stored : drop q after.private ≡ bytes_of 8 (s.registers 5) ++ drop (q + 8) s.private
+  pub stored : drop q after.private ≡ low_bytes 8 (s.registers 5) ++ drop (q + 8) s.private
 
 module _ (text : List (Option Instr)) (arguments : List ℕ) where
   leaf : (w place : ℕ) (s : State) (word : ℕ) (a : Register) (imm : Immediate) (v : ℕ) → w < 2 ^ 32 → Ready arguments w place s → At text w word → word_of (RegisterImmediate Addi x5 a imm) ≡ word → low (value_at s a + word_bits imm.value) ≡ v → Yields text arguments w place s 1 v
@@ -144,7 +145,7 @@ module _ (text : List (Option Instr)) (arguments : List ℕ) where
       record {
         after = after;
         leads = steps_to text s after w word (RegisterImmediate Addi x5 a imm) ready.here stands means (writes_to s x5 (low (value_at s a + word_bits imm.value)) v (at (w + 1)) next value);
-        ready = record { here = refl; back = ready.back; bare = ready.bare; top = ready.top; given = λ k inside. written-argument s.registers 5 v k (omega arith) (omega arith) ∙ ready.given k inside };
+        ready = record { here = refl; back = ready.back; apart = ready.apart; top = ready.top; given = λ k inside. written-argument s.registers 5 v k (omega arith) (omega arith) ∙ ready.given k inside };
         value = refl;
         long = refl;
         kept = refl;
@@ -153,19 +154,19 @@ module _ (text : List (Option Instr)) (arguments : List ℕ) where
   push : (w q : ℕ) (s : State) → w + 2 < 2 ^ 32 → Ready arguments w (q + 8) s → Stands text w push_words → q + 8 ≤ length s.private → length s.private < 2 ^ 32 → Pushed text arguments w q s
   push w q s small ready stands inside long =
       let s1 : State = record { pc = at (w + 1); registers = written s.registers 2 (2 ^ 32 + q); region = s.region; private = s.private } in
-      let s2 : State = record { pc = at (w + 1 + 1); registers = s1.registers; region = s.region; private = with_bytes s.private q (bytes_of 8 (s.registers 5)) } in
+      let s2 : State = record { pc = at (w + 1 + 1); registers = s1.registers; region = s.region; private = overwritten s.private q (low_bytes 8 (s.registers 5)) } in
       let next1 : low (s.pc + 4) ≡ at (w + 1) = ap (λ p. low (p + 4)) ready.here ∙ at-next w (omega arith) in
       let down : low (s.registers 2 + (2 ^ 64 - 8)) ≡ 2 ^ 32 + q = ap (λ r. low (r + (2 ^ 64 - 8))) ready.top ∙ low-down q (omega arith) in
       let one : Leads text s 1 s1 = steps_to text s s1 w 0xff810113 (RegisterImmediate Addi x2 x2 less_eight) ready.here stands.0 word-down (writes_to s x2 (low (s.registers 2 + (2 ^ 64 - 8))) (2 ^ 32 + q) (at (w + 1)) next1 down) in
       let two : Leads text s1 1 s2 = steps_to text s1 s2 (w + 1) 0x00513023 (Store Sd x2 x5 none) refl stands.1.0 word-push
-      (ap (stores_to s1 (bytes_of 8 (s.registers 5))) (place_of-top (length s.region) (length s.private) q ready.bare inside long) ∙ ap (λ p. GoesOn (record { pc = p; registers = s1.registers; region = s.region; private = with_bytes s.private q (bytes_of 8 (s.registers 5)) })) (at-next (w + 1) (omega arith))) in
+      (ap (stores_to s1 (low_bytes 8 (s.registers 5))) (place_of-top (length s.region) (length s.private) q ready.apart inside long) ∙ ap (λ p. GoesOn (record { pc = p; registers = s1.registers; region = s.region; private = overwritten s.private q (low_bytes 8 (s.registers 5)) })) (at-next (w + 1) (omega arith))) in
       let there : w + 1 + 1 ≡ w + 2 = omega arith in
       record {
         after = s2;
         leads = leads_on text s s1 s2 1 1 2 refl one two;
-        ready = record { here = ap at there; back = ready.back; bare = ready.bare; top = refl; given = λ k inside. written-argument s.registers 2 (2 ^ 32 + q) k (omega arith) (omega arith) ∙ ready.given k inside };
-        long = length-with_bytes s.private q (s.registers 5) inside;
-        stored = drop-with_bytes s.private q (s.registers 5) inside;
+        ready = record { here = ap at there; back = ready.back; apart = ready.apart; top = refl; given = λ k inside. written-argument s.registers 2 (2 ^ 32 + q) k (omega arith) (omega arith) ∙ ready.given k inside };
+        long = length-with_word s.private q (s.registers 5) inside;
+        stored = drop-overwritten s.private q (s.registers 5) inside;
       }
 
   -- the instruction of an operator
@@ -186,14 +187,14 @@ module _ (text : List (Option Instr)) (arguments : List ℕ) where
   act-operator operator.Subtract s pc' next = writes_to s x5 _ (applied operator.Subtract (s.registers 6) (s.registers 5)) pc' next refl
   act-operator operator.Multiply s pc' next = writes_to s x5 _ (applied operator.Multiply (s.registers 6) (s.registers 5)) pc' next refl
 
-  pop : (o : Operator) (w q : ℕ) (s : State) (v y : ℕ) (rest : List ℕ) → w + 3 < 2 ^ 32 → Ready arguments w q s → Stands text w (pop_words ++ operator_word o ∷ []) → q + 8 ≤ length s.private → length s.private < 2 ^ 32 → drop q s.private ≡ bytes_of 8 v ++ rest → v < 2 ^ 64 → s.registers 5 ≡ y → Yields text arguments w (q + 8) s 3 (applied o v y)
+  pop : (o : Operator) (w q : ℕ) (s : State) (v y : ℕ) (rest : List ℕ) → w + 3 < 2 ^ 32 → Ready arguments w q s → Stands text w (pop_words ++ operator_word o ∷ []) → q + 8 ≤ length s.private → length s.private < 2 ^ 32 → drop q s.private ≡ low_bytes 8 v ++ rest → v < 2 ^ 64 → s.registers 5 ≡ y → Yields text arguments w (q + 8) s 3 (applied o v y)
   pop o w q s v y rest small ready stands inside long stored below value =
       let s1 : State = record { pc = at (w + 1); registers = written s.registers 6 v; region = s.region; private = s.private } in
       let s2 : State = record { pc = at (w + 1 + 1); registers = written s1.registers 2 (2 ^ 32 + (q + 8)); region = s.region; private = s.private } in
       let s3 : State = record { pc = at (w + 1 + 1 + 1); registers = written s2.registers 5 (applied o v (s.registers 5)); region = s.region; private = s.private } in
       let next1 : low (s.pc + 4) ≡ at (w + 1) = ap (λ p. low (p + 4)) ready.here ∙ at-next w (omega arith) in
-      let loaded : number_of (take 8 (drop q s.private)) ≡ v = ap (λ m. number_of (take 8 m)) stored ∙ number_of-bytes_of 8 v below in
-      let place : place_of (length s.region) (length s.private) (low (s.registers 2 + 0)) 8 ≡ Some (Private q) = ap (λ r. place_of (length s.region) (length s.private) (low (r + 0)) 8) ready.top ∙ place_of-top (length s.region) (length s.private) q ready.bare inside long in
+      let loaded : number_of (take 8 (drop q s.private)) ≡ v = ap (λ m. number_of (take 8 m)) stored ∙ number_of-bytes v rest below in
+      let place : place_of (length s.region) (length s.private) (low (s.registers 2 + 0)) 8 ≡ Some (Private q) = ap (λ r. place_of (length s.region) (length s.private) (low (r + 0)) 8) ready.top ∙ place_of-top (length s.region) (length s.private) q ready.apart inside long in
       let one : Leads text s 1 s1 = steps_to text s s1 w 0x00013303 (Load Ld x6 x2 none) ready.here stands.0 word-pop
       (ap (loads_from s Ld x6) place ∙ writes_to s x6 (number_of (take 8 (drop q s.private))) v (at (w + 1)) next1 loaded) in
       let up : low (s.registers 2 + 8) ≡ 2 ^ 32 + (q + 8) = ap (λ r. low (r + 8)) ready.top ∙ low-up q (omega arith) in
@@ -206,7 +207,7 @@ module _ (text : List (Option Instr)) (arguments : List ℕ) where
         ready = record {
           here = ap at there;
           back = ready.back;
-          bare = ready.bare;
+          apart = ready.apart;
           top = refl;
           given = λ k inside.
               written-argument s2.registers 5 (applied o v (s.registers 5)) k (omega arith) (omega arith)
@@ -224,9 +225,10 @@ module _ (text : List (Option Instr)) (arguments : List ℕ) where
 
   -- a right operand, with the left one on the stack, and the operator
   operand : (o : Operator) (w q nb v y : ℕ) (s : State) → v < 2 ^ 64 → s.registers 5 ≡ v → w + 2 + nb + 3 < 2 ^ 32 → q + 8 ≤ length s.private → length s.private < 2 ^ 32 → (p : Pushed text arguments w q s) → (b : Yields text arguments (w + 2) q p.after nb y) → Stands text (w + 2 + nb) (pop_words ++ operator_word o ∷ []) → Yields text arguments w (q + 8) s (2 + (nb + 3)) (applied o v y)
+  unfolding low_bytes
   operand o w q nb v y s below value small inside long p b stands =
       let size : length b.after.private ≡ length s.private = b.long ∙ p.long in
-      let kept : drop q b.after.private ≡ bytes_of 8 v ++ drop (q + 8) s.private = b.kept ∙ p.stored ∙ ap (λ n. bytes_of 8 n ++ drop (q + 8) s.private) value in
+      let kept : drop q b.after.private ≡ low_bytes 8 v ++ drop (q + 8) s.private = b.kept ∙ p.stored ∙ ap (λ n. low_bytes 8 n ++ drop (q + 8) s.private) value in
       let t : Yields text arguments (w + 2 + nb) (q + 8) b.after 3 (applied o v y) = pop o (w + 2 + nb) q b.after v y (drop (q + 8) s.private) small b.ready stands (omega arith) (omega arith) kept below b.value in
       let there : w + 2 + nb + 3 ≡ w + (2 + (nb + 3)) = omega arith in
       record {

@@ -4,6 +4,7 @@ pub mod Answering
 pub mod Buffers
 pub mod Calls
 pub mod CodeComputes
+pub mod CodeImage
 pub mod CodeRuns
 pub mod CodeSizes
 pub mod CodeSteps

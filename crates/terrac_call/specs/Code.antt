@@ -1,30 +1,34 @@
 -- What the code of an expression does, and then its words.
-use Rattle.std.specs.Prelude.{◌≡◌, ℕ, ◌+◌, ◌*◌, ◌^◌, ◌<◌, ◌≤◌, max, List, [], ◌∷◌, ◌++◌, length, replicate, slice_index, Option}
+use Rattle.std.specs.Prelude.{◌≡◌, ℕ, ◌+◌, ◌*◌, ◌^◌, ◌<◌, ◌≤◌, max, List, [], ◌∷◌, ◌++◌, length, slice_index}
+use Rattle.elf_image.specs.declared.image.Image.{Image}
 use Rattle.first_form.specs.declared.function.Operator.{Operator}
 use Rattle.first_form.specs.declared.function.Operator.TheVariants.{Add, Subtract, Multiply}
 use Rattle.first_form.specs.Formula.{Formula, Parameter, Literal, Binary, HasParametersBelow}
 use Rattle.first_meaning.specs.Meaning.{meaning}
 use Rattle.rv_machine.specs.declared.stops.Stop.TheVariants.{Returned}
-use Rattle.rv_isa.specs.declared.instr.Instr.{Instr}
-use Rattle.rv_machine.specs.Program.{IsProgram}
-use Rattle.rv_machine.specs.Machine.{Ran, run_of, start_state}
+use Rattle.rv_machine.specs.Machine.{Ran}
+use Rattle.rv_machine.specs.ImageRun.{RvRun}
 
 -- a run that is over with a value, and wrote nothing
 pub record Gives (ran : Ran) (value : ℕ) : Type 0 where
   pub stops : ran.stop ≡ Returned value
   pub writes_nothing : ran.output ≡ []
 
--- A text with so many bytes of private memory computes an expression: whatever the arguments, its run from its first
--- word gives the expression's value, in at most as many steps as it has words, and writes nothing.
-pub record Computes (words : List ℕ) (private : ℕ) (tree : Formula) : Type 0 where
+-- An image computes an expression: whatever the arguments, its run from its first word gives the expression's value, in at most as
+-- many steps as it has words, and writes nothing.
+pub record Computes (image : Image) (tree : Formula) : Type 0 where
   pub returns :
       (arguments : List ℕ) →
       length arguments ≤ 8 →
       HasParametersBelow (length arguments) tree →
       ((k : ℕ) → slice_index arguments k < 2 ^ 64) →
-      (program : List (Option Instr)) →
-      IsProgram words program →
-      Gives (run_of program (start_state 0x10000 0 arguments [] (replicate private 0)) (length words)) (meaning tree arguments)
+      (ran : Ran) →
+      RvRun image 0x10000 arguments (length image.text) ran →
+      Gives ran (meaning tree arguments)
+
+-- the image of such words: no static bytes, the least region, private memory for 1,024 operands, and no exports
+abbrev pub with_text : List ℕ → Image
+with_text words = record { text = words; statics = []; memory = 65536; heap = 0x40000000; private = 8192; exports = [] }
 
 -- The words themselves. An expression leaves its value in x5. An operator keeps its left operand at the top of the stack,
 -- to which x2 points, while its right operand is computed.

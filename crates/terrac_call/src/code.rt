@@ -1,12 +1,14 @@
-// The code of an expression: words for the machine, and their run.
+// The code of an expression: an image for the machine, and its run.
 
-ghost use Rattle.std.specs.Prelude.{◌≡◌, ℕ, ◌+◌, ◌*◌, ◌≤◌, [], ◌∷◌, ◌++◌, length, IfOk, OnOk};
+ghost use Rattle.std.specs.Prelude.{◌≡◌, ℕ, ◌+◌, ◌*◌, ◌^◌, ◌<◌, ◌≤◌, [], ◌∷◌, ◌++◌, length, slice_index, IfOk, OnOk};
+ghost use Rattle.elf_image.specs.Lawful.{IsLawful};
 ghost use Rattle.first_form.specs.Formula.{formula_of, operators, HasParametersBelow, HasLiteralsUpTo};
 ghost use Rattle.first_meaning.specs.Meaning.{meaning};
-ghost use Rattle.terrac_call.specs.Code.{Computes, expression_words, operator_word, depth_of};
+ghost use Rattle.terrac_call.specs.Code.{Computes, expression_words, operator_word, with_text};
 
+use elf_image::{Bytes, Image, Symbols, Words};
 use first_form::{Expression, Operator};
-use rv_machine::{Machine, Stop, TEXT};
+use rv_machine::{Stop, TEXT, run_image};
 use std::alloc::Global;
 use tl_base::{NoMemory, Sink};
 
@@ -21,29 +23,40 @@ const POP: [u32; 2] = [0x0001_3303, 0x0081_0113];
 // addi x10, x5, 0; jalr x0, 0(x1)
 const RETURN: [u32; 2] = [0x0002_8513, 0x0000_8067];
 
-/// The words of the function's code, and the bytes of private memory that it needs.
-#[derive(Drop)]
-pub(crate) struct Code {
-    pub words: Vec<u32>,
-    pub private: u64,
-}
+// The bytes of private memory: there is an operand of eight for each of at most 1,000 operators
+const PRIVATE: u64 = 8_192;
 
-/// The code of an expression whose parameters are the first eight arguments at most.
-pub(crate) fn generate(alloc: Global, body: &Expression) -> Result<Code, NoMemory>
+/// The image of the code of an expression whose parameters are the first eight arguments at most. Its first word is where a run
+/// starts.
+pub(crate) fn generate(alloc: Global, body: &Expression) -> Result<Image, NoMemory>
     requires parameters { HasParametersBelow 8 (formula_of body.now) }
     requires literals { HasLiteralsUpTo 2047 (formula_of body.now) }
     requires operators { operators (formula_of body.now) ≤ 1000 }
-    ensures computes { IfOk result (λ code. Computes code.words.items code.private (formula_of body.now)) }
-    ensures short { IfOk result (λ code. length code.words.items ≤ 6003) }
-    ensures small { IfOk result (λ code. code.private ≤ 8000) }
+    ensures computes { IfOk result (λ image. Computes image (formula_of body.now)) }
+    ensures lawful { IfOk result (λ image. IsLawful image) }
+    ensures short { IfOk result (λ image. length image.text ≤ 6003) }
 {
     let mut words = Vec::new(alloc);
     emit(&mut words, body)?;
     words.extend_from_slice(&RETURN)?;
-    Ok(Code {
-        words,
-        private: 8 * depth(body),
-    })
+    Ok(image_of(alloc, words))
+}
+
+/// The image of these words, without static bytes and exports. Its region is the least, since the code has no use for one.
+fn image_of(alloc: Global, words: Vec<u32>) -> Image
+    requires fits { (k : ℕ) → slice_index words.items k < 2 ^ 32 }
+    requires short { length words.items ≤ 6003 }
+    ensures image { result ≡ with_text words.items }
+    ensures lawful { IsLawful result }
+{
+    Image {
+        text: Words::from(words),
+        statics: Bytes::new(alloc),
+        memory: 65_536,
+        heap: 0x4000_0000,
+        private: PRIVATE,
+        exports: Symbols::new(alloc),
+    }
 }
 
 /// The value of an expression at these arguments, by the machine.
@@ -60,10 +73,9 @@ pub(crate) fn execute<K: Sink>(
     ensures value { IfOk result (λ value. value ≡ meaning (formula_of body.now) arguments.now) }
     ensures quiet { out.new ≡ out.old }
 {
-    let code = generate(alloc, body)?;
-    let mut machine = Machine::load_words(alloc, &code.words, code.private)?;
-    machine.start(TEXT, arguments);
-    match machine.run(code.words.len() as u64, out) {
+    let image = generate(alloc, body)?;
+    let steps = image.text.as_slice().len() as u64;
+    match run_image(alloc, &image, TEXT, arguments, steps, out)? {
         Stop::Returned(value) => Ok(value),
         _ => unreachable!(),
     }
@@ -101,18 +113,5 @@ fn word_of(operator: Operator) -> u32
         Operator::Add => 0x0053_02b3,
         Operator::Subtract => 0x4053_02b3,
         Operator::Multiply => 0x0253_02b3,
-    }
-}
-
-// How many operands lie on the stack at most.
-fn depth(body: &Expression) -> u64
-    requires { operators (formula_of body.now) ≤ 1000 }
-    ensures depth { result ≡ depth_of (formula_of body.now) }
-    ensures small { result ≤ operators (formula_of body.now) }
-{
-    match body {
-        Expression::Parameter(_) => 0,
-        Expression::Literal(_) => 0,
-        Expression::Binary(_, left, right) => depth(left).max(depth(right) + 1),
     }
 }
