@@ -94,7 +94,7 @@ fn type_of(
 }
 
 /// Raises that an argument isn't of its form, with the place of the call before the text, which is paid for.
-fn bad_argument(
+pub fn bad_argument(
     heap: &mut Heap,
     budget: &mut Budget,
     place: Place,

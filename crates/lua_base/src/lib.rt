@@ -11,5 +11,5 @@ pub mod calls;
 pub mod globals;
 pub mod texts;
 
-pub use calls::call;
+pub use calls::{bad_argument, call, text_units};
 pub use globals::opening;
