@@ -1,2 +1,4 @@
-pub mod OpeningSteps
 pub mod Shortness
+pub mod Making
+pub mod OpeningSteps
+pub mod Past

@@ -1,12 +1,12 @@
 -- A text that says which argument isn't of its form is short.
-use Rattle.std.proofs.Common.{◌≡◌, ℕ, ◌≤◌, ◌<◌, ◌^◌, ◌+◌, List, length, codes, ◌++◌, refl, arith}
+use Rattle.std.proofs.Common.{◌≡◌, ℕ, ◌≤◌, ◌<◌, ◌^◌, List, [], length, codes, ◌++◌, refl, arith}
 use Rattle.std.specs.Fmt.{decimal}
 use Rattle.std.proofs.lemmas.Fmt.{length-decimal-le}
 use Rattle.std.proofs.lemmas.List.{length-append, append_assoc}
 use Rattle.lua_value.specs.declared.library.LibFn.{LibFn}
-use Rattle.lua_value.specs.declared.library.LibFn.TheVariants.{Error, Next, Pcall, Print, ToString, «Type» as TypeOf, Field, ArrayType, PointerType, FunctionType, Symbol, Macro, Global, Constant, SizeOf, OffsetOf, NewList, Insert, InsertAll, Map, NewStruct, Pointer, Array, SaveObj, Compile, IsDefined, GetType, IsIntegral, IsLogical, IsPointer, IsArray, IsStruct}
+use Rattle.lua_value.specs.declared.library.LibFn.TheVariants.{Assert, Error, GetMetatable, Ipairs, IpairsNext, Next, Pairs, Pcall, Print, RawEqual, RawGet, RawSet, Select, SetMetatable, ToNumber, ToString, «Type» as TypeOf, Unpack, Byte, Char, Format, Len, Rep, Sub, Concat, TableInsert, Remove, Field, ArrayType, PointerType, FunctionType, Symbol, Macro, Global, Constant, SizeOf, OffsetOf, NewList, Insert, InsertAll, Map, NewStruct, Pointer, Array, SaveObj, Compile, IsDefined, GetType, IsIntegral, IsLogical, IsPointer, IsArray, IsStruct}
 use Rattle.lua_value.specs.Library.{library_text}
-use Rattle.lua_base.specs.Calls.{bad_argument_text}
+use Rattle.lua_base.specs.Calls.{placed, bad_argument_text}
 
 ten_digits : (n : ℕ) → n < 2 ^ 32 → length (decimal n) ≤ 10
 ten_digits n h =
@@ -14,13 +14,34 @@ ten_digits n h =
     let wide : n < 2 ^ 64 = omega arith in
     length-decimal-le 10 n (omega arith) few wide
 
-name_is_short : (f : LibFn) → length (library_text f) ≤ 100
+pub name_is_short : (f : LibFn) → length (library_text f) ≤ 100
+name_is_short Assert = omega arith
 name_is_short Error = omega arith
+name_is_short GetMetatable = omega arith
+name_is_short Ipairs = omega arith
+name_is_short IpairsNext = omega arith
 name_is_short Next = omega arith
+name_is_short Pairs = omega arith
 name_is_short Pcall = omega arith
 name_is_short Print = omega arith
+name_is_short RawEqual = omega arith
+name_is_short RawGet = omega arith
+name_is_short RawSet = omega arith
+name_is_short Select = omega arith
+name_is_short SetMetatable = omega arith
+name_is_short ToNumber = omega arith
 name_is_short ToString = omega arith
 name_is_short TypeOf = omega arith
+name_is_short Unpack = omega arith
+name_is_short Byte = omega arith
+name_is_short Char = omega arith
+name_is_short Format = omega arith
+name_is_short Len = omega arith
+name_is_short Rep = omega arith
+name_is_short Sub = omega arith
+name_is_short Concat = omega arith
+name_is_short TableInsert = omega arith
+name_is_short Remove = omega arith
 name_is_short Field = omega arith
 name_is_short ArrayType = omega arith
 name_is_short PointerType = omega arith
@@ -70,3 +91,9 @@ text_by_name line word position f name e =
     rw (append_assoc (a ++ codes ":" ++ b) (codes ": bad argument ") (c ++ (codes " to " ++ library_text f))) (
     rw (append_assoc (a ++ codes ":") b (codes ": bad argument " ++ (c ++ (codes " to " ++ library_text f)))) (
     rw (append_assoc a (codes ":") (b ++ (codes ": bad argument " ++ (c ++ (codes " to " ++ library_text f))))) refl)))))
+
+pub place_is_short : (line word : ℕ) → line < 2 ^ 32 → word < 2 ^ 32 → length (placed line word []) ≤ 30
+place_is_short line word l w =
+    let a = ten_digits line l in
+    let b = ten_digits word w in
+    grind (length-append, arith)

@@ -1,21 +1,16 @@
--- What the functions of the library give that are there, and what they pay.
-use Rattle.std.specs.Prelude.{ℕ, ◌+◌, ◌-◌, ◌/◌, nat_le, if◌then◌else◌, List, [], ◌∷◌, ◌++◌, length, codes}
+-- What a call of the library answers, and what it pays: the words in which the functions are defined.
+use Rattle.std.specs.Prelude.{ℕ, ◌+◌, ◌-◌, ◌/◌, nat_le, if◌then◌else◌, List, ◌++◌, length, codes}
 use Rattle.std.specs.Fmt.{decimal}
 use Rattle.tl_base.specs.declared.place.Place.{Place}
 use Rattle.tl_base.specs.Layer.{State, state}
 use Rattle.lua_value.specs.declared.value.Value.{Value}
 use Rattle.lua_value.specs.declared.value.Value.TheVariants as values
 use Rattle.lua_value.specs.declared.library.LibFn.{LibFn}
-use Rattle.lua_value.specs.declared.library.LibFn.TheVariants.{Print, «Type» as TypeOf}
-use Rattle.lua_value.specs.Kinds.{kind_text}
 use Rattle.lua_value.specs.Library.{library_text}
-use Rattle.lua_value.specs.Values.{kind_of}
 use Rattle.lua_table.specs.LuaState.{LuaState}
-use Rattle.lua_table.specs.Heap.{with_text, interned_id, with_printed}
-use Rattle.lua_table.specs.declared.call.LibCall.{LibCall}
+use Rattle.lua_table.specs.Heap.{with_text, interned_id}
 use Rattle.lua_table.specs.declared.call.LibTurn.{LibTurn}
 use Rattle.lua_table.specs.declared.call.LibTurn.TheVariants as turns
-use Rattle.lua_base.specs.Texts.{line_of}
 
 -- what a function answers, with the heap and the units that it leaves
 pub record Turned : Type 0 where
@@ -50,25 +45,20 @@ bad_argument_text line word position f =
 abbrev pub bad_argument : State LuaState → Place → ℕ → LibFn → Turned
 bad_argument s place position f = with_made s (bad_argument_text place.line place.word position f) (λ v. turns.Raise v place)
 
--- ---- the functions
+-- gives values, for nothing
+abbrev pub gives : State LuaState → List Value → Turned
+gives s vs = turned (turns.Values vs) s
 
--- `print` writes its arguments in a line, and gives nothing
-abbrev pub print_turned : State LuaState → List Value → Turned
-print_turned s vs =
-    let line = line_of s.world vs in
-    paying s (text_units (length line)) (turns.Values []) (with_printed s.world line)
+-- a text with a place before it
+abbrev pub placed : ℕ → ℕ → List ℕ → List ℕ
+placed line word text = decimal line ++ codes ":" ++ decimal word ++ codes ": " ++ text
 
--- `type` gives the kind of its first argument, which has to be there
-abbrev pub type_turned : State LuaState → List Value → Place → Turned
-type_turned s [] place = bad_argument s place 1 TypeOf
-type_turned s (v ∷ vs) place = with_made s (kind_text (kind_of v)) (λ made. turns.Values (made ∷ []))
+-- raises a text, with the place of the call before it
+abbrev pub raised : State LuaState → Place → List ℕ → Turned
+raised s place text = with_made s (placed place.line place.word text) (λ v. turns.Raise v place)
 
--- what a function gives of arguments, at the place of its call; one that isn't there gives nothing
-abbrev pub answered : State LuaState → LibFn → List Value → Place → Turned
-answered s Print vs place = print_turned s vs
-answered s TypeOf vs place = type_turned s vs place
-answered s _ vs place = turned (turns.Values []) s
-
--- what a call comes to
-abbrev pub called : State LuaState → LibCall → Turned
-called s call = answered s call.function call.args call.place
+-- Answers with the text of these bytes, which is paid for. One that is longer than texts can be is not made and not paid: that it is
+-- too long is raised.
+abbrev pub making : State LuaState → Place → List ℕ → (Value → LibTurn) → Turned
+making s place bytes turn =
+    if nat_le (length bytes) 65535 then with_made s bytes turn else raised s place (codes "text too long")

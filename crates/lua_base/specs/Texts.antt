@@ -1,5 +1,5 @@
 -- The texts of values, as `print` and `tostring` give them.
-use Rattle.std.specs.Prelude.{ℕ, ◌+◌, List, [], ◌∷◌, ◌++◌, codes, true, false}
+use Rattle.std.specs.Prelude.{ℕ, ◌+◌, List, ◌++◌, codes, true, false}
 use Rattle.std.specs.Fmt.{decimal, signed_decimal}
 use Rattle.lua_value.specs.declared.value.Value.{Value}
 use Rattle.lua_value.specs.declared.value.Value.TheVariants as values
@@ -17,7 +17,8 @@ numbered v id = kind_text (kind_of v) ++ codes ": " ++ decimal (id + 1)
 abbrev pub named : Value → List ℕ → List ℕ
 named v name = kind_text (kind_of v) ++ codes ": " ++ name
 
--- the text of a value: of what has none it is the kind with a number, or with a name where no source made it
+-- the text of a value: of what has none it is the kind with a number, or with a name where no source made it. That of a type isn't read
+-- here: it is asked for
 abbrev pub value_text : LuaState → Value → List ℕ
 value_text s values.Nil = codes "nil"
 value_text s (values.Boolean true) = codes "true"
@@ -35,13 +36,3 @@ value_text s (values.Macro id) = numbered (values.Macro id) id.0
 value_text s (values.Global id) = numbered (values.Global id) id.0
 value_text s (values.Constant id) = numbered (values.Constant id) id.0
 value_text s (values.Primitive p) = named (values.Primitive p) (primitive_text p)
-
--- the texts of values, each with a tab before it
-abbrev pub tabs_before : LuaState → List Value → List ℕ
-tabs_before s [] = []
-tabs_before s (v ∷ vs) = codes "\t" ++ value_text s v ++ tabs_before s vs
-
--- the line that `print` writes: the texts of values with tabs between them
-abbrev pub line_of : LuaState → List Value → List ℕ
-line_of s [] = codes "\n"
-line_of s (v ∷ vs) = value_text s v ++ tabs_before s vs ++ codes "\n"

@@ -1,28 +1,98 @@
 // The globals with which a source begins.
 
 ghost use Rattle.std.specs.Prelude.{◌≡◌, ◌≤◌, length, IfOk, OnOk};
-ghost use Rattle.lua_base.specs.Opening.{opening, with_named};
+ghost use Rattle.lua_base.specs.Opening.{opening, with_functions, with_globals, with_named, bare};
 
 use lua_table::Heap;
 use lua_value::{LibFn, Value};
 use std::alloc::Global;
 use tl_base::{NoMemory, TableId};
 
-/// The heap with which a source begins: the table of globals, with `_G`, `_VERSION`, `print`, `type` and `string` (Lua 5.1 manual,
-/// section 5.1), and the table of functions on texts, in which nothing stands yet.
+/// The heap with which a source begins: the table of globals, with `_G`, `_VERSION`, the basic functions, `string` and `table` (Lua 5.1
+/// manual, section 5), and the tables of the functions on texts and on tables.
 pub fn opening(alloc: Global) -> Result<Heap, NoMemory>
     ensures { IfOk result (λ heap. heap ≡ opening) }
 {
     let mut heap = Heap::new(alloc);
     let globals = heap.new_table()?;
     let texts = heap.new_table()?;
-    let version = heap.intern(b"Lua 5.1")?;
-    name(&mut heap, globals, b"_G", Value::Table(globals))?;
-    name(&mut heap, globals, b"_VERSION", Value::Text(version))?;
-    name(&mut heap, globals, b"print", Value::Library(LibFn::Print))?;
-    name(&mut heap, globals, b"type", Value::Library(LibFn::Type))?;
-    name(&mut heap, globals, b"string", Value::Table(texts))?;
+    let tables = heap.new_table()?;
+    name_globals(&mut heap, globals, texts, tables)?;
+    name_functions(
+        &mut heap,
+        texts,
+        &[
+            LibFn::Byte,
+            LibFn::Char,
+            LibFn::Format,
+            LibFn::Len,
+            LibFn::Rep,
+            LibFn::Sub,
+        ],
+    )?;
+    name_functions(
+        &mut heap,
+        tables,
+        &[LibFn::Concat, LibFn::TableInsert, LibFn::Remove],
+    )?;
     Ok(heap)
+}
+
+#[tactic(auto, unfolding(crate::specs::Opening::with_globals))]
+/// Puts the globals in their table.
+fn name_globals(
+    heap: &mut Heap,
+    globals: TableId,
+    texts: TableId,
+    tables: TableId,
+) -> Result<(), NoMemory>
+    ensures { OnOk result (heap.new ≡ with_globals heap.old globals texts tables) }
+{
+    name(heap, globals, b"_G", Value::Table(globals))?;
+    let version = heap.intern(b"Lua 5.1")?;
+    name(heap, globals, b"_VERSION", Value::Text(version))?;
+    name_functions(
+        heap,
+        globals,
+        &[
+            LibFn::Assert,
+            LibFn::Error,
+            LibFn::GetMetatable,
+            LibFn::Ipairs,
+            LibFn::Next,
+            LibFn::Pairs,
+            LibFn::Pcall,
+            LibFn::Print,
+            LibFn::RawEqual,
+            LibFn::RawGet,
+            LibFn::RawSet,
+            LibFn::Select,
+            LibFn::SetMetatable,
+            LibFn::ToNumber,
+            LibFn::ToString,
+            LibFn::Type,
+            LibFn::Unpack,
+        ],
+    )?;
+    name(heap, globals, b"string", Value::Table(texts))?;
+    name(heap, globals, b"table", Value::Table(tables))?;
+    Ok(())
+}
+
+#[tactic(auto, unfolding(crate::specs::Opening::with_functions))]
+/// Puts functions under their names of a table.
+fn name_functions(heap: &mut Heap, table: TableId, functions: &[LibFn]) -> Result<(), NoMemory>
+    ensures { OnOk result (heap.new ≡ with_functions heap.old table functions.now) }
+{
+    for function in functions {
+        name(
+            heap,
+            table,
+            function.name().as_bytes(),
+            Value::Library(*function),
+        )?;
+    }
+    Ok(())
 }
 
 /// Puts a value under a name of a table.

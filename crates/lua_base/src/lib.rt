@@ -1,15 +1,25 @@
 //! Lua's basic functions (Lua 5.1 manual, section 5.1), and the globals with which a source begins.
 //!
 //! - `globals`: the heap with which a source begins;
-//! - `texts`: the texts of values, as `print` writes them;
-//! - `calls`: what the functions do, and what they pay.
-//!
-//! Only `print` and `type` are there yet. A function that isn't there is no value of any source.
+//! - `calls`: a call of a function, and how one that asked goes on;
+//! - `errors`: the functions that raise errors, and the one that catches them;
+//! - `tables`: those that work on tables;
+//! - `printing`: those that tell what values are, and write them;
+//! - `texts`: the texts of values;
+//! - `arguments`: the arguments of functions;
+//! - `answers`: what functions answer, and what they pay.
 #![tactic(auto)]
 
+pub mod answers;
+pub mod arguments;
 pub mod calls;
+pub mod errors;
 pub mod globals;
+pub mod printing;
+pub mod tables;
 pub mod texts;
 
-pub use calls::{bad_argument, call, text_units};
+pub use answers::{bad_argument, give, give_text, raise, raise_text, text_units};
+pub use arguments::{argument, has_argument, number_in, number_or, table_in};
+pub use calls::{back, call};
 pub use globals::opening;

@@ -1,14 +1,15 @@
 // The texts of values.
 
 ghost use Rattle.std.specs.Prelude.{◌≡◌, ◌++◌, OnOk};
-ghost use Rattle.lua_base.specs.Texts.{named, numbered, value_text, tabs_before};
+ghost use Rattle.lua_base.specs.Texts.{named, numbered, value_text};
 
 use lua_table::Heap;
 use lua_value::Value;
 use tl_base::{NoMemory, Text2};
 
 /// Puts the text of a value behind a line: that of a text is its bytes, and that of what has none is its kind, and its number among those of
-/// its kind, from 1. A function of the library, and a primitive of Terra, has its name in place of the number.
+/// its kind, from 1. A function of the library, and a primitive of Terra, has its name in place of the number. What has a text of its own
+/// that stands elsewhere, as a type, isn't asked about here.
 pub fn push_text(heap: &Heap, line: &mut Text2, value: Value) -> Result<(), NoMemory>
     ensures { OnOk result (line.new ≡ line.old ++ value_text heap.now value) }
 {
@@ -58,15 +59,4 @@ fn push_numbered(heap: &Heap, line: &mut Text2, value: Value, id: u64) -> Result
     let number = u128::from(id) + 1;
     let text = format!(in heap.allocator(); "{kind}: {number}")?;
     line.push_bytes(text.as_bytes())
-}
-
-/// Puts the texts of values behind a line, each with a tab before it but for the first of the line.
-pub fn push_texts(heap: &Heap, line: &mut Text2, values: &[Value]) -> Result<(), NoMemory>
-    ensures { OnOk result (line.new ≡ line.old ++ tabs_before heap.now values.now) }
-{
-    for value in values {
-        line.push_bytes(b"\t")?;
-        push_text(heap, line, *value)?;
-    }
-    Ok(())
 }

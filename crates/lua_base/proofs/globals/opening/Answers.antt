@@ -3,6 +3,6 @@ use Rattle.lua_base.proofs.globals.opening.Goals as goal
 
 pub returns : goal.returns
 returns c =
-    opening_by _ _ _ _ _ _ _ _ _ _ _ _ c.new-heap.ensures c.in_ok-globals.ensures.id c.in_ok-globals.ensures.ok
-    c.in_ok-texts.ensures.id c.in_ok-texts.ensures.ok c.in_ok-version.ensures.id c.in_ok-version.ensures.ok
-    c.in_ok-name.ensures c.in_ok-name-2.ensures c.in_ok-name-3.ensures c.in_ok-name-4.ensures c.in_ok-name-5.ensures
+    opening_by _ _ _ _ _ _ _ _ _ _ c.new-heap.ensures c.in_ok-globals.ensures.id c.in_ok-globals.ensures.ok
+    c.in_ok-texts.ensures.id c.in_ok-texts.ensures.ok c.in_ok-tables.ensures.id c.in_ok-tables.ensures.ok
+    c.in_ok-name_globals.ensures c.in_ok-name_functions.ensures c.in_ok-name_functions-2.ensures

@@ -1,5 +1,5 @@
 use Rattle.lua_base.proofs.Shortness.{is_short, text_by_name}
-use Rattle.lua_base.proofs.calls.bad_argument_text.Goals as goal
+use Rattle.lua_base.proofs.answers.bad_argument_text.Goals as goal
 
 pub returns-clause-text : goal.returns-clause-text
 returns-clause-text c =

@@ -1,0 +1,10 @@
+use Rattle.std.proofs.Common.{[], ◌∷◌}
+use Rattle.tl_base.specs.Layer.{state}
+use Rattle.lua_table.specs.declared.call.LibTurn.TheVariants as turns
+use Rattle.lua_base.proofs.Making.{too_long}
+use Rattle.lua_base.proofs.answers.give_text.Goals as goal
+
+pub returns-then-bytes-gt-LONGEST-clause-does : goal.returns-then-bytes-gt-LONGEST-clause-does
+returns-then-bytes-gt-LONGEST-clause-does c =
+    let a = c.args in
+    rw (too_long (state a.heap.now a.budget.now) a.place a.bytes.now (λ made. turns.Values (made ∷ [])) c.if-bytes-gt-LONGEST.true) c.raise.ensures.does

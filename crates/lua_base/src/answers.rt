@@ -1,0 +1,181 @@
+// What functions of the library answer, and what they pay.
+
+ghost use Rattle.std.specs.Prelude.{◌≡◌, [], ◌∷◌, ◌++◌, ◌≤◌, ◌+◌, IfOk, OnOk, length};
+ghost use Rattle.std.specs.String.{string_bytes};
+ghost use Rattle.tl_base.specs.Layer.{state};
+ghost use Rattle.lua_table.specs.Keeping.{KeepsHeap};
+ghost use Rattle.lua_base.specs.Calls.{turned, text_units, gives, making, placed, raised, with_made, bad_argument, bad_argument_text};
+
+use lua_table::{Heap, LibTurn};
+use lua_value::{LibFn, Value, Values};
+use std::alloc::Global;
+use tl_base::{Budget, NoMemory, Place, Text2};
+
+/// The most bytes that a text has.
+const LONGEST: usize = 65_535;
+
+/// The units that a text of so many bytes costs.
+pub fn text_units(length: usize) -> u64
+    ensures { result ≡ text_units length }
+{
+    (length as u64).div_ceil(64)
+}
+
+/// Puts values behind others.
+pub fn append(values: &mut Values, more: &[Value]) -> Result<(), NoMemory>
+    ensures { OnOk result (values.new ≡ values.old ++ more.now) }
+{
+    for value in more {
+        values.push(*value)?;
+    }
+    Ok(())
+}
+
+/// The same values, in a list of their own.
+pub fn copied(alloc: Global, values: &[Value]) -> Result<Values, NoMemory>
+    ensures { IfOk result (λ copy. copy ≡ values.now) }
+{
+    let mut copy = Values::new(alloc);
+    append(&mut copy, values)?;
+    Ok(copy)
+}
+
+/// Gives values, for nothing.
+pub fn give(heap: &Heap, values: &[Value]) -> Result<LibTurn, NoMemory>
+    ensures { IfOk result (λ turn. turn ≡ LibTurn.Values values.now) }
+{
+    Ok(LibTurn::Values(copied(heap.allocator(), values)?))
+}
+
+#[tactic(auto, using(crate::proofs::Making::too_long, crate::proofs::Making::short_enough))]
+/// Gives the text of these bytes, which is paid for. That it is too long is raised, with the place of the call before it.
+pub fn give_text(
+    heap: &mut Heap,
+    budget: &mut Budget,
+    place: Place,
+    bytes: &[u8],
+) -> Result<LibTurn, NoMemory>
+    ensures does { IfOk result (λ turn. turned turn (state heap.new budget.new)
+        ≡ making (state heap.old budget.old) place bytes.now (λ made. LibTurn.Values (made ∷ []))) }
+    ensures kept { OnOk result (KeepsHeap heap.old heap.new) }
+    ensures paid { OnOk result (budget.new ≤ budget.old) }
+{
+    if bytes.len() > LONGEST {
+        return raise(heap, budget, place, b"text too long");
+    }
+    if !budget.pay(text_units(bytes.len())) {
+        return Ok(LibTurn::Spent);
+    }
+    let made = Value::Text(heap.intern(bytes)?);
+    give(heap, &[made])
+}
+
+#[tactic(auto, using(crate::proofs::Making::too_long, crate::proofs::Making::short_enough))]
+/// Raises the text of these bytes, which is paid for. That it is too long is raised in place of it, with the place of the call before
+/// that.
+pub fn raise_text(
+    heap: &mut Heap,
+    budget: &mut Budget,
+    place: Place,
+    bytes: &[u8],
+) -> Result<LibTurn, NoMemory>
+    ensures does { IfOk result (λ turn. turned turn (state heap.new budget.new)
+        ≡ making (state heap.old budget.old) place bytes.now (λ made. LibTurn.Raise made place)) }
+    ensures kept { OnOk result (KeepsHeap heap.old heap.new) }
+    ensures paid { OnOk result (budget.new ≤ budget.old) }
+{
+    if bytes.len() > LONGEST {
+        return raise(heap, budget, place, b"text too long");
+    }
+    raise_short(heap, budget, place, bytes)
+}
+
+/// Raises a text, with the place of the call before it, which is paid for.
+pub fn raise(
+    heap: &mut Heap,
+    budget: &mut Budget,
+    place: Place,
+    text: &[u8],
+) -> Result<LibTurn, NoMemory>
+    requires { length text.now ≤ 1000 }
+    ensures does { IfOk result (λ turn.
+        turned turn (state heap.new budget.new) ≡ raised (state heap.old budget.old) place text.now) }
+    ensures kept { OnOk result (KeepsHeap heap.old heap.new) }
+    ensures paid { OnOk result (budget.new ≤ budget.old) }
+{
+    let whole = placed(heap, place, text)?;
+    raise_short(heap, budget, place, whole.bytes())
+}
+
+/// Raises that an argument isn't of its form, with the place of the call before the text, which is paid for.
+pub fn bad_argument(
+    heap: &mut Heap,
+    budget: &mut Budget,
+    place: Place,
+    position: u32,
+    function: LibFn,
+) -> Result<LibTurn, NoMemory>
+    ensures does { IfOk result (λ turn.
+        turned turn (state heap.new budget.new) ≡ bad_argument (state heap.old budget.old) place position function) }
+    ensures kept { OnOk result (KeepsHeap heap.old heap.new) }
+    ensures paid { OnOk result (budget.new ≤ budget.old) }
+{
+    let text = bad_argument_text(heap.allocator(), place.line, place.word, position, function)?;
+    raise_short(heap, budget, place, text.as_bytes())
+}
+
+/// Raises a text of a length that texts have, which is paid for.
+fn raise_short(
+    heap: &mut Heap,
+    budget: &mut Budget,
+    place: Place,
+    bytes: &[u8],
+) -> Result<LibTurn, NoMemory>
+    requires { length bytes.now ≤ 65535 }
+    ensures does { IfOk result (λ turn. turned turn (state heap.new budget.new)
+        ≡ with_made (state heap.old budget.old) bytes.now (λ made. LibTurn.Raise made place)) }
+    ensures kept { OnOk result (KeepsHeap heap.old heap.new) }
+    ensures paid { OnOk result (budget.new ≤ budget.old) }
+{
+    if !budget.pay(text_units(bytes.len())) {
+        return Ok(LibTurn::Spent);
+    }
+    let made = heap.intern(bytes)?;
+    Ok(LibTurn::Raise(Value::Text(made), place))
+}
+
+/// A text with a place before it.
+pub fn placed(heap: &Heap, place: Place, text: &[u8]) -> Result<Text2, NoMemory>
+    ensures whole { IfOk result (λ whole. whole ≡ placed place.line place.word text.now) }
+    ensures longer { IfOk result (λ whole. length whole ≤ length text.now + 30) }
+{
+    let mut whole = front(heap.allocator(), place.line, place.word)?;
+    whole.push_bytes(text)?;
+    Ok(whole)
+}
+
+/// A place, as it stands before a text.
+fn front(alloc: Global, line: u32, word: u32) -> Result<Text2, NoMemory>
+    ensures front { IfOk result (λ front. front ≡ placed line word []) }
+    ensures short { IfOk result (λ front. length front ≤ 30) }
+{
+    let written = format!(in alloc; "{line}:{word}: ")?;
+    let mut front = Text2::new(alloc);
+    front.push_bytes(written.as_bytes())?;
+    Ok(front)
+}
+
+/// The text of an argument that isn't of its form, with the place of the call before it.
+fn bad_argument_text(
+    alloc: Global,
+    line: u32,
+    word: u32,
+    position: u32,
+    function: LibFn,
+) -> Result<String, NoMemory>
+    ensures text { IfOk result (λ text. string_bytes text ≡ bad_argument_text line word position function) }
+    ensures short { IfOk result (λ text. length (string_bytes text) ≤ 65535) }
+{
+    let name = function.name();
+    Ok(format!(in alloc; "{line}:{word}: bad argument {position} to {name}")?)
+}
