@@ -1,0 +1,115 @@
+// Arguments of functions of the library.
+
+ghost use Rattle.std.specs.Prelude.{◌≡◌, [], IfOk};
+ghost use Rattle.std.specs.Fmt.{signed_decimal};
+ghost use Rattle.std.specs.Option.{option_map};
+ghost use Rattle.lua_value.specs.Numbers.{IsInProfile};
+ghost use Rattle.lua_textlib.specs.Arguments.{argument, text_in, text_or, number_in, number_or, table_in, bytes_in};
+
+use lua_ops::numeral_of;
+use lua_table::Heap;
+use lua_value::{Number, Value};
+use tl_base::{NoMemory, TableId, Text2, TextId};
+
+/// The bytes that an argument is as a text: those of a text, which stay in the heap, or the decimal text of a number.
+#[derive(Debug, Drop)]
+pub enum Piece {
+    Text(TextId),
+    Decimal(Text2),
+}
+
+impl Piece {
+    /// The bytes.
+    pub fn bytes<'a>(&'a self, heap: &'a Heap) -> &'a [u8]
+        ensures { result.now ≡ bytes_in heap.now self.now }
+    {
+        match self {
+            Piece::Text(text) => heap.text(*text),
+            Piece::Decimal(text) => text.bytes(),
+        }
+    }
+}
+
+/// The argument of a number, from 0. One that isn't there reads as nil.
+pub fn argument(args: &[Value], number: usize) -> Value
+    ensures { result ≡ argument args.now number }
+{
+    match args.get(number) {
+        Some(value) => *value,
+        None => Value::Nil,
+    }
+}
+
+/// What a value is as a text (Lua 5.1 manual, section 2.2.1), and `None` where it is neither a text nor a number.
+pub fn text_in(heap: &Heap, value: Value) -> Result<Option<Piece>, NoMemory>
+    ensures { IfOk result (λ piece. option_map (bytes_in heap.now) piece ≡ text_in heap.now value) }
+{
+    match value {
+        Value::Text(text) => Ok(Some(Piece::Text(text))),
+        Value::Number(number) => Ok(Some(Piece::Decimal(decimal(heap, number)?))),
+        _ => Ok(None),
+    }
+}
+
+/// A number in decimal.
+pub fn decimal(heap: &Heap, number: Number) -> Result<Text2, NoMemory>
+    ensures { IfOk result (λ text. text ≡ signed_decimal number) }
+{
+    let number = number.get();
+    let text = format!(in heap.allocator(); "{number}")?;
+    let mut decimal = Text2::new(heap.allocator());
+    decimal.push_bytes(text.as_bytes())?;
+    Ok(decimal)
+}
+
+/// What an argument is as a text that need not be there: then it is empty.
+pub fn text_or_empty(heap: &Heap, value: Value) -> Result<Option<Piece>, NoMemory>
+    ensures { IfOk result (λ piece. option_map (bytes_in heap.now) piece ≡ text_or heap.now value []) }
+{
+    if value.is_nil() {
+        return Ok(Some(Piece::Decimal(Text2::new(heap.allocator()))));
+    }
+    text_in(heap, value)
+}
+
+/// The number that a value is, and `None` where it is none. A text that arithmetic turns into a number stands for it.
+pub fn number_in(heap: &Heap, value: Value) -> Option<Number>
+    ensures { result ≡ number_in heap.now value }
+{
+    match value {
+        Value::Number(number) => Some(number),
+        Value::Text(text) => numeral_of(heap.text(text)),
+        _ => None,
+    }
+}
+
+/// The number that an argument is, which need not be there.
+pub fn number_or(heap: &Heap, value: Value, default: Number) -> Option<Number>
+    ensures { result ≡ number_or heap.now value default }
+{
+    if value.is_nil() {
+        return Some(default);
+    }
+    number_in(heap, value)
+}
+
+/// The table that a value is.
+pub fn table_in(value: Value) -> Option<TableId>
+    ensures { result ≡ table_in value }
+{
+    match value {
+        Value::Table(table) => Some(table),
+        _ => None,
+    }
+}
+
+/// A number that there is.
+pub fn number(value: i64) -> Number
+    requires { IsInProfile value }
+    ensures { result ≡ value }
+{
+    match Number::new(value) {
+        Some(number) => number,
+        None => unreachable!(),
+    }
+}
