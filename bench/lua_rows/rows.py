@@ -9,6 +9,8 @@ dictionary, which keeps the order of first insertion as well.
 import random
 from pathlib import Path
 
+import texts
+
 LARGEST = 99_999_999_999_999
 CRATE = Path(__file__).resolve().parents[2] / "crates" / "lua_tests"
 
@@ -551,7 +553,7 @@ def by_hand():
 
 def main():
     rng = random.Random(19)
-    rows = list(by_hand()) + list(arithmetic(rng)) + list(tables(rng, 7))
+    rows = list(by_hand()) + list(arithmetic(rng)) + list(tables(rng, 7)) + texts.rows(rng, 11)
     calls = [("begin_call", str(min(count, 200))) for count in range(1, 203)]
     rows += calls
     (CRATE / "stdin").write_text("".join(f"{row}\n" for row, _ in rows))

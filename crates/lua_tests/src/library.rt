@@ -35,7 +35,7 @@ fn called(heap: &mut Heap, words: &[&str]) -> Result<String, NoMemory> {
         place: Place { line: 3, word: 7 },
         outer: None,
     };
-    let turn = call(heap, &asked, &mut budget)?;
+    let turn = answer_of(heap, &asked, &mut budget)?;
     let mut text = show_turn(heap, &turn)?;
     let left = budget.left();
     let units = format!(in alloc; "left {left}")?;
@@ -43,6 +43,22 @@ fn called(heap: &mut Heap, words: &[&str]) -> Result<String, NoMemory> {
     let printed = show_bytes(alloc, heap.printed().get(before..).unwrap_or(b""))?;
     push_word(&mut text, printed.as_str())?;
     Ok(text)
+}
+
+/// Asks the crate whose function is called.
+fn answer_of(heap: &mut Heap, asked: &LibCall, budget: &mut Budget) -> Result<LibTurn, NoMemory> {
+    match asked.function {
+        LibFn::Byte
+        | LibFn::Char
+        | LibFn::Format
+        | LibFn::Len
+        | LibFn::Rep
+        | LibFn::Sub
+        | LibFn::Concat
+        | LibFn::TableInsert
+        | LibFn::Remove => lua_textlib::call(heap, asked, budget),
+        _ => call(heap, asked, budget),
+    }
 }
 
 /// What a function answers.

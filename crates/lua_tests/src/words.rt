@@ -19,12 +19,17 @@ pub fn size_at(words: &[&str], place: usize) -> u64 {
     word_at(words, place).parse::<u64>().unwrap_or(0)
 }
 
-/// The value that a word of a row stands for. A text is interned.
+/// The value that a word of a row stands for. A text is interned; `x:12` is one of so many x.
 pub fn value_at(heap: &mut Heap, words: &[&str], place: usize) -> Result<Value, NoMemory> {
     let word = word_at(words, place);
     match word.as_bytes() {
         [b'\'', ..] => {
             let bytes = bytes_of(heap, word)?;
+            text_value(heap, &bytes)
+        }
+        [b'x', b':', ..] => {
+            let count = word.split_at(2).1.parse::<u64>().unwrap_or(0).min(100_000);
+            let bytes = vec![in heap.allocator(); b'x'; count as usize]?;
             text_value(heap, &bytes)
         }
         _ => Ok(plain_value(word)),

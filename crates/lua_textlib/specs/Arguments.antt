@@ -1,5 +1,5 @@
 -- Arguments of functions of the library. Further arguments than a function has do nothing.
-use Rattle.std.specs.Prelude.{ℕ, ℤ, List, slice_index_or, Option, Some, None, if◌then◌else◌}
+use Rattle.std.specs.Prelude.{ℕ, ℤ, List, [], slice_index_or, Option, Some, None, if◌then◌else◌}
 use Rattle.std.specs.Fmt.{signed_decimal}
 use Rattle.tl_base.specs.declared.ids.TableId.{TableId}
 use Rattle.lua_value.specs.Values.{is_nil}
@@ -9,7 +9,7 @@ use Rattle.lua_table.specs.LuaState.{LuaState}
 use Rattle.lua_table.specs.Heap.{text_at}
 use Rattle.lua_ops.specs.Numerals.{numeral_in}
 use Rattle.lua_textlib.specs.declared.arguments.Piece.{Piece}
-use Rattle.lua_textlib.specs.declared.arguments.Piece.TheVariants.{Text, Decimal}
+use Rattle.lua_textlib.specs.declared.arguments.Piece.TheVariants.{Text, Decimal, Empty}
 
 -- what is done with a value, or else where there is none
 abbrev pub given : {X Y : Type 0} → Option X → Y → (X → Y) → Y
@@ -24,6 +24,7 @@ argument vs i = slice_index_or vs i values.Nil
 abbrev pub bytes_in : LuaState → Piece → List ℕ
 bytes_in s (Text id) = text_at s id
 bytes_in s (Decimal bytes) = bytes
+bytes_in s Empty = []
 
 -- the bytes that a value is as a text: a number stands for its decimal text (Lua 5.1 manual, section 2.2.1)
 abbrev pub text_in : LuaState → Value → Option (List ℕ)

@@ -15,7 +15,7 @@ use Rattle.lua_textlib.specs.declared.refusal.Refusal.TheVariants.{BadArgument}
 
 -- no directive is open, and the argument of a number is the next one
 abbrev pub goes_on : ℕ → Result (List ℕ) Refusal → Result Formatting Refusal
-goes_on next (Ok bytes) = Ok (record { made = bytes; open = false; next = next })
+goes_on next (Ok bytes) = Ok (record { made = bytes; directive = false; next = next })
 goes_on next (Err refusal) = Err refusal
 
 -- what is made with more bytes behind it
@@ -41,8 +41,8 @@ directed s vs made next byte =
 -- a byte of the format: behind a `%`, a `%`, or one that stands for itself
 abbrev pub formatted_byte : LuaState → List Value → Formatting → ℕ → Result Formatting Refusal
 formatted_byte s vs f byte =
-    if f.open then directed s vs f.made f.next byte
-    else (if byte == 37 then Ok (record f { open = true }) else put f.made f.next (byte ∷ []))
+    if f.directive then directed s vs f.made f.next byte
+    else (if byte == 37 then Ok (record f { directive = true }) else put f.made f.next (byte ∷ []))
 
 abbrev pub and_then : Result Formatting Refusal → (Formatting → Result (List ℕ) Refusal) → Result (List ℕ) Refusal
 and_then (Ok f) go = go f
@@ -50,12 +50,12 @@ and_then (Err refusal) go = Err refusal
 
 -- the bytes of a format from the first one on; no `%` is the last one
 abbrev pub formatted : LuaState → List Value → Formatting → List ℕ → Result (List ℕ) Refusal
-formatted s vs f [] = if f.open then Err (BadArgument 1) else Ok f.made
+formatted s vs f [] = if f.directive then Err (BadArgument 1) else Ok f.made
 formatted s vs f (byte ∷ bytes) = and_then (formatted_byte s vs f byte) (λ g. formatted s vs g bytes)
 
 -- before the first byte nothing is made, and the argument behind the format is the next one
 abbrev pub begun : Formatting
-begun = record { made = []; open = false; next = 1 }
+begun = record { made = []; directive = false; next = 1 }
 
 -- `format` gives the text that its first argument says of the others
 abbrev pub format_turned : State LuaState → List Value → Place → Turned

@@ -40,18 +40,22 @@ pub record Joined : Type 0 where
 abbrev pub joined_value : LuaState → List ℕ → List ℕ → Value → Result (List ℕ) Refusal
 joined_value s made before v = given (text_in s v) (Err (BadArgument 1)) (λ bytes. grown made (before ++ bytes))
 
-abbrev pub and_then : Result (List ℕ) Refusal → ℕ → (List ℕ → Joined) → Joined
-and_then (Ok more) left go = go more
+-- a value under a number is paid for, and then read
+abbrev pub joined_step : LuaState → TableId → List ℕ → ℤ → List ℕ → ℕ → Joined
+joined_step s t before z made left =
+    if nat_le 1 left then record { made = joined_value s made before (held s t z); left = left - 1 }
+    else record { made = Err Spent; left = left }
+
+abbrev pub and_then : Result (List ℕ) Refusal → ℕ → (List ℕ → ℕ → Joined) → Joined
+and_then (Ok made) left go = go made left
 and_then (Err refusal) left go = record { made = Err refusal; left = left }
 
--- so many values of a table, each of which is paid for before it is read, from one on. `before` stands before the first one of them, and
--- the separator before the others
+-- so many values of a table, from one on. `before` stands before the first one of them, and the separator before the others
 abbrev pub joined : LuaState → TableId → List ℕ → List ℕ → ℤ → ℕ → List ℕ → ℕ → Joined
 joined s t separator before z zero made left = record { made = Ok made; left = left }
 joined s t separator before z (suc n) made left =
-    if nat_le 1 left then
-      and_then (joined_value s made before (held s t z)) (left - 1) (λ more. joined s t separator separator (z +ℤ pos 1) n more (left - 1))
-    else record { made = Err Spent; left = left }
+    let step = joined_step s t before z made left in
+    and_then step.made step.left (λ more rest. joined s t separator separator (z +ℤ pos 1) n more rest)
 
 -- how many whole numbers there are from one to another one, which is among them
 abbrev pub count_between : ℤ → ℤ → ℕ

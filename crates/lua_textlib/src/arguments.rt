@@ -1,6 +1,6 @@
 // Arguments of functions of the library.
 
-ghost use Rattle.std.specs.Prelude.{◌≡◌, [], IfOk};
+ghost use Rattle.std.specs.Prelude.{◌≡◌, ◌≤◌, [], length, IfOk};
 ghost use Rattle.std.specs.Fmt.{signed_decimal};
 ghost use Rattle.std.specs.Option.{option_map};
 ghost use Rattle.lua_value.specs.Numbers.{IsInProfile};
@@ -9,23 +9,27 @@ ghost use Rattle.lua_textlib.specs.Arguments.{argument, text_in, text_or, number
 use lua_ops::numeral_of;
 use lua_table::Heap;
 use lua_value::{Number, Value};
-use tl_base::{NoMemory, TableId, Text2, TextId};
+use tl_base::{NoMemory, TableId, Text, TextId};
 
-/// The bytes that an argument is as a text: those of a text, which stay in the heap, or the decimal text of a number.
+/// The bytes that an argument is as a text: those of a text, which stay in the heap, the decimal text of a number, or none where the
+/// argument may be left out.
 #[derive(Debug, Drop)]
 pub enum Piece {
     Text(TextId),
-    Decimal(Text2),
+    Decimal(Text),
+    Empty,
 }
 
 impl Piece {
     /// The bytes.
     pub fn bytes<'a>(&'a self, heap: &'a Heap) -> &'a [u8]
-        ensures { result.now ≡ bytes_in heap.now self.now }
+        ensures bytes { result.now ≡ bytes_in heap.now self.now }
+        ensures within { length result.now ≤ 65535 }
     {
         match self {
             Piece::Text(text) => heap.text(*text),
             Piece::Decimal(text) => text.bytes(),
+            Piece::Empty => &[],
         }
     }
 }
@@ -51,15 +55,17 @@ pub fn text_in(heap: &Heap, value: Value) -> Result<Option<Piece>, NoMemory>
     }
 }
 
+#[tactic(auto, using(crate::proofs::Shortness::number_is_short))]
 /// A number in decimal.
-pub fn decimal(heap: &Heap, number: Number) -> Result<Text2, NoMemory>
+pub fn decimal(heap: &Heap, number: Number) -> Result<Text, NoMemory>
     ensures { IfOk result (λ text. text ≡ signed_decimal number) }
 {
     let number = number.get();
     let text = format!(in heap.allocator(); "{number}")?;
-    let mut decimal = Text2::new(heap.allocator());
-    decimal.push_bytes(text.as_bytes())?;
-    Ok(decimal)
+    match Text::new(heap.allocator(), text.as_bytes())? {
+        Some(text) => Ok(text),
+        None => unreachable!(),
+    }
 }
 
 /// What an argument is as a text that need not be there: then it is empty.
@@ -67,7 +73,7 @@ pub fn text_or_empty(heap: &Heap, value: Value) -> Result<Option<Piece>, NoMemor
     ensures { IfOk result (λ piece. option_map (bytes_in heap.now) piece ≡ text_or heap.now value []) }
 {
     if value.is_nil() {
-        return Ok(Some(Piece::Decimal(Text2::new(heap.allocator()))));
+        return Ok(Some(Piece::Empty));
     }
     text_in(heap, value)
 }

@@ -19,7 +19,7 @@ use tl_base::{Budget, NoMemory, Place, Text2};
 pub struct Formatting {
     pub made: Text2,
     /// The byte before was a `%` that begins a directive.
-    pub open: bool,
+    pub directive: bool,
     /// The argument that the next directive reads, from 0.
     pub next: usize,
 }
@@ -52,7 +52,7 @@ fn formatted(
 {
     let mut formatting = Formatting {
         made: Text2::new(heap.allocator()),
-        open: false,
+        directive: false,
         next: 1,
     };
     for byte in format {
@@ -60,7 +60,7 @@ fn formatted(
             return Ok(Err(refusal));
         }
     }
-    if formatting.open {
+    if formatting.directive {
         return Ok(Err(Refusal::BadArgument(1)));
     }
     Ok(Ok(formatting.made))
@@ -78,10 +78,10 @@ fn format_byte(
         stepped refusal formatting.new ≡ formatted_byte heap.now args.now formatting.old byte) }
     ensures next { OnOk result (formatting.new.next ≤ formatting.old.next + 1) }
 {
-    if formatting.open {
+    if formatting.directive {
         direct(heap, args, formatting, byte)
     } else if byte == b'%' {
-        formatting.open = true;
+        formatting.directive = true;
         Ok(None)
     } else {
         put(formatting, &[byte], formatting.next)
@@ -154,7 +154,7 @@ fn put(
     ensures does { IfOk result (λ refusal. stepped refusal formatting.new ≡ put formatting.old.made next more.now) }
     ensures next { OnOk result (formatting.new.next ≡ next) }
 {
-    formatting.open = false;
+    formatting.directive = false;
     formatting.next = next;
     if push_within(&mut formatting.made, more)? {
         Ok(None)

@@ -1,13 +1,13 @@
 // The functions on tables.
 
-ghost use Rattle.std.specs.Prelude.{◌≡◌, ◌+◌, ◌≤◌, ℕ, ℤ, pos, ◌+ℤ◌, ◌≤ℤ◌, [], ◌++◌, length, IfOk, OnOk};
+ghost use Rattle.std.specs.Prelude.{◌≡◌, ◌+◌, ◌*◌, ◌≤◌, pos, ◌+ℤ◌, ◌≤ℤ◌, [], ◌++◌, length, IfOk, OnOk};
 ghost use Rattle.std.specs.Int.{int_gap};
 ghost use Rattle.tl_base.specs.Layer.{state};
 ghost use Rattle.lua_value.specs.Numbers.{IsInProfile, largest_size};
 ghost use Rattle.lua_value.specs.declared.value.Value.TheVariants as values;
 ghost use Rattle.lua_table.specs.Keeping.{KeepsHeap};
 ghost use Rattle.lua_base.specs.Calls.{turned};
-ghost use Rattle.lua_textlib.specs.Tables.{concat_turned, insert_turned, remove_turned, inserted, removed, joined, joined_value, grew, shifted_up, shifted_down, end_of, held, with_held, count_between};
+ghost use Rattle.lua_textlib.specs.Tables.{concat_turned, insert_turned, remove_turned, inserted, removed, joined, joined_step, joined_value, grew, shifted_up, shifted_down, end_of, held, with_held, count_between};
 
 use crate::answers::{give_nothing, give_value, make_or, push_within};
 use crate::arguments::{argument, number, number_in, number_or, table_in, text_in, text_or_empty};
@@ -83,16 +83,32 @@ fn joined(
     let mut made = Text2::new(heap.allocator());
     let mut before: &[u8] = &[];
     for index in 0..count_between(first, last) {
-        if !budget.pay(1) {
-            return Ok(Err(Refusal::Spent));
-        }
-        let value = heap.get(table, key(first.get() + index as i64));
-        if let Some(refusal) = push_value(heap, &mut made, before, value)? {
+        let at = first.get() + index as i64;
+        if let Some(refusal) = join_value(heap, budget, table, before, at, &mut made)? {
             return Ok(Err(refusal));
         }
         before = separator;
     }
     Ok(Ok(made))
+}
+
+/// Pays for the value under a number, and puts it behind a text that is being made, with what stands before it.
+fn join_value(
+    heap: &Heap,
+    budget: &mut Budget,
+    table: TableId,
+    before: &[u8],
+    at: i64,
+    made: &mut Text2,
+) -> Result<Option<Refusal>, NoMemory>
+    requires { IsInProfile at }
+    ensures { IfOk result (λ refusal. record { made = grew refusal made.new; left = budget.new } ≡
+        joined_step heap.now table before.now at made.old budget.old) }
+{
+    if !budget.pay(1) {
+        return Ok(Some(Refusal::Spent));
+    }
+    push_value(heap, made, before, heap.get(table, key(at)))
 }
 
 /// Puts a value of a table behind a text that is being made, with what stands before it.
@@ -116,7 +132,8 @@ fn push_value(
 
 /// How many whole numbers there are from one to another one, which is among them.
 fn count_between(first: Number, last: Number) -> u64
-    ensures { result ≡ count_between first last }
+    ensures count { result ≡ count_between first last }
+    ensures within { result ≤ 2 * largest_size + 1 }
 {
     if first.get() <= last.get() {
         gap(first, last) + 1
@@ -193,23 +210,49 @@ fn insert_at(
     if !budget.pay(shift + 1) {
         return Ok(LibTurn::Spent);
     }
+    make_way(heap, table, at, shift, value)?;
+    Ok(give_nothing(heap))
+}
+
+/// Puts a value under a number, from which so many values are moved.
+fn make_way(
+    heap: &mut Heap,
+    table: TableId,
+    at: Number,
+    shift: u64,
+    value: Value,
+) -> Result<(), NoMemory>
+    requires { (at +ℤ pos shift) ≤ℤ pos largest_size }
+    ensures does { OnOk result (heap.new ≡ with_held (shifted_up heap.old table at shift) table at value) }
+    ensures kept { OnOk result (KeepsHeap heap.old heap.new) }
+{
     shift_up(heap, table, at, shift)?;
     heap.store(table, Value::Number(at), value)?;
-    Ok(give_nothing(heap))
+    Ok(())
 }
 
 /// Moves so many values, from a number on, each to the next number, the last one first.
 fn shift_up(heap: &mut Heap, table: TableId, at: Number, shift: u64) -> Result<(), NoMemory>
-    requires { at +ℤ pos shift ≤ℤ pos largest_size }
+    requires { (at +ℤ pos shift) ≤ℤ pos largest_size }
     ensures does { OnOk result (heap.new ≡ shifted_up heap.old table at shift) }
     ensures kept { OnOk result (KeepsHeap heap.old heap.new) }
 {
     for index in 0..shift {
-        let from = at.get() + (shift - index) as i64 - 1;
-        let value = heap.get(table, key(from));
-        heap.store(table, key(from + 1), value)?;
+        let to = at.get() + (shift - index) as i64;
+        move_value(heap, table, to - 1, to)?;
     }
     Ok(())
+}
+
+/// Puts the value under a number under another one.
+fn move_value(heap: &mut Heap, table: TableId, from: i64, to: i64) -> Result<(), NoMemory>
+    requires from { IsInProfile from }
+    requires to { IsInProfile to }
+    ensures does { OnOk result (heap.new ≡ with_held heap.old table to (held heap.old table from)) }
+    ensures kept { OnOk result (KeepsHeap heap.old heap.new) }
+{
+    let value = heap.get(table, key(from));
+    heap.store(table, key(to), value)
 }
 
 /// Takes the value under a number of a list out, or the last one, and gives it. Outside of the list it does nothing.
@@ -256,21 +299,36 @@ fn remove_at(
         return Ok(LibTurn::Spent);
     }
     let value = heap.get(table, Value::Number(at));
+    close_up(heap, table, at, end, shift)?;
+    give_value(heap, value)
+}
+
+/// Moves the values behind a number of a list, which are so many, to it, and empties the end.
+fn close_up(
+    heap: &mut Heap,
+    table: TableId,
+    at: Number,
+    end: Number,
+    shift: u64,
+) -> Result<(), NoMemory>
+    requires { (at +ℤ pos shift) ≤ℤ pos largest_size }
+    ensures does { OnOk result (heap.new ≡ with_held (shifted_down heap.old table at shift) table end values.Nil) }
+    ensures kept { OnOk result (KeepsHeap heap.old heap.new) }
+{
     shift_down(heap, table, at, shift)?;
     heap.store(table, Value::Number(end), Value::Nil)?;
-    give_value(heap, value)
+    Ok(())
 }
 
 /// Moves so many values behind a number, each to the number before, the first one first.
 fn shift_down(heap: &mut Heap, table: TableId, at: Number, shift: u64) -> Result<(), NoMemory>
-    requires { at +ℤ pos shift ≤ℤ pos largest_size }
+    requires { (at +ℤ pos shift) ≤ℤ pos largest_size }
     ensures does { OnOk result (heap.new ≡ shifted_down heap.old table at shift) }
     ensures kept { OnOk result (KeepsHeap heap.old heap.new) }
 {
     for index in 0..shift {
         let to = at.get() + index as i64;
-        let value = heap.get(table, key(to + 1));
-        heap.store(table, key(to), value)?;
+        move_value(heap, table, to + 1, to)?;
     }
     Ok(())
 }

@@ -6,10 +6,11 @@ ghost use Rattle.tl_base.specs.Layer.{state};
 ghost use Rattle.lua_table.specs.Keeping.{KeepsHeap};
 ghost use Rattle.lua_base.specs.Calls.{turned};
 ghost use Rattle.lua_textlib.specs.Texts.{len_turned, sub_turned, byte_turned, rep_turned, char_turned, place_of, part, number_of_byte, repeated, times, byte_from, chars_from};
-ghost use Rattle.lua_textlib.specs.Arguments.{number_in};
+ghost use Rattle.lua_textlib.specs.Arguments.{number_in, bytes_in};
+ghost use Rattle.lua_textlib.specs.Answers.{making};
 
 use crate::answers::{give_text, give_value, make_or, raise_too_long};
-use crate::arguments::{argument, number, number_in, number_or, text_in};
+use crate::arguments::{Piece, argument, number, number_in, number_or, text_in};
 use crate::refusal::Refusal;
 use lua_base::{bad_argument, text_units};
 use lua_table::{Heap, LibTurn};
@@ -157,7 +158,23 @@ pub fn rep(
     let Some(count) = number_in(heap, argument(args, 1)) else {
         return bad_argument(heap, budget, place, 2, LibFn::Rep);
     };
-    let times = times(count);
+    repeat(heap, budget, &text, times(count), place)
+}
+
+#[tactic(auto, using(crate::proofs::Repeats::made_long, crate::proofs::Repeats::made_paid, crate::proofs::Repeats::repeated_length))]
+/// Pays for a text so many times, and gives it.
+fn repeat(
+    heap: &mut Heap,
+    budget: &mut Budget,
+    text: &Piece,
+    times: usize,
+    place: Place,
+) -> Result<LibTurn, NoMemory>
+    requires { times ≤ largest_size }
+    ensures does { IfOk result (λ turn. turned turn (state heap.new budget.new) ≡
+        making (state heap.old budget.old) (repeated times (bytes_in heap.old text.now)) place) }
+    ensures kept { OnOk result (KeepsHeap heap.old heap.new) }
+{
     let size = text.bytes(heap).len() * times;
     if size > Text::MAX_LEN {
         return raise_too_long(heap, budget, place);
@@ -178,18 +195,25 @@ fn times(number: Number) -> usize
     if number > 0 { number as usize } else { 0 }
 }
 
+#[tactic(auto, using(crate::proofs::Repeats::repeated_more))]
 /// Bytes so many times.
 fn repeated(alloc: Global, bytes: &[u8], times: usize) -> Result<Vec<u8>, NoMemory>
     requires { length bytes.now * times ≤ 65535 }
     ensures { IfOk result (λ made. made.items ≡ repeated times bytes.now) }
 {
-    // No bytes are the same any number of times, and the loop would not end soon.
-    let times = if bytes.is_empty() { 0 } else { times };
     let mut made = Vec::with_capacity(alloc, bytes.len() * times)?;
-    for _turn in 0..times {
+    for _turn in 0..turns(bytes, times) {
         made.extend_from_slice(bytes)?;
     }
     Ok(made)
+}
+
+#[tactic(auto, using(crate::proofs::Repeats::repeated_nothing))]
+/// How often bytes are put behind each other. No bytes are the same any number of times, and a loop over these would not end soon.
+fn turns(bytes: &[u8], times: usize) -> usize
+    ensures { repeated result bytes.now ≡ repeated times bytes.now }
+{
+    if bytes.is_empty() { 0 } else { times }
 }
 
 /// Gives the text of the bytes that the arguments are.

@@ -1,0 +1,4 @@
+pub mod Shortness
+pub mod Repeats
+pub mod Shifts
+pub mod Joins

@@ -1,0 +1,5 @@
+use Rattle.lua_table.proofs.Keeping.{keeps_stored, keeps_then}
+use Rattle.lua_textlib.proofs.tables.make_way.Goals as goal
+
+pub returns-clause-kept : goal.returns-clause-kept
+returns-clause-kept c = rw c.in_ok-store.ensures.ok (keeps_then _ _ _ c.in_ok-shift_up.ensures.kept (keeps_stored _ _ _ _))
