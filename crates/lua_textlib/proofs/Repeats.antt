@@ -60,7 +60,7 @@ made_ok s n bytes place made world left units (Ok turn) em eu h enough el et ew 
     let after : LuaState = with_text s.world (repeated n bytes) in
     let u : ℕ = text_units (length bytes * n) in
     let answer : making s (repeated n bytes) place ≡ base.turned gives (state after (s.left - u)) =
-      made_paid s n bytes place h ∙ ap (λ b. cond b (base.turned gives (state after (s.left - u))) (base.turned turns.Spent s)) paid in
+    made_paid s n bytes place h ∙ ap (λ b. cond b (base.turned gives (state after (s.left - u))) (base.turned turns.Spent s)) paid in
     let t : turn ≡ gives = et ∙ ap (λ (b : List ℕ). one_value (values.Text (interned_id s.world b))) em in
     let w : world ≡ after = ew ∙ ap (λ (b : List ℕ). with_text s.world b) em in
     let l : left ≡ s.left - u = el ∙ ap (λ (k : ℕ). s.left - k) eu in

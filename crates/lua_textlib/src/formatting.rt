@@ -43,11 +43,7 @@ pub fn format(
 }
 
 /// What the bytes of a format make of the arguments.
-fn formatted(
-    heap: &Heap,
-    args: &[Value],
-    format: &[u8],
-) -> Result<Result<Text2, Refusal>, NoMemory>
+fn formatted(heap: &Heap, args: &[Value], format: &[u8]) -> Result<Result<Text2, Refusal>, NoMemory>
     ensures { IfOk result (λ made. made ≡ formatted heap.now args.now begun format.now) }
 {
     let mut formatting = Formatting {
@@ -146,11 +142,7 @@ fn put_text(
 }
 
 /// Puts bytes behind what is made. A directive is over by that, and the next one reads this argument.
-fn put(
-    formatting: &mut Formatting,
-    more: &[u8],
-    next: usize,
-) -> Result<Option<Refusal>, NoMemory>
+fn put(formatting: &mut Formatting, more: &[u8], next: usize) -> Result<Option<Refusal>, NoMemory>
     ensures does { IfOk result (λ refusal. stepped refusal formatting.new ≡ put formatting.old.made next more.now) }
     ensures next { OnOk result (formatting.new.next ≡ next) }
 {

@@ -294,12 +294,12 @@ fn remove_at(
         turned turn (state heap.new budget.new) ≡ removed (state heap.old budget.old) table at) }
     ensures kept { OnOk result (KeepsHeap heap.old heap.new) }
 {
-    let shift = gap(at, end);
-    if !budget.pay(shift + 1) {
+    let behind = gap(at, end);
+    if !budget.pay(behind + 1) {
         return Ok(LibTurn::Spent);
     }
     let value = heap.get(table, Value::Number(at));
-    close_up(heap, table, at, end, shift)?;
+    close_up(heap, table, at, end, behind)?;
     give_value(heap, value)
 }
 

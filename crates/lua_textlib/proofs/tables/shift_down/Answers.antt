@@ -10,10 +10,10 @@ loop-index-preserved c =
     let high = at_most c.args.at c.get.ensures.profile in
     record {
       moved =
-        down_step _ _ _ (c.args.at +ℤ pos c.loop-index.index) (c.args.at +ℤ pos (c.loop-index.index + 1)) _ _ (c.args.shift - (c.loop-index.index + 1)) (c.args.shift - c.loop-index.index) c.in_ok-move_value.ensures.does
-        (omega (arith, ints, low, high, c.requires, c.loop-index-test.true))
-        (omega (arith, ints, low, high, c.requires, c.loop-index-test.true))
-        (omega (arith, ints)) (omega (arith, c.loop-index-test.true))
-        ∙ c.loop-index.invariant.moved;
+          down_step _ _ _ (c.args.at +ℤ pos c.loop-index.index) (c.args.at +ℤ pos (c.loop-index.index + 1)) _ _ (c.args.shift - (c.loop-index.index + 1)) (c.args.shift - c.loop-index.index) c.in_ok-move_value.ensures.does
+          (omega (arith, ints, low, high, c.requires, c.loop-index-test.true))
+          (omega (arith, ints, low, high, c.requires, c.loop-index-test.true))
+          (omega (arith, ints)) (omega (arith, c.loop-index-test.true))
+          ∙ c.loop-index.invariant.moved;
       kept = keeps_then _ _ _ c.loop-index.invariant.kept c.in_ok-move_value.ensures.kept;
     }
