@@ -2,3 +2,4 @@ pub mod Shortness
 pub mod Repeats
 pub mod Shifts
 pub mod Joins
+pub mod Moved

@@ -2,7 +2,7 @@
 //! `char`, `format`, `len`, `rep` and `sub`, and `table` with `concat`, `insert` and `remove`.
 //!
 //! - `calls`: which function is called;
-//! - `texts`, `formatting`, `tables`: what each one does, and what it pays;
+//! - `texts`, `formatting`, `tables`: what each one does, and what it pays; `laws`: what moving values comes to;
 //! - `arguments`: what its arguments are, `answers`: what it answers, `refusal`: what ends the making of a text.
 #![tactic(auto)]
 
@@ -10,6 +10,7 @@ pub mod answers;
 pub mod arguments;
 pub mod calls;
 pub mod formatting;
+pub mod laws;
 pub mod refusal;
 pub mod tables;
 pub mod texts;
