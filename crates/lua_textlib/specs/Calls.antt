@@ -7,8 +7,7 @@ use Rattle.lua_value.specs.declared.library.LibFn.TheVariants.{Byte, Char, Forma
 use Rattle.lua_value.specs.declared.value.Value.{Value}
 use Rattle.lua_table.specs.LuaState.{LuaState}
 use Rattle.lua_table.specs.declared.call.LibCall.{LibCall}
-use Rattle.lua_base.specs.Calls.{Turned}
-use Rattle.lua_textlib.specs.Answers.{gives}
+use Rattle.lua_base.specs.Calls.{Turned, gives}
 use Rattle.lua_textlib.specs.Texts.{byte_turned, char_turned, len_turned, rep_turned, sub_turned}
 use Rattle.lua_textlib.specs.Formats.{format_turned}
 use Rattle.lua_textlib.specs.Tables.{concat_turned, insert_turned, remove_turned}

@@ -6,8 +6,9 @@ use Rattle.tl_base.specs.Layer.{State}
 use Rattle.lua_value.specs.declared.library.LibFn.TheVariants.{Format}
 use Rattle.lua_value.specs.declared.value.Value.{Value}
 use Rattle.lua_table.specs.LuaState.{LuaState}
+use Rattle.lua_base.specs.Arguments.{argument, number_in}
 use Rattle.lua_base.specs.Calls.{Turned, bad_argument}
-use Rattle.lua_textlib.specs.Arguments.{given, argument, text_in, number_in}
+use Rattle.lua_textlib.specs.Arguments.{given, text_in}
 use Rattle.lua_textlib.specs.Answers.{making_or, grown}
 use Rattle.lua_textlib.specs.declared.formatting.Formatting.{Formatting}
 use Rattle.lua_textlib.specs.declared.refusal.Refusal.{Refusal}

@@ -12,9 +12,10 @@ use Rattle.lua_table.specs.LuaState.{LuaState}
 use Rattle.lua_table.specs.Heap.{table_at, with_stored}
 use Rattle.lua_table.specs.Pairs.{value_in, border_of}
 use Rattle.lua_table.specs.declared.call.LibTurn.TheVariants as turns
-use Rattle.lua_base.specs.Calls.{Turned, paying, bad_argument}
-use Rattle.lua_textlib.specs.Arguments.{given, argument, text_in, text_or, number_in, number_or, table_in}
-use Rattle.lua_textlib.specs.Answers.{gives, one_value, making_or, grown}
+use Rattle.lua_base.specs.Arguments.{argument, number_in, number_or, table_in}
+use Rattle.lua_base.specs.Calls.{Turned, gives, paying, bad_argument}
+use Rattle.lua_textlib.specs.Arguments.{given, text_in, text_or}
+use Rattle.lua_textlib.specs.Answers.{one_value, making_or, grown}
 use Rattle.lua_textlib.specs.declared.refusal.Refusal.{Refusal}
 use Rattle.lua_textlib.specs.declared.refusal.Refusal.TheVariants.{BadArgument, Spent}
 

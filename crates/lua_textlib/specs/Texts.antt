@@ -6,9 +6,10 @@ use Rattle.lua_value.specs.declared.library.LibFn.TheVariants.{Byte, Char, Len, 
 use Rattle.lua_value.specs.declared.value.Value.{Value}
 use Rattle.lua_value.specs.declared.value.Value.TheVariants as values
 use Rattle.lua_table.specs.LuaState.{LuaState}
-use Rattle.lua_base.specs.Calls.{Turned, bad_argument}
-use Rattle.lua_textlib.specs.Arguments.{given, argument, text_in, number_in, number_or}
-use Rattle.lua_textlib.specs.Answers.{gives, making, making_or}
+use Rattle.lua_base.specs.Arguments.{argument, number_in, number_or}
+use Rattle.lua_base.specs.Calls.{Turned, gives, bad_argument}
+use Rattle.lua_textlib.specs.Arguments.{given, text_in}
+use Rattle.lua_textlib.specs.Answers.{making, making_or}
 use Rattle.lua_textlib.specs.declared.refusal.Refusal.{Refusal}
 use Rattle.lua_textlib.specs.declared.refusal.Refusal.TheVariants.{BadArgument}
 

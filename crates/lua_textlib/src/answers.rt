@@ -7,10 +7,10 @@ ghost use Rattle.lua_value.specs.declared.value.Value.TheVariants as values;
 ghost use Rattle.lua_table.specs.Heap.{interned_id, with_text};
 ghost use Rattle.lua_table.specs.Keeping.{KeepsHeap};
 ghost use Rattle.lua_base.specs.Calls.{turned, bad_argument};
-ghost use Rattle.lua_textlib.specs.Answers.{one_value, placed, too_long, making, making_or, gives};
+ghost use Rattle.lua_textlib.specs.Answers.{one_value, too_long, making, making_or};
 
 use crate::refusal::Refusal;
-use lua_base::{bad_argument, text_units};
+use lua_base::{bad_argument, raise, text_units};
 use lua_table::{Heap, LibTurn};
 use lua_value::{LibFn, Value, Values};
 use std::alloc::Global;
@@ -73,19 +73,7 @@ pub fn raise_too_long(
         turned turn (state heap.new budget.new) ≡ too_long (state heap.old budget.old) place) }
     ensures kept { OnOk result (KeepsHeap heap.old heap.new) }
 {
-    let text = too_long_text(heap.allocator(), place.line, place.word)?;
-    if !budget.pay(text_units(text.len())) {
-        return Ok(LibTurn::Spent);
-    }
-    let made = heap.intern(text.as_bytes())?;
-    Ok(LibTurn::Raise(Value::Text(made), place))
-}
-
-fn too_long_text(alloc: Global, line: u32, word: u32) -> Result<String, NoMemory>
-    ensures text { IfOk result (λ text. string_bytes text ≡ placed line word (codes "text too long")) }
-    ensures short { IfOk result (λ text. length (string_bytes text) ≤ 65535) }
-{
-    Ok(format!(in alloc; "{line}:{word}: text too long")?)
+    raise(heap, budget, place, b"text too long")
 }
 
 /// Answers with a text that was made step by step, or with what ended it before.

@@ -4,9 +4,10 @@ ghost use Rattle.std.specs.Prelude.{◌≡◌, ◌≤◌, [], length, IfOk};
 ghost use Rattle.std.specs.Fmt.{signed_decimal};
 ghost use Rattle.std.specs.Option.{option_map};
 ghost use Rattle.lua_value.specs.Numbers.{IsInProfile};
-ghost use Rattle.lua_textlib.specs.Arguments.{argument, text_in, text_or, number_in, number_or, table_in, bytes_in};
+ghost use Rattle.lua_base.specs.Arguments.{number_or};
+ghost use Rattle.lua_textlib.specs.Arguments.{text_in, text_or, bytes_in};
 
-use lua_ops::numeral_of;
+use lua_base::number_in;
 use lua_table::Heap;
 use lua_value::{Number, Value};
 use tl_base::{NoMemory, TableId, Text, TextId};
@@ -31,16 +32,6 @@ impl Piece {
             Piece::Decimal(text) => text.bytes(),
             Piece::Empty => &[],
         }
-    }
-}
-
-/// The argument of a number, from 0. One that isn't there reads as nil.
-pub fn argument(args: &[Value], number: usize) -> Value
-    ensures { result ≡ argument args.now number }
-{
-    match args.get(number) {
-        Some(value) => *value,
-        None => Value::Nil,
     }
 }
 
@@ -78,17 +69,6 @@ pub fn text_or_empty(heap: &Heap, value: Value) -> Result<Option<Piece>, NoMemor
     text_in(heap, value)
 }
 
-/// The number that a value is, and `None` where it is none. A text that arithmetic turns into a number stands for it.
-pub fn number_in(heap: &Heap, value: Value) -> Option<Number>
-    ensures { result ≡ number_in heap.now value }
-{
-    match value {
-        Value::Number(number) => Some(number),
-        Value::Text(text) => numeral_of(heap.text(text)),
-        _ => None,
-    }
-}
-
 /// The number that an argument is, which need not be there.
 pub fn number_or(heap: &Heap, value: Value, default: Number) -> Option<Number>
     ensures { result ≡ number_or heap.now value default }
@@ -97,16 +77,6 @@ pub fn number_or(heap: &Heap, value: Value, default: Number) -> Option<Number>
         return Some(default);
     }
     number_in(heap, value)
-}
-
-/// The table that a value is.
-pub fn table_in(value: Value) -> Option<TableId>
-    ensures { result ≡ table_in value }
-{
-    match value {
-        Value::Table(table) => Some(table),
-        _ => None,
-    }
 }
 
 /// A number that there is.

@@ -7,9 +7,9 @@ ghost use Rattle.lua_base.specs.Calls.{turned};
 ghost use Rattle.lua_textlib.specs.Formats.{format_turned, formatted, formatted_byte, directed, numbered, worded, put, begun, stepped};
 
 use crate::answers::{make_or, push_within};
-use crate::arguments::{argument, decimal, number_in, text_in};
+use crate::arguments::{decimal, text_in};
 use crate::refusal::Refusal;
-use lua_base::bad_argument;
+use lua_base::{argument, bad_argument, number_in};
 use lua_table::{Heap, LibTurn};
 use lua_value::{LibFn, Value};
 use tl_base::{Budget, NoMemory, Place, Text2};

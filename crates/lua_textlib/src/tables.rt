@@ -10,9 +10,9 @@ ghost use Rattle.lua_base.specs.Calls.{turned};
 ghost use Rattle.lua_textlib.specs.Tables.{concat_turned, insert_turned, remove_turned, inserted, removed, joined, joined_step, joined_value, grew, shifted_up, shifted_down, end_of, held, with_held, count_between};
 
 use crate::answers::{give_nothing, give_value, make_or, push_within};
-use crate::arguments::{argument, number, number_in, number_or, table_in, text_in, text_or_empty};
+use crate::arguments::{number, number_or, text_in, text_or_empty};
 use crate::refusal::Refusal;
-use lua_base::bad_argument;
+use lua_base::{argument, bad_argument, number_in, table_in};
 use lua_table::{Heap, LibTurn};
 use lua_value::{LibFn, Number, Value};
 use tl_base::{Budget, NoMemory, Place, TableId, Text2};

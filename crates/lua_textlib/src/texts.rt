@@ -6,13 +6,14 @@ ghost use Rattle.tl_base.specs.Layer.{state};
 ghost use Rattle.lua_table.specs.Keeping.{KeepsHeap};
 ghost use Rattle.lua_base.specs.Calls.{turned};
 ghost use Rattle.lua_textlib.specs.Texts.{len_turned, sub_turned, byte_turned, rep_turned, char_turned, place_of, part, number_of_byte, repeated, times, byte_from, chars_from};
-ghost use Rattle.lua_textlib.specs.Arguments.{number_in, bytes_in};
+ghost use Rattle.lua_base.specs.Arguments.{number_in};
+ghost use Rattle.lua_textlib.specs.Arguments.{bytes_in};
 ghost use Rattle.lua_textlib.specs.Answers.{making};
 
 use crate::answers::{give_text, give_value, make_or, raise_too_long};
-use crate::arguments::{Piece, argument, number, number_in, number_or, text_in};
+use crate::arguments::{Piece, number, number_or, text_in};
 use crate::refusal::Refusal;
-use lua_base::{bad_argument, text_units};
+use lua_base::{argument, bad_argument, number_in, text_units};
 use lua_table::{Heap, LibTurn};
 use lua_value::{LibFn, Number, Value, Values};
 use std::alloc::Global;
