@@ -15,13 +15,13 @@ pub record InScope : Type 0 where
   pub symbol : SymId
   pub number : ℕ
 
-abbrev number_of : SymId → List InScope → List ℕ
+abbrev pub number_of : SymId → List InScope → List ℕ
 number_of x [] = []
 number_of x (d ∷ ds) = if nat_eq x.0 d.symbol.0 then d.number ∷ [] else number_of x ds
 
 -- the numbers of the declarations whose address is taken, with those in scope, the nearest first, and those of the
 -- scopes around
-abbrev taken : List Event → List InScope → List (List InScope) → ℕ → List ℕ
+abbrev pub taken : List Event → List InScope → List (List InScope) → ℕ → List ℕ
 taken [] here around next = []
 taken (Opens ∷ es) here around next = taken es here (here ∷ around) next
 taken (Closes ∷ es) here [] next = taken es [] [] next
@@ -40,14 +40,14 @@ pub record Frame : Type 0 where
   pub homes : List Home
   pub size : ℕ
 
-abbrev with_home : Home → Frame → Frame
+abbrev pub with_home : Home → Frame → Frame
 with_home h f = record f { homes = h ∷ f.homes }
 
-abbrev has : ℕ → List ℕ → Bool
+abbrev pub has : ℕ → List ℕ → Bool
 has n [] = false
 has n (m ∷ ms) = nat_eq n m || has n ms
 
-abbrev framed : List TypeForm → (placed : List ℕ) → (next offset : ℕ) → List TypeId → Frame
+abbrev pub framed : List TypeForm → (placed : List ℕ) → (next offset : ℕ) → List TypeId → Frame
 framed types placed next offset [] = record { homes = []; size = rounded offset 16 }
 framed types placed next offset (t ∷ ts) =
     if is_aggregate types t || has next placed
@@ -55,7 +55,7 @@ framed types placed next offset (t ∷ ts) =
     with_home (in_frame at) (framed types placed (suc next) (at + bytes_at types t) ts))
     else with_home by_value (framed types placed (suc next) offset ts)
 
-abbrev frame_from : List TypeForm → List Event → Frame
+abbrev pub frame_from : List TypeForm → List Event → Frame
 frame_from types events = framed types (taken events [] [] 0) 0 0 (declared_in events)
 
 abbrev pub frame_of : List TypeForm → Body → Frame

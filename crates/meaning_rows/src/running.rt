@@ -1,0 +1,170 @@
+// The rows that add types, statics and functions, and those that run functions.
+
+use crate::building::Work;
+use crate::doing::names_from;
+use crate::words::{bytes_of, count_at, number_at, shown, word_at};
+use std::alloc::Global;
+use terra_eval::{End, Run, Value, evaluate};
+use terra_term::{Term, TermList, Typed, ParameterList};
+use terra_types::Entry;
+use terra_words::FaultKind;
+use tl_base::{FnId, NoMemory, Place, TermId, Text2, TextId, TypeId};
+
+/// A type, a static, a function, the functions that stand as values, or a run.
+pub fn row(work: &mut Work, word: &str, words: &[&str]) -> Result<Option<String>, NoMemory> {
+    let n = number_at(words, 1);
+    match word {
+        "pointer" => {
+            let t = work.store.types_mut().pointer_to(TypeId(n))?;
+            number(work.store.allocator(), t.0)
+        }
+        "array" => {
+            let t = work.store.types_mut().array_of(TypeId(n), number_at(words, 2))?;
+            number(work.store.allocator(), t.0)
+        }
+        "function" => {
+            let params = types_from(work.store.allocator(), words, 2)?;
+            let t = work.store.types_mut().function_of(&params, TypeId(n))?;
+            number(work.store.allocator(), t.0)
+        }
+        "struct" => structure(work, words),
+        "bytes" => bytes(work, words),
+        "fn" => function(work, words),
+        "entries" => {
+            let mut entries = Vec::new(work.store.allocator());
+            for place in 1..words.len() {
+                entries.push(FnId(number_at(words, place)))?;
+            }
+            work.entries = entries;
+            Ok(None)
+        }
+        "run" => run(work, words),
+        _ => Ok(Some(String::from_str(work.store.allocator(), "no such row")?)),
+    }
+}
+
+fn number(alloc: Global, n: u64) -> Result<Option<String>, NoMemory> {
+    Ok(Some(format!(in alloc; "{n}")?))
+}
+
+fn types_from(alloc: Global, words: &[&str], from: usize) -> Result<Vec<TypeId>, NoMemory> {
+    let mut types = Vec::new(alloc);
+    for place in from..words.len() {
+        types.push(TypeId(number_at(words, place)))?;
+    }
+    Ok(types)
+}
+
+/// `struct TYPE..`
+fn structure(work: &mut Work, words: &[&str]) -> Result<Option<String>, NoMemory> {
+    let alloc = work.store.allocator();
+    let t = work.store.types_mut().new_struct(Place { line: 1, word: 1 })?;
+    let mut entries = Vec::new(alloc);
+    for (i, of) in types_from(alloc, words, 1)?.iter().enumerate() {
+        entries.push(Entry {
+            field: TextId(i as u64),
+            of: *of,
+        })?;
+    }
+    work.store.types_mut().settle(t, entries)?;
+    number(alloc, t.0)
+}
+
+/// `bytes DIGITS`: a static, in a region of 65,536 bytes
+fn bytes(work: &mut Work, words: &[&str]) -> Result<Option<String>, NoMemory> {
+    let alloc = work.store.allocator();
+    let bytes = Text2::from_vec(bytes_of(alloc, word_at(words, 1))?);
+    let Some(id) = work.store.new_global(TypeId(4), bytes, 65_536)? else {
+        return Ok(Some(String::from_str(alloc, "no room")?));
+    };
+    match work.store.global(id) {
+        Some(global) => number(alloc, global.address),
+        None => Ok(None),
+    }
+}
+
+/// `fn COUNT RESULT NAME:TYPE..`, behind the body
+fn function(work: &mut Work, words: &[&str]) -> Result<Option<String>, NoMemory> {
+    let alloc = work.store.allocator();
+    let parameters = names_from(alloc, words, 3)?;
+    let body = work.take(count_at(words, 1))?;
+    let node = Typed::Function(parameters, TypeId(number_at(words, 2)), body);
+    let made = work.store.new_typed(node)?;
+    let none = Term::Function(
+        ParameterList::from_vec(Vec::new(alloc))?,
+        None,
+        TermList::from_vec(Vec::new(alloc))?,
+    );
+    let term = work.store.new_term(none)?;
+    let f = typed_function(work, term, made)?;
+    number(alloc, f.0)
+}
+
+fn typed_function(work: &mut Work, term: TermId, made: TermId) -> Result<FnId, NoMemory> {
+    let place = Place { line: 2, word: 1 };
+    let f = work.store.declare(None, place)?;
+    work.store.define(f, term, place)?;
+    work.store.begin_typing(f);
+    work.store.finish_typing(f, made);
+    Ok(f)
+}
+
+/// `run FUNCTION MEMORY COUNT ARGUMENT..`
+fn run(work: &Work, words: &[&str]) -> Result<Option<String>, NoMemory> {
+    let alloc = work.store.allocator();
+    let f = FnId(number_at(words, 1));
+    let memory = number_at(words, 2);
+    let mut arguments = Vec::new(alloc);
+    for place in 4..words.len() {
+        arguments.push(Value::word(number_at(words, place)))?;
+    }
+    if memory % 1024 != 0 || memory < 65_536 || memory > 67_108_864 {
+        return Ok(Some(String::from_str(alloc, "bad memory")?));
+    }
+    let run = evaluate(&work.store, &work.entries, memory, number_at(words, 3), f, &arguments)?;
+    Ok(Some(run_text(alloc, &run)?))
+}
+
+fn run_text(alloc: Global, run: &Run) -> Result<String, NoMemory> {
+    match run {
+        Run::More(out) => {
+            let out = shown(alloc, out)?;
+            Ok(format!(in alloc; "more [{out}]")?)
+        }
+        Run::Over(end, out) => {
+            let end = end_text(alloc, end)?;
+            let out = shown(alloc, out)?;
+            Ok(format!(in alloc; "{end} [{out}]")?)
+        }
+    }
+}
+
+fn end_text(alloc: Global, end: &End) -> Result<String, NoMemory> {
+    match end {
+        End::Returned(v) => {
+            if v.as_bytes().is_empty() {
+                let word = v.number();
+                return Ok(format!(in alloc; "returned {word}")?);
+            }
+            let bytes = shown(alloc, v.as_bytes())?;
+            Ok(format!(in alloc; "returned bytes {bytes}")?)
+        }
+        End::Fault(kind, at) => {
+            let kind = kind_text(*kind);
+            let (line, word) = (at.line, at.word);
+            Ok(format!(in alloc; "{kind} at {line}:{word}")?)
+        }
+        End::Stuck => Ok(String::from_str(alloc, "stuck")?),
+    }
+}
+
+fn kind_text(kind: FaultKind) -> &'static str {
+    match kind {
+        FaultKind::BadAddress => "BadAddress",
+        FaultKind::DivZero => "DivZero",
+        FaultKind::StackFull => "StackFull",
+        FaultKind::CallDepth => "CallDepth",
+        FaultKind::NoReturn => "NoReturn",
+        FaultKind::BadCall => "BadCall",
+    }
+}

@@ -1,0 +1,12 @@
+pub mod Bytes
+pub mod Called
+pub mod Callees
+pub mod Entries
+pub mod Calling
+pub mod Growing
+pub mod Homes
+pub mod Loops
+pub mod Putting
+pub mod Statics
+pub mod Steps
+pub mod Turns

@@ -1,0 +1,87 @@
+// Runs of whole programs.
+
+ghost use Rattle.std.specs.Prelude.{◌≡◌, ◌-◌, ◌/◌, ◌≤◌, ◌++◌, length, replicate, IfOk, OnOk};
+ghost use Rattle.terra_memory.specs.Region.{IsMemorySize};
+ghost use Rattle.terra_term.specs.Stores.{callable_of, contents_of, static_bytes};
+ghost use Rattle.terra_meaning.specs.Meaning.{meaning, place_in};
+ghost use Rattle.terra_eval.specs.Views.{run_view};
+
+use crate::beginning::Caller;
+use crate::evaluator::enter;
+use crate::nodes::callable_of;
+use crate::state::State;
+use crate::stop::{End, Halt, Run, Stop};
+use crate::value::Value;
+use terra_memory::Region;
+use terra_memory::region::FIRST_ADDRESS;
+use terra_term::Store;
+use tl_base::{FnId, NoMemory, Place};
+
+/// Zeros behind bytes, so many that there are at least `size` bytes.
+fn fill(bytes: &mut Vec<u8>, size: usize) -> Result<(), NoMemory>
+    ensures { OnOk result (bytes.new.items ≡ bytes.old.items ++ replicate (size - length bytes.old.items) 0) }
+{
+    if bytes.len() < size {
+        bytes.resize(size, 0)?;
+    }
+    Ok(())
+}
+
+/// The bytes with which the region begins: the statics at their addresses, with zeros between them.
+pub fn static_bytes(store: &Store) -> Result<Vec<u8>, NoMemory>
+    ensures { IfOk result (λ bytes. bytes.items ≡ static_bytes (contents_of store.now)) }
+{
+    let mut bytes = Vec::new(store.allocator());
+    let held = store.statics();
+    for s in held {
+        fill(&mut bytes, s.address.saturating_sub(FIRST_ADDRESS) as usize)?;
+        bytes.extend_from_slice(s.bytes.bytes())?;
+    }
+    Ok(bytes)
+}
+
+/// The place of a function that can be called; line 0, word 0 where it can't.
+fn place_of(store: &Store, f: FnId) -> Place
+    ensures { result ≡ place_in (callable_of (contents_of store.now) f) }
+{
+    match callable_of(store, f) {
+        Some(k) => k.at,
+        None => Place { line: 0, word: 0 },
+    }
+}
+
+/// The run of a function as the entry, in a region of `memory` bytes, at the count `n`. The functions that stand as values are
+/// `entries`, in order. The memory is a multiple of 1,024 from 65,536 to 67,108,864, and the statics are at most half of it.
+pub fn evaluate(
+    store: &Store,
+    entries: &[FnId],
+    memory: u64,
+    n: u64,
+    f: FnId,
+    arguments: &[Value],
+) -> Result<Run, NoMemory>
+    requires sized { IsMemorySize memory }
+    requires half { length (static_bytes (contents_of store.now)) ≤ memory / 2 }
+    ensures { IfOk result (λ run. run_view run ≡ meaning (contents_of store.now) entries.now memory n f arguments.now) }
+{
+    let alloc = store.allocator();
+    let statics = static_bytes(store)?;
+    let region = Region::new(alloc, memory, &statics)?;
+    let mut state = State::new(alloc, region, n);
+    let at = place_of(store, f);
+    let caller = Caller {
+        store,
+        entries,
+        turns: n,
+        depth: 0,
+        top: state.end_address(),
+    };
+    let end = match enter(caller, f, arguments, at, &mut state) {
+        Ok(v) => End::Returned(v),
+        Err(Stop::Halted(Halt::Fault(kind, at))) => End::Fault(kind, at),
+        Err(Stop::Halted(Halt::Stuck)) => End::Stuck,
+        Err(Stop::Halted(Halt::More)) => return Ok(Run::More(state.into_out())),
+        Err(Stop::NoMemory) => return Err(NoMemory),
+    };
+    Ok(Run::Over(end, state.into_out()))
+}
