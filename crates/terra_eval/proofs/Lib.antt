@@ -1,8 +1,7 @@
 pub mod Bytes
 pub mod Called
-pub mod Callees
+pub mod Counted
 pub mod Entries
-pub mod Calling
 pub mod Growing
 pub mod Homes
 pub mod Loops

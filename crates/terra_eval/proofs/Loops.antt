@@ -45,21 +45,18 @@ value-drop (v ∷ vs) (suc i) = value-drop vs i
 
 -- a list's values, behind those so far
 
-pub with_front : List Value → Got (List Value) → Got (List Value)
+abbrev pub with_front : List Value → Got (List Value) → Got (List Value)
 with_front vs got = next got (λ ws s. Gives (vs ++ ws) s)
 
 front-none : (got : Got (List Value)) → with_front [] got ≡ got
-unfolding with_front
 front-none (Gives ws s) = refl
 front-none (Ends r) = refl
 
 front-more : (vs : List Value) (v : Value) (got : Got (List Value)) → with_front vs (next got (λ ws s. Gives (v ∷ ws) s)) ≡ with_front (vs ++ v ∷ []) got
-unfolding with_front
 front-more vs v (Gives ws s) = ap (λ (l : List Value). Gives l s) (sym (append_assoc vs (v ∷ []) ws))
 front-more vs v (Ends r) = refl
 
 pub front-ended : (e : Stop) (s : State) (vs : List Value) (got : Got (List Value)) → Ended e s got → Ended e s (with_front vs got)
-unfolding with_front
 front-ended e s vs got ended = ended_next e s got (λ ws s. Gives (vs ++ ws) s) ended
 
 module _ (c : Call) (want : Wanted) (store : Held) (below : ℕ) (nodes : List TermId) where
@@ -101,7 +98,6 @@ module _ (c : Call) (want : Wanted) (store : Held) (below : ℕ) (nodes : List T
   pub list-all : (i : ℕ) (from : ℕ) (s : State) (vs : List Value) (whole : Got (List Value)) → length nodes ≤ i
       → whole ≡ with_front vs (meant_all c want (list_before store below (drop i nodes)) from s)
       → whole ≡ Gives vs s
-  unfolding with_front
   list-all i from s vs whole past so_far =
       so_far ∙ ap (λ (l : List TermId). with_front vs (meant_all c want (list_before store below l) from s)) (none-left nodes i past)
       ∙ ap (λ (l : List Value). Gives l s) (append-nil vs)

@@ -9,6 +9,12 @@ use Rattle.terra_eval.specs.declared.looping.Round.TheVariants as kinds
 use Rattle.terra_eval.specs.declared.looping.Counting.{Counting}
 use Rattle.terra_eval.specs.Trees.{block_before, expression_before}
 
+-- `from` is the number of the next declaration
+abbrev pub counted_round : Call → Held → (below : ℕ) → Counting → (from : ℕ) → ℕ → State → Got Way
+counted_round c store below k from i s =
+    scoped s (next (declared c k.at k.name (Some (word i)) from s)
+    (λ _ s1. done_all c (block_before store below k.body.now) (suc from) s1))
+
 abbrev pub round_of : Call → Held → (below : ℕ) → Round → (from : ℕ) → State → Got Way
 round_of c store below (kinds.While test body) from s =
     next (meant c the_value (expression_before store below test) from s) (λ v s1. if is_true v
@@ -18,8 +24,4 @@ round_of c store below (kinds.Repeat body test) from s =
     scoped s (next (done_all c (block_before store below body.now) from s) (λ way s1. along way s1 (λ s2.
     next (meant c the_value (expression_before store below test) (from + in_block (block_before store below body.now)) s2)
     (λ v s3. Gives (if is_true v then breaks else goes_on) s3))))
-
-abbrev pub counted_round : Call → Held → (below : ℕ) → Counting → ℕ → State → Got Way
-counted_round c store below k i s =
-    scoped s (next (declared c k.at k.name (Some (word i)) k.from s)
-    (λ _ s1. done_all c (block_before store below k.body.now) (suc k.from) s1))
+round_of c store below (kinds.Count k i) from s = counted_round c store below k from i s

@@ -1,6 +1,6 @@
 // The evaluator: the meaning of typed terms, run.
 
-ghost use Rattle.std.specs.Prelude.{◌≡◌, suc};
+ghost use Rattle.std.specs.Prelude.{◌≡◌, ◌≤◌, suc};
 ghost use Rattle.terra_meaning.specs.Running.{scoped};
 ghost use Rattle.terra_meaning.specs.Meaning.{done_all, done_one, for_rounds, kept, meant, meant_all, operated, rounds};
 ghost use Rattle.terra_eval.specs.Trees.{block_before, expression_before, list_before, statement_before};
@@ -12,16 +12,15 @@ use crate::assigning::assign_all;
 use crate::beginning::{Caller, begin, caller_of, given_back};
 use crate::call::{Call, Wanted, Way};
 use crate::declaring::{declare, declare_all};
-use crate::looping::{Counting, Round, runs, step_of, until};
+use crate::looping::{Counting, Round, counting_of, runs, stepped, until};
 use crate::nodes::{expression, statement, types_of};
 use crate::numbering::{after_block, after_expression, after_list, after_statement, later};
 use crate::operate::{behind, callee, constant, element, number_at, operate, type_at};
 use crate::reaching::{reached, variable};
 use crate::state::State;
 use crate::stop::{Halt, Stop};
-use crate::types::{bytes_at, width_of};
+use crate::types::bytes_at;
 use crate::value::Value;
-use word_ops::wrap;
 use terra_term::{Operation, TypedExpression, TypedStatement};
 use tl_base::{FnId, Place, TermId, TypeId};
 
@@ -208,27 +207,19 @@ fn do_statement(
                 do_scope(call, node.0, else_block.as_slice(), next, state)
             }
             TypedStatement::While(test, body) => {
-                let round = Round::While(*test, body.as_slice());
+                let round = Round::While(*test, body);
                 do_rounds(call, node.0, round, from, state)
             }
             TypedStatement::Repeat(body, test) => {
-                let round = Round::Repeat(body.as_slice(), *test);
+                let round = Round::Repeat(body, *test);
                 do_rounds(call, node.0, round, from, state)
             }
             TypedStatement::For(name, bounds, body) => {
                 let nodes = bounds.as_slice();
                 let given = evaluate_list(call, Wanted::Value, node.0, nodes, from, state)?;
                 let next = after_list(call, node.0, nodes, from)?;
-                let counting = Counting {
-                    at: s.at,
-                    name: *name,
-                    body: body.as_slice(),
-                    from: next,
-                    width: width_of(call.store.types(), name.of),
-                    limit: number_at(&given, 1),
-                    step: step_of(&given),
-                };
-                do_counting(call, node.0, counting, number_at(&given, 0), state)
+                let counting = counting_of(call.store.types(), s.at, *name, body, &given);
+                do_counting(call, node.0, counting, next, state)
             }
             TypedStatement::Do(body) => do_scope(call, node.0, body.as_slice(), from, state),
             TypedStatement::Break => Ok(Way::Breaks),
@@ -302,13 +293,14 @@ fn do_round(
                 return Ok(Way::Breaks);
             }
             let next = after_expression(call, below, test, from)?;
-            do_scope(call, below, body, next, state)
+            do_scope(call, below, body.as_slice(), next, state)
         }
         Round::Repeat(body, test) => {
             let depth = state.depth();
-            match do_block(call, below, body, from, state)? {
+            let nodes = body.as_slice();
+            match do_block(call, below, nodes, from, state)? {
                 Way::GoesOn => {
-                    let next = after_block(call, below, body, from)?;
+                    let next = after_block(call, below, nodes, from)?;
                     let v = evaluate_expression(call, Wanted::Value, below, test, next, state)?;
                     state.leave(depth)?;
                     Ok(until(&v))
@@ -318,6 +310,15 @@ fn do_round(
                     Ok(way)
                 }
             }
+        }
+        Round::Count(counting, i) => {
+            let depth = state.depth();
+            let v = Value::word(i);
+            declare(call, counting.at, counting.name, Some(&v), from, state)?;
+            let next = later(from, 1)?;
+            let way = do_block(call, below, counting.body.as_slice(), next, state)?;
+            state.leave(depth)?;
+            Ok(way)
         }
     }
 }
@@ -347,27 +348,22 @@ fn do_rounds(
     }
 }
 
-/// A `for`, from a value on.
+/// A `for`, whose variable's declaration has a number.
 #[cycle(evaluate)]
 fn do_counting(
     call: &Call<'_>,
     below: u64,
     counting: Counting<'_>,
-    start: u64,
+    from: u64,
     state: &mut State,
 ) -> Result<Way, Stop>
-    ensures { GaveWay result state.new (for_rounds (suc call.now.turns) counting.entry.width counting.entry.limit counting.entry.step (counted_round (call_of call.now) call.now.store.now below counting.entry) start state.old) }
+    requires { counting.width.bits ≤ 64 }
+    ensures { GaveWay result state.new (for_rounds (suc call.now.turns) counting.entry.width counting.entry.limit counting.entry.step (counted_round (call_of call.now) call.now.store.now below counting.entry from) counting.entry.start state.old) }
 {
-    let mut i = start;
+    let mut i = counting.start;
     let mut turns = call.turns;
     while runs(counting.width, i, counting.limit, counting.step) {
-        let depth = state.depth();
-        let v = Value::word(i);
-        declare(call, counting.at, counting.name, Some(&v), counting.from, state)?;
-        let next = later(counting.from, 1)?;
-        let way = do_block(call, below, counting.body, next, state)?;
-        state.leave(depth)?;
-        match way {
+        match do_round(call, below, Round::Count(counting, i), from, state)? {
             Way::GoesOn => state.count()?,
             Way::Breaks => return Ok(Way::GoesOn),
             Way::GivesBack(v) => return Ok(Way::GivesBack(v)),
@@ -376,7 +372,7 @@ fn do_counting(
             return Err(Stop::Halted(Halt::More));
         }
         turns -= 1;
-        i = wrap(counting.width, u128::from(i) + u128::from(counting.step));
+        i = stepped(&counting, i);
     }
     Ok(Way::GoesOn)
 }

@@ -1,34 +1,74 @@
 // What loops do in each of their rounds.
 
-ghost use Rattle.std.specs.Prelude.{◌≡◌, if◌then◌else◌};
-ghost use Rattle.terra_words.specs.Runs.{is_true};
+ghost use Rattle.std.specs.Prelude.{◌≡◌, ◌≤◌, ◌+◌, if◌then◌else◌};
+ghost use Rattle.terra_words.specs.Runs.{is_true, number, value_at};
+ghost use Rattle.terra_words.specs.Words.{wrapped};
+ghost use Rattle.terra_meaning.specs.Values.{width_of};
 ghost use Rattle.terra_meaning.specs.Meaning as meanings;
 ghost use Rattle.terra_eval.specs.Views.{way_of};
 
 use crate::call::Way;
+use crate::operate::number_at;
+use crate::types::width_of;
 use crate::value::Value;
-use word_ops::{is_less, is_negative};
-use terra_term::TypedName;
+use word_ops::{is_less, is_negative, wrap};
+use terra_term::{TermList, TypedName};
+use terra_types::Types;
 use terra_words::Width;
 use tl_base::{Place, TermId};
 
-/// What a loop does in each of its rounds: a test before a block, or behind it.
+/// What a loop does in a round: a test before a block, or behind it, or a block with a value of its variable.
 #[derive(Clone, Copy)]
 pub(crate) enum Round<'a> {
-    While(TermId, &'a [TermId]),
-    Repeat(&'a [TermId], TermId),
+    While(TermId, &'a TermList),
+    Repeat(&'a TermList, TermId),
+    Count(Counting<'a>, u64),
 }
 
-/// A `for`: its place, its variable, its block, the number of its variable's declaration, and its width, limit and step.
+/// A `for`: its place, its variable, its block, and its width, start, limit and step.
 #[derive(Clone, Copy)]
 pub(crate) struct Counting<'a> {
     pub(crate) at: Place,
     pub(crate) name: TypedName,
-    pub(crate) body: &'a [TermId],
-    pub(crate) from: u64,
+    pub(crate) body: &'a TermList,
     pub(crate) width: Width,
+    pub(crate) start: u64,
     pub(crate) limit: u64,
     pub(crate) step: u64,
+}
+
+/// The `for` with these bounds.
+pub(crate) fn counting_of<'a>(
+    types: &Types,
+    at: Place,
+    name: TypedName,
+    body: &'a TermList,
+    bounds: &[Value],
+) -> Counting<'a>
+    ensures round { (result.at ≡ at) × (result.name ≡ name) × (result.body.now ≡ body.now) }
+    ensures width { result.width ≡ width_of types.now name.of }
+    ensures fits { result.width.bits ≤ 64 }
+    ensures start { result.start ≡ number (value_at bounds.now 0) }
+    ensures limit { result.limit ≡ number (value_at bounds.now 1) }
+    ensures step { result.step ≡ meanings.step_of (meanings.behind (meanings.behind bounds.now)) }
+{
+    Counting {
+        at,
+        name,
+        body,
+        width: width_of(types, name.of),
+        start: number_at(bounds, 0),
+        limit: number_at(bounds, 1),
+        step: step_of(bounds),
+    }
+}
+
+/// The next value of the variable of a `for`.
+pub(crate) fn stepped(counting: &Counting<'_>, i: u64) -> u64
+    requires { counting.now.width.bits ≤ 64 }
+    ensures { result ≡ wrapped counting.now.width (i + counting.now.step) }
+{
+    wrap(counting.width, u128::from(i) + u128::from(counting.step))
 }
 
 /// Where a loop is left that goes on until a value is true.
@@ -57,7 +97,7 @@ pub(crate) fn runs(width: Width, i: u64, limit: u64, step: u64) -> bool
 }
 
 /// The step of a `for`: what stands behind its start and its limit; 1 where nothing does.
-pub(crate) fn step_of(bounds: &[Value]) -> u64
+fn step_of(bounds: &[Value]) -> u64
     ensures { result ≡ meanings.step_of (meanings.behind (meanings.behind bounds.now)) }
 {
     match bounds.get(2) {

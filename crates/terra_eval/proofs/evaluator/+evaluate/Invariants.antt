@@ -61,8 +61,8 @@ decreases-do_rounds-loop-state l = l.turns
 
 abbrev pub invariant-do_counting-loop-state : goal.invariant-do_counting-loop-state
 invariant-do_counting-loop-state l =
-    for_rounds (suc l.call.turns) l.counting.width l.counting.limit l.counting.step (counted_round (call_of l.call) l.call.store.now l.below l.counting) l.start l.fn.state
-    ≡ for_rounds (suc l.turns) l.counting.width l.counting.limit l.counting.step (counted_round (call_of l.call) l.call.store.now l.below l.counting) l.i l.state
+    for_rounds (suc l.call.turns) l.counting.width l.counting.limit l.counting.step (counted_round (call_of l.call) l.call.store.now l.below l.counting l.from) l.counting.start l.fn.state
+    ≡ for_rounds (suc l.turns) l.counting.width l.counting.limit l.counting.step (counted_round (call_of l.call) l.call.store.now l.below l.counting l.from) l.i l.state
 
 abbrev pub decreases-do_counting-loop-state : goal.decreases-do_counting-loop-state
 decreases-do_counting-loop-state l = l.turns
