@@ -1,6 +1,7 @@
 pub mod Bytes
 pub mod Called
 pub mod Counted
+pub mod Ending
 pub mod Entries
 pub mod Growing
 pub mod Homes

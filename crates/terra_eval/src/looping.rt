@@ -45,7 +45,9 @@ pub(crate) fn counting_of<'a>(
     body: &'a TermList,
     bounds: &[Value],
 ) -> Counting<'a>
-    ensures round { (result.at ≡ at) × (result.name ≡ name) × (result.body.now ≡ body.now) }
+    ensures place { result.at ≡ at }
+    ensures variable { result.name ≡ name }
+    ensures block { result.body.now ≡ body.now }
     ensures width { result.width ≡ width_of types.now name.of }
     ensures fits { result.width.bits ≤ 64 }
     ensures start { result.start ≡ number (value_at bounds.now 0) }

@@ -1,15 +1,17 @@
 // Runs of whole programs.
 
-ghost use Rattle.std.specs.Prelude.{◌≡◌, ◌-◌, ◌/◌, ◌≤◌, ◌++◌, length, replicate, IfOk, OnOk};
+ghost use Rattle.std.specs.Prelude.{◌≡◌, ◌-◌, ◌/◌, ◌≤◌, ◌++◌, List, length, replicate, IfOk, OnOk};
 ghost use Rattle.terra_memory.specs.Region.{IsMemorySize};
 ghost use Rattle.terra_term.specs.Stores.{callable_of, contents_of, static_bytes};
-ghost use Rattle.terra_meaning.specs.Meaning.{meaning, place_in};
-ghost use Rattle.terra_eval.specs.Views.{run_view};
+ghost use Rattle.terra_words.specs.Runs as runs;
+ghost use Rattle.terra_meaning.specs.Running.{Got, State, Variable};
+ghost use Rattle.terra_meaning.specs.Meaning.{kept, meaning, place_in, run_of};
+ghost use Rattle.terra_eval.specs.Views.{GaveValue, run_view};
 
 use crate::beginning::Caller;
 use crate::evaluator::enter;
 use crate::nodes::callable_of;
-use crate::state::State;
+use crate::state;
 use crate::stop::{End, Halt, Run, Stop};
 use crate::value::Value;
 use terra_memory::Region;
@@ -50,6 +52,19 @@ fn place_of(store: &Store, f: FnId) -> Place
     }
 }
 
+/// The run of an entry that gave this, with the output.
+fn ended(given: Result<Value, Stop>, out: Vec<u8>) -> Result<Run, NoMemory>
+    ensures { (variables : List Variable) (got : Got runs.Value) (s : State) → s.out ≡ out.items → GaveValue given s (kept variables got) → IfOk result (λ run. run_view run ≡ run_of got) }
+{
+    match given {
+        Ok(v) => Ok(Run::Over(End::Returned(v), out)),
+        Err(Stop::Halted(Halt::Fault(kind, at))) => Ok(Run::Over(End::Fault(kind, at), out)),
+        Err(Stop::Halted(Halt::Stuck)) => Ok(Run::Over(End::Stuck, out)),
+        Err(Stop::Halted(Halt::More)) => Ok(Run::More(out)),
+        Err(Stop::NoMemory) => Err(NoMemory),
+    }
+}
+
 /// The run of a function as the entry, in a region of `memory` bytes, at the count `n`. The functions that stand as values are
 /// `entries`, in order. The memory is a multiple of 1,024 from 65,536 to 67,108,864, and the statics are at most half of it.
 pub fn evaluate(
@@ -67,7 +82,7 @@ pub fn evaluate(
     let alloc = store.allocator();
     let statics = static_bytes(store)?;
     let region = Region::new(alloc, memory, &statics)?;
-    let mut state = State::new(alloc, region, n);
+    let mut state = state::State::new(alloc, region, n);
     let at = place_of(store, f);
     let caller = Caller {
         store,
@@ -76,12 +91,6 @@ pub fn evaluate(
         depth: 0,
         top: state.end_address(),
     };
-    let end = match enter(caller, f, arguments, at, &mut state) {
-        Ok(v) => End::Returned(v),
-        Err(Stop::Halted(Halt::Fault(kind, at))) => End::Fault(kind, at),
-        Err(Stop::Halted(Halt::Stuck)) => End::Stuck,
-        Err(Stop::Halted(Halt::More)) => return Ok(Run::More(state.into_out())),
-        Err(Stop::NoMemory) => return Err(NoMemory),
-    };
-    Ok(Run::Over(end, state.into_out()))
+    let given = enter(caller, f, arguments, at, &mut state);
+    ended(given, state.into_out())
 }

@@ -18,18 +18,18 @@ use Rattle.terra_eval.proofs.Counted.{counted-for}
 use Rattle.terra_eval.proofs.Loops.{for-later, list-all, list-begins, list-later, list-stops, rounds-later, with_front}
 use Rattle.terra_eval.proofs.evaluator.+evaluate.Goals as goal
 
-pub do_counting-loop-state-preserved : goal.do_counting-loop-state-preserved
-do_counting-loop-state-preserved t c =
+pub do_counting-loop-counting-preserved : goal.do_counting-loop-counting-preserved
+do_counting-loop-counting-preserved t c =
     let k = c.args.counting in
     let round = counted_round (call_of c.args.call.now) c.args.call.now.store.now c.args.below k c.args.from in
-    let turns = c.loop-state.turns in
-    let i = c.loop-state.i in
+    let turns = c.loop-counting.turns in
+    let i = c.loop-counting.i in
     let after = c.count.new.self in
     let some : turns ≡ suc (turns - 1) = omega (arith, c.if-turns-eq0.false) in
-    let test : meanings.runs k.width i k.limit k.step ≡ true = sym c.runs.ensures ∙ c.loop-state-test.true in
-    let gave : round i c.loop-state.state ≡ Gives goes_on c.do_round.new.state =
+    let test : meanings.runs k.width i k.limit k.step ≡ true = sym c.runs.ensures ∙ c.loop-counting-test.true in
+    let gave : round i c.loop-counting.state ≡ Gives goes_on c.do_round.new.state =
       c.in_ok-do_round.ensures ∙ ap (λ (w : code_ways.Way). Gives (way_of w) c.do_round.new.state) c.in-GoesOn.is in
-    for-later k.width k.limit k.step round turns i c.loop-state.state _ c.loop-state.invariant test c.do_round.new.state after gave
+    for-later k.width k.limit k.step round turns i c.loop-counting.state _ c.loop-counting.invariant test c.do_round.new.state after gave
     c.in_ok-count-in-GoesOn.ensures.ok.0 c.in_ok-count-in-GoesOn.ensures.ok.1
     ∙ ap (λ (n : ℕ). for_rounds n k.width k.limit k.step round (wrapped k.width (i + k.step)) after) some
     ∙ ap (λ (n : ℕ). for_rounds (suc (turns - 1)) k.width k.limit k.step round n after) (sym c.stepped-i.ensures)
@@ -74,8 +74,36 @@ do_statement-returns-in_ok-next-in-For t c =
     let step : k.step ≡ meanings.step_of (meanings.behind (meanings.behind vs)) =
       ensured.step ∙ ap (λ (l : List Value). meanings.step_of (meanings.behind (meanings.behind l))) values in
     let same = counted-for call store node c.in-Some.s.at name bounds body from s c.evaluate_list-in-For.new.state vs k c.in_ok-next-in-For.next gave
-      ensured.round.0 ensured.round.1.0 ensured.round.1.1 number' width start limit step in
+      ensured.place ensured.variable ensured.block number' width start limit step in
     subst (λ (g : Got Way). GaveWay c.do_counting.result c.do_counting.new.state g) (same ∙ whole) c.do_counting.ensures
+
+pub do_statement-returns-in-While : goal.do_statement-returns-in-While
+do_statement-returns-in-While t c =
+    let call = call_of c.args.call.now in
+    let store = c.args.call.now.store.now in
+    let node = c.args.node.0 in
+    let from = c.args.from in
+    let s = c.args.state.now in
+    let at = c.in-Some.s.at in
+    let doing = TypedStatement.While c.in-While.test c.in-While.body in
+    let tree : statement_before store c.args.below c.args.node ≡ statement_tree store node at c.in-Some.s.doing.now = c.in-Some.ensures.tree in
+    let whole : done_one call (statement_tree store node at doing) from s ≡ done_one call (statement_before store c.args.below c.args.node) from s =
+      ap (λ (st : Statement). done_one call st from s) (sym (tree ∙ ap (λ (d : TypedStatement). statement_tree store node at d) c.in-While.is)) in
+    subst (λ (g : Got Way). GaveWay c.do_rounds.result c.do_rounds.new.state g) whole c.do_rounds.ensures
+
+pub do_statement-returns-in-Repeat : goal.do_statement-returns-in-Repeat
+do_statement-returns-in-Repeat t c =
+    let call = call_of c.args.call.now in
+    let store = c.args.call.now.store.now in
+    let node = c.args.node.0 in
+    let from = c.args.from in
+    let s = c.args.state.now in
+    let at = c.in-Some.s.at in
+    let doing = TypedStatement.Repeat c.in-Repeat.body c.in-Repeat.test in
+    let tree : statement_before store c.args.below c.args.node ≡ statement_tree store node at c.in-Some.s.doing.now = c.in-Some.ensures.tree in
+    let whole : done_one call (statement_tree store node at doing) from s ≡ done_one call (statement_before store c.args.below c.args.node) from s =
+      ap (λ (st : Statement). done_one call st from s) (sym (tree ∙ ap (λ (d : TypedStatement). statement_tree store node at d) c.in-Repeat.is)) in
+    subst (λ (g : Got Way). GaveWay c.do_rounds-in-Repeat.result c.do_rounds-in-Repeat.new.state g) whole c.do_rounds-in-Repeat.ensures
 
 pub evaluate_list-loop-node-init : goal.evaluate_list-loop-node-init
 evaluate_list-loop-node-init t c =

@@ -59,10 +59,10 @@ invariant-do_rounds-loop-state l =
 abbrev pub decreases-do_rounds-loop-state : goal.decreases-do_rounds-loop-state
 decreases-do_rounds-loop-state l = l.turns
 
-abbrev pub invariant-do_counting-loop-state : goal.invariant-do_counting-loop-state
-invariant-do_counting-loop-state l =
+abbrev pub invariant-do_counting-loop-counting : goal.invariant-do_counting-loop-counting
+invariant-do_counting-loop-counting l =
     for_rounds (suc l.call.turns) l.counting.width l.counting.limit l.counting.step (counted_round (call_of l.call) l.call.store.now l.below l.counting l.from) l.counting.start l.fn.state
     ≡ for_rounds (suc l.turns) l.counting.width l.counting.limit l.counting.step (counted_round (call_of l.call) l.call.store.now l.below l.counting l.from) l.i l.state
 
-abbrev pub decreases-do_counting-loop-state : goal.decreases-do_counting-loop-state
-decreases-do_counting-loop-state l = l.turns
+abbrev pub decreases-do_counting-loop-counting : goal.decreases-do_counting-loop-counting
+decreases-do_counting-loop-counting l = l.turns
