@@ -1,6 +1,6 @@
 -- The bytes of numbers, and bytes written to the region one after the other.
-use Rattle.std.proofs.Common.{◌≡◌, refl, sym, ap, ◌∙◌, ℕ, zero, suc, ◌+◌, ◌-◌, ◌*◌, ◌/◌, ◌%◌, ◌^◌, ◌<◌, ◌≤◌, Bool, true, false, List, [], ◌∷◌, ◌++◌, Option, Some, None, length, take, drop, get_or, arith, drop-cons, drop-drop, append_assoc, length-append, take_all}
-use Rattle.std.specs.Prelude.{◌&&◌, nat_le, if◌then◌else◌, unwrap_or}
+use Rattle.std.proofs.Common.{◌≡◌, refl, sym, ap, ◌∙◌, ℕ, suc, ◌+◌, ◌-◌, ◌*◌, ◌/◌, ◌%◌, ◌^◌, ◌<◌, ◌≤◌, Bool, true, false, List, [], ◌∷◌, ◌++◌, Option, Some, None, length, take, drop, get_or, arith, drop-cons, drop-drop, append_assoc, length-append, take_all}
+use Rattle.std.specs.Prelude.{if◌then◌else◌, unwrap_or}
 use Rattle.std.specs.Bool.{OnTrue}
 use Rattle.std.proofs.lemmas.Bool.{le-leb, OnTrue_at}
 use Rattle.std.proofs.lemmas.Bool.Decides.{leb_tells}
@@ -77,7 +77,7 @@ overwritten-more xs ys at b h =
     let zs = overwritten xs at ys in
     let before : take n zs ≡ front = take_at front (drop n xs) n size in
     let behind : drop (n + 1) zs ≡ drop (n + 1) xs =
-      sym (drop-drop 1 n zs) ∙ ap (λ (l : List ℕ). drop 1 l) (drop_at front (drop n xs) n size) ∙ drop-drop 1 n xs in
+    sym (drop-drop 1 n zs) ∙ ap (λ (l : List ℕ). drop 1 l) (drop_at front (drop n xs) n size) ∙ drop-drop 1 n xs in
     let last : n + 1 ≡ at + length (ys ++ b ∷ []) = omega (arith, length-append ys (b ∷ [])) in
     ap (λ (l : List ℕ). (l ++ b ∷ []) ++ drop (n + 1) zs) before
     ∙ ap (λ (l : List ℕ). (front ++ b ∷ []) ++ l) behind

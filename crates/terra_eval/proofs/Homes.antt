@@ -18,7 +18,7 @@ use Rattle.terra_eval.specs.declared.frame.Home.{Home}
 use Rattle.terra_eval.specs.declared.frame.Home.TheVariants as homes_kinds
 use Rattle.terra_eval.specs.declared.laying.InScope.{InScope}
 use Rattle.terra_eval.specs.Views.{events_in, home_of}
-use Rattle.terra_eval.specs.Framing.{behind_homes, in_scope_of, laid_out, scope_of}
+use Rattle.terra_eval.specs.Framing.{behind_homes, laid_out, scope_of}
 use Rattle.terra_eval.proofs.Turns.{turn, none-left}
 
 behind-more : (hs : List frames.Home) (h : frames.Home) (f : frames.Frame) → behind_homes (hs ++ h ∷ []) f ≡ behind_homes hs (with_home h f)
@@ -44,8 +44,8 @@ module _ (types : List TypeForm) (placed : List ℕ) (hs new : List Home) (x : S
       ∙ ap (λ (n : ℕ). behind_homes (map home_of hs) (with_home (frames.in_frame at) (rest n))) behind
       ∙ ap (λ (n : ℕ). behind_homes (map home_of hs) (with_home (frames.in_frame n) (rest (n + bytes_at types t)))) start
       ∙ sym (ap (λ (b : Bool). behind_homes (map home_of hs) (if b
-        then with_home (frames.in_frame (rounded offset (unwrap_or (align_of types t) 1))) (rest (rounded offset (unwrap_or (align_of types t) 1) + bytes_at types t))
-        else with_home frames.by_value (rest offset))) test)
+      then with_home (frames.in_frame (rounded offset (unwrap_or (align_of types t) 1))) (rest (rounded offset (unwrap_or (align_of types t) 1) + bytes_at types t))
+      else with_home frames.by_value (rest offset))) test)
 
   pub laid-alone : (offset : ℕ) → (is_aggregate types t || has (length hs) placed) ≡ false → new ≡ hs ++ homes_kinds.ByValue ∷ []
       → laid_out types placed new offset later ≡ laid_out types placed hs offset (events.Declares x t ∷ later)
@@ -53,8 +53,8 @@ module _ (types : List TypeForm) (placed : List ℕ) (hs new : List Home) (x : S
       let rest = λ (n : ℕ). framed types placed (suc (length hs)) n (declared_in later) in
       laid-more homes_kinds.ByValue offset push
       ∙ sym (ap (λ (b : Bool). behind_homes (map home_of hs) (if b
-        then with_home (frames.in_frame (rounded offset (unwrap_or (align_of types t) 1))) (rest (rounded offset (unwrap_or (align_of types t) 1) + bytes_at types t))
-        else with_home frames.by_value (rest offset))) test)
+      then with_home (frames.in_frame (rounded offset (unwrap_or (align_of types t) 1))) (rest (rounded offset (unwrap_or (align_of types t) 1) + bytes_at types t))
+      else with_home frames.by_value (rest offset))) test)
 
 pub laid-begin : (f : frames.Frame) → behind_homes [] f ≡ f
 laid-begin f = refl

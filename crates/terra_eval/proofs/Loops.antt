@@ -1,5 +1,5 @@
 -- The turns of the evaluator's loops.
-use Rattle.std.proofs.Common.{◌≡◌, refl, sym, ap, ◌∙◌, subst, ℕ, zero, suc, ◌+◌, ◌-◌, ◌<◌, ◌≤◌, Bool, true, false, List, [], ◌∷◌, ◌++◌, Option, Some, None, length, drop, get_or, slice_get, arith, append_assoc, append-nil}
+use Rattle.std.proofs.Common.{◌≡◌, refl, sym, ap, ◌∙◌, subst, ℕ, zero, suc, ◌+◌, ◌<◌, ◌≤◌, Bool, true, false, List, [], ◌∷◌, ◌++◌, Option, length, drop, get_or, slice_get, arith, append_assoc, append-nil}
 use Rattle.std.specs.Prelude.{if◌then◌else◌}
 use Rattle.tl_base.specs.declared.place.Place.{Place}
 use Rattle.tl_base.specs.declared.ids.TermId.{TermId}
@@ -11,7 +11,7 @@ use Rattle.terra_term.specs.declared.lists.TypedName.{TypedName}
 use Rattle.terra_term.specs.Held.{Held}
 use Rattle.terra_term.specs.TypedTerms.{Expression, typed, Variable}
 use Rattle.terra_meaning.specs.Running.{State, Got, Gives, Ends, next, counted, counted_from}
-use Rattle.terra_meaning.specs.Meaning.{Call, Wanted, Way, along, turned, goes_on, breaks, gives_back, rounds, for_rounds, runs, meant, meant_all, done_one, done_all, declared, declared_all, assigned, assigned_all, first_of, behind, in_expression, in_statement}
+use Rattle.terra_meaning.specs.Meaning.{Call, Wanted, Way, along, turned, goes_on, rounds, for_rounds, runs, meant, meant_all, done_one, done_all, declared, declared_all, assigned, assigned_all, first_of, behind, in_expression, in_statement}
 use Rattle.terra_eval.specs.Trees.{expression_before, list_before, statement_before, block_before}
 use Rattle.terra_eval.specs.declared.stop.Stop.{Stop}
 use Rattle.terra_eval.specs.Views.{Ended}
@@ -67,7 +67,7 @@ module _ (c : Call) (want : Wanted) (store : Held) (below : ℕ) (nodes : List T
   pub list-step : (i : ℕ) (d : TermId) (from : ℕ) (s : State) (vs : List Value) (whole : Got (List Value)) → i < length nodes
       → whole ≡ with_front vs (meant_all c want (list_before store below (drop i nodes)) from s)
       → whole ≡ with_front vs (next (meant c want (expression_before store below (get_or nodes i d)) from s) (λ v s1.
-        next (meant_all c want (list_before store below (drop (i + 1) nodes)) (from + in_expression (expression_before store below (get_or nodes i d))) s1) (λ ws s2. Gives (v ∷ ws) s2)))
+      next (meant_all c want (list_before store below (drop (i + 1) nodes)) (from + in_expression (expression_before store below (get_or nodes i d))) s1) (λ ws s2. Gives (v ∷ ws) s2)))
   list-step i d from s vs whole within so_far =
       so_far ∙ ap (λ (l : List TermId). with_front vs (meant_all c want (list_before store below l) from s)) (turn nodes i d within)
 
@@ -81,7 +81,7 @@ module _ (c : Call) (want : Wanted) (store : Held) (below : ℕ) (nodes : List T
       let rest = λ (n : ℕ). meant_all c want (list_before store below (drop (i + 1) nodes)) n s1 in
       list-step i d from s vs whole within so_far
       ∙ ap (λ (g : Got (List Value)). with_front vs g) (gives_next v s1 (meant c want (expression_before store below (get_or nodes i d)) from s) (λ v s1.
-        next (meant_all c want (list_before store below (drop (i + 1) nodes)) (from + in_expression (expression_before store below (get_or nodes i d))) s1) (λ ws s2. Gives (v ∷ ws) s2)) gave)
+      next (meant_all c want (list_before store below (drop (i + 1) nodes)) (from + in_expression (expression_before store below (get_or nodes i d))) s1) (λ ws s2. Gives (v ∷ ws) s2)) gave)
       ∙ front-more vs v (rest (from + in_expression (expression_before store below (get_or nodes i d))))
       ∙ ap (λ (n : ℕ). with_front (vs ++ v ∷ []) (rest n)) (sym count)
       ∙ ap (λ (l : List Value). with_front l (rest later)) (sym push)
@@ -93,7 +93,7 @@ module _ (c : Call) (want : Wanted) (store : Held) (below : ℕ) (nodes : List T
   list-stops i d from s s1 vs e whole within so_far ended =
       subst (λ (g : Got (List Value)). Ended e s1 g) (sym (list-step i d from s vs whole within so_far))
       (front-ended e s1 vs _ (ended_next e s1 (meant c want (expression_before store below (get_or nodes i d)) from s) (λ v s1.
-        next (meant_all c want (list_before store below (drop (i + 1) nodes)) (from + in_expression (expression_before store below (get_or nodes i d))) s1) (λ ws s2. Gives (v ∷ ws) s2)) ended))
+      next (meant_all c want (list_before store below (drop (i + 1) nodes)) (from + in_expression (expression_before store below (get_or nodes i d))) s1) (λ ws s2. Gives (v ∷ ws) s2)) ended))
 
   pub list-all : (i : ℕ) (from : ℕ) (s : State) (vs : List Value) (whole : Got (List Value)) → length nodes ≤ i
       → whole ≡ with_front vs (meant_all c want (list_before store below (drop i nodes)) from s)

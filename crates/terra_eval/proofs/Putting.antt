@@ -1,10 +1,9 @@
 -- Events behind others, one part after the other.
-use Rattle.std.proofs.Common.{◌≡◌, refl, sym, ap, ◌∙◌, ℕ, ◌+◌, ◌<◌, ◌≤◌, List, [], ◌∷◌, ◌++◌, length, drop, get_or, arith, append_assoc, append-nil}
+use Rattle.std.proofs.Common.{◌≡◌, sym, ap, ◌∙◌, ℕ, ◌+◌, ◌<◌, ◌≤◌, List, [], ◌∷◌, ◌++◌, length, drop, get_or, append_assoc, append-nil}
 use Rattle.tl_base.specs.declared.ids.TermId.{TermId}
 use Rattle.terra_term.specs.declared.lists.TypedName.{TypedName}
 use Rattle.terra_term.specs.Held.{Held}
-use Rattle.terra_term.specs.Events.{Event, Opens, Closes, declares, declares_all, events_of, list_events, doing_events, block_events}
-use Rattle.terra_term.specs.Planted.{typed_doing_in}
+use Rattle.terra_term.specs.Events.{declares, declares_all, events_of, list_events, doing_events, block_events}
 use Rattle.terra_meaning.specs.Meaning.{types_of}
 use Rattle.terra_term.specs.TypedTerms.{type_of}
 use Rattle.terra_eval.specs.Trees.{expression_before, list_before, statement_before, block_before}

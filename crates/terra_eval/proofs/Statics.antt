@@ -1,5 +1,5 @@
 -- The bytes of statics behind bytes.
-use Rattle.std.proofs.Common.{◌≡◌, refl, sym, ap, ◌∙◌, ℕ, ◌+◌, ◌-◌, ◌<◌, ◌≤◌, false, List, [], ◌∷◌, ◌++◌, length, drop, replicate, get_or, arith}
+use Rattle.std.proofs.Common.{◌≡◌, refl, sym, ap, ◌∙◌, ℕ, ◌-◌, ◌≤◌, false, List, [], ◌∷◌, ◌++◌, length, drop, replicate}
 use Rattle.terra_term.specs.declared.store.Static.{Static}
 use Rattle.terra_term.specs.Held.{Held, first_static}
 use Rattle.terra_term.specs.Stores.{contents_of, static_bytes}

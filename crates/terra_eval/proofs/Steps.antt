@@ -1,5 +1,5 @@
 -- What follows a part that gave something, or that ended the run.
-use Rattle.std.proofs.Common.{◌≡◌, refl, sym, ap, ◌∙◌, subst, ℕ, ◌-◌, List, length, drop}
+use Rattle.std.proofs.Common.{◌≡◌, sym, ap, ◌∙◌, subst, ℕ, ◌-◌, List, length, drop}
 use Rattle.std.specs.Prelude.{Result}
 use Rattle.terra_words.specs.Runs.{Value}
 use Rattle.terra_meaning.specs.Running as running
@@ -8,7 +8,7 @@ use Rattle.terra_meaning.specs.Meaning.{Way, kept}
 use Rattle.terra_eval.specs.declared.stop.Stop.{Stop}
 use Rattle.terra_eval.specs.declared.stop.Stop.TheVariants as stops
 use Rattle.terra_eval.specs.declared.call.Way as code_ways
-use Rattle.terra_eval.specs.Views.{Ended, GaveValue, GaveUnit, GaveWay, GaveList}
+use Rattle.terra_eval.specs.Views.{Ended, GaveValue, GaveUnit, GaveWay}
 
 pub ended_next : {A B : Type 0} (e : Stop) (s : State) (got : Got A) (go : A → State → Got B) → Ended e s got → Ended e s (next got go)
 ended_next stops.NoMemory s got go same = tt

@@ -8,7 +8,6 @@ use Rattle.terra_term.specs.declared.operators.Constant.TheVariants as constants
 use Rattle.terra_term.specs.Events as events
 use Rattle.terra_term.specs.Stores.{Contents, contents_of}
 use Rattle.terra_meaning.specs.Frames as frames
-use Rattle.terra_meaning.specs.Running as running
 use Rattle.terra_meaning.specs.Running.{State, Got, Gives, Ends, counted}
 use Rattle.terra_meaning.specs.Meaning as meanings
 use Rattle.terra_meaning.specs.Meaning.{Way, Wanted, apply, kept}

@@ -67,7 +67,15 @@ fn place_value(
 ) -> Result<(), Stop>
     ensures { GaveUnit result state.new (meanings.stored call.now.store.now.types at of address v.now state.old) }
 {
-    store_value(call.store.allocator(), call.store.types(), at, of, address, v, state)
+    store_value(
+        call.store.allocator(),
+        call.store.types(),
+        at,
+        of,
+        address,
+        v,
+        state,
+    )
 }
 
 /// The place of what isn't there.

@@ -79,7 +79,15 @@ fn declare_placed(
             Ok(())
         }
         Some(v) => {
-            store_value(call.store.allocator(), call.store.types(), at, name.of, address, v, state)?;
+            store_value(
+                call.store.allocator(),
+                call.store.types(),
+                at,
+                name.of,
+                address,
+                v,
+                state,
+            )?;
             state.declare(name.symbol, Held::At(address))?;
             Ok(())
         }

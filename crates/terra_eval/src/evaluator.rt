@@ -71,25 +71,53 @@ fn evaluate_expression(
             }
             TypedExpression::Select(offset, whole) => {
                 let v = evaluate_expression(call, Wanted::Address, node.0, *whole, from, state)?;
-                reached(call, want, e.at, e.of, v.number().wrapping_add(*offset), state)
+                reached(
+                    call,
+                    want,
+                    e.at,
+                    e.of,
+                    v.number().wrapping_add(*offset),
+                    state,
+                )
             }
             TypedExpression::Follow(offset, p) => {
                 let v = evaluate_expression(call, Wanted::Value, node.0, *p, from, state)?;
-                reached(call, want, e.at, e.of, v.number().wrapping_add(*offset), state)
+                reached(
+                    call,
+                    want,
+                    e.at,
+                    e.of,
+                    v.number().wrapping_add(*offset),
+                    state,
+                )
             }
             TypedExpression::Element(a, i) => {
                 let v = evaluate_expression(call, Wanted::Address, node.0, *a, from, state)?;
                 let next = after_expression(call, node.0, *a, from)?;
                 let n = evaluate_expression(call, Wanted::Value, node.0, *i, next, state)?;
                 let size = bytes_at(call.store.types(), e.of);
-                reached(call, want, e.at, e.of, element(v.number(), n.number(), size), state)
+                reached(
+                    call,
+                    want,
+                    e.at,
+                    e.of,
+                    element(v.number(), n.number(), size),
+                    state,
+                )
             }
             TypedExpression::Index(p, i) => {
                 let v = evaluate_expression(call, Wanted::Value, node.0, *p, from, state)?;
                 let next = after_expression(call, node.0, *p, from)?;
                 let n = evaluate_expression(call, Wanted::Value, node.0, *i, next, state)?;
                 let size = bytes_at(call.store.types(), e.of);
-                reached(call, want, e.at, e.of, element(v.number(), n.number(), size), state)
+                reached(
+                    call,
+                    want,
+                    e.at,
+                    e.of,
+                    element(v.number(), n.number(), size),
+                    state,
+                )
             }
             TypedExpression::Address(place) => {
                 evaluate_expression(call, Wanted::Address, node.0, *place, from, state)

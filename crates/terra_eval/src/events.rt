@@ -100,11 +100,7 @@ fn form_events(
     }
 }
 
-fn constant_events(
-    at: Place,
-    constant: Constant,
-    events: &mut Vec<Event>,
-) -> Result<(), NoMemory>
+fn constant_events(at: Place, constant: Constant, events: &mut Vec<Event>) -> Result<(), NoMemory>
     ensures { OnOk result (events_in events.new.items ≡ events_in events.old.items ++ mentions_of at constant) }
 {
     match constant {
@@ -140,12 +136,7 @@ fn operation_events(
 }
 
 /// The taking of a place's address, where the place is a variable.
-fn takes(
-    store: &Store,
-    below: u64,
-    place: TermId,
-    events: &mut Vec<Event>,
-) -> Result<(), NoMemory>
+fn takes(store: &Store, below: u64, place: TermId, events: &mut Vec<Event>) -> Result<(), NoMemory>
     ensures { OnOk result (events_in events.new.items ≡ events_in events.old.items ++ takes (expression_before store.now below place)) }
 {
     match expression(store, below, place) {

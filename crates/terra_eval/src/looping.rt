@@ -11,11 +11,11 @@ use crate::call::Way;
 use crate::operate::number_at;
 use crate::types::width_of;
 use crate::value::Value;
-use word_ops::{is_less, is_negative, wrap};
 use terra_term::{TermList, TypedName};
 use terra_types::Types;
 use terra_words::Width;
 use tl_base::{Place, TermId};
+use word_ops::{is_less, is_negative, wrap};
 
 /// What a loop does in a round: a test before a block, or behind it, or a block with a value of its variable.
 #[derive(Clone, Copy)]

@@ -13,13 +13,13 @@ use crate::state::State;
 use crate::stop::Stop;
 use crate::types::{bytes_at, is_aggregate, width_of};
 use crate::value::Value;
-use word_ops::wrap;
 use std::alloc::{AllocError, Global};
 use terra_memory::Region;
 use terra_memory::region::FIRST_ADDRESS;
 use terra_types::Types;
 use terra_words::FaultKind;
 use tl_base::{Place, TypeId};
+use word_ops::wrap;
 
 /// Whether all bytes of a range that isn't empty lie in the region. Past an address that does, 64 bits count on.
 fn is_inside(region: &Region, address: u64, count: u64) -> bool
@@ -61,7 +61,9 @@ fn number_of(bytes: &[u8]) -> u64
     let mut left = bytes.len();
     while left > 0 {
         left -= 1;
-        number = number.wrapping_mul(256).wrapping_add(u64::from(bytes[left]));
+        number = number
+            .wrapping_mul(256)
+            .wrapping_add(u64::from(bytes[left]));
     }
     number
 }

@@ -96,11 +96,7 @@ pub fn type_of(store: &Store, below: u64, node: TermId) -> TypeId
 const RAWSTRING: TypeId = TypeId(10);
 
 /// The types of expressions.
-pub fn types_of(
-    store: &Store,
-    below: u64,
-    nodes: &[TermId],
-) -> Result<Vec<TypeId>, AllocError>
+pub fn types_of(store: &Store, below: u64, nodes: &[TermId]) -> Result<Vec<TypeId>, AllocError>
     ensures { IfOk result (λ ts. ts.items ≡ types_of (list_before store.now below nodes.now)) }
 {
     let mut types = Vec::new(store.allocator());

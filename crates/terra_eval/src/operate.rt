@@ -17,13 +17,13 @@ use crate::state::State;
 use crate::stop::{Halt, Stop};
 use crate::types::{bytes_at, target_of, width_of};
 use crate::value::Value;
-use word_ops::{apply, complement, is_negative, negate, wrap};
-use std::alloc::{AllocError, Global};
 use lua_value::Primitive;
+use std::alloc::{AllocError, Global};
 use terra_term::{Constant, Operation, TypedName};
 use terra_types::{TypeForm, Types};
 use terra_words::{BinaryOperator, FaultKind, Width};
 use tl_base::{FnId, Place, TypeId};
+use word_ops::{apply, complement, is_negative, negate, wrap};
 
 const LONG: Width = Width {
     signed: true,
@@ -114,7 +114,13 @@ pub(crate) fn operate(
     match operation {
         Operation::Negate => Ok(Value::word(negate(width_of(types, of), x))),
         Operation::Not => Ok(Value::word(negation(types, of, x))),
-        Operation::Binary(operator) => binary(at, width_of(types, type_at(operands, 0)), *operator, x, y),
+        Operation::Binary(operator) => binary(
+            at,
+            width_of(types, type_at(operands, 0)),
+            *operator,
+            x,
+            y,
+        ),
         Operation::StepForward => {
             let size = bytes_at(types, target_of(types, of));
             Ok(Value::word(element(x, y, size)))
@@ -125,7 +131,10 @@ pub(crate) fn operate(
         }
         Operation::Difference => {
             let apart = apply(LONG, BinaryOperator::Subtract, x, y);
-            in_elements(apart, bytes_at(types, target_of(types, type_at(operands, 0))))
+            in_elements(
+                apart,
+                bytes_at(types, target_of(types, type_at(operands, 0))),
+            )
         }
         Operation::Convert => Ok(Value::word(converted(types, of, x))),
         Operation::Extract(offset) => extract(alloc, types, of, *offset, values),
@@ -260,12 +269,7 @@ fn perform(
 }
 
 /// The function that a call of a function value of a type calls.
-pub(crate) fn callee(
-    call: &Call<'_>,
-    at: Place,
-    of: TypeId,
-    value: u64,
-) -> Result<FnId, Stop>
+pub(crate) fn callee(call: &Call<'_>, at: Place, of: TypeId, value: u64) -> Result<FnId, Stop>
     ensures { (vs : List Value) (s : State) → Called result s (meanings.called_value (call_of call.now) at (form_at call.now.store.now.types of) (meanings.entry call.now.entries.now value) vs s) (λ f. (call_of call.now).call f vs at s) }
 {
     let fault = Stop::fault(FaultKind::BadCall, at);

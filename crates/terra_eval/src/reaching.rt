@@ -23,7 +23,14 @@ pub(crate) fn reached(
     ensures { GaveValue result state.now (meanings.reached call.now.store.now.types (want_of want) at of address state.now) }
 {
     match want {
-        Wanted::Value => load(call.store.allocator(), call.store.types(), at, of, address, state),
+        Wanted::Value => load(
+            call.store.allocator(),
+            call.store.types(),
+            at,
+            of,
+            address,
+            state,
+        ),
         Wanted::Address => Ok(Value::word(address)),
     }
 }

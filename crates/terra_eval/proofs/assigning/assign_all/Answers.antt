@@ -1,4 +1,4 @@
-use Rattle.std.proofs.Common.{◌≡◌, sym, ap, ◌∙◌, subst, ℕ, get_or, arith}
+use Rattle.std.proofs.Common.{sym, ap, ◌∙◌, subst, ℕ, get_or, arith}
 use Rattle.std.proofs.lemmas.Grind.{common_steps}
 use Rattle.tl_base.specs.declared.ids.TermId.{TermId}
 use Rattle.terra_words.specs.Runs.{Value, value_at, word}
@@ -20,10 +20,10 @@ loop-i-preserved c =
     let none : TermId = record { 0 = 0 } in
     let e = expression_before store c.args.below (get_or targets i none) in
     let gave =
-      sym (assigned-number store.types e (value_at places i) (value_at values i) s)
-      ∙ ap (λ (n : ℕ). assigned store.types e (word n) (value_at values i) s) (sym c.number_at.ensures)
-      ∙ ap (λ (v : Value). assigned store.types e (word c.number_at.result) v s) (sym c.value_or-v.ensures)
-      ∙ c.in_ok-assign.ensures in
+    sym (assigned-number store.types e (value_at places i) (value_at values i) s)
+    ∙ ap (λ (n : ℕ). assigned store.types e (word n) (value_at values i) s) (sym c.number_at.ensures)
+    ∙ ap (λ (v : Value). assigned store.types e (word c.number_at.result) v s) (sym c.value_or-v.ensures)
+    ∙ c.in_ok-assign.ensures in
     assign-later store.types store c.args.below targets places values i none s _ c.loop-i-test.true c.loop-i.invariant (word 0) _ gave
 
 pub returns : goal.returns
@@ -43,11 +43,11 @@ returns-in_err-assign c =
     let target = expression_before store c.args.below (get_or targets i none) in
     let e = c.in_err-assign.field-0.0 in
     let same =
-      ap (λ (v : Value). assigned store.types target (word c.number_at.result) v s) c.value_or-v.ensures
-      ∙ ap (λ (n : ℕ). assigned store.types target (word n) (value_at values i) s) c.number_at.ensures
-      ∙ assigned-number store.types target (value_at places i) (value_at values i) s in
+    ap (λ (v : Value). assigned store.types target (word c.number_at.result) v s) c.value_or-v.ensures
+    ∙ ap (λ (n : ℕ). assigned store.types target (word n) (value_at values i) s) c.number_at.ensures
+    ∙ assigned-number store.types target (value_at places i) (value_at values i) s in
     let ended : Ended e c.assign.new.state (assigned store.types target (value_at places i) (value_at values i) s) =
-      subst (λ (g : Got Value). Ended e c.assign.new.state g) same c.in_err-assign.ensures in
+    subst (λ (g : Got Value). Ended e c.assign.new.state g) same c.in_err-assign.ensures in
     let stops : Ended e c.assign.new.state (assigned_all store.types (list_before store c.args.below targets) places values c.args.state.now) =
-      assign-stops store.types store c.args.below targets places values i none s _ c.loop-i-test.true c.loop-i.invariant e _ ended in
+    assign-stops store.types store c.args.below targets places values i none s _ c.loop-i-test.true c.loop-i.invariant e _ ended in
     grind (arith, common_steps, stops)

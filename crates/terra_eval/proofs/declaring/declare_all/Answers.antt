@@ -1,4 +1,4 @@
-use Rattle.std.proofs.Common.{◌≡◌, sym, ap, ◌∙◌, subst, Option, get_or, slice_get, arith}
+use Rattle.std.proofs.Common.{sym, ap, ◌∙◌, subst, Option, get_or, slice_get, arith}
 use Rattle.std.proofs.lemmas.Grind.{common_steps}
 use Rattle.terra_words.specs.Runs.{Value, word}
 use Rattle.terra_term.specs.declared.lists.TypedName.{TypedName}
@@ -30,7 +30,7 @@ returns-in_err-declare c =
     let none : TypedName = record { symbol = record { 0 = 0 }; of = record { 0 = 0 } } in
     let e = c.in_err-declare.field-0.0 in
     let ended : Ended e c.declare.new.state (declared call c.args.at (get_or names i none) (slice_get c.args.values.now i) c.loop-i.number s) =
-      subst (λ (v : Option Value). Ended e c.declare.new.state (declared call c.args.at (get_or names i none) v c.loop-i.number s)) c.given.ensures c.in_err-declare.ensures in
+    subst (λ (v : Option Value). Ended e c.declare.new.state (declared call c.args.at (get_or names i none) v c.loop-i.number s)) c.given.ensures c.in_err-declare.ensures in
     let stops : Ended e c.declare.new.state (declared_all call c.args.at names c.args.values.now c.args.from c.args.state.now) =
-      declare-stops call c.args.at names c.args.values.now i none c.loop-i.number s _ c.loop-i-test.true c.loop-i.invariant e _ ended in
+    declare-stops call c.args.at names c.args.values.now i none c.loop-i.number s _ c.loop-i-test.true c.loop-i.invariant e _ ended in
     grind (arith, common_steps, stops)

@@ -1,5 +1,4 @@
-use Rattle.std.proofs.Common.{◌≡◌, sym, ap, ◌∙◌, List, arith, length, drop}
-use Rattle.std.proofs.lemmas.Grind.{common_steps}
+use Rattle.std.proofs.Common.{◌≡◌, ap, List, arith, length, drop}
 use Rattle.terra_eval.specs.declared.events.Event.{Event}
 use Rattle.terra_eval.specs.declared.events.Event.TheVariants as kinds
 use Rattle.terra_eval.proofs.Turns.{declared-turn, none-left}
@@ -18,5 +17,5 @@ loop-event-preserved c =
 pub returns : goal.returns
 returns c =
     let none : length (declared_in (events_in (drop c.loop-event.event-index c.args.events.now))) ≡ 0 =
-      ap (λ (l : List Event). length (declared_in (events_in l))) (none-left c.args.events.now c.loop-event.event-index (omega arith)) in
+    ap (λ (l : List Event). length (declared_in (events_in l))) (none-left c.args.events.now c.loop-event.event-index (omega arith)) in
     omega (arith, c.loop-event.invariant.so_far, none)

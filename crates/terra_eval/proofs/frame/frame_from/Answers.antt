@@ -1,12 +1,9 @@
-use Rattle.std.proofs.Common.{◌≡◌, ◌∙◌, List, ◌+◌, sym, ap, drop, arith}
-use Rattle.terra_term.specs.Events.{declared_in}
-use Rattle.terra_meaning.specs.Frames.{framed}
+use Rattle.std.proofs.Common.{◌∙◌, List, ◌+◌, sym, ap, drop}
 use Rattle.terra_eval.specs.declared.events.Event.{Event}
 use Rattle.terra_eval.specs.declared.events.Event.TheVariants as kinds
 use Rattle.terra_eval.specs.Framing.{laid_out}
 use Rattle.terra_eval.specs.Views.{events_in}
 use Rattle.terra_eval.proofs.Turns.{turn}
-use Rattle.terra_eval.proofs.Homes.{laid-end}
 use Rattle.terra_eval.proofs.frame.frame_from.Goals as goal
 
 pub loop-event-preserved : goal.loop-event-preserved

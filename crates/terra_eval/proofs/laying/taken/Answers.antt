@@ -1,5 +1,4 @@
-use Rattle.std.proofs.Common.{◌≡◌, ◌∙◌, List, [], ◌∷◌, ◌+◌, sym, ap, get_or, drop, arith, append-nil}
-use Rattle.terra_meaning.specs.Frames as frames
+use Rattle.std.proofs.Common.{◌∙◌, List, ◌+◌, sym, ap, drop, arith, append-nil}
 use Rattle.terra_eval.specs.declared.events.Event.{Event}
 use Rattle.terra_eval.specs.declared.events.Event.TheVariants as kinds
 use Rattle.terra_eval.specs.Framing.{taken_with}

@@ -18,7 +18,7 @@ loop-left-preserved c =
     let within : i < length bs = omega (arith, c.loop-left-test.true, c.loop-left.invariant.0) in (
       omega (arith, c.loop-left.invariant.0),
       ap (λ (n : ℕ). (n * 256 % 18446744073709551616 + c.from.result) % 18446744073709551616) c.loop-left.invariant.1
-      ∙ number-step behind c.from.result
-      ∙ ap (λ (n : ℕ). n % 18446744073709551616) (ap (λ (b : ℕ). b + 256 * behind) c.from.ensures
-        ∙ ap (λ (k : ℕ). get_or bs i 0 + 256 * number_of (drop k bs)) next ∙ sym (number-turn bs i within)),
+          ∙ number-step behind c.from.result
+          ∙ ap (λ (n : ℕ). n % 18446744073709551616) (ap (λ (b : ℕ). b + 256 * behind) c.from.ensures
+          ∙ ap (λ (k : ℕ). get_or bs i 0 + 256 * number_of (drop k bs)) next ∙ sym (number-turn bs i within)),
     )

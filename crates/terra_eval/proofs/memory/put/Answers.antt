@@ -1,5 +1,4 @@
-use Rattle.std.proofs.Common.{◌≡◌, ◌<◌, ℕ, true, false, refl, sym, ap, ◌∙◌, rules, arith, length, get_or}
-use Rattle.std.proofs.lemmas.Grind.{common_steps}
+use Rattle.std.proofs.Common.{◌≡◌, true, false, refl, rules, arith, length}
 use Rattle.terra_memory.specs.Region.{is_inside}
 use Rattle.terra_eval.proofs.Bytes.{put-none, put-outside, put-turn, put-end}
 use Rattle.terra_eval.proofs.memory.put.Goals as goal

@@ -1,4 +1,3 @@
-use Rattle.std.proofs.Common.{arith}
 use Rattle.terra_eval.proofs.Turns.{lengths-differ}
 use Rattle.terra_eval.proofs.operate.same_types.Goals as goal
 

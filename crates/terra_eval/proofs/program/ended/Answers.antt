@@ -1,11 +1,9 @@
-use Rattle.std.proofs.Common.{List, subst, Err, Ok, Result}
+use Rattle.std.proofs.Common.{subst, Result}
 use Rattle.terra_words.specs.Runs.{Value}
-use Rattle.terra_meaning.specs.Running.{Got, State, Variable}
 use Rattle.terra_meaning.specs.Meaning.{kept}
 use Rattle.terra_eval.specs.declared.stop.Stop.{Stop}
-use Rattle.terra_eval.specs.declared.stop.Halt.TheVariants as halts
 use Rattle.terra_eval.specs.Views.{GaveValue}
-use Rattle.terra_eval.proofs.Ending.{returned-run, halted-run}
+use Rattle.terra_eval.proofs.Ending.{returned-run}
 use Rattle.terra_eval.proofs.program.ended.Goals as goal
 
 pub returns-in-Ok : goal.returns-in-Ok

@@ -1,4 +1,3 @@
-use Rattle.std.proofs.Common.{◌≡◌, ◌∙◌, None, sym, ap, map, arith, length, ◌≤◌}
 use Rattle.terra_eval.proofs.Turns.{turn, no-variable, found-here, found-later}
 use Rattle.terra_eval.proofs.state.find_in.Goals as goal
 

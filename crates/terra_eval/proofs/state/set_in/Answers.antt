@@ -14,6 +14,6 @@ returns-then-x-variables c =
     let same = c.loop-i.invariant.same in
     let within : i < length vs = omega (arith, ap (λ (l : List Variable). length l) same, c.loop-i-test.true) in
     let passed : set x h (map variable_of vs) ≡ map variable_of (take i vs) ++ set x h (map variable_of (drop i vs)) =
-      subst (λ (l : List Variable). set x h (map variable_of l) ≡ map variable_of (take i l) ++ set x h (map variable_of (drop i l))) (sym same) c.loop-i.invariant.passed in
+    subst (λ (l : List Variable). set x h (map variable_of l) ≡ map variable_of (take i l) ++ set x h (map variable_of (drop i l))) (sym same) c.loop-i.invariant.passed in
     set-here x h vs i no-variable within passed _ c.if-x-variables.true refl
     ∙ ap (λ (l : List Variable). set x h (map variable_of l)) same

@@ -1,8 +1,7 @@
-use Rattle.std.proofs.Common.{◌≡◌, ◌-◌, List, sym, ap, subst, map, drop, arith, length}
+use Rattle.std.proofs.Common.{◌≡◌, ◌-◌, List, sym, ap, subst, drop, arith, length}
 use Rattle.std.proofs.lemmas.Grind.{common_steps}
 use Rattle.terra_meaning.specs.Running as running
 use Rattle.terra_eval.specs.contracts.state.State.{the_view}
-use Rattle.terra_eval.specs.Variables.{variable_of}
 use Rattle.terra_eval.proofs.Turns.{left-scope}
 use Rattle.terra_eval.proofs.state.State.leave.Goals as goal
 
