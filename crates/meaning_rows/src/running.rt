@@ -5,7 +5,7 @@ use crate::doing::names_from;
 use crate::words::{bytes_of, count_at, number_at, shown, word_at};
 use std::alloc::Global;
 use terra_eval::{End, Run, Value, evaluate};
-use terra_term::{Term, TermList, Typed, ParameterList};
+use terra_term::{ParameterList, Term, TermList, Typed};
 use terra_types::Entry;
 use terra_words::FaultKind;
 use tl_base::{FnId, NoMemory, Place, TermId, Text2, TextId, TypeId};
@@ -19,7 +19,10 @@ pub fn row(work: &mut Work, word: &str, words: &[&str]) -> Result<Option<String>
             number(work.store.allocator(), t.0)
         }
         "array" => {
-            let t = work.store.types_mut().array_of(TypeId(n), number_at(words, 2))?;
+            let t = work
+                .store
+                .types_mut()
+                .array_of(TypeId(n), number_at(words, 2))?;
             number(work.store.allocator(), t.0)
         }
         "function" => {
@@ -58,7 +61,10 @@ fn types_from(alloc: Global, words: &[&str], from: usize) -> Result<Vec<TypeId>,
 /// `struct TYPE..`
 fn structure(work: &mut Work, words: &[&str]) -> Result<Option<String>, NoMemory> {
     let alloc = work.store.allocator();
-    let t = work.store.types_mut().new_struct(Place { line: 1, word: 1 })?;
+    let t = work
+        .store
+        .types_mut()
+        .new_struct(Place { line: 1, word: 1 })?;
     let mut entries = Vec::new(alloc);
     for (i, of) in types_from(alloc, words, 1)?.iter().enumerate() {
         entries.push(Entry {
@@ -121,7 +127,14 @@ fn run(work: &Work, words: &[&str]) -> Result<Option<String>, NoMemory> {
     if memory % 1024 != 0 || memory < 65_536 || memory > 67_108_864 {
         return Ok(Some(String::from_str(alloc, "bad memory")?));
     }
-    let run = evaluate(&work.store, &work.entries, memory, number_at(words, 3), f, &arguments)?;
+    let run = evaluate(
+        &work.store,
+        &work.entries,
+        memory,
+        number_at(words, 3),
+        f,
+        &arguments,
+    )?;
     Ok(Some(run_text(alloc, &run)?))
 }
 
