@@ -4,7 +4,7 @@ use crate::building::Work;
 use crate::doing::names_from;
 use crate::words::{bytes_of, count_at, number_at, shown, word_at};
 use std::alloc::Global;
-use terra_eval::{End, Run, Value, evaluate};
+use terra_eval::{End, Run, Value, evaluate, static_bytes};
 use terra_term::{ParameterList, Term, TermList, Typed};
 use terra_types::Entry;
 use terra_words::FaultKind;
@@ -126,6 +126,9 @@ fn run(work: &Work, words: &[&str]) -> Result<Option<String>, NoMemory> {
     }
     if memory % 1024 != 0 || memory < 65_536 || memory > 67_108_864 {
         return Ok(Some(String::from_str(alloc, "bad memory")?));
+    }
+    if static_bytes(&work.store)?.len() as u64 > memory / 2 {
+        return Ok(Some(String::from_str(alloc, "bad statics")?));
     }
     let run = evaluate(
         &work.store,
