@@ -28,7 +28,10 @@ pub fn value_at(heap: &mut Heap, words: &[&str], place: usize) -> Result<Value, 
             text_value(heap, &bytes)
         }
         [b'x', b':', ..] => {
-            let count = word.split_at(2).1.parse::<u64>().unwrap_or(0).min(100_000);
+            let count = match word.split_once(':') {
+                Some((_, count)) => count.parse::<u64>().unwrap_or(0).min(100_000),
+                None => 0,
+            };
             let bytes = vec![in heap.allocator(); b'x'; count as usize]?;
             text_value(heap, &bytes)
         }
