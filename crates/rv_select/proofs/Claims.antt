@@ -1,0 +1,51 @@
+-- What the code of each instruction does, whatever is in use before and after it.
+use Rattle.std.proofs.Common.{◌≡◌, ◌≢◌, ℕ, ◌+◌, ◌^◌, ◌<◌, true, List, [], ◌++◌, Option}
+use Rattle.tl_base.specs.declared.place.Place.{Place}
+use Rattle.rv_isa.specs.declared.instr.Instr.{Instr}
+use Rattle.rv_machine.specs.Machine.{State}
+use Rattle.terra_words.specs.declared.words.BinaryOperator.{BinaryOperator}
+use Rattle.terra_words.specs.declared.words.FaultKind.TheVariants.{DivZero}
+use Rattle.terra_words.specs.Words.{applied, divides}
+use Rattle.tac_form.specs.declared.tac.Number.{Number}
+use Rattle.tac_form.specs.declared.tac.Operand.{Operand}
+use Rattle.tac_form.specs.declared.tac.Instruction.TheVariants.{Compute, Copy, Locate, TestDivisor}
+use Rattle.tac_form.specs.Flow.{width_of}
+use Rattle.tac_form.specs.Weights.{words_of}
+use Rattle.rv_operators.specs.Runs.{Stands}
+use Rattle.rv_select.specs.Places.{Layout, World, Holds, Housed, IsRead, home_of, value_in}
+use Rattle.rv_select.specs.Shapes.{copied, computed, divisor_tested, located, put_to}
+use Rattle.rv_select.specs.Steps.{AreFewer, Comes, Ends, Follows, IsPlace, behind, with_temp}
+
+-- a copy
+abbrev pub CopiesAreCarried : Type 1
+CopiesAreCarried =
+    (y : Layout) (d : ℕ) (a : Operand) (Used Next : ℕ → Type 0) (w : World) (base : ℕ) (program : List (Option Instr)) (m : State) →
+    Stands program m.pc (copied y d a) → Holds y Used w base m → Housed y Used → Housed y Next →
+    IsRead Used a → Next d → Follows Used Next d →
+    Comes y program Next (with_temp w d (value_in w.temps a)) base (words_of (Copy d a)) (behind m (copied y d a)) [] m
+
+-- an operator on numbers, whose divisor isn't zero
+abbrev pub OperatorsAreCarried : Type 1
+OperatorsAreCarried =
+    (y : Layout) (d : ℕ) (op : BinaryOperator) (form : Number) (a b : Operand) (Used Next : ℕ → Type 0) (w : World) (base : ℕ)
+    (program : List (Option Instr)) (m : State) →
+    Stands program m.pc (computed y d op (width_of form) a b) → (divides op ≡ true → value_in w.temps b ≢ 0) →
+    Holds y Used w base m → Housed y Used → Housed y Next → IsRead Used a → IsRead Used b → Next d → Follows Used Next d →
+    Comes y program Next (with_temp w d (applied (width_of form) op (value_in w.temps a) (value_in w.temps b))) base
+    (words_of (Compute d op form a b)) (behind m (computed y d op (width_of form) a b)) [] m
+
+-- a test of a divisor: the run goes on where it isn't zero, and ends by a fault where it is
+abbrev pub DivisorsAreTested : Type 1
+DivisorsAreTested =
+    (y : Layout) (at : Place) (a : Operand) (Used Next : ℕ → Type 0) (w : World) (base : ℕ) (program : List (Option Instr)) (m : State) →
+    Stands program m.pc (divisor_tested y at a) → IsPlace at → Holds y Used w base m → Housed y Used → IsRead Used a → AreFewer Used Next →
+    (value_in w.temps a ≢ 0 → Comes y program Next w base (words_of (TestDivisor at a)) (behind m (divisor_tested y at a)) [] m)
+    × (value_in w.temps a ≡ 0 → Ends program DivZero at (words_of (TestDivisor at a)) m)
+
+-- the address of an offset of the frame in the region
+abbrev pub AddressesAreCarried : Type 1
+AddressesAreCarried =
+    (y : Layout) (d offset : ℕ) (Used Next : ℕ → Type 0) (w : World) (base : ℕ) (program : List (Option Instr)) (m : State) →
+    Stands program m.pc (located offset ++ put_to (home_of y d)) → w.placed + offset < 2 ^ 64 →
+    Holds y Used w base m → Housed y Used → Housed y Next → Next d → Follows Used Next d →
+    Comes y program Next (with_temp w d (w.placed + offset)) base (words_of (Locate d offset)) (behind m (located offset ++ put_to (home_of y d))) [] m

@@ -1,0 +1,120 @@
+-- Tests of divisors, and addresses of the frame in the region.
+use Rattle.std.proofs.Common.{◌≡◌, ◌≢◌, ℕ, suc, ◌+◌, ◌-◌, ◌*◌, ◌%◌, ◌^◌, ◌<◌, ◌≤◌, Bool, true, false, not, List, [], ◌∷◌, ◌++◌, length, Option, Some, refl, sym, ap, ◌∙◌, subst, ⊎_elim, arith}
+use Rattle.std.specs.Prelude.{if◌then◌else◌, nat_eq, nat_le}
+use Rattle.std.proofs.lemmas.Bool.{cases_lt, eq-eqb, ne_eqb, le-leb, lt-leb}
+use Rattle.std.proofs.lemmas.List.{length-append}
+use Rattle.tl_base.specs.declared.place.Place.{Place}
+use Rattle.rv_isa.specs.declared.instr.Instr.{Instr}
+use Rattle.rv_isa.specs.declared.instr.Instr.TheVariants.{Branch, RegisterImmediate, RegisterRegister}
+use Rattle.rv_isa.specs.declared.operation.ImmediateOp.TheVariants.{Addi}
+use Rattle.rv_isa.specs.declared.operation.RegisterOp.TheVariants.{Add}
+use Rattle.rv_isa.specs.declared.operation.BranchCondition.TheVariants.{Ne}
+use Rattle.rv_machine.specs.Word.{low, word}
+use Rattle.rv_machine.specs.Machine.{State, GoesOn, at_with}
+use Rattle.terra_words.specs.declared.words.FaultKind.TheVariants.{DivZero}
+use Rattle.rv_operators.specs.Codes.{x0, x5}
+use Rattle.rv_operators.specs.Runs.{Stands}
+use Rattle.rv_select.specs.Places.{World, Holds, Housed, Layout, home_of, value_in}
+use Rattle.rv_select.specs.Numbers.{constant, immediate_of}
+use Rattle.rv_select.specs.Shapes.{divisor_tested, failed, located, over, put_to, taken, x8}
+use Rattle.rv_select.specs.Steps.{Comes, Ends, AreFewer, IsPlace, behind}
+use Rattle.rv_select.proofs.Claims.{AddressesAreCarried, DivisorsAreTested}
+use Rattle.rv_select.proofs.Straight.{Loads, behind-both, loads-both, loads-as, loads-five, loads-one, low-below, low-small}
+use Rattle.rv_select.proofs.Numbers.{constant-count, constant-loads, immediate-is}
+use Rattle.rv_select.proofs.Ways.{Near, Way, at_pc, near-both, near-pc, scratch-near, stands-back, stands-front, straight-way, way-both}
+use Rattle.rv_select.proofs.Homes.{take-operand, taken-count}
+use Rattle.rv_select.proofs.Faults.{branch-way, failed-count, fails, later-ends}
+use Rattle.rv_select.proofs.Moves.{fewer-holds, near-holds, near-keeps, straight-put}
+
+-- a way to a state near, where all is as before
+pub stays : (y : Layout) (Used Next : ℕ → Type 0) (w : World) (base k weight target : ℕ) (program : List (Option Instr)) (m n : State) →
+    Holds y Used w base m → Housed y Used → ((t : ℕ) → Next t → Used t) → Way program k m n → Near m n → n.pc < 2 ^ 64 → 1 ≤ k → k ≤ weight → n.pc ≡ target →
+    Comes y program Next w base weight target [] m
+stays y Used Next w base k weight target program m n p h f way near small some few to = record {
+  steps = k;
+  after = n;
+  some = some;
+  few = few;
+  runs = way.runs;
+  at = to;
+  holds = fewer-holds y Used Next w base n f (near-holds y Used w base m n p h near small);
+  keeps = near-keeps y base m n near;
+}
+
+over-low : (p n : ℕ) → low (p + 4 * (n + 1)) ≡ low (p + 4 * suc n)
+unfolding low
+over-low p n = omega arith
+
+-- the test, over an operand that stands in x5
+tests : (y : Layout) (Used Next : ℕ → Type 0) (w : World) (base v : ℕ) (at : Place) (A F : List Instr) (program : List (Option Instr)) (m : State) (l : Loads 5 A m v) →
+    F ≡ failed DivZero at → length A ≤ 8 → length F ≤ 11 → Stands program m.pc (A ++ (Branch Ne x5 x0 (over F) ∷ F)) → IsPlace at → Holds y Used w base m → Housed y Used →
+    AreFewer Used Next →
+    (v ≢ 0 → Comes y program Next w base 20 (behind m (A ++ (Branch Ne x5 x0 (over F) ∷ F))) [] m) × (v ≡ 0 → Ends program DivZero at 20 m)
+tests y Used Next w base v at A F program m l is fa ff stands place p h f =
+    let first : Way program (length A) m l.after = straight-way program A m l.after (stands-front program m.pc A (Branch Ne x5 x0 (over F) ∷ F) stands) l.straight l.goes in
+    let rest : Stands program l.after.pc (Branch Ne x5 x0 (over F) ∷ F) =
+      subst (λ z. Stands program z (Branch Ne x5 x0 (over F) ∷ F)) (sym l.behind) (stands-back program m.pc A (Branch Ne x5 x0 (over F) ∷ F) p.pc stands) in
+    let near : Near m l.after = scratch-near A m l.after (loads-five A m v l) in
+    (
+      λ n.
+          let t : ℕ = low (l.after.pc + 4 * (length F + 1)) in
+          let e : nat_eq (l.after.registers 5) 0 ≡ false = ap (λ x. nat_eq x 0) l.gives ∙ ne_eqb v 0 n in
+          let way : Way program (length A + 1) m (at_pc l.after t) =
+            way-both program (length A) 1 m l.after (at_pc l.after t) first
+            (branch-way program Ne x5 x0 (4 * (length F + 1)) l.after true (omega arith) (omega arith) rest.0 (ap not e)) in
+          stays y Used Next w base (length A + 1) 20 (behind m (A ++ (Branch Ne x5 x0 (over F) ∷ F))) program m (at_pc l.after t) p h f way
+            (near-both m l.after (at_pc l.after t) near (near-pc l.after t)) (low-below (l.after.pc + 4 * (length F + 1))) (omega arith) (omega arith)
+            (over-low l.after.pc (length F) ∙ behind-both A (Branch Ne x5 x0 (over F) ∷ F) m.pc l.after.pc (low (l.after.pc + 4 * suc (length F))) l.behind refl),
+      λ z.
+          let t : ℕ = low (l.after.pc + 4) in
+          let e : nat_eq (l.after.registers 5) 0 ≡ true = ap (λ x. nat_eq x 0) l.gives ∙ eq-eqb v 0 z in
+          later-ends program DivZero at (length A + 1) 11 20 m (at_pc l.after t)
+            (way-both program (length A) 1 m l.after (at_pc l.after t) first
+            (branch-way program Ne x5 x0 (4 * (length F + 1)) l.after false (omega arith) (omega arith) rest.0 (ap not e)))
+            (fails program (at_pc l.after t) DivZero at (low-below (l.after.pc + 4)) place (omega arith) (omega arith) (subst (λ c. Stands program t c) is rest.1)) (omega arith),
+    )
+
+pub divisors : DivisorsAreTested
+divisors y at a Used Next w base program m stands place p h r f =
+    tests y Used Next w base (value_in w.temps a) at (taken y x5 a) (failed DivZero at) program m (take-operand y x5 Used w base m a (λ e. omega (arith, e)) p h r)
+    refl (taken-count y x5 a) (failed-count DivZero at) stands place p h f
+
+-- x5 gets the address of an offset of the frame in the region
+near-located : (m : State) (placed offset : ℕ) → m.registers 8 ≡ placed → placed + offset < 2 ^ 64 → offset < 2048 →
+    Loads 5 (RegisterImmediate Addi x5 x8 (immediate_of offset) ∷ []) m (placed + offset)
+near-located m placed offset e h k =
+    loads-one (RegisterImmediate Addi x5 x8 (immediate_of offset)) m 5 (placed + offset) (λ z. omega (arith, z)) refl
+    (ap (λ v. GoesOn (at_with m (low (m.pc + 4)) 5 (low (m.registers 8 + v)))) (immediate-is offset (omega arith))
+    ∙ (ap (λ v. GoesOn (at_with m (low (m.pc + 4)) 5 (low (v + offset)))) e ∙ ap (λ v. GoesOn (at_with m (low (m.pc + 4)) 5 v)) (low-small (placed + offset) h)))
+
+far-located : (m : State) (placed offset : ℕ) → m.registers 8 ≡ placed → placed + offset < 2 ^ 64 → Loads 5 (constant x5 offset ++ RegisterRegister Add x5 x5 x8 ∷ []) m (placed + offset)
+far-located m placed offset e h =
+    let l : Loads 5 (constant x5 offset) m offset = constant-loads x5 m offset (λ z. omega (arith, z)) (omega arith) in
+    let sum : offset + placed ≡ placed + offset = omega arith in
+    loads-both 5 offset (placed + offset) (constant x5 offset) (RegisterRegister Add x5 x5 x8 ∷ []) m l
+    (loads-one (RegisterRegister Add x5 x5 x8) l.after 5 (placed + offset) (λ z. omega (arith, z)) refl
+    (ap (λ v. GoesOn (at_with l.after (low (l.after.pc + 4)) 5 (low (v + l.after.registers 8)))) l.gives
+    ∙ (ap (λ v. GoesOn (at_with l.after (low (l.after.pc + 4)) 5 (low (offset + v)))) (l.keeps 8 (λ z. omega (arith, z)) (λ z. omega (arith, z)) ∙ e)
+    ∙ (ap (λ v. GoesOn (at_with l.after (low (l.after.pc + 4)) 5 (low v))) sum ∙ ap (λ v. GoesOn (at_with l.after (low (l.after.pc + 4)) 5 v)) (low-small (placed + offset) h)))))
+
+pub located-loads : (m : State) (placed offset : ℕ) → m.registers 8 ≡ placed → placed + offset < 2 ^ 64 → Loads 5 (located offset) m (placed + offset)
+located-loads m placed offset e h =
+    ⊎_elim
+    (λ k. subst (λ b. Loads 5 (if b then RegisterImmediate Addi x5 x8 (immediate_of offset) ∷ [] else constant x5 offset ++ RegisterRegister Add x5 x5 x8 ∷ []) m (placed + offset))
+    (sym (le-leb offset 2047 (omega arith))) (near-located m placed offset e h k))
+    (λ k. subst (λ b. Loads 5 (if b then RegisterImmediate Addi x5 x8 (immediate_of offset) ∷ [] else constant x5 offset ++ RegisterRegister Add x5 x5 x8 ∷ []) m (placed + offset))
+    (sym (lt-leb offset 2047 (omega arith))) (far-located m placed offset e h))
+    (cases_lt offset 2048)
+
+pub located-count : (offset : ℕ) → length (located offset) ≤ 9
+located-count offset = either (nat_le offset 2047)
+  where
+    either : (b : Bool) → length (if b then RegisterImmediate Addi x5 x8 (immediate_of offset) ∷ [] else constant x5 offset ++ RegisterRegister Add x5 x5 x8 ∷ []) ≤ 9
+    either true = omega arith
+    either false = omega (arith, length-append (constant x5 offset) (RegisterRegister Add x5 x5 x8 ∷ []), constant-count x5 offset)
+
+pub addresses : AddressesAreCarried
+addresses y d offset Used Next w base program m stands small p h h' u follows =
+    let l : Loads 5 (located offset) m (w.placed + offset) = located-loads m w.placed offset p.placed small in
+    straight-put y Used Next w base d (w.placed + offset) 12 (located offset) program m l.after p h h' u follows
+    (loads-five (located offset) m (w.placed + offset) l) l.gives small (omega (arith, located-count offset)) stands

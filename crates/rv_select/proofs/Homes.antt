@@ -1,0 +1,187 @@
+-- Words at homes.
+use Rattle.std.proofs.Common.{◌≡◌, ◌≢◌, ℕ, ◌+◌, ◌-◌, ◌*◌, ◌%◌, ◌^◌, ◌<◌, ◌≤◌, Bool, true, false, List, [], ◌∷◌, ◌++◌, length, take, drop, Option, Some, None, refl, sym, ap, ◌∙◌, subst, ⊎_elim, inl, inr, arith}
+use Rattle.std.specs.Prelude.{if◌then◌else◌, nat_eq, nat_le, slice_get, ◌⊎◌}
+use Rattle.std.proofs.lemmas.Bool.{cases_Bool, cases_lt, cases_eq}
+use Rattle.rv_isa.specs.declared.instr.Instr.{Instr}
+use Rattle.rv_isa.specs.declared.instr.Instr.TheVariants.{Load, Store, RegisterImmediate}
+use Rattle.rv_isa.specs.declared.operation.ImmediateOp.TheVariants.{Addi}
+use Rattle.rv_isa.specs.declared.operation.LoadOp.TheVariants.{Ld}
+use Rattle.rv_isa.specs.declared.operation.StoreOp.TheVariants.{Sd}
+use Rattle.rv_isa.specs.declared.operand.Register.{Register}
+use Rattle.rv_isa.specs.declared.operand.Immediate.{Immediate}
+use Rattle.reg_alloc.specs.declared.assignment.Home.{Home}
+use Rattle.reg_alloc.specs.declared.assignment.Home.TheVariants as homes
+use Rattle.rv_machine.specs.Word.{low, word, number_of, bytes_of}
+use Rattle.rv_machine.specs.Memory.{place_of, with_bytes}
+use Rattle.rv_machine.specs.Machine.{State, GoesOn, act, at_with, value_at, loads, loads_from, stores, stores_to}
+use Rattle.tac_form.specs.declared.tac.Operand.{Operand}
+use Rattle.tac_form.specs.declared.tac.Operand.TheVariants.{Temp, Constant}
+use Rattle.tac_form.specs.Flow.{Temps}
+use Rattle.rv_operators.specs.Claims.{acts, then_on}
+use Rattle.rv_operators.specs.Codes.{x0, x5, zero_immediate}
+use Rattle.rv_operators.specs.Runs.{AreStraight}
+use Rattle.rv_operators.proofs.Runs.{straight-both}
+use Rattle.rv_select.specs.Places.{Layout, World, HasFrame, Holds, Housed, IsHome, IsRead, frame_bytes, home_of, private_word, slot_offset, uses, value_in, word_at}
+use Rattle.rv_select.specs.Numbers.{register_of}
+use Rattle.rv_select.specs.Shapes.{framed, moved, put_to, taken, taken_from}
+use Rattle.rv_select.proofs.Bytes.{other-part, private-place, stored-length, stored-word}
+use Rattle.rv_select.proofs.Numbers.{constant-count, constant-loads, register-is}
+use Rattle.rv_select.proofs.Straight.{Loads, behind-both, goes-both, loads-one, low-first, low-small, register-value, written-elsewhere, written-there}
+use Rattle.rv_select.proofs.Frames.{Reach, framed-count, framed-loads, reach}
+
+-- a slot is within private memory, and near enough
+pub slot-room : (y : Layout) (base k : ℕ) (m : State) → HasFrame y base m → k < length y.homes → base + slot_offset k + 8 ≤ length m.private
+slot-room y base k m f h = omega (arith, f.within, h)
+
+pub slot-near : (y : Layout) (base k : ℕ) (m : State) → HasFrame y base m → k < length y.homes → slot_offset k < 2 ^ 30
+slot-near y base k m f h = omega (arith, f.within, f.private, h)
+
+frame-sum : (x base offset size : ℕ) → x ≡ 2 ^ 32 + base → base + offset + 8 ≤ size → size ≤ 603979776 → low (x + offset) ≡ 2 ^ 32 + (base + offset)
+unfolding low
+frame-sum x base offset size e h k = omega arith
+
+from-register : (d : Register) (m : State) (x v : ℕ) → d.number ≢ 0 → 18 ≤ x → x ≤ 27 → m.registers x ≡ v → v < 2 ^ 64 →
+    Loads d.number (moved d (register_of x) ∷ []) m v
+from-register d m x v n l u e s =
+    let r : value_at m (register_of x) ≡ m.registers x = register-value m (register_of x) x (register-is x (omega arith)) (λ z. omega (arith, z)) in
+    let z : v + 0 ≡ v = omega arith in
+    loads-one (moved d (register_of x)) m d.number v n refl
+    (ap (λ w. GoesOn (at_with m (low (m.pc + 4)) d.number w)) (ap (λ w. low (w + 0)) (r ∙ e) ∙ (ap low z ∙ low-small v s)))
+
+from-slot : (y : Layout) (d : Register) (base k : ℕ) (m : State) → d.number ≢ 0 → m.pc < 2 ^ 64 → HasFrame y base m → length m.region ≤ 67108864 → k < length y.homes →
+    Loads d.number (taken_from d (homes.Slot k)) m (word_at base m (homes.Slot k))
+from-slot y d base k m n p f g h =
+    let room : base + slot_offset k + 8 ≤ length m.private = slot-room y base k m f h in
+    framed-loads (λ r offset. Load Ld d r offset) d.number (private_word m (base + slot_offset k)) (slot_offset k) m n p (slot-near y base k m f h) (λ r far. refl)
+    (λ r far s a e q.
+    ap (λ x. loads s Ld d x) (a ∙ frame-sum (m.registers 2) base (slot_offset k) (length m.private) f.pointer room f.private)
+      ∙ (ap (λ x. loads_from s Ld d (place_of (length x) (length s.private) (2 ^ 32 + (base + slot_offset k)) 8)) e
+      ∙ (ap (λ x. loads_from s Ld d (place_of (length m.region) (length x) (2 ^ 32 + (base + slot_offset k)) 8)) q
+      ∙ (ap (λ x. loads_from s Ld d x) (private-place (length m.region) (length m.private) (base + slot_offset k) g room)
+      ∙ ap (λ x. GoesOn (at_with s (low (s.pc + 4)) d.number (number_of (take 8 (drop (base + slot_offset k) x))))) q))))
+
+pub take-home : (y : Layout) (d : Register) (base : ℕ) (m : State) (h : Home) (v : ℕ) → d.number ≢ 0 → m.pc < 2 ^ 64 → HasFrame y base m → length m.region ≤ 67108864 →
+    IsHome y h → word_at base m h ≡ v → v < 2 ^ 64 → Loads d.number (taken_from d h) m v
+take-home y d base m (homes.Register x) v n p f g i e s = from-register d m x v n i.0 i.1 e s
+take-home y d base m (homes.Slot k) v n p f g i e s =
+    subst (λ w. Loads d.number (taken_from d (homes.Slot k)) m w) e (from-slot y d base k m n p f g i)
+
+-- what is read of the machine holds wherever its registers and memories are the same
+pub region-small : (y : Layout) (Used : ℕ → Type 0) (w : World) (base : ℕ) (m : State) → Holds y Used w base m → length m.region ≤ 67108864
+region-small y Used w base m h = subst (λ r. length r ≤ 67108864) (sym h.region) h.lawful.sized.2
+
+pub take-operand : (y : Layout) (d : Register) (Used : ℕ → Type 0) (w : World) (base : ℕ) (m : State) (a : Operand) → d.number ≢ 0 →
+    Holds y Used w base m → Housed y Used → IsRead Used a → Loads d.number (taken y d a) m (value_in w.temps a)
+take-operand y d Used w base m (Temp t) n p h r =
+    take-home y d base m (home_of y t) (w.temps t) n p.pc p.frame (region-small y Used w base m p) (h.homes t r) (p.values t r) (p.words t r)
+take-operand y d Used w base m (Constant k) n p h r = constant-loads d m k n r
+
+home-count : (d : Register) (h : Home) → length (taken_from d h) ≤ 3
+home-count d (homes.Register x) = omega arith
+home-count d (homes.Slot k) = framed-count (λ r offset. Load Ld d r offset) (slot_offset k)
+
+pub taken-count : (y : Layout) (d : Register) (a : Operand) → length (taken y d a) ≤ 8
+taken-count y d (Temp t) = let h : length (taken_from d (home_of y t)) ≤ 3 = home-count d (home_of y t) in omega arith
+taken-count y d (Constant k) = constant-count d k
+
+pub put-count : (h : Home) → length (put_to h) ≤ 3
+put-count (homes.Register x) = omega arith
+put-count (homes.Slot k) = framed-count (λ r offset. Store Sd r x5 offset) (slot_offset k)
+
+-- Private memory is the same outside some bytes.
+pub record SameOutside (first behind : ℕ) (m after : State) : Type 0 where
+  pub long : length after.private ≡ length m.private
+  pub outside : (at n : ℕ) → (at + n ≤ first) ⊎ (behind ≤ at) → take n (drop at after.private) ≡ take n (drop at m.private)
+
+-- Code that puts the word in x5 to a home and changes no other.
+pub record Puts (y : Layout) (base : ℕ) (code : List Instr) (m : State) (h : Home) : Type 0 where
+  pub after : State
+  pub goes : acts code m ≡ GoesOn after
+  pub holds : word_at base after h ≡ m.registers 5
+  pub behind : after.pc ≡ low (m.pc + 4 * length code)
+  pub others : (g : Home) → IsHome y g → (g ≡ h → ⊥) → word_at base after g ≡ word_at base m g
+  pub keeps : (r : ℕ) → r ≢ 7 → (h ≡ homes.Register r → ⊥) → after.registers r ≡ m.registers r
+  pub region : after.region ≡ m.region
+  pub memory : SameOutside (base + slot_offset 0) (base + slot_offset (length y.homes)) m after
+  pub straight : AreStraight code
+
+to-register : (y : Layout) (base x : ℕ) (m : State) → 18 ≤ x → x ≤ 27 → m.registers 5 < 2 ^ 64 → Puts y base (put_to (homes.Register x)) m (homes.Register x)
+to-register y base x m l u s =
+    let z : m.registers 5 + 0 ≡ m.registers 5 = omega arith in
+    let v : low (m.registers 5 + 0) ≡ m.registers 5 = ap low z ∙ low-small (m.registers 5) s in
+    let d : (register_of x).number ≡ x = register-is x (omega arith) in
+    let k : Loads x (put_to (homes.Register x)) m (m.registers 5) =
+      loads-one (moved (register_of x) x5) m x (m.registers 5) (λ q. omega (arith, q)) refl
+      (ap (λ w. GoesOn (at_with m (low (m.pc + 4)) (register_of x).number w)) v ∙ ap (λ n. GoesOn (at_with m (low (m.pc + 4)) n (m.registers 5))) d) in
+    record {
+      after = at_with m (low (m.pc + 4)) x (m.registers 5);
+      goes = ap (λ n. then_on n (λ t. GoesOn t))
+          (ap (λ w. GoesOn (at_with m (low (m.pc + 4)) (register_of x).number w)) v ∙ ap (λ n. GoesOn (at_with m (low (m.pc + 4)) n (m.registers 5))) d);
+      holds = written-there m.registers x (m.registers 5) (λ q. omega (arith, q));
+      behind = low-first m.pc;
+      others = λ g i n. elsewhere g n;
+      keeps = λ r seven n. written-elsewhere m.registers x (m.registers 5) r (λ q. n (ap homes.Register (sym q)));
+      region = refl;
+      memory = record { long = refl; outside = λ at n o. refl };
+      straight = refl;
+    }
+  where
+    elsewhere : (g : Home) → (g ≡ homes.Register x → ⊥) → word_at base (at_with m (low (m.pc + 4)) x (m.registers 5)) g ≡ word_at base m g
+    elsewhere (homes.Register z) n = written-elsewhere m.registers x (m.registers 5) z (λ q. n (ap homes.Register q))
+    elsewhere (homes.Slot k) n = refl
+
+-- a state in which a word was stored in private memory
+abbrev pub word_stored : State → ℕ → ℕ → State
+word_stored s at x =
+    record { pc = low (s.pc + 4); registers = s.registers; region = s.region; private = with_bytes s.private at (bytes_of 8 x) }
+
+to-slot : (y : Layout) (base k : ℕ) (m : State) → m.pc < 2 ^ 64 → HasFrame y base m → length m.region ≤ 67108864 → k < length y.homes → m.registers 5 < 2 ^ 64 →
+    Puts y base (put_to (homes.Slot k)) m (homes.Slot k)
+to-slot y base k m p f g h s =
+    let at : ℕ = base + slot_offset k in
+    let room : at + 8 ≤ length m.private = slot-room y base k m f h in
+    let x : Reach (λ r offset. Store Sd r x5 offset) (slot_offset k) m = reach (λ r offset. Store Sd r x5 offset) (slot_offset k) m p (slot-near y base k m f h) in
+    let five : x.at.registers 5 ≡ m.registers 5 = x.before.keeps 5 (λ q. omega (arith, q)) in
+    let after : State = word_stored x.at at (x.at.registers 5) in
+    let e : act (Store Sd x.register x5 x.far) x.at ≡ GoesOn after =
+      ap (λ a. stores x.at Sd a (x.at.registers 5)) (x.address ∙ frame-sum (m.registers 2) base (slot_offset k) (length m.private) f.pointer room f.private)
+      ∙ (ap (λ z. stores_to x.at (bytes_of 8 (x.at.registers 5)) (place_of (length z) (length x.at.private) (2 ^ 32 + at) 8)) x.before.region
+      ∙ (ap (λ z. stores_to x.at (bytes_of 8 (x.at.registers 5)) (place_of (length m.region) (length z) (2 ^ 32 + at) 8)) x.before.private
+      ∙ ap (λ z. stores_to x.at (bytes_of 8 (x.at.registers 5)) z) (private-place (length m.region) (length m.private) at g room))) in
+    let here : at + 8 ≤ length x.at.private = subst (λ z. at + 8 ≤ length z) (sym x.before.private) room in
+    subst (λ code. Puts y base code m (homes.Slot k)) (sym x.code)
+    (record {
+      after = after;
+      goes = goes-both x.first (Store Sd x.register x5 x.far ∷ []) m x.at after x.before.goes (ap (λ n. then_on n (λ t. GoesOn t)) e);
+      holds = stored-word x.at.private at (x.at.registers 5) here (subst (λ v. v < 2 ^ 64) (sym five) s) ∙ five;
+      behind = behind-both x.first (Store Sd x.register x5 x.far ∷ []) m.pc x.at.pc after.pc x.before.behind (low-first x.at.pc);
+      others = λ o i n. elsewhere x.at x.before.keeps x.before.private here o i n;
+      keeps = λ r seven n. x.before.keeps r seven;
+      region = x.before.region;
+      memory = record {
+        long = stored-length x.at.private at (x.at.registers 5) here ∙ ap length x.before.private;
+        outside = λ a n o.
+            other-part x.at.private (bytes_of 8 (x.at.registers 5)) at a n (omega (arith, here))
+              (⊎_elim (λ l. inl (omega (arith, l))) (λ l. inr (omega (arith, l, h))) o)
+            ∙ ap (λ z. take n (drop a z)) x.before.private;
+      };
+      straight = straight-both x.first (Store Sd x.register x5 x.far ∷ []) x.before.straight refl;
+    })
+  where
+    elsewhere : (n : State) → ((r : ℕ) → r ≢ 7 → n.registers r ≡ m.registers r) → n.private ≡ m.private → base + slot_offset k + 8 ≤ length n.private →
+        (o : Home) → IsHome y o → (o ≡ homes.Slot k → ⊥) →
+        word_at base (word_stored n (base + slot_offset k) (n.registers 5)) o ≡ word_at base m o
+    elsewhere n keeps same here (homes.Register z) i o = keeps z (λ q. omega (arith, q, i.0))
+    elsewhere n keeps same here (homes.Slot j) i o =
+        ap number_of
+        (other-part n.private (bytes_of 8 (n.registers 5)) (base + slot_offset k) (base + slot_offset j) 8 (omega (arith, here))
+        (⊎_elim (λ l. inl (omega (arith, l))) (λ l. inr (omega (arith, l, apart j o))) (cases_lt j k))
+        ∙ ap (λ z. take 8 (drop (base + slot_offset j) z)) same)
+      where
+        apart : (j : ℕ) → (homes.Slot j ≡ homes.Slot k → ⊥) → j ≢ k
+        apart j q z = q (ap homes.Slot z)
+
+pub put-home : (y : Layout) (base : ℕ) (m : State) (h : Home) → m.pc < 2 ^ 64 → HasFrame y base m → length m.region ≤ 67108864 → IsHome y h → m.registers 5 < 2 ^ 64 →
+    Puts y base (put_to h) m h
+put-home y base m (homes.Register x) p f g i s = to-register y base x m i.0 i.1 s
+put-home y base m (homes.Slot k) p f g i s = to-slot y base k m p f g i s

@@ -1,0 +1,12 @@
+pub mod Straight
+pub mod Ways
+pub mod Numbers
+pub mod Bytes
+pub mod Frames
+pub mod Homes
+pub mod Small
+pub mod Words
+pub mod Claims
+pub mod Moves
+pub mod Faults
+pub mod Divisors

@@ -1,0 +1,267 @@
+-- Copies and operators.
+use Rattle.std.proofs.Common.{◌≡◌, ◌≢◌, ℕ, ◌+◌, ◌-◌, ◌*◌, ◌%◌, ◌^◌, ◌<◌, ◌≤◌, Bool, true, false, List, [], ◌∷◌, ◌++◌, length, take, drop, append_assoc, Option, Some, None, refl, sym, ap, ◌∙◌, subst, ⊎_elim, inl, inr, arith}
+use Rattle.std.specs.Prelude.{if◌then◌else◌, nat_eq, ◌⊎◌, IsTrue}
+use Rattle.std.proofs.lemmas.Bool.{cases_eq, eq-eqb, ne_eqb}
+use Rattle.std.proofs.lemmas.List.{length-append}
+use Rattle.rv_isa.specs.declared.instr.Instr.{Instr}
+use Rattle.rv_isa.specs.declared.instr.Instr.TheVariants.{Store}
+use Rattle.rv_isa.specs.declared.operation.StoreOp.TheVariants.{Sd}
+use Rattle.reg_alloc.specs.declared.assignment.Home.{Home}
+use Rattle.reg_alloc.specs.declared.assignment.Home.TheVariants as homes
+use Rattle.rv_machine.specs.Word.{low, number_of}
+use Rattle.rv_machine.specs.Machine.{State, GoesOn, run_of, after_output}
+use Rattle.terra_words.specs.declared.words.Width.{Width}
+use Rattle.terra_words.specs.declared.words.BinaryOperator.{BinaryOperator}
+use Rattle.terra_words.specs.Words.{applied, divides}
+use Rattle.tac_form.specs.declared.tac.Number.{Number}
+use Rattle.tac_form.specs.declared.tac.Size.{Size}
+use Rattle.tac_form.specs.declared.tac.Size.TheVariants.{One, Two, Four, Eight}
+use Rattle.tac_form.specs.declared.tac.Operand.{Operand}
+use Rattle.tac_form.specs.declared.tac.Operand.TheVariants.{Temp, Constant}
+use Rattle.tac_form.specs.Flow.{Temps, put, bytes_of, width_of}
+use Rattle.rv_operators.specs.Claims.{acts, then_on, Leads}
+use Rattle.rv_operators.specs.Codes.{x5, x6, code_of, is_width}
+use Rattle.rv_operators.specs.Runs.{AreStraight, Stands}
+use Rattle.rv_operators.proofs.Operators.{computed as operator-computes}
+use Rattle.rv_operators.proofs.Short.{code-short}
+use Rattle.rv_select.specs.Places.{Layout, World, HasFrame, Holds, Housed, IsHome, IsRead, Keeps, area_offset, frame_bytes, home_of, is_lasting, private_word, slot_offset, uses, value_in, word_at}
+use Rattle.rv_select.specs.Shapes.{copied, computed, put_to, taken}
+use Rattle.rv_select.specs.Steps.{Comes, Follows, behind, with_temp}
+use Rattle.rv_select.proofs.Claims.{CopiesAreCarried, OperatorsAreCarried}
+use Rattle.rv_select.proofs.Straight.{Loads, Scratch, behind-both, goes-both, leads-scratch, loads-five, loads-six, low-below, scratch-both}
+use Rattle.rv_select.proofs.Ways.{Near, Way, scratch-near, stands-back, stands-front, straight-way, way-both}
+use Rattle.rv_select.proofs.Frames.{framed-some}
+use Rattle.rv_select.proofs.Homes.{Puts, SameOutside, put-count, put-home, region-small, take-operand, taken-count}
+use Rattle.rv_select.proofs.Small.{applied-small}
+
+-- a word at a home depends on neither scratch registers nor the region
+home-keeps : (y : Layout) (base : ℕ) (m n : State) (h : Home) → IsHome y h → ((r : ℕ) → r ≢ 5 → r ≢ 6 → r ≢ 7 → n.registers r ≡ m.registers r) →
+    n.private ≡ m.private → word_at base n h ≡ word_at base m h
+home-keeps y base m n (homes.Register x) i k p =
+    k x (λ e. omega (arith, e, i.0)) (λ e. omega (arith, e, i.0)) (λ e. omega (arith, e, i.0))
+home-keeps y base m n (homes.Slot s) i k p = ap (λ bytes. number_of (take 8 (drop (base + slot_offset s) bytes))) p
+
+-- what states share that are near each other
+pub near-holds : (y : Layout) (Used : ℕ → Type 0) (w : World) (base : ℕ) (m n : State) → Holds y Used w base m → Housed y Used →
+    Near m n → n.pc < 2 ^ 64 → Holds y Used w base n
+near-holds y Used w base m n p h s small = record {
+  frame = record {
+    pointer = s.keeps 2 (λ e. omega (arith, e)) (λ e. omega (arith, e)) (λ e. omega (arith, e)) ∙ p.frame.pointer;
+    within = subst (λ z. base + frame_bytes y ≤ length z) (sym s.private) p.frame.within;
+    private = subst (λ z. length z ≤ 603979776) (sym s.private) p.frame.private;
+  };
+  pc = small;
+  values = λ t u. home-keeps y base m n (home_of y t) (h.homes t u) s.keeps s.private ∙ p.values t u;
+  words = p.words;
+  areas = λ k l. ap (λ z. take (length (w.areas k)) (drop (base + area_offset y k) z)) s.private ∙ p.areas k l;
+  short = p.short;
+  area_bytes = p.area_bytes;
+  bytes = p.bytes;
+  region = s.region ∙ p.region;
+  lawful = p.lawful;
+  heap = s.keeps 3 (λ e. omega (arith, e)) (λ e. omega (arith, e)) (λ e. omega (arith, e)) ∙ p.heap;
+  limit = s.keeps 4 (λ e. omega (arith, e)) (λ e. omega (arith, e)) (λ e. omega (arith, e)) ∙ p.limit;
+  placed = s.keeps 8 (λ e. omega (arith, e)) (λ e. omega (arith, e)) (λ e. omega (arith, e)) ∙ p.placed;
+  above = p.above;
+  below = p.below;
+  depth = s.keeps 28 (λ e. omega (arith, e)) (λ e. omega (arith, e)) (λ e. omega (arith, e)) ∙ p.depth;
+}
+
+pub scratch-holds : (y : Layout) (Used : ℕ → Type 0) (w : World) (base : ℕ) (code : List Instr) (m n : State) → Holds y Used w base m → Housed y Used →
+    Scratch code m n → Holds y Used w base n
+scratch-holds y Used w base code m n p h s =
+    near-holds y Used w base m n p h (scratch-near code m n s) (subst (λ z. z < 2 ^ 64) (sym s.behind) (low-below (m.pc + 4 * length code)))
+
+-- fewer temporaries in use
+pub fewer-holds : (y : Layout) (Used Next : ℕ → Type 0) (w : World) (base : ℕ) (m : State) → ((t : ℕ) → Next t → Used t) → Holds y Used w base m → Holds y Next w base m
+fewer-holds y Used Next w base m f p = record {
+  frame = p.frame;
+  pc = p.pc;
+  values = λ t u. p.values t (f t u);
+  words = λ t u. p.words t (f t u);
+  areas = p.areas;
+  short = p.short;
+  area_bytes = p.area_bytes;
+  region = p.region;
+  bytes = p.bytes;
+  lawful = p.lawful;
+  heap = p.heap;
+  limit = p.limit;
+  placed = p.placed;
+  above = p.above;
+  below = p.below;
+  depth = p.depth;
+}
+
+-- scratch registers don't last
+lasts-not : (r n : ℕ) → IsTrue (is_lasting r) → is_lasting n ≡ false → r ≢ n
+lasts-not r n h f e = let g : is_lasting r ≡ false = ap is_lasting e ∙ f in cc
+
+pub near-keeps : (y : Layout) (base : ℕ) (m n : State) → Near m n → Keeps y base m n
+near-keeps y base m n s = record {
+  registers = λ r l u. s.keeps r (lasts-not r 5 l refl) (lasts-not r 6 l refl) (lasts-not r 7 l refl);
+  long = ap length s.private;
+  outside = λ at k b o. ap (λ z. take k (drop at z)) s.private;
+}
+
+pub keeps-both : (y : Layout) (base : ℕ) (m n r : State) → Keeps y base m n → Keeps y base n r → Keeps y base m r
+keeps-both y base m n r h k = record {
+  registers = λ x l u. k.registers x l u ∙ h.registers x l u;
+  long = k.long ∙ h.long;
+  outside = λ at c b o. k.outside at c b o ∙ h.outside at c b o;
+}
+
+-- a register that is a home is one that the function uses
+used-register : (y : Layout) (h : Home) (r : ℕ) → IsHome y h → uses y r ≡ false → h ≡ homes.Register r → ⊥
+used-register y h r i f e = let g : IsHome y (homes.Register r) = subst (IsHome y) e i in let t : uses y r ≡ true = g.2 in cc
+
+put-keeps : (y : Layout) (base : ℕ) (code : List Instr) (m : State) (h : Home) (p : Puts y base code m h) → IsHome y h → Keeps y base m p.after
+put-keeps y base code m h p i = record {
+  registers = λ r l u. p.keeps r (lasts-not r 7 l refl) (used-register y h r i u);
+  long = p.memory.long;
+  outside = λ at n b o. p.memory.outside at n (⊎_elim (λ l. inl (omega (arith, l))) (λ l. inr (omega (arith, l))) o);
+}
+
+-- a home is none of the registers of the whole function
+no-home : (y : Layout) (h : Home) (r : ℕ) → IsHome y h → (r < 18) ⊎ (27 < r) → h ≡ homes.Register r → ⊥
+no-home y h r i f e = let g : IsHome y (homes.Register r) = subst (IsHome y) e i in ⊎_elim (λ l. omega (arith, l, g.0)) (λ l. omega (arith, l, g.1)) f
+
+-- after a put, what is in use stands at its home
+put-holds : (y : Layout) (Used Next : ℕ → Type 0) (w : World) (base d v : ℕ) (code : List Instr) (m : State) (p : Puts y base code m (home_of y d)) →
+    Holds y Used w base m → Housed y Next → Next d → Follows Used Next d → m.registers 5 ≡ v → v < 2 ^ 64 → Holds y Next (with_temp w d v) base p.after
+put-holds y Used Next w base d v code m p q h n follows e s = record {
+  frame = record {
+    pointer = p.keeps 2 (λ z. omega (arith, z)) (no-home y (home_of y d) 2 (h.homes d n) (inl (omega arith))) ∙ q.frame.pointer;
+    within = subst (λ z. base + frame_bytes y ≤ z) (sym p.memory.long) q.frame.within;
+    private = subst (λ z. z ≤ 603979776) (sym p.memory.long) q.frame.private;
+  };
+  pc = subst (λ z. z < 2 ^ 64) (sym p.behind) (low-below (m.pc + 4 * length code));
+  values = λ t u. ⊎_elim
+    (λ same. subst (λ x. word_at base p.after (home_of y x) ≡ put w.temps d v x) (sym same) (p.holds ∙ (e ∙ sym (ap (λ b. if b then v else w.temps d) (eq-eqb d d refl)))))
+    (λ other.
+    p.others (home_of y t) (h.homes t u) (λ g. other (h.apart t d u n g))
+    ∙ (q.values t (before t u other) ∙ sym (ap (λ b. if b then v else w.temps t) (ne_eqb t d other))))
+    (cases_eq t d);
+  words = λ t u. ⊎_elim
+    (λ same. subst (λ x. put w.temps d v x < 2 ^ 64) (sym same) (subst (λ z. z < 2 ^ 64) (ap (λ b. if b then v else w.temps d) (sym (eq-eqb d d refl))) s))
+    (λ other. subst (λ z. z < 2 ^ 64) (ap (λ b. if b then v else w.temps t) (sym (ne_eqb t d other))) (q.words t (before t u other)))
+    (cases_eq t d);
+  areas = λ k l. p.memory.outside (base + area_offset y k) (length (w.areas k)) (inr (omega arith)) ∙ q.areas k l;
+  short = q.short;
+  area_bytes = q.area_bytes;
+  bytes = q.bytes;
+  region = p.region ∙ q.region;
+  lawful = q.lawful;
+  heap = p.keeps 3 (λ z. omega (arith, z)) (no-home y (home_of y d) 3 (h.homes d n) (inl (omega arith))) ∙ q.heap;
+  limit = p.keeps 4 (λ z. omega (arith, z)) (no-home y (home_of y d) 4 (h.homes d n) (inl (omega arith))) ∙ q.limit;
+  placed = p.keeps 8 (λ z. omega (arith, z)) (no-home y (home_of y d) 8 (h.homes d n) (inl (omega arith))) ∙ q.placed;
+  above = q.above;
+  below = q.below;
+  depth = p.keeps 28 (λ z. omega (arith, z)) (no-home y (home_of y d) 28 (h.homes d n) (inr (omega arith))) ∙ q.depth;
+}
+  where
+    before : (t : ℕ) → Next t → t ≢ d → Used t
+    before t u other = ⊎_elim (λ same. absurd (other same)) (λ used. used) (follows t u)
+
+-- a put has an instruction
+pub some-put : (h : Home) → 1 ≤ length (put_to h)
+some-put (homes.Register x) = omega arith
+some-put (homes.Slot k) = framed-some (λ r offset. Store Sd r x5 offset) (slot_offset k)
+
+-- a way to a state near, and a put there
+pub then-put : (y : Layout) (Used Next : ℕ → Type 0) (w : World) (base d v k weight target : ℕ) (program : List (Option Instr)) (m n : State) →
+    Holds y Used w base m → Housed y Used → Housed y Next → Next d → Follows Used Next d → Way program k m n → Near m n → n.pc < 2 ^ 64 →
+    n.registers 5 ≡ v → v < 2 ^ 64 → k + 3 ≤ weight → Stands program n.pc (put_to (home_of y d)) → low (n.pc + 4 * length (put_to (home_of y d))) ≡ target →
+    Comes y program Next (with_temp w d v) base weight target [] m
+then-put y Used Next w base d v k weight target program m n p h h' u follows way near small e l few stands to =
+    let b : List Instr = put_to (home_of y d) in
+    let q : Holds y Used w base n = near-holds y Used w base m n p h near small in
+    let r : Puts y base b n (home_of y d) =
+      put-home y base n (home_of y d) small q.frame (region-small y Used w base n q) (h'.homes d u) (subst (λ x. x < 2 ^ 64) (sym e) l) in
+    let most : length b ≤ 3 = put-count (home_of y d) in
+    let least : 1 ≤ length b = some-put (home_of y d) in
+    let whole : Way program (k + length b) m r.after =
+      way-both program k (length b) m n r.after way (straight-way program b n r.after stands r.straight r.goes) in
+    record {
+      steps = k + length b;
+      after = r.after;
+      some = omega arith;
+      few = omega arith;
+      runs = whole.runs;
+      at = r.behind ∙ to;
+      holds = put-holds y Used Next w base d v b n r q h' u follows e l;
+      keeps = keeps-both y base m n r.after (near-keeps y base m n near) (put-keeps y base b n (home_of y d) r (h'.homes d u));
+    }
+
+-- straight code that leaves a word in x5, and a put
+pub straight-put : (y : Layout) (Used Next : ℕ → Type 0) (w : World) (base d v weight : ℕ) (a : List Instr) (program : List (Option Instr)) (m n : State) →
+    Holds y Used w base m → Housed y Used → Housed y Next → Next d → Follows Used Next d → Scratch a m n → n.registers 5 ≡ v → v < 2 ^ 64 →
+    length a + 3 ≤ weight → Stands program m.pc (a ++ put_to (home_of y d)) →
+    Comes y program Next (with_temp w d v) base weight (behind m (a ++ put_to (home_of y d))) [] m
+straight-put y Used Next w base d v weight a program m n p h h' u follows s e l few stands =
+    let b : List Instr = put_to (home_of y d) in
+    then-put y Used Next w base d v (length a) weight (behind m (a ++ b)) program m n p h h' u follows
+    (straight-way program a m n (stands-front program m.pc a b stands) s.straight s.goes) (scratch-near a m n s)
+    (subst (λ z. z < 2 ^ 64) (sym s.behind) (low-below (m.pc + 4 * length a))) e l few
+    (subst (λ z. Stands program z b) (sym s.behind) (stands-back program m.pc a b p.pc stands))
+    (behind-both a b m.pc n.pc (low (n.pc + 4 * length b)) s.behind refl)
+
+pub value-small : (Used : ℕ → Type 0) (y : Layout) (w : World) (base : ℕ) (m : State) (a : Operand) → Holds y Used w base m → IsRead Used a → value_in w.temps a < 2 ^ 64
+value-small Used y w base m (Temp t) p r = p.words t r
+value-small Used y w base m (Constant c) p r = r
+
+pub copies : CopiesAreCarried
+copies y d a Used Next w base program m stands p h h' r u follows =
+    let l : Loads 5 (taken y x5 a) m (value_in w.temps a) = take-operand y x5 Used w base m a (λ e. omega (arith, e)) p h r in
+    straight-put y Used Next w base d (value_in w.temps a) 11 (taken y x5 a) program m l.after p h h' u follows (loads-five (taken y x5 a) m (value_in w.temps a) l) l.gives
+    (value-small Used y w base m a p r) (omega (arith, taken-count y x5 a)) stands
+
+-- an operator over operands that stand in x5 and x6
+computes : (y : Layout) (Used Next : ℕ → Type 0) (w : World) (base d va vb : ℕ) (op : BinaryOperator) (wide : Width) (A B : List Instr)
+    (program : List (Option Instr)) (m : State) → is_width wide.bits ≡ true → (divides op ≡ true → vb ≢ 0) → va < 2 ^ 64 → vb < 2 ^ 64 →
+    (l : Loads 5 A m va) → (k : Loads 6 B l.after vb) → length A ≤ 8 → length B ≤ 8 →
+    Holds y Used w base m → Housed y Used → Housed y Next → Next d → Follows Used Next d →
+    Stands program m.pc ((A ++ (B ++ code_of wide op)) ++ put_to (home_of y d)) →
+    Comes y program Next (with_temp w d (applied wide op va vb)) base 23 (behind m ((A ++ (B ++ code_of wide op)) ++ put_to (home_of y d))) [] m
+computes y Used Next w base d va vb op wide A B program m is divisor sa sb l k fa fb p h h' u follows stands =
+    let n : State = k.after in
+    let five : n.registers 5 ≡ va = k.keeps 5 (λ e. omega (arith, e)) (λ e. omega (arith, e)) ∙ l.gives in
+    let o : Leads (code_of wide op) n (applied wide op (n.registers 5) (n.registers 6)) =
+      operator-computes wide op is n (subst (λ x. x < 2 ^ 64) (sym five) sa) (subst (λ x. x < 2 ^ 64) (sym k.gives) sb)
+      (λ e z. divisor e (sym k.gives ∙ z)) in
+    let short : length (code_of wide op) ≤ 4 = (code-short wide op).short in
+    let s : Scratch (A ++ (B ++ code_of wide op)) m o.after =
+      scratch-both A (B ++ code_of wide op) m l.after o.after (loads-five A m va l)
+      (scratch-both B (code_of wide op) l.after n o.after (loads-six B l.after vb k) (leads-scratch (code_of wide op) n _ o (code-short wide op).straight)) in
+    let gives : o.after.registers 5 ≡ applied wide op va vb =
+      o.gives ∙ (ap (λ x. applied wide op x (n.registers 6)) five ∙ ap (λ x. applied wide op va x) k.gives) in
+    let count : length (A ++ (B ++ code_of wide op)) ≡ length A + (length B + length (code_of wide op)) =
+      length-append A (B ++ code_of wide op) ∙ ap (λ x. length A + x) (length-append B (code_of wide op)) in
+    straight-put y Used Next w base d (applied wide op va vb) 23 (A ++ (B ++ code_of wide op)) program m o.after p h h' u follows s gives
+    (applied-small wide op va vb is) (omega (arith, count, short, fa, fb)) stands
+
+-- the parts one after the other
+in-row : (A B O P : List Instr) → (A ++ (B ++ O)) ++ P ≡ A ++ (B ++ (O ++ P))
+in-row A B O P = append_assoc A (B ++ O) P ∙ ap (λ x. A ++ x) (append_assoc B O P)
+
+-- numbers have the width of a type
+pub wide-size : (z : Size) → is_width (8 * bytes_of z) ≡ true
+wide-size One = refl
+wide-size Two = refl
+wide-size Four = refl
+wide-size Eight = refl
+
+pub operators : OperatorsAreCarried
+operators y d op form a b Used Next w base program m stands divisor p h h' ra rb u follows =
+    let wide : Width = width_of form in
+    let va = value_in w.temps a in
+    let vb = value_in w.temps b in
+    let l : Loads 5 (taken y x5 a) m va = take-operand y x5 Used w base m a (λ e. omega (arith, e)) p h ra in
+    let q : Holds y Used w base l.after = scratch-holds y Used w base (taken y x5 a) m l.after p h (loads-five (taken y x5 a) m va l) in
+    let k : Loads 6 (taken y x6 b) l.after vb = take-operand y x6 Used w base l.after b (λ e. omega (arith, e)) q h rb in
+    let whole : (taken y x5 a ++ (taken y x6 b ++ code_of wide op)) ++ put_to (home_of y d) ≡ computed y d op wide a b =
+      in-row (taken y x5 a) (taken y x6 b) (code_of wide op) (put_to (home_of y d)) in
+    subst (λ x. Comes y program Next (with_temp w d (applied wide op va vb)) base 23 (behind m x) [] m) whole
+    (computes y Used Next w base d va vb op wide (taken y x5 a) (taken y x6 b) program m (wide-size form.size) divisor
+    (value-small Used y w base m a p ra) (value-small Used y w base m b p rb) l k (taken-count y x5 a) (taken-count y x6 b) p h h' u follows
+    (subst (λ x. Stands program m.pc x) (sym whole) stands))

@@ -1,0 +1,134 @@
+-- Where the words of an activation stand in the machine.
+--
+-- x2 has the address of the activation's frame in private memory. x3 is the end of the heap, x4 that of the region, x8 the
+-- address of the frame in the region, and x28 the number of calls that wait. x18 to x27 hold temporaries. x1, x5 to x7 and x10
+-- to x17 are scratch: between two instructions of three-address code they hold nothing.
+--
+-- The private frame has, from x2 upwards, the return address and a word for each of x18 to x27, in which a function that uses
+-- one keeps its caller's word; then the slots, a word each; then 128 bytes for each area; and at its end the words of the
+-- parameters, which the caller stores below its own frame, the first uppermost.
+use Rattle.std.specs.Prelude.{◌≡◌, ℕ, ◌+◌, ◌-◌, ◌*◌, ◌^◌, ◌<◌, ◌≤◌, Bool, true, false, ◌&&◌, ◌||◌, nat_eq, nat_le, List, take, drop, length, Option, Some, None, slice_get, IsTrue, ◌⊎◌, [], ◌∷◌}
+use Rattle.std.specs.List.{list_any}
+use Rattle.reg_alloc.specs.declared.assignment.Home.{Home}
+use Rattle.reg_alloc.specs.declared.assignment.Home.TheVariants.{Register, Slot}
+use Rattle.rv_machine.specs.Word.{number_of}
+use Rattle.rv_machine.specs.Machine.{State}
+use Rattle.terra_memory.specs.Region.{Contents, IsLawful, end_address, heap_limit}
+use Rattle.tac_form.specs.declared.tac.Operand.{Operand}
+use Rattle.tac_form.specs.declared.tac.Operand.TheVariants.{Temp, Constant}
+use Rattle.tac_form.specs.declared.tac.Tac.{Tac}
+use Rattle.tac_form.specs.Flow.{Temps, Areas}
+use Rattle.tac_form.specs.Weights.{kept_bytes, most_moved}
+
+-- A function's layout: the homes of its temporaries, and how many areas and parameters it has.
+pub record Layout : Type 0 where
+  pub homes : List (Option Home)
+  pub areas : ℕ
+  pub parameters : ℕ
+
+abbrev pub layout_of : Tac → List (Option Home) → Layout
+layout_of code homes = record { homes = homes; areas = length code.areas; parameters = length code.parameters }
+
+-- where slots and areas lie in the frame, and its bytes
+abbrev pub slot_offset : ℕ → ℕ
+slot_offset k = kept_bytes + 8 * k
+
+abbrev pub area_offset : Layout → ℕ → ℕ
+area_offset y n = kept_bytes + 8 * length y.homes + most_moved * n
+
+abbrev pub frame_bytes : Layout → ℕ
+frame_bytes y = kept_bytes + 8 * length y.homes + most_moved * y.areas + 8 * y.parameters
+
+-- a temporary's home. One that is never in use has none, and is never asked for
+abbrev pub or_first : Option (Option Home) → Home
+or_first (Some (Some h)) = h
+or_first _ = Slot 0
+
+abbrev pub home_of : Layout → ℕ → Home
+home_of y t = or_first (slice_get y.homes t)
+
+-- whether a function uses a register, and so keeps its caller's word of it
+abbrev pub is_register : ℕ → Option Home → Bool
+is_register x (Some (Register z)) = nat_eq x z
+is_register x _ = false
+
+abbrev pub uses : Layout → ℕ → Bool
+uses y x = list_any (is_register x) y.homes
+
+-- a register that calls keep and that this function uses, or a slot of the frame
+abbrev pub IsHome : Layout → Home → Type 0
+IsHome y (Register x) = (18 ≤ x) × (x ≤ 27) × IsTrue (uses y x)
+IsHome y (Slot k) = k < length y.homes
+
+-- the word at an offset of private memory, and the word at a home, in an activation whose frame begins at an offset
+abbrev pub private_word : State → ℕ → ℕ
+private_word m at = number_of (take 8 (drop at m.private))
+
+abbrev pub word_at : (base : ℕ) → State → Home → ℕ
+word_at base m (Register x) = m.registers x
+word_at base m (Slot k) = private_word m (base + slot_offset k)
+
+-- The frame lies in private memory, and x2 is its address. Private memory is of a size that an image may ask for.
+pub record HasFrame (y : Layout) (base : ℕ) (m : State) : Type 0 where
+  pub pointer : m.registers 2 ≡ 2 ^ 32 + base
+  pub within : base + frame_bytes y ≤ length m.private
+  pub private : length m.private ≤ 603979776
+
+abbrev pub AreBytes : List ℕ → Type 0
+AreBytes [] = Unit {0}
+AreBytes (b ∷ bs) = (b < 256) × AreBytes bs
+
+-- What three-address code sees: the temporaries and areas of an activation, the region, the address of the activation's frame
+-- in the region, and how many calls wait.
+pub record World : Type 0 where
+  pub temps : Temps
+  pub areas : Areas
+  pub region : Contents
+  pub placed : ℕ
+  pub depth : ℕ
+
+-- The machine holds what three-address code sees. Each temporary in use stands at its home, and the bytes of each area in the
+-- frame; the region is the same; and x3, x4, x8 and x28 are what they are said to be above.
+pub record Holds (y : Layout) (Used : ℕ → Type 0) (w : World) (base : ℕ) (m : State) : Type 0 where
+  pub frame : HasFrame y base m
+  pub pc : m.pc < 2 ^ 64
+  pub values : (t : ℕ) → Used t → word_at base m (home_of y t) ≡ w.temps t
+  pub words : (t : ℕ) → Used t → w.temps t < 2 ^ 64
+  pub areas : (n : ℕ) → n < y.areas →
+      take (length (w.areas n)) (drop (base + area_offset y n) m.private) ≡ w.areas n
+  pub short : (n : ℕ) → n < y.areas → length (w.areas n) ≤ most_moved
+  pub area_bytes : (n : ℕ) → n < y.areas → AreBytes (w.areas n)
+  pub region : m.region ≡ w.region.bytes
+  pub bytes : AreBytes w.region.bytes
+  pub lawful : IsLawful w.region
+  pub heap : m.registers 3 ≡ w.region.heap
+  pub limit : m.registers 4 ≡ end_address w.region
+  pub placed : m.registers 8 ≡ w.placed
+  pub above : heap_limit w.region ≤ w.placed
+  pub below : w.placed ≤ end_address w.region
+  pub depth : m.registers 28 ≡ w.depth
+
+-- the homes of the temporaries in use
+pub record Housed (y : Layout) (Used : ℕ → Type 0) : Type 0 where
+  pub homes : (t : ℕ) → Used t → IsHome y (home_of y t)
+  pub apart : (t u : ℕ) → Used t → Used u → home_of y t ≡ home_of y u → t ≡ u
+
+-- What callers rest on. The registers that no instruction uses as scratch are the same, those apart that the function keeps for
+-- its caller; and so are the words that it keeps, and all that lies behind its frame.
+abbrev pub is_lasting : ℕ → Bool
+is_lasting r = nat_eq r 2 || nat_le 18 r && nat_le r 27
+
+pub record Keeps (y : Layout) (base : ℕ) (m after : State) : Type 0 where
+  pub registers : (r : ℕ) → IsTrue (is_lasting r) → uses y r ≡ false → after.registers r ≡ m.registers r
+  pub long : length after.private ≡ length m.private
+  pub outside : (at n : ℕ) → base ≤ at → (at + n ≤ base + kept_bytes) ⊎ (base + frame_bytes y ≤ at) →
+      take n (drop at after.private) ≡ take n (drop at m.private)
+
+-- an operand's word, and what is in use where it is read
+abbrev pub value_in : Temps → Operand → ℕ
+value_in temps (Temp t) = temps t
+value_in temps (Constant c) = c
+
+abbrev pub IsRead : (ℕ → Type 0) → Operand → Type 0
+IsRead Used (Temp t) = Used t
+IsRead Used (Constant c) = c < 2 ^ 64

@@ -1,0 +1,293 @@
+-- Which instructions carry out those of three-address code that stay within a function.
+use Rattle.std.specs.Prelude.{◌≡◌, ℕ, suc, zero, ◌+◌, ◌-◌, ◌*◌, ◌/◌, ◌%◌, ◌^◌, pos, Bool, true, false, ◌||◌, nat_eq, nat_le, if◌then◌else◌, List, [], ◌∷◌, ◌++◌, length}
+use Rattle.std.proofs.Common.{lit≤, subst, sym, refl, eqb→eq}
+use lib.Dec.{T}
+use Rattle.tl_base.specs.declared.place.Place.{Place}
+use Rattle.rv_isa.specs.declared.instr.Instr.{Instr}
+use Rattle.rv_isa.specs.declared.instr.Instr.TheVariants.{Lui, Jal, Branch, Load, Store, RegisterImmediate, Shift, RegisterRegister, Ecall}
+use Rattle.rv_isa.specs.declared.operation.BranchCondition.{BranchCondition}
+use Rattle.rv_isa.specs.declared.operation.BranchCondition.TheVariants.{Eq, Ne, Ltu, Geu}
+use Rattle.rv_isa.specs.declared.operation.ImmediateOp.TheVariants.{Addi, Andi}
+use Rattle.rv_isa.specs.declared.operation.ShiftOp.TheVariants.{Srli}
+use Rattle.rv_isa.specs.declared.operation.RegisterOp.TheVariants.{Add, Sub}
+use Rattle.rv_isa.specs.declared.operation.LoadOp.{LoadOp}
+use Rattle.rv_isa.specs.declared.operation.LoadOp.TheVariants.{Lb, Lh, Lw, Ld, Lbu, Lhu, Lwu}
+use Rattle.rv_isa.specs.declared.operation.StoreOp.{StoreOp}
+use Rattle.rv_isa.specs.declared.operation.StoreOp.TheVariants.{Sb, Sh, Sw, Sd}
+use Rattle.rv_isa.specs.declared.operand.Register.{Register}
+use Rattle.rv_isa.specs.declared.operand.Immediate.{Immediate}
+use Rattle.rv_isa.specs.declared.operand.BranchOffset.{BranchOffset}
+use Rattle.rv_isa.specs.declared.operand.JumpOffset.{JumpOffset}
+use Rattle.rv_isa.specs.declared.operand.ShiftCount.{ShiftCount}
+use Rattle.reg_alloc.specs.declared.assignment.Home.{Home}
+use Rattle.reg_alloc.specs.declared.assignment.Home.TheVariants as homes
+use Rattle.terra_words.specs.declared.words.Width.{Width}
+use Rattle.terra_words.specs.declared.words.BinaryOperator.{BinaryOperator}
+use Rattle.terra_words.specs.declared.words.FaultKind.{FaultKind}
+use Rattle.terra_words.specs.declared.words.FaultKind.TheVariants.{BadAddress, DivZero}
+use Rattle.terra_words.specs.Words.{fault_number}
+use Rattle.tac_form.specs.declared.tac.Size.{Size}
+use Rattle.tac_form.specs.declared.tac.Size.TheVariants.{One, Two, Four, Eight}
+use Rattle.tac_form.specs.declared.tac.Number.{Number}
+use Rattle.tac_form.specs.declared.tac.Operand.{Operand}
+use Rattle.tac_form.specs.declared.tac.Operand.TheVariants.{Temp, Constant}
+use Rattle.tac_form.specs.declared.tac.Address.{Address}
+use Rattle.tac_form.specs.declared.tac.Address.TheVariants.{Word, Frame}
+use Rattle.tac_form.specs.declared.tac.Spot.{Spot}
+use Rattle.tac_form.specs.declared.tac.Spot.TheVariants as spots
+use Rattle.tac_form.specs.Flow.{bytes_of, width_of}
+use Rattle.rv_operators.specs.Codes.{x0, x5, x6, code_of, zero_immediate}
+use Rattle.rv_select.specs.Numbers.{constant, immediate_of, below_zero, lower_of, register_of, upper_of}
+use Rattle.rv_select.specs.Places.{Layout, area_offset, home_of, slot_offset}
+
+-- the frame, the end of the heap, the end of the region, a scratch register, the frame in the region, and the registers in
+-- which the machine takes the parts of a call
+abbrev pub x2 : Register
+x2 = record { number = 2; in_range = lit≤ tt }
+
+abbrev pub x3 : Register
+x3 = record { number = 3; in_range = lit≤ tt }
+
+abbrev pub x4 : Register
+x4 = record { number = 4; in_range = lit≤ tt }
+
+abbrev pub x7 : Register
+x7 = record { number = 7; in_range = lit≤ tt }
+
+abbrev pub x8 : Register
+x8 = record { number = 8; in_range = lit≤ tt }
+
+abbrev pub x10 : Register
+x10 = record { number = 10; in_range = lit≤ tt }
+
+abbrev pub x11 : Register
+x11 = record { number = 11; in_range = lit≤ tt }
+
+abbrev pub x12 : Register
+x12 = record { number = 12; in_range = lit≤ tt }
+
+abbrev pub x17 : Register
+x17 = record { number = 17; in_range = lit≤ tt }
+
+-- an instruction at an offset of the frame, where x7 takes the upper part of an offset that is too far for one instruction
+abbrev pub framed : (Register → Immediate → Instr) → ℕ → List Instr
+framed f offset =
+    if nat_le offset 2047 then f x2 (immediate_of offset) ∷ []
+    else Lui x7 (upper_of offset) ∷ RegisterRegister Add x7 x7 x2 ∷ f x7 (lower_of offset) ∷ []
+
+-- a word of one register to another
+abbrev pub moved : (to from : Register) → Instr
+moved to from = RegisterImmediate Addi to from zero_immediate
+
+-- a register gets the word at a home, or an operand
+abbrev pub taken_from : Register → Home → List Instr
+taken_from d (homes.Register x) = moved d (register_of x) ∷ []
+taken_from d (homes.Slot k) = framed (λ r offset. Load Ld d r offset) (slot_offset k)
+
+abbrev pub taken : Layout → Register → Operand → List Instr
+taken y d (Temp t) = taken_from d (home_of y t)
+taken y d (Constant c) = constant d c
+
+-- a home gets the word in x5
+abbrev pub put_to : Home → List Instr
+put_to (homes.Register x) = moved (register_of x) x5 ∷ []
+put_to (homes.Slot k) = framed (λ r offset. Store Sd r x5 offset) (slot_offset k)
+
+-- the offset of a branch over so many instructions
+abbrev pub offset_if : (n : ℕ) (fits even : Bool) → nat_le n 4094 ≡ fits → nat_eq (n % 2) 0 ≡ even → BranchOffset
+offset_if n true true e g =
+    record {
+      bytes = pos n;
+      lowest = record { le = tt };
+      highest = record { le = subst T (sym e) tt };
+      even = eqb→eq (n % 2) 0 (subst T (sym g) tt);
+    }
+offset_if n _ _ e g =
+    record { bytes = pos 0; lowest = record { le = tt }; highest = record { le = tt }; even = refl }
+
+abbrev pub offset_of : ℕ → BranchOffset
+offset_of n = offset_if n (nat_le n 4094) (nat_eq (n % 2) 0) refl refl
+
+abbrev pub over : List Instr → BranchOffset
+over code = offset_of (4 * (length code + 1))
+
+-- a place in one word: the line above the number of the token
+abbrev pub place_number : Place → ℕ
+place_number at = at.line * 2 ^ 32 + at.word
+
+-- the run ends by a fault of a kind at a place
+abbrev pub fault_call : FaultKind → List Instr
+fault_call kind =
+    RegisterImmediate Addi x10 x0 (immediate_of (fault_number kind))
+    ∷ RegisterImmediate Addi x17 x0 (immediate_of 1024)
+    ∷ Ecall
+    ∷ []
+
+abbrev pub failed : FaultKind → Place → List Instr
+failed kind at = constant x11 (place_number at) ++ fault_call kind
+
+-- a copy, an operator, and a test of a divisor
+abbrev pub copied : Layout → ℕ → Operand → List Instr
+copied y d a = taken y x5 a ++ put_to (home_of y d)
+
+abbrev pub computed : Layout → ℕ → BinaryOperator → Width → Operand → Operand → List Instr
+computed y d op w a b = taken y x5 a ++ (taken y x6 b ++ (code_of w op ++ put_to (home_of y d)))
+
+abbrev pub divisor_tested : Layout → Place → Operand → List Instr
+divisor_tested y at a = taken y x5 a ++ (Branch Ne x5 x0 (over (failed DivZero at)) ∷ failed DivZero at)
+
+-- x5 gets the address of an offset of the frame in the region
+abbrev pub located : ℕ → List Instr
+located offset =
+    if nat_le offset 2047 then RegisterImmediate Addi x5 x8 (immediate_of offset) ∷ []
+    else constant x5 offset ++ RegisterRegister Add x5 x5 x8 ∷ []
+
+-- The run fails unless so many bytes, at most 128, from the address in x5 on lie in the region: it begins at 0x40000000, and
+-- x4 has its end. A branch passes the second test where the address is too low already.
+abbrev pub first_address : Instr
+first_address = Lui x6 (upper_of 0x40000000)
+
+abbrev pub bounds_tested : Place → ℕ → List Instr
+bounds_tested at size =
+    first_address
+    ∷ Branch Ltu x5 x6 (offset_of 12)
+    ∷ RegisterImmediate Addi x6 x4 (below_zero (size - 1))
+    ∷ Branch Geu x6 x5 (over (failed BadAddress at))
+    ∷ failed BadAddress at
+
+-- x5 gets the address of bytes in the region, tested where it isn't one of the frame's
+abbrev pub reached : Layout → Place → Address → ℕ → List Instr
+reached y at (Word a) size = taken y x5 a ++ bounds_tested at size
+reached y at (Frame offset) size = located offset
+
+-- how numbers of a size are loaded and stored
+abbrev pub load_of : Bool → Size → LoadOp
+load_of true One = Lb
+load_of true Two = Lh
+load_of true Four = Lw
+load_of false One = Lbu
+load_of false Two = Lhu
+load_of false Four = Lwu
+load_of _ Eight = Ld
+
+abbrev pub store_of : Size → StoreOp
+store_of One = Sb
+store_of Two = Sh
+store_of Four = Sw
+store_of Eight = Sd
+
+-- loads and stores
+abbrev pub loaded : Layout → ℕ → Number → Spot → List Instr
+loaded y d form (spots.Region at a) =
+    reached y at a (bytes_of form.size)
+    ++ (Load (load_of form.signed form.size) x5 x5 zero_immediate ∷ put_to (home_of y d))
+loaded y d form (spots.Area n offset) =
+    framed (λ r far. Load (load_of form.signed form.size) x5 r far) (area_offset y n + offset) ++ put_to (home_of y d)
+
+abbrev pub stored : Layout → Spot → Size → Operand → List Instr
+stored y (spots.Region at a) size b =
+    reached y at a (bytes_of size) ++ (taken y x6 b ++ Store (store_of size) x5 x6 zero_immediate ∷ [])
+stored y (spots.Area n offset) size b =
+    taken y x6 b ++ framed (λ r far. Store (store_of size) r x6 far) (area_offset y n + offset)
+
+-- bytes from x6 on go where x5 points, through x7: eight at a time, then four, two and one
+abbrev pub carried : LoadOp → StoreOp → ℕ → List Instr
+carried load store at = Load load x7 x6 (immediate_of at) ∷ Store store x5 x7 (immediate_of at) ∷ []
+
+abbrev pub carried_eights : ℕ → (at : ℕ) → List Instr
+carried_eights zero at = []
+carried_eights (suc n) at = carried Ld Sd at ++ carried_eights n (at + 8)
+
+abbrev pub carried_if : ℕ → LoadOp → StoreOp → ℕ → List Instr
+carried_if zero load store at = []
+carried_if (suc n) load store at = carried load store at
+
+abbrev pub carried_rest : (size at : ℕ) → List Instr
+carried_rest size at =
+    carried_if (size / 4 % 2) Lwu Sw at
+    ++ (carried_if (size / 2 % 2) Lhu Sh (at + size / 4 % 2 * 4)
+    ++ carried_if (size % 2) Lbu Sb (at + size / 2 % 4 * 2))
+
+abbrev pub all_carried : ℕ → List Instr
+all_carried size = carried_eights (size / 8) 0 ++ carried_rest size (size / 8 * 8)
+
+-- a register gets the address of an area's byte
+abbrev pub area_reached : Layout → Register → ℕ → ℕ → List Instr
+area_reached y d n offset = framed (λ r far. RegisterImmediate Addi d r far) (area_offset y n + offset)
+
+abbrev pub spot_reached : Layout → Spot → ℕ → List Instr
+spot_reached y (spots.Region at a) size = reached y at a size
+spot_reached y (spots.Area n offset) size = area_reached y x5 n offset
+
+-- Bytes from one spot to another. One of them at most is in the region, and it is reached first, since that takes x5 and x6.
+abbrev pub bytes_moved : Layout → (to from : Spot) → ℕ → List Instr
+bytes_moved y to (spots.Area n offset) size =
+    spot_reached y to size ++ (area_reached y x6 n offset ++ all_carried size)
+bytes_moved y (spots.Area n offset) (spots.Region at a) size =
+    reached y at a size ++ (moved x6 x5 ∷ (area_reached y x5 n offset ++ all_carried size))
+bytes_moved y (spots.Region at a) (spots.Region other b) size = []
+
+-- zeros, eight at a time, from where x5 points. The bytes of an area behind those that it holds may be any
+abbrev pub zeros : ℕ → (at : ℕ) → List Instr
+zeros zero at = []
+zeros (suc n) at = Store Sd x5 x0 (immediate_of at) ∷ zeros n (at + 8)
+
+abbrev pub cleared : Layout → ℕ → ℕ → List Instr
+cleared y n size = area_reached y x5 n 0 ++ zeros ((size + 7) / 8) 0
+
+-- the call that writes x12 bytes from x11 on
+abbrev pub write_call : List Instr
+write_call =
+    RegisterImmediate Addi x10 x0 (immediate_of 1) ∷ RegisterImmediate Addi x17 x0 (immediate_of 64) ∷ Ecall ∷ []
+
+-- One byte is written from the word of the return address, which x6 keeps meanwhile.
+abbrev pub byte_put : Layout → Operand → List Instr
+byte_put y a =
+    taken y x5 a
+    ++ (Load Ld x6 x2 zero_immediate
+    ∷ Store Sb x2 x5 zero_immediate
+    ∷ moved x11 x2
+    ∷ RegisterImmediate Addi x12 x0 (immediate_of 1)
+    ∷ (write_call ++ Store Sd x2 x6 zero_immediate ∷ []))
+
+-- Bytes of the region are written. No bytes lie anywhere, and a count below zero is larger than every region.
+abbrev pub range_tested : Place → List Instr
+range_tested at =
+    Lui x7 (upper_of 0x40000000)
+    ∷ Branch Ltu x11 x7 (offset_of 16)
+    ∷ Branch Ltu x4 x11 (offset_of 12)
+    ∷ RegisterRegister Sub x7 x4 x11
+    ∷ Branch Geu x7 x12 (over (failed BadAddress at))
+    ∷ failed BadAddress at
+
+abbrev pub range_written : Layout → Place → Operand → Operand → List Instr
+range_written y at a b =
+    let test = range_tested at in
+    taken y x11 a ++ (taken y x12 b ++ (Branch Eq x12 x0 (over (test ++ write_call)) ∷ (test ++ write_call)))
+
+-- x7 gets the address at which the last quarter of the region begins
+abbrev pub two : ShiftCount
+two = record { count = 2; in_range = lit≤ tt }
+
+abbrev pub limit_found : List Instr
+limit_found =
+    Lui x7 (upper_of 0x40000000)
+    ∷ RegisterRegister Sub x7 x4 x7
+    ∷ Shift Srli x7 x7 two
+    ∷ RegisterRegister Sub x7 x4 x7
+    ∷ []
+
+-- Bytes of the heap: from the next multiple of 16 on, if as many are left there. A count below zero is larger than what is left.
+abbrev pub allocated : Layout → ℕ → Operand → List Instr
+allocated y d a =
+    taken y x5 a
+    ++ (RegisterImmediate Addi x6 x3 (immediate_of 15)
+    ∷ RegisterImmediate Andi x6 x6 (below_zero 15)
+    ∷ (limit_found
+    ++ (RegisterRegister Sub x7 x7 x6
+    ∷ Branch Ltu x7 x5 (offset_of 16)
+    ∷ RegisterRegister Add x3 x6 x5
+    ∷ moved x5 x6
+    ∷ Branch Eq x0 x0 (offset_of 8)
+    ∷ moved x5 x0
+    ∷ put_to (home_of y d))))

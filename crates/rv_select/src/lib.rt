@@ -1,0 +1,10 @@
+//! The machine's code of three-address code.
+//!
+//! `specs/Places.antt` says where the words of an activation stand in the machine: in registers that calls keep, or in slots of
+//! a frame in private memory. `specs/Shapes.antt` has the instructions that carry out one of three-address code, and
+//! `specs/Steps.antt` what they promise: a step is at least one and at most its weight of the machine's steps, and the machine
+//! holds afterwards what three-address code sees then. The laws of `law` have that of each instruction.
+#![tactic(auto)]
+
+pub mod law;
+
