@@ -45,7 +45,7 @@ private-place region private a h k =
     ap (λ o. place_in o (offset_in (2 ^ 32) private (2 ^ 32 + a) 8)) (past-region region a h) ∙ ap (λ o. place_in None o) (in-private private a k)
 
 -- what a store of a word changes
-with-is : (xs ys : List ℕ) (at : ℕ) → with_bytes xs at ys ≡ overwritten xs at ys
+pub with-is : (xs ys : List ℕ) (at : ℕ) → with_bytes xs at ys ≡ overwritten xs at ys
 with-is xs ys at = sym (append_assoc (take at xs) ys (drop (at + length ys) xs))
 
 pub stored-length : (xs : List ℕ) (at x : ℕ) → at + 8 ≤ length xs → length (with_bytes xs at (bytes_of 8 x)) ≡ length xs

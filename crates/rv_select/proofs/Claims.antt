@@ -1,19 +1,26 @@
 -- What the code of each instruction does, whatever is in use before and after it.
-use Rattle.std.proofs.Common.{◌≡◌, ◌≢◌, ℕ, ◌+◌, ◌^◌, ◌<◌, true, List, [], ◌++◌, Option}
+use Rattle.std.proofs.Common.{◌≡◌, ◌≢◌, ℕ, ◌+◌, ◌^◌, ◌<◌, ◌≤◌, true, List, [], ◌++◌, Option, Some, None}
 use Rattle.tl_base.specs.declared.place.Place.{Place}
 use Rattle.rv_isa.specs.declared.instr.Instr.{Instr}
 use Rattle.rv_machine.specs.Machine.{State}
 use Rattle.terra_words.specs.declared.words.BinaryOperator.{BinaryOperator}
-use Rattle.terra_words.specs.declared.words.FaultKind.TheVariants.{DivZero}
-use Rattle.terra_words.specs.Words.{applied, divides}
+use Rattle.terra_words.specs.declared.words.FaultKind.TheVariants.{BadAddress, DivZero}
+use Rattle.terra_words.specs.Words.{applied, divides, wrapped}
+use Rattle.terra_words.specs.Runs.{put_bytes}
+use Rattle.terra_memory.specs.Numbers.{low_bytes, number_of}
+use Rattle.terra_memory.specs.Region.{Contents, end_address, range_of}
+use Rattle.tac_form.specs.declared.tac.Size.{Size}
+use Rattle.tac_form.specs.declared.tac.Address.{Address}
+use Rattle.tac_form.specs.declared.tac.Address.TheVariants.{Word, Frame}
+use Rattle.tac_form.specs.declared.tac.Spot.TheVariants as spots
 use Rattle.tac_form.specs.declared.tac.Number.{Number}
 use Rattle.tac_form.specs.declared.tac.Operand.{Operand}
-use Rattle.tac_form.specs.declared.tac.Instruction.TheVariants.{Compute, Copy, Locate, TestDivisor}
-use Rattle.tac_form.specs.Flow.{width_of}
+use Rattle.tac_form.specs.declared.tac.Instruction.TheVariants.{Compute, Copy, Load, Locate, Store, TestDivisor}
+use Rattle.tac_form.specs.Flow.{bytes_of, width_of}
 use Rattle.tac_form.specs.Weights.{words_of}
 use Rattle.rv_operators.specs.Runs.{Stands}
 use Rattle.rv_select.specs.Places.{Layout, World, Holds, Housed, IsRead, home_of, value_in}
-use Rattle.rv_select.specs.Shapes.{copied, computed, divisor_tested, located, put_to}
+use Rattle.rv_select.specs.Shapes.{copied, computed, divisor_tested, loaded, located, put_to, stored}
 use Rattle.rv_select.specs.Steps.{AreFewer, Comes, Ends, Follows, IsPlace, behind, with_temp}
 
 -- a copy
@@ -49,3 +56,38 @@ AddressesAreCarried =
     Stands program m.pc (located offset ++ put_to (home_of y d)) → w.placed + offset < 2 ^ 64 →
     Holds y Used w base m → Housed y Used → Housed y Next → Next d → Follows Used Next d →
     Comes y program Next (with_temp w d (w.placed + offset)) base (words_of (Locate d offset)) (behind m (located offset ++ put_to (home_of y d))) [] m
+
+-- an address, and what has to be there where it is reached without a test
+abbrev pub address_in : World → Address → ℕ
+address_in w (Word a) = value_in w.temps a
+address_in w (Frame offset) = w.placed + offset
+
+abbrev pub IsReached : (ℕ → Type 0) → World → (size : ℕ) → Address → Type 0
+IsReached Used w size (Word a) = IsRead Used a
+IsReached Used w size (Frame offset) = w.placed + offset + size ≤ end_address w.region
+
+-- what three-address code sees with another region
+abbrev pub with_region : World → Contents → World
+with_region w r = record w { region = r }
+
+-- a load from the region
+abbrev pub RegionLoadsAreCarried : Type 1
+RegionLoadsAreCarried =
+    (y : Layout) (d : ℕ) (form : Number) (at : Place) (a : Address) (Used Next : ℕ → Type 0) (w : World) (base : ℕ) (program : List (Option Instr)) (m : State) →
+    Stands program m.pc (loaded y d form (spots.Region at a)) → IsPlace at → IsReached Used w (bytes_of form.size) a →
+    Holds y Used w base m → Housed y Used → Housed y Next → Next d → Follows Used Next d →
+    ((bs : List ℕ) → range_of w.region (address_in w a) (bytes_of form.size) ≡ Some bs →
+      Comes y program Next (with_temp w d (wrapped (width_of form) (number_of bs))) base (words_of (Load d form (spots.Region at a)))
+      (behind m (loaded y d form (spots.Region at a))) [] m)
+    × (range_of w.region (address_in w a) (bytes_of form.size) ≡ None → Ends program BadAddress at (words_of (Load d form (spots.Region at a))) m)
+
+-- a store to the region
+abbrev pub RegionStoresAreCarried : Type 1
+RegionStoresAreCarried =
+    (y : Layout) (size : Size) (at : Place) (a : Address) (b : Operand) (Used Next : ℕ → Type 0) (w : World) (base : ℕ) (program : List (Option Instr)) (m : State) →
+    Stands program m.pc (stored y (spots.Region at a) size b) → IsPlace at → IsReached Used w (bytes_of size) a → IsRead Used b →
+    Holds y Used w base m → Housed y Used → AreFewer Used Next →
+    ((r : Contents) → put_bytes w.region (address_in w a) (low_bytes (bytes_of size) (value_in w.temps b)) ≡ Some r →
+      Comes y program Next (with_region w r) base (words_of (Store (spots.Region at a) size b)) (behind m (stored y (spots.Region at a) size b)) [] m)
+    × (put_bytes w.region (address_in w a) (low_bytes (bytes_of size) (value_in w.temps b)) ≡ None →
+      Ends program BadAddress at (words_of (Store (spots.Region at a) size b)) m)

@@ -10,3 +10,4 @@ pub mod Claims
 pub mod Moves
 pub mod Faults
 pub mod Divisors
+pub mod Regions

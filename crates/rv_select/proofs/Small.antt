@@ -12,7 +12,7 @@ either-small : (b : Bool) (m n : ℕ) → m < 2 ^ 64 → n < 2 ^ 64 → (if b th
 either-small true m n h k = h
 either-small false m n h k = k
 
-wrapped-small : (w : Width) (n : ℕ) → is_width w.bits ≡ true → wrapped w n < 2 ^ 64
+pub wrapped-small : (w : Width) (n : ℕ) → is_width w.bits ≡ true → wrapped w n < 2 ^ 64
 unfolding wrapped
 wrapped-small w n e =
     by-width w.bits (λ b. (if w.signed && nat_le (2 ^ (b - 1)) (n % 2 ^ b) then n % 2 ^ b + (2 ^ 64 - 2 ^ b) else n % 2 ^ b) < 2 ^ 64) e

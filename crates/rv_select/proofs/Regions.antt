@@ -1,0 +1,394 @@
+-- Loads from the region and stores to it.
+use Rattle.std.proofs.Common.{◌≡◌, ◌≢◌, ℕ, zero, suc, ◌+◌, ◌-◌, ◌*◌, ◌/◌, ◌%◌, ◌^◌, ◌<◌, ◌≤◌, Bool, true, false, not, List, [], ◌∷◌, ◌++◌, length, take, drop, Option, Some, None, refl, sym, ap, ◌∙◌, subst, ⊎_elim, inl, inr, arith}
+use Rattle.std.specs.Prelude.{if◌then◌else◌, nat_eq, nat_le, nat_lt, ◌⊎◌, ◌&&◌}
+use Rattle.std.proofs.lemmas.Bool.{cases_Bool, cases_lt, eq-eqb, ne_eqb, le-leb, lt-leb, le-ltb, lt-ltb}
+use Rattle.std.proofs.lemmas.List.{length-append, length-take, length-drop, length-take-le}
+use Rattle.tl_base.specs.declared.place.Place.{Place}
+use Rattle.rv_isa.specs.declared.instr.Instr.{Instr}
+use Rattle.rv_isa.specs.declared.instr.Instr.TheVariants.{Branch, Load, RegisterImmediate, Store}
+use Rattle.rv_isa.specs.declared.operation.ImmediateOp.TheVariants.{Addi}
+use Rattle.rv_isa.specs.declared.operation.BranchCondition.TheVariants.{Geu, Ltu}
+use Rattle.rv_machine.specs.declared.memory.Place as places
+use Rattle.rv_machine.specs.declared.memory.Place.TheVariants.{Region}
+use Rattle.rv_machine.specs.Word as words
+use Rattle.rv_machine.specs.Word.{low, word}
+use Rattle.rv_machine.specs.Memory.{load_value, load_width, offset_in, place_in, place_of, store_width, with_bytes}
+use Rattle.rv_machine.specs.Machine.{State, GoesOn, act, at_with, loads, loads_from, stores, stores_to}
+use Rattle.terra_memory.specs.Numbers.{low_bytes, number_of, overwritten, part}
+use Rattle.terra_memory.specs.Region.{Contents, IsLawful, end_address, first_address, is_inside, range_of}
+use Rattle.terra_memory.proofs.Bytes.{length-low_bytes}
+use Rattle.terra_memory.proofs.Overwriting.{length-overwritten}
+use Rattle.terra_memory.proofs.RegionLaws.{inside_parts}
+use Rattle.terra_words.specs.declared.words.FaultKind.TheVariants.{BadAddress}
+use Rattle.terra_words.specs.Words.{wrapped}
+use Rattle.terra_words.specs.Runs.{put_bytes}
+use Rattle.tac_form.specs.declared.tac.Size.{Size}
+use Rattle.tac_form.specs.declared.tac.Number.{Number}
+use Rattle.tac_form.specs.declared.tac.Operand.{Operand}
+use Rattle.tac_form.specs.declared.tac.Address.{Address}
+use Rattle.tac_form.specs.declared.tac.Address.TheVariants.{Word, Frame}
+use Rattle.tac_form.specs.declared.tac.Spot.TheVariants as spots
+use Rattle.tac_form.specs.Flow.{bytes_of, width_of}
+use Rattle.rv_operators.specs.Codes.{x5, x6, zero_immediate}
+use Rattle.rv_operators.specs.Runs.{Stands}
+use Rattle.rv_select.specs.Places.{AreBytes, World, Holds, Housed, IsRead, Layout, home_of, value_in}
+use Rattle.rv_select.specs.Numbers.{below_zero}
+use Rattle.rv_select.specs.Shapes as shapes
+use Rattle.rv_select.specs.Shapes.{bounds_tested, failed, load_of, loaded, located, offset_of, over, put_to, reached, store_of, stored, taken, x4}
+use Rattle.rv_select.specs.Steps.{AreFewer, Comes, Ends, Follows, IsPlace, behind, with_temp}
+use Rattle.rv_select.proofs.Straight.{Loads, behind-both, loads-five, loads-six, low-below, low-small, written-elsewhere, written-there}
+use Rattle.rv_select.proofs.Numbers.{below-is}
+use Rattle.rv_select.proofs.Ways.{Near, Way, at_pc, near-both, near-pc, scratch-near, stands-back, stands-front, step-way, straight-way, way-both}
+use Rattle.rv_select.proofs.Homes.{take-operand, taken-count}
+use Rattle.rv_select.proofs.Words.{bytes-same, load-bytes, load-is, low-are-bytes, overwritten-bytes, size-range, store-bytes, take-bytes, drop-bytes}
+use Rattle.rv_select.proofs.Claims.{IsReached, RegionLoadsAreCarried, RegionStoresAreCarried, address_in, with_region}
+use Rattle.rv_select.proofs.Small.{wrapped-small}
+use Rattle.rv_select.proofs.Moves.{near-holds, near-keeps, then-put, value-small, fewer-holds, wide-size}
+use Rattle.rv_select.proofs.Faults.{branch-way, failed-count, fails, later-ends}
+use Rattle.rv_select.proofs.Divisors.{located-count, located-loads}
+
+-- Code after which an address stands in x5.
+pub record Reached (program : List (Option Instr)) (code : List Instr) (m : State) (address most : ℕ) : Type 0 where
+  pub steps : ℕ
+  pub after : State
+  pub way : Way program steps m after
+  pub near : Near m after
+  pub five : after.registers 5 ≡ address
+  pub pc : after.pc ≡ low (m.pc + 4 * length code)
+  pub few : steps ≤ most
+
+near-six : (m : State) (pc v : ℕ) → Near m (at_with m pc 6 v)
+near-six m pc v = record { keeps = λ r five six seven. written-elsewhere m.registers 6 v r six; region = refl; private = refl }
+
+less-size : (end size : ℕ) → 1 ≤ size → size ≤ end → end < 2 ^ 64 → low (end + (2 ^ 64 - suc (size - 1))) ≡ end - size
+unfolding low
+less-size end size h k l = omega arith
+
+pc-three : (p : ℕ) → low (low (low (low (p + 4) + 4) + 4) + 4) ≡ low (low (p + 4) + 12)
+unfolding low
+pc-three p = omega arith
+
+pc-all : (p n : ℕ) → low (low (low (low (p + 4) + 4) + 4) + 4 * (n + 1)) ≡ low (p + 4 * suc (suc (suc (suc n))))
+unfolding low
+pc-all p n = omega arith
+
+-- The states of the test, with the code behind it.
+module _ (program : List (Option Instr)) (m : State) (at : Place) (F : List Instr) (v end size : ℕ) (five : m.registers 5 ≡ v) (four : m.registers 4 ≡ end)
+    (small : end < 2 ^ 64) (some : 1 ≤ size) (few : size ≤ 128) (room : size ≤ end) (short : length F ≤ 11)
+    (there : Stands program m.pc (shapes.first_address ∷ Branch Ltu x5 x6 (offset_of 12) ∷ RegisterImmediate Addi x6 x4 (below_zero (size - 1)) ∷ Branch Geu x6 x5 (over F) ∷ F)) where
+  abbrev one : State
+  one = at_with m (low (m.pc + 4)) 6 (2 ^ 30)
+
+  abbrev two : State
+  two = at_pc one (low (one.pc + 4))
+
+  abbrev three : State
+  three = at_with two (low (two.pc + 4)) 6 (end - size)
+
+  abbrev past : State
+  past = at_pc three (low (three.pc + 4 * (length F + 1)))
+
+  abbrev low_fails : State
+  low_fails = at_pc one (low (one.pc + 12))
+
+  abbrev high_fails : State
+  high_fails = at_pc three (low (three.pc + 4))
+
+  to-one : Way program 1 m one
+  to-one = step-way program shapes.first_address m one there.0 refl
+
+  to-low : v < 2 ^ 30 → Way program 2 m low_fails
+  to-low h =
+      way-both program 1 1 m one low_fails to-one
+      (branch-way program Ltu x5 x6 12 one true (omega arith) (omega arith) there.1.0 (ap (λ x. nat_lt x (2 ^ 30)) five ∙ lt-ltb v (2 ^ 30) h))
+
+  to-two : 2 ^ 30 ≤ v → Way program 2 m two
+  to-two h =
+      way-both program 1 1 m one two to-one
+      (branch-way program Ltu x5 x6 12 one false (omega arith) (omega arith) there.1.0 (ap (λ x. nat_lt x (2 ^ 30)) five ∙ le-ltb v (2 ^ 30) h))
+
+  to-three : 2 ^ 30 ≤ v → Way program 3 m three
+  to-three h =
+      way-both program 2 1 m two three (to-two h)
+      (step-way program (RegisterImmediate Addi x6 x4 (below_zero (size - 1))) two three there.1.1.0
+      (ap (λ x. GoesOn (at_with two (low (two.pc + 4)) 6 (low (m.registers 4 + x)))) (below-is (size - 1) (omega arith))
+      ∙ (ap (λ x. GoesOn (at_with two (low (two.pc + 4)) 6 (low (x + (2 ^ 64 - suc (size - 1)))))) four
+      ∙ ap (λ x. GoesOn (at_with two (low (two.pc + 4)) 6 x)) (less-size end size some room small))))
+
+  to-past : 2 ^ 30 ≤ v → v + size ≤ end → Way program 4 m past
+  to-past h k =
+      way-both program 3 1 m three past (to-three h)
+      (branch-way program Geu x6 x5 (4 * (length F + 1)) three true (omega arith) (omega arith) there.1.1.1.0
+      (ap (λ x. not (nat_lt (end - size) x)) five ∙ ap not (le-ltb (end - size) v (omega arith))))
+
+  to-high : 2 ^ 30 ≤ v → end < v + size → Way program 4 m high_fails
+  to-high h k =
+      way-both program 3 1 m three high_fails (to-three h)
+      (branch-way program Geu x6 x5 (4 * (length F + 1)) three false (omega arith) (omega arith) there.1.1.1.0
+      (ap (λ x. not (nat_lt (end - size) x)) five ∙ ap not (lt-ltb (end - size) v (omega arith))))
+
+  past-near : Near m past
+  past-near =
+      near-both m three past
+      (near-both m one three (near-six m (low (m.pc + 4)) (2 ^ 30)) (near-both one two three (near-pc one (low (one.pc + 4))) (near-six two (low (two.pc + 4)) (end - size))))
+      (near-pc three (low (three.pc + 4 * (length F + 1))))
+
+  passes : 2 ^ 30 ≤ v → v + size ≤ end →
+      Reached program (shapes.first_address ∷ Branch Ltu x5 x6 (offset_of 12) ∷ RegisterImmediate Addi x6 x4 (below_zero (size - 1)) ∷ Branch Geu x6 x5 (over F) ∷ F) m v 4
+  passes h k = record {
+    steps = 4;
+    after = past;
+    way = to-past h k;
+    near = past-near;
+    five = five;
+    pc = pc-all m.pc (length F);
+    few = omega arith;
+  }
+
+  outside : F ≡ failed BadAddress at → IsPlace at → (v < 2 ^ 30) ⊎ ((2 ^ 30 ≤ v) × (end < v + size)) → Ends program BadAddress at 15 m
+  outside is place o =
+      ⊎_elim
+      (λ h.
+      later-ends program BadAddress at 2 11 15 m low_fails (to-low h)
+        (fails program low_fails BadAddress at (low-below (one.pc + 12)) place (omega arith) (omega arith)
+        (subst (λ c. Stands program low_fails.pc c) is (subst (λ q. Stands program q F) (pc-three m.pc) there.1.1.1.1))) (omega arith))
+      (λ h.
+      later-ends program BadAddress at 4 11 15 m high_fails (to-high h.0 h.1)
+        (fails program high_fails BadAddress at (low-below (three.pc + 4)) place (omega arith) (omega arith)
+        (subst (λ c. Stands program high_fails.pc c) is there.1.1.1.1)) (omega arith))
+      o
+
+-- the end of the region is a small number, and larger than an access
+end-small : (y : Layout) (Used : ℕ → Type 0) (w : World) (base : ℕ) (m : State) → Holds y Used w base m → (end_address w.region < 2 ^ 64) × (65536 ≤ end_address w.region)
+end-small y Used w base m h =
+    let most : length w.region.bytes ≤ 67108864 = h.lawful.sized.2 in
+    let least : 65536 ≤ length w.region.bytes = h.lawful.sized.1 in
+    (omega arith, omega arith)
+
+-- first one piece of code, and then another
+pub reached-both : (program : List (Option Instr)) (a b : List Instr) (m n : State) (v most : ℕ) → Way program (length a) m n → Near m n → n.pc ≡ low (m.pc + 4 * length a) →
+    length a ≤ 8 → Reached program b n v most → Reached program (a ++ b) m v (8 + most)
+reached-both program a b m n v most way near pc short r = record {
+  steps = length a + r.steps;
+  after = r.after;
+  way = way-both program (length a) r.steps m n r.after way r.way;
+  near = near-both m n r.after near r.near;
+  five = r.five;
+  pc = behind-both a b m.pc n.pc r.after.pc pc r.pc;
+  few = omega (arith, r.few);
+}
+
+-- an address in a word, with its test
+module _ (y : Layout) (Used : ℕ → Type 0) (w : World) (base : ℕ) (program : List (Option Instr)) (m : State) (at : Place) (a : Operand) (size : ℕ)
+    (p : Holds y Used w base m) (h : Housed y Used) (r : IsRead Used a) (some : 1 ≤ size) (few : size ≤ 128)
+    (there : Stands program m.pc (taken y x5 a ++ bounds_tested at size)) where
+  taken-load : Loads 5 (taken y x5 a) m (value_in w.temps a)
+  taken-load = take-operand y x5 Used w base m a (λ e. omega (arith, e)) p h r
+
+  taken-way : (l : Loads 5 (taken y x5 a) m (value_in w.temps a)) → Way program (length (taken y x5 a)) m l.after
+  taken-way l = straight-way program (taken y x5 a) m l.after (stands-front program m.pc (taken y x5 a) (bounds_tested at size) there) l.straight l.goes
+
+  taken-rest : (l : Loads 5 (taken y x5 a) m (value_in w.temps a)) → Stands program l.after.pc (bounds_tested at size)
+  taken-rest l = subst (λ q. Stands program q (bounds_tested at size)) (sym l.behind) (stands-back program m.pc (taken y x5 a) (bounds_tested at size) p.pc there)
+
+  taken-four : (l : Loads 5 (taken y x5 a) m (value_in w.temps a)) → l.after.registers 4 ≡ end_address w.region
+  taken-four l = l.keeps 4 (λ e. omega (arith, e)) (λ e. omega (arith, e)) ∙ p.limit
+
+  word-inside : first_address ≤ value_in w.temps a → value_in w.temps a + size ≤ end_address w.region → Reached program (taken y x5 a ++ bounds_tested at size) m (value_in w.temps a) 12
+  word-inside i j =
+      let l : Loads 5 (taken y x5 a) m (value_in w.temps a) = taken-load in
+      let e = end-small y Used w base m p in
+      reached-both program (taken y x5 a) (bounds_tested at size) m l.after (value_in w.temps a) 4 (taken-way l)
+      (scratch-near (taken y x5 a) m l.after (loads-five (taken y x5 a) m (value_in w.temps a) l)) l.behind (taken-count y x5 a)
+      (passes program l.after at (failed BadAddress at) (value_in w.temps a) (end_address w.region) size l.gives (taken-four l) e.0 some few (omega (arith, e.1))
+      (failed-count BadAddress at) (taken-rest l) i j)
+
+  word-outside : IsPlace at → (value_in w.temps a < first_address) ⊎ ((first_address ≤ value_in w.temps a) × (end_address w.region < value_in w.temps a + size)) →
+      Ends program BadAddress at 23 m
+  word-outside place o =
+      let l : Loads 5 (taken y x5 a) m (value_in w.temps a) = taken-load in
+      let e = end-small y Used w base m p in
+      later-ends program BadAddress at (length (taken y x5 a)) 15 23 m l.after (taken-way l)
+      (outside program l.after at (failed BadAddress at) (value_in w.temps a) (end_address w.region) size l.gives (taken-four l) e.0 some few (omega (arith, e.1))
+      (failed-count BadAddress at) (taken-rest l) refl place o) (omega (arith, taken-count y x5 a))
+
+-- an address of the frame
+frame-reached : (y : Layout) (Used : ℕ → Type 0) (w : World) (base : ℕ) (program : List (Option Instr)) (m : State) (offset : ℕ) → Holds y Used w base m → w.placed + offset < 2 ^ 64 →
+    Stands program m.pc (located offset) → Reached program (located offset) m (w.placed + offset) 9
+frame-reached y Used w base program m offset p small there =
+    let l : Loads 5 (located offset) m (w.placed + offset) = located-loads m w.placed offset p.placed small in
+    record {
+      steps = length (located offset);
+      after = l.after;
+      way = straight-way program (located offset) m l.after there l.straight l.goes;
+      near = scratch-near (located offset) m l.after (loads-five (located offset) m (w.placed + offset) l);
+      five = l.gives;
+      pc = l.behind;
+      few = located-count offset;
+    }
+
+-- where an access lies in the region
+region-offset : (size a width : ℕ) → 2 ^ 30 ≤ a → a + width ≤ 2 ^ 30 + size → offset_in 0x40000000 size a width ≡ Some (a - 2 ^ 30)
+unfolding offset_in
+region-offset size a width h k =
+    ap (λ b. if b then None else (if nat_le (a - 0x40000000 + width) size then Some (a - 0x40000000) else None)) (le-ltb a 0x40000000 h)
+    ∙ ap (λ b. if b then Some (a - 0x40000000) else None) (le-leb (a - 0x40000000 + width) size (omega arith))
+
+region-place : (region private a width : ℕ) → 2 ^ 30 ≤ a → a + width ≤ 2 ^ 30 + region → place_of region private a width ≡ Some (Region (a - 2 ^ 30))
+unfolding place_of
+region-place region private a width h k = ap (λ o. place_in o (offset_in (2 ^ 32) private a width)) (region-offset region a width h k)
+
+-- the bytes of an access
+abbrev accessed : Contents → ℕ → ℕ → List ℕ
+accessed r a size = part r.bytes (a - first_address) size
+
+accessed-count : (r : Contents) (a size : ℕ) → first_address ≤ a → a + size ≤ end_address r → length (accessed r a size) ≡ size
+accessed-count r a size h k = length-take-le size (drop (a - first_address) r.bytes) (omega (arith, length-drop (a - first_address) r.bytes))
+
+-- a load from the address in x5
+load-act : (m n : State) (r : Contents) (form : Number) (a : ℕ) → n.region ≡ r.bytes → n.registers 5 ≡ a → a < 2 ^ 64 → AreBytes r.bytes → first_address ≤ a →
+    a + bytes_of form.size ≤ end_address r →
+    act (Load (load_of form.signed form.size) x5 x5 zero_immediate) n ≡
+      GoesOn (at_with n (low (n.pc + 4)) 5 (wrapped (width_of form) (number_of (accessed r a (bytes_of form.size)))))
+load-act m n r form a e f small bytes h k =
+    let op = load_of form.signed form.size in
+    let zero-sum : a + 0 ≡ a = omega arith in
+    let address : low (n.registers 5 + 0) ≡ a = ap (λ x. low (x + 0)) f ∙ (ap low zero-sum ∙ low-small a small) in
+    let width : load_width op ≡ bytes_of form.size = load-bytes form.signed form.size in
+    ap (λ x. loads n op x5 x) address
+    ∙ (ap (λ x. loads_from n op x5 (place_of (length n.region) (length n.private) a x)) width
+    ∙ (ap (λ x. loads_from n op x5 (place_of (length x) (length n.private) a (bytes_of form.size))) e
+    ∙ (ap (λ x. loads_from n op x5 x) (region-place (length r.bytes) (length n.private) a (bytes_of form.size) h k)
+    ∙ (ap (λ x. GoesOn (at_with n (low (n.pc + 4)) 5 (load_value op (take x (drop (a - 2 ^ 30) n.region))))) width
+    ∙ (ap (λ x. GoesOn (at_with n (low (n.pc + 4)) 5 (load_value op (take (bytes_of form.size) (drop (a - 2 ^ 30) x))))) e
+    ∙ ap (λ x. GoesOn (at_with n (low (n.pc + 4)) 5 x))
+      (load-is form (accessed r a (bytes_of form.size)) (take-bytes (bytes_of form.size) (drop (a - first_address) r.bytes) (drop-bytes (a - first_address) r.bytes bytes))
+      (accessed-count r a (bytes_of form.size) h k)))))))
+
+near-five : (m : State) (pc v : ℕ) → Near m (at_with m pc 5 v)
+near-five m pc v = record { keeps = λ r five six seven. written-elsewhere m.registers 5 v r five; region = refl; private = refl }
+
+pc-more : (p n : ℕ) → low (low (p + 4) + 4 * n) ≡ low (p + 4 * suc n)
+unfolding low
+pc-more p n = omega arith
+
+-- the load and the put, once the address stands in x5
+load-ends : (y : Layout) (d : ℕ) (form : Number) (Used Next : ℕ → Type 0) (w : World) (base most a : ℕ) (code : List Instr) (program : List (Option Instr)) (m : State) →
+    Reached program code m a most → Holds y Used w base m → Housed y Used → Housed y Next → Next d → Follows Used Next d →
+    a < 2 ^ 64 → first_address ≤ a → a + bytes_of form.size ≤ end_address w.region → wrapped (width_of form) (number_of (accessed w.region a (bytes_of form.size))) < 2 ^ 64 →
+    Stands program m.pc (code ++ (Load (load_of form.signed form.size) x5 x5 zero_immediate ∷ put_to (home_of y d))) →
+    Comes y program Next (with_temp w d (wrapped (width_of form) (number_of (accessed w.region a (bytes_of form.size))))) base (most + 4)
+    (behind m (code ++ (Load (load_of form.signed form.size) x5 x5 zero_immediate ∷ put_to (home_of y d)))) [] m
+load-ends y d form Used Next w base most a code program m r p h h' u follows small low-end high-end value there =
+    let i : Instr = Load (load_of form.signed form.size) x5 x5 zero_immediate in
+    let b : List Instr = put_to (home_of y d) in
+    let v : ℕ = wrapped (width_of form) (number_of (accessed w.region a (bytes_of form.size))) in
+    let n : State = r.after in
+    let rest : Stands program n.pc (i ∷ b) = subst (λ q. Stands program q (i ∷ b)) (sym r.pc) (stands-back program m.pc code (i ∷ b) p.pc there) in
+    let t : State = at_with n (low (n.pc + 4)) 5 v in
+    let way : Way program (r.steps + 1) m t =
+      way-both program r.steps 1 m n t r.way
+      (step-way program i n t rest.0 (load-act m n w.region form a (r.near.region ∙ p.region) r.five small p.bytes low-end high-end)) in
+    then-put y Used Next w base d v (r.steps + 1) (most + 4) (behind m (code ++ (i ∷ b))) program m t p h h' u follows way
+    (near-both m n t r.near (near-five n (low (n.pc + 4)) v)) (low-below (n.pc + 4)) (written-there n.registers 5 v (λ e. omega (arith, e))) value (omega (arith, r.few)) rest.1
+    (pc-more n.pc (length b) ∙ behind-both code (i ∷ b) m.pc n.pc (low (n.pc + 4 * suc (length b))) r.pc refl)
+
+-- what a range is
+range-is : (r : Contents) (a size : ℕ) → 1 ≤ size → range_of r a size ≡ (if is_inside r a size then Some (accessed r a size) else None)
+unfolding range_of
+range-is r a zero h = absurd (none h)
+  where
+    none : 1 ≤ 0 → ⊥
+    none k = omega (arith, k)
+range-is r a (suc n) h = refl
+
+-- whether an access is inside
+insides : (r : Contents) (a size : ℕ) → ((first_address ≤ a) × (a + size ≤ end_address r)) ⊎ ((a < first_address) ⊎ ((first_address ≤ a) × (end_address r < a + size)))
+insides r a size =
+    ⊎_elim (λ h. inr (inl h)) (λ h. ⊎_elim (λ k. inr (inr (h, k))) (λ k. inl (h, k)) (cases_lt (end_address r) (a + size))) (cases_lt a first_address)
+
+inside-true : (r : Contents) (a size : ℕ) → first_address ≤ a → a + size ≤ end_address r → is_inside r a size ≡ true
+inside-true r a size h k = ap (λ b. b && nat_le (a + size) (end_address r)) (le-leb first_address a h) ∙ le-leb (a + size) (end_address r) k
+
+outside-false : (r : Contents) (a size : ℕ) → (a < first_address) ⊎ ((first_address ≤ a) × (end_address r < a + size)) → is_inside r a size ≡ false
+outside-false r a size o =
+    ⊎_elim
+    (λ h. ap (λ b. b && nat_le (a + size) (end_address r)) (lt-leb first_address a h))
+    (λ h. ap (λ b. b && nat_le (a + size) (end_address r)) (le-leb first_address a h.0) ∙ lt-leb (a + size) (end_address r) h.1)
+    o
+
+pub weaker : (y : Layout) (program : List (Option Instr)) (Next : ℕ → Type 0) (w : World) (base weight more target : ℕ) (out : List ℕ) (m : State) →
+    weight ≤ more → Comes y program Next w base weight target out m → Comes y program Next w base more target out m
+weaker y program Next w base weight more target out m h c = record {
+  steps = c.steps;
+  after = c.after;
+  some = c.some;
+  few = omega (arith, c.few);
+  runs = c.runs;
+  at = c.at;
+  holds = c.holds;
+  keeps = c.keeps;
+}
+
+pub weaker-ends : (program : List (Option Instr)) (at : Place) (weight more : ℕ) (m : State) → weight ≤ more → Ends program BadAddress at weight m → Ends program BadAddress at more m
+weaker-ends program at weight more m h e = record { steps = e.steps; last = e.last; few = omega (arith, e.few); runs = e.runs }
+
+-- a load by whether the access is inside
+load-cases : (y : Layout) (d : ℕ) (form : Number) (at : Place) (Next : ℕ → Type 0) (w : World) (base weight target a : ℕ) (program : List (Option Instr)) (m : State) →
+    ((first_address ≤ a) × (a + bytes_of form.size ≤ end_address w.region) →
+      Comes y program Next (with_temp w d (wrapped (width_of form) (number_of (accessed w.region a (bytes_of form.size))))) base weight target [] m) →
+    ((a < first_address) ⊎ ((first_address ≤ a) × (end_address w.region < a + bytes_of form.size)) → Ends program BadAddress at weight m) →
+    ((bs : List ℕ) → range_of w.region a (bytes_of form.size) ≡ Some bs → Comes y program Next (with_temp w d (wrapped (width_of form) (number_of bs))) base weight target [] m)
+    × (range_of w.region a (bytes_of form.size) ≡ None → Ends program BadAddress at weight m)
+load-cases y d form at Next w base weight target a program m f g =
+    let size : ℕ = bytes_of form.size in
+    let some : 1 ≤ size = (size-range form.size).0 in
+    ⊎_elim
+    (λ h.
+    let e : range_of w.region a size ≡ Some (accessed w.region a size) =
+      range-is w.region a size some ∙ ap (λ b. if b then Some (accessed w.region a size) else None) (inside-true w.region a size h.0 h.1) in
+    (
+      λ bs q.
+          let same : accessed w.region a size ≡ bs = cc in
+          subst (λ z. Comes y program Next (with_temp w d (wrapped (width_of form) (number_of z))) base weight target [] m) same (f h),
+      λ q. let none : Some (accessed w.region a size) ≡ None = sym e ∙ q in cc,
+    ))
+    (λ h.
+    let e : range_of w.region a size ≡ None =
+      range-is w.region a size some ∙ ap (λ b. if b then Some (accessed w.region a size) else None) (outside-false w.region a size h) in
+    (λ bs q. let none : None ≡ Some bs = sym e ∙ q in cc, λ q. g h))
+    (insides w.region a size)
+
+low-enough : (y : Layout) (Used : ℕ → Type 0) (w : World) (base offset : ℕ) (m : State) → Holds y Used w base m → first_address ≤ w.placed + offset
+low-enough y Used w base offset m p = let h : first_address ≤ w.placed = omega (arith, p.above) in omega arith
+
+pub region-loads : RegionLoadsAreCarried
+region-loads y d form at (Word a) Used Next w base program m there place r p h h' u follows =
+    let code : List Instr = taken y x5 a ++ bounds_tested at (bytes_of form.size) in
+    let rest : List Instr = Load (load_of form.signed form.size) x5 x5 zero_immediate ∷ put_to (home_of y d) in
+    let v : ℕ = value_in w.temps a in
+    let some : 1 ≤ bytes_of form.size = (size-range form.size).0 in
+    let few : bytes_of form.size ≤ 8 = (size-range form.size).1 in
+    let front : Stands program m.pc code = stands-front program m.pc code rest there in
+    load-cases y d form at Next w base 29 (behind m (code ++ rest)) v program m
+    (λ i.
+    weaker y program Next _ base 16 29 (behind m (code ++ rest)) [] m (omega arith)
+      (load-ends y d form Used Next w base 12 v code program m
+      (word-inside y Used w base program m at a (bytes_of form.size) p h r some (omega arith) front i.0 i.1)
+      p h h' u follows (value-small Used y w base m a p r) i.0 i.1 (wrapped-small (width_of form) _ (wide-size form.size)) there))
+    (λ o.
+    weaker-ends program at 23 29 m (omega arith) (word-outside y Used w base program m at a (bytes_of form.size) p h r some (omega arith) front place o))
+region-loads y d form at (Frame offset) Used Next w base program m there place r p h h' u follows =
+    let code : List Instr = located offset in
+    let rest : List Instr = Load (load_of form.signed form.size) x5 x5 zero_immediate ∷ put_to (home_of y d) in
+    let a : ℕ = w.placed + offset in
+    let e = end-small y Used w base m p in
+    let small : a < 2 ^ 64 = omega (arith, r, e.0) in
+    load-cases y d form at Next w base 14 (behind m (code ++ rest)) a program m
+    (λ i.
+    weaker y program Next _ base 13 14 (behind m (code ++ rest)) [] m (omega arith)
+      (load-ends y d form Used Next w base 9 a code program m
+      (frame-reached y Used w base program m offset p small (stands-front program m.pc code rest there))
+      p h h' u follows small i.0 i.1 (wrapped-small (width_of form) _ (wide-size form.size)) there))
+    (λ o.
+    absurd (⊎_elim (λ k. omega (arith, k, low-enough y Used w base offset m p)) (λ k. omega (arith, k.1, r)) o))
