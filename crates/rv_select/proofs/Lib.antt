@@ -11,3 +11,4 @@ pub mod Moves
 pub mod Faults
 pub mod Divisors
 pub mod Regions
+pub mod Stores

@@ -159,7 +159,7 @@ module _ (program : List (Option Instr)) (m : State) (at : Place) (F : List Inst
       o
 
 -- the end of the region is a small number, and larger than an access
-end-small : (y : Layout) (Used : ℕ → Type 0) (w : World) (base : ℕ) (m : State) → Holds y Used w base m → (end_address w.region < 2 ^ 64) × (65536 ≤ end_address w.region)
+pub end-small : (y : Layout) (Used : ℕ → Type 0) (w : World) (base : ℕ) (m : State) → Holds y Used w base m → (end_address w.region < 2 ^ 64) × (65536 ≤ end_address w.region)
 end-small y Used w base m h =
     let most : length w.region.bytes ≤ 67108864 = h.lawful.sized.2 in
     let least : 65536 ≤ length w.region.bytes = h.lawful.sized.1 in
@@ -194,7 +194,7 @@ module _ (y : Layout) (Used : ℕ → Type 0) (w : World) (base : ℕ) (program 
   taken-four : (l : Loads 5 (taken y x5 a) m (value_in w.temps a)) → l.after.registers 4 ≡ end_address w.region
   taken-four l = l.keeps 4 (λ e. omega (arith, e)) (λ e. omega (arith, e)) ∙ p.limit
 
-  word-inside : first_address ≤ value_in w.temps a → value_in w.temps a + size ≤ end_address w.region → Reached program (taken y x5 a ++ bounds_tested at size) m (value_in w.temps a) 12
+  pub word-inside : first_address ≤ value_in w.temps a → value_in w.temps a + size ≤ end_address w.region → Reached program (taken y x5 a ++ bounds_tested at size) m (value_in w.temps a) 12
   word-inside i j =
       let l : Loads 5 (taken y x5 a) m (value_in w.temps a) = taken-load in
       let e = end-small y Used w base m p in
@@ -203,7 +203,7 @@ module _ (y : Layout) (Used : ℕ → Type 0) (w : World) (base : ℕ) (program 
       (passes program l.after at (failed BadAddress at) (value_in w.temps a) (end_address w.region) size l.gives (taken-four l) e.0 some few (omega (arith, e.1))
       (failed-count BadAddress at) (taken-rest l) i j)
 
-  word-outside : IsPlace at → (value_in w.temps a < first_address) ⊎ ((first_address ≤ value_in w.temps a) × (end_address w.region < value_in w.temps a + size)) →
+  pub word-outside : IsPlace at → (value_in w.temps a < first_address) ⊎ ((first_address ≤ value_in w.temps a) × (end_address w.region < value_in w.temps a + size)) →
       Ends program BadAddress at 23 m
   word-outside place o =
       let l : Loads 5 (taken y x5 a) m (value_in w.temps a) = taken-load in
@@ -213,7 +213,7 @@ module _ (y : Layout) (Used : ℕ → Type 0) (w : World) (base : ℕ) (program 
       (failed-count BadAddress at) (taken-rest l) refl place o) (omega (arith, taken-count y x5 a))
 
 -- an address of the frame
-frame-reached : (y : Layout) (Used : ℕ → Type 0) (w : World) (base : ℕ) (program : List (Option Instr)) (m : State) (offset : ℕ) → Holds y Used w base m → w.placed + offset < 2 ^ 64 →
+pub frame-reached : (y : Layout) (Used : ℕ → Type 0) (w : World) (base : ℕ) (program : List (Option Instr)) (m : State) (offset : ℕ) → Holds y Used w base m → w.placed + offset < 2 ^ 64 →
     Stands program m.pc (located offset) → Reached program (located offset) m (w.placed + offset) 9
 frame-reached y Used w base program m offset p small there =
     let l : Loads 5 (located offset) m (w.placed + offset) = located-loads m w.placed offset p.placed small in
@@ -234,7 +234,7 @@ region-offset size a width h k =
     ap (λ b. if b then None else (if nat_le (a - 0x40000000 + width) size then Some (a - 0x40000000) else None)) (le-ltb a 0x40000000 h)
     ∙ ap (λ b. if b then Some (a - 0x40000000) else None) (le-leb (a - 0x40000000 + width) size (omega arith))
 
-region-place : (region private a width : ℕ) → 2 ^ 30 ≤ a → a + width ≤ 2 ^ 30 + region → place_of region private a width ≡ Some (Region (a - 2 ^ 30))
+pub region-place : (region private a width : ℕ) → 2 ^ 30 ≤ a → a + width ≤ 2 ^ 30 + region → place_of region private a width ≡ Some (Region (a - 2 ^ 30))
 unfolding place_of
 region-place region private a width h k = ap (λ o. place_in o (offset_in (2 ^ 32) private a width)) (region-offset region a width h k)
 
@@ -303,14 +303,14 @@ range-is r a zero h = absurd (none h)
 range-is r a (suc n) h = refl
 
 -- whether an access is inside
-insides : (r : Contents) (a size : ℕ) → ((first_address ≤ a) × (a + size ≤ end_address r)) ⊎ ((a < first_address) ⊎ ((first_address ≤ a) × (end_address r < a + size)))
+pub insides : (r : Contents) (a size : ℕ) → ((first_address ≤ a) × (a + size ≤ end_address r)) ⊎ ((a < first_address) ⊎ ((first_address ≤ a) × (end_address r < a + size)))
 insides r a size =
     ⊎_elim (λ h. inr (inl h)) (λ h. ⊎_elim (λ k. inr (inr (h, k))) (λ k. inl (h, k)) (cases_lt (end_address r) (a + size))) (cases_lt a first_address)
 
-inside-true : (r : Contents) (a size : ℕ) → first_address ≤ a → a + size ≤ end_address r → is_inside r a size ≡ true
+pub inside-true : (r : Contents) (a size : ℕ) → first_address ≤ a → a + size ≤ end_address r → is_inside r a size ≡ true
 inside-true r a size h k = ap (λ b. b && nat_le (a + size) (end_address r)) (le-leb first_address a h) ∙ le-leb (a + size) (end_address r) k
 
-outside-false : (r : Contents) (a size : ℕ) → (a < first_address) ⊎ ((first_address ≤ a) × (end_address r < a + size)) → is_inside r a size ≡ false
+pub outside-false : (r : Contents) (a size : ℕ) → (a < first_address) ⊎ ((first_address ≤ a) × (end_address r < a + size)) → is_inside r a size ≡ false
 outside-false r a size o =
     ⊎_elim
     (λ h. ap (λ b. b && nat_le (a + size) (end_address r)) (lt-leb first_address a h))
@@ -359,7 +359,7 @@ load-cases y d form at Next w base weight target a program m f g =
     (λ bs q. let none : None ≡ Some bs = sym e ∙ q in cc, λ q. g h))
     (insides w.region a size)
 
-low-enough : (y : Layout) (Used : ℕ → Type 0) (w : World) (base offset : ℕ) (m : State) → Holds y Used w base m → first_address ≤ w.placed + offset
+pub low-enough : (y : Layout) (Used : ℕ → Type 0) (w : World) (base offset : ℕ) (m : State) → Holds y Used w base m → first_address ≤ w.placed + offset
 low-enough y Used w base offset m p = let h : first_address ≤ w.placed = omega (arith, p.above) in omega arith
 
 pub region-loads : RegionLoadsAreCarried
