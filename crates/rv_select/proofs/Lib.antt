@@ -12,3 +12,5 @@ pub mod Faults
 pub mod Divisors
 pub mod Regions
 pub mod Stores
+pub mod Lives
+pub mod Carries

@@ -35,6 +35,8 @@ use Rattle.tac_form.specs.declared.tac.Address.{Address}
 use Rattle.tac_form.specs.declared.tac.Address.TheVariants.{Word, Frame}
 use Rattle.tac_form.specs.declared.tac.Spot.{Spot}
 use Rattle.tac_form.specs.declared.tac.Spot.TheVariants as spots
+use Rattle.tac_form.specs.declared.tac.Instruction.{Instruction}
+use Rattle.tac_form.specs.declared.tac.Instruction.TheVariants as instructions
 use Rattle.tac_form.specs.Flow.{bytes_of, width_of}
 use Rattle.rv_operators.specs.Codes.{x0, x5, x6, code_of, zero_immediate}
 use Rattle.rv_select.specs.Numbers.{constant, immediate_of, below_zero, lower_of, register_of, upper_of}
@@ -291,3 +293,32 @@ allocated y d a =
     ∷ Branch Eq x0 x0 (offset_of 8)
     ∷ moved x5 x0
     ∷ put_to (home_of y d))))
+
+-- the code of an instruction, and which have one so far
+abbrev pub shape_of : Layout → Instruction → List Instr
+shape_of y (instructions.Compute d op form a b) = computed y d op (width_of form) a b
+shape_of y (instructions.TestDivisor at a) = divisor_tested y at a
+shape_of y (instructions.Copy d a) = copied y d a
+shape_of y (instructions.Locate d offset) = located offset ++ put_to (home_of y d)
+shape_of y (instructions.Load d form spot) = loaded y d form spot
+shape_of y (instructions.Store spot size a) = stored y spot size a
+shape_of y (instructions.Move to from size) = bytes_moved y to from size
+shape_of y (instructions.Clear n size) = cleared y n size
+shape_of y (instructions.Call to at f arguments) = []
+shape_of y (instructions.CallValue to at sig a arguments) = []
+shape_of y (instructions.PutByte a) = byte_put y a
+shape_of y (instructions.Write at a b) = range_written y at a b
+shape_of y (instructions.Alloc d a) = allocated y d a
+
+abbrev pub in_region : Spot → Bool
+in_region (spots.Region at a) = true
+in_region (spots.Area n offset) = false
+
+abbrev pub has_shape : Instruction → Bool
+has_shape (instructions.Compute d op form a b) = true
+has_shape (instructions.TestDivisor at a) = true
+has_shape (instructions.Copy d a) = true
+has_shape (instructions.Locate d offset) = true
+has_shape (instructions.Load d form spot) = in_region spot
+has_shape (instructions.Store spot size a) = in_region spot
+has_shape _ = false

@@ -1,25 +1,30 @@
 -- What the code of an instruction promises: one step of three-address code is at least one and at most its weight of the
 -- machine's steps, and the machine holds afterwards what three-address code sees then.
-use Rattle.std.specs.Prelude.{◌≡◌, ◌≢◌, ℕ, ◌+◌, ◌*◌, ◌^◌, ◌<◌, ◌≤◌, true, List, [], ◌++◌, length, Option, Some, ◌⊎◌}
+use Rattle.std.specs.Prelude.{◌≡◌, ℕ, ◌+◌, ◌*◌, ◌^◌, ◌<◌, ◌≤◌, List, ◌++◌, length, Option, Some, slice_get, IsTrue, ◌⊎◌}
 use Rattle.tl_base.specs.declared.place.Place.{Place}
 use Rattle.rv_isa.specs.declared.instr.Instr.{Instr}
+use Rattle.reg_alloc.specs.declared.assignment.Home.{Home}
+use Rattle.reg_alloc.specs.Right.{IsRight}
 use Rattle.rv_machine.specs.declared.stops.Stop.TheVariants.{TerraFault}
 use Rattle.rv_machine.specs.Word.{low}
-use Rattle.rv_machine.specs.Machine.{State, Ran, after_output, run_of, stands}
-use Rattle.terra_words.specs.declared.words.BinaryOperator.{BinaryOperator}
+use Rattle.rv_machine.specs.Machine.{State, after_output, run_of, stands}
+use Rattle.terra_memory.specs.Region.{end_address}
 use Rattle.terra_words.specs.declared.words.FaultKind.{FaultKind}
-use Rattle.terra_words.specs.declared.words.FaultKind.TheVariants.{DivZero}
-use Rattle.terra_words.specs.Words.{applied, divides, fault_number}
-use Rattle.tac_form.specs.declared.tac.Number.{Number}
-use Rattle.tac_form.specs.declared.tac.Operand.{Operand}
+use Rattle.terra_words.specs.Words.{fault_number}
+use Rattle.terra_words.specs.Runs.{Returned, Fault, Stuck, Over, More}
 use Rattle.tac_form.specs.declared.tac.Instruction.{Instruction}
-use Rattle.tac_form.specs.declared.tac.Instruction.TheVariants.{Compute, Copy, Locate, TestDivisor}
-use Rattle.tac_form.specs.Flow.{put, width_of}
+use Rattle.tac_form.specs.declared.tac.Block.{Block}
+use Rattle.tac_form.specs.declared.tac.Tac.{Tac}
+use Rattle.tac_form.specs.declared.graph.FlowBlock.{FlowBlock}
+use Rattle.tac_form.specs.Flow as tac
+use Rattle.tac_form.specs.Flow.{Program, Goes, Stops, put, step}
+use Rattle.tac_form.specs.Graph.{graph_of}
+use Rattle.tac_form.specs.Live.{InUse}
+use Rattle.tac_form.specs.Fits.{instruction_fits}
 use Rattle.tac_form.specs.Weights.{words_of}
 use Rattle.rv_operators.specs.Runs.{Stands}
-use Rattle.rv_select.specs.Places.{Layout, World, Holds, Housed, IsRead, Keeps, value_in}
-use Rattle.rv_select.specs.Shapes.{copied, computed, divisor_tested, located, place_number, put_to}
-use Rattle.rv_select.specs.Places.{home_of}
+use Rattle.rv_select.specs.Places.{Layout, World, Holds, Keeps, layout_of}
+use Rattle.rv_select.specs.Shapes.{has_shape, place_number, shape_of}
 
 -- what is in use after an instruction was in use before it, or is what it writes
 abbrev pub Follows : (Used Next : ℕ → Type 0) → (d : ℕ) → Type 0
@@ -59,3 +64,45 @@ AreFewer Used Next = (t : ℕ) → Next t → Used t
 -- places of tokens are in one word
 abbrev pub IsPlace : Place → Type 0
 IsPlace at = place_number at < 2 ^ 64
+
+-- what three-address code sees in a state
+abbrev pub world_of : tac.State → World
+world_of s = record {
+  temps = s.here.temps;
+  areas = s.here.areas;
+  region = s.region;
+  placed = s.here.base;
+  depth = length s.callers;
+}
+
+-- The machine does from a state what three-address code does in a step from another, on the code of one instruction. Where the step
+-- goes on, it comes behind this code to a state that holds what three-address code sees then, and writes what it writes; where the
+-- step ends the run by a fault, it ends the run by the same. Of code that is stuck nothing is promised.
+abbrev pub Carried : Layout → List FlowBlock → List (Option Instr) → (base weight : ℕ) → List Instr → tac.State → State → tac.Moved → Type 0
+Carried y graph program base weight code s m (Goes t) =
+    (out : List ℕ) × (t.out ≡ s.out ++ out) ×
+    Comes y program (InUse graph t.here.block t.here.at) (world_of t) base weight (behind m code) out m
+Carried y graph program base weight code s m (Stops (Over (Fault kind at) out)) = (out ≡ s.out) × Ends program kind at weight m
+Carried y graph program base weight code s m (Stops (Over (Returned v) out)) = ⊥
+Carried y graph program base weight code s m (Stops (Over Stuck out)) = Unit {0}
+Carried y graph program base weight code s m (Stops (More out)) = ⊥
+
+-- Where a function's code stands at one of its instructions: its three-address code is right for machine code, its temporaries have
+-- right homes, and the machine stands before the instruction's code and holds what three-address code sees.
+pub record StandsBefore (p : Program) (code : Tac) (homes : List (Option Home)) (i : Instruction) (s : tac.State) (program : List (Option Instr)) (base : ℕ) (m : State) : Type 0 where
+  pub block : Block
+  pub function : p.code s.here.function ≡ Some code
+  pub in_function : slice_get code.blocks s.here.block ≡ Some block
+  pub in_block : slice_get block.instructions s.here.at ≡ Some i
+  pub fits : IsTrue (instruction_fits code i)
+  pub frame : s.here.base + code.frame ≤ end_address s.region
+  pub right : IsRight code homes
+  pub stands : Stands program m.pc (shape_of (layout_of code homes) i)
+  pub holds : Holds (layout_of code homes) (InUse (graph_of code) s.here.block s.here.at) (world_of s) base m
+
+-- Each instruction that has code so far is carried out by it, within its weight.
+abbrev pub InstructionsAreCarried : Type 0
+InstructionsAreCarried =
+    (p : Program) (code : Tac) (homes : List (Option Home)) (i : Instruction) (s : tac.State) (program : List (Option Instr)) (base : ℕ) (m : State) →
+    IsTrue (has_shape i) → StandsBefore p code homes i s program base m →
+    Carried (layout_of code homes) (graph_of code) program base (words_of i) (shape_of (layout_of code homes) i) s m (step p s)
