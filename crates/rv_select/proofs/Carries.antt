@@ -10,22 +10,30 @@ use Rattle.reg_alloc.specs.declared.assignment.Home.{Home}
 use Rattle.rv_machine.specs.Machine.{State}
 use Rattle.terra_memory.specs.Region.{Contents, end_address, range_of}
 use Rattle.terra_words.specs.declared.words.BinaryOperator.{BinaryOperator}
-use Rattle.terra_words.specs.Words.{applied, divides}
+use Rattle.terra_memory.specs.Numbers.{low_bytes, number_of}
+use Rattle.terra_words.specs.declared.words.FaultKind.TheVariants.{BadAddress}
+use Rattle.terra_words.specs.Words.{applied, divides, wrapped}
+use Rattle.terra_words.specs.Runs.{put_bytes}
 use Rattle.tac_form.specs.declared.tac.Number.{Number}
+use Rattle.tac_form.specs.declared.tac.Size.{Size}
 use Rattle.tac_form.specs.declared.tac.Operand.{Operand}
+use Rattle.tac_form.specs.declared.tac.Address.{Address}
+use Rattle.tac_form.specs.declared.tac.Address.TheVariants.{Word, Frame}
+use Rattle.tac_form.specs.declared.tac.Spot.TheVariants as spots
 use Rattle.tac_form.specs.declared.tac.Operand.TheVariants.{Temp, Constant}
 use Rattle.tac_form.specs.declared.tac.Instruction.{Instruction}
-use Rattle.tac_form.specs.declared.tac.Instruction.TheVariants.{Compute, Copy, Load, Locate, Store, TestDivisor}
+use Rattle.tac_form.specs.declared.tac.Instruction.TheVariants.{Alloc, Call, CallValue, Clear, Compute, Copy, Load, Locate, Move, PutByte, Store, TestDivisor, Write}
 use Rattle.tac_form.specs.declared.tac.Tac.{Tac}
 use Rattle.tac_form.specs.Flow as tac
-use Rattle.tac_form.specs.Flow.{Program, step, width_of}
-use Rattle.tac_form.specs.Graph.{block_of, graph_of, instruction_reads, instruction_write, operand_reads, step_of}
+use Rattle.tac_form.specs.Flow.{Program, bytes_of, step, width_of}
+use Rattle.tac_form.specs.Graph.{block_of, graph_of, instruction_reads, instruction_write, address_reads, operand_reads, step_of}
 use Rattle.tac_form.specs.Live.{InUse, has, is_written}
-use Rattle.tac_form.specs.Fits.{operand_fits, place_fits}
+use Rattle.tac_form.specs.Fits.{operand_fits, place_fits, spot_fits}
 use Rattle.tac_form.specs.Weights.{words_of}
 use Rattle.rv_select.specs.Places.{Holds, Housed, IsRead, Layout, layout_of, value_in}
-use Rattle.rv_select.specs.Shapes.{place_number, shape_of}
-use Rattle.rv_select.specs.Steps.{AreFewer, Carried, Comes, Ends, Follows, IsPlace, InstructionsAreCarried, StandsBefore, behind, world_of}
+use Rattle.rv_select.specs.Shapes.{loaded, place_number, shape_of, stored}
+use Rattle.rv_select.specs.Steps.{AreFewer, Carried, Comes, Ends, Follows, IsPlace, InstructionsAreCarried, StandsBefore, behind, with_temp, world_of}
+use Rattle.rv_select.proofs.Claims.{IsReached, address_in, with_region}
 use Rattle.rv_select.proofs.Lives.{housed, read-live, step-in-graph, use-follows, write-used}
 use Rattle.rv_select.proofs.Moves.{copies, operators}
 use Rattle.rv_select.proofs.Divisors.{addresses, divisors}
@@ -113,3 +121,183 @@ carry-copy p code homes d a s program base m x =
       (housed code homes s.here.block s.here.at x.right) (housed code homes s.here.block (suc s.here.at) x.right)
       (operand-read code (used code s) a fit.1 (reads p code homes (Copy d a) s program base m x))
       (written-next p code homes (Copy d a) s program base m d x refl) (follows p code homes (Copy d a) s program base m d x refl))
+
+-- by a test, and by whether there is something
+by-test : {A : Type 0} (P : A → Type 0) (c : Bool) (x y : A) → (c ≡ true → P x) → (c ≡ false → P y) → P (if c then x else y)
+by-test P true x y f g = f refl
+by-test P false x y f g = g refl
+
+some-or-none : {A : Type 0} (o : Option A) → (o ≡ None) ⊎ ((x : A) × (o ≡ Some x))
+some-or-none None = inl refl
+some-or-none (Some x) = inr (x, refl)
+
+no-zero : (a b : Bool) (x : ℕ) → (a && b) ≡ false → b ≡ nat_eq x 0 → a ≡ true → x ≢ 0
+no-zero a b x e f g z = let t : b ≡ true = f ∙ eq-eqb x 0 z in let both : (a && b) ≡ true = ap (λ c. c && b) g ∙ t in let none : true ≡ false = sym both ∙ e in cc
+
+carry-compute : (p : Program) (code : Tac) (homes : List (Option Home)) (d : ℕ) (op : BinaryOperator) (form : Number) (a b : Operand) (s : tac.State)
+    (program : List (Option Instr)) (base : ℕ) (m : State) → StandsBefore p code homes (Compute d op form a b) s program base m →
+    Carried (layout_of code homes) (graph_of code) program base (words_of (Compute d op form a b)) (shape_of (layout_of code homes) (Compute d op form a b)) s m (step p s)
+carry-compute p code homes d op form a b s program base m x =
+    let fit = both-true (nat_lt d code.temps && operand_fits code a) (operand_fits code b) x.fits in
+    let fit-a = both-true (nat_lt d code.temps) (operand_fits code a) fit.0 in
+    let i : Instruction = Compute d op form a b in
+    let e1 = x.function in
+    let e2 = x.in_function in
+    let e3 = x.in_block in
+    rw (e1, e2, e3)
+      (by-test
+      (λ moved. Carried (layout_of code homes) (graph_of code) program base (words_of (Compute d op form a b)) (shape_of (layout_of code homes) (Compute d op form a b)) s m moved)
+      (divides op && nat_eq (value_in s.here.temps b) 0) _ _ (λ h. tt)
+      (λ h.
+      ([], nothing-written s.out,
+      operators (layout_of code homes) d op form a b (used code s) (next code s) (world_of s) base program m x.stands
+      (no-zero (divides op) (nat_eq (value_in s.here.temps b) 0) (value_in s.here.temps b) h refl) x.holds
+      (housed code homes s.here.block s.here.at x.right) (housed code homes s.here.block (suc s.here.at) x.right)
+      (operand-read code (used code s) a fit-a.1 (λ t u. reads p code homes i s program base m x t (has-left (operand_reads a) (operand_reads b) t u)))
+      (operand-read code (used code s) b fit.1 (λ t u. reads p code homes i s program base m x t (has-right (operand_reads a) (operand_reads b) t u)))
+      (written-next p code homes i s program base m d x refl) (follows p code homes i s program base m d x refl))))
+
+carry-test : (p : Program) (code : Tac) (homes : List (Option Home)) (at : Place) (a : Operand) (s : tac.State) (program : List (Option Instr)) (base : ℕ) (m : State) →
+    StandsBefore p code homes (TestDivisor at a) s program base m →
+    Carried (layout_of code homes) (graph_of code) program base (words_of (TestDivisor at a)) (shape_of (layout_of code homes) (TestDivisor at a)) s m (step p s)
+carry-test p code homes at a s program base m x =
+    let fit = both-true (place_fits at) (operand_fits code a) x.fits in
+    let i : Instruction = TestDivisor at a in
+    let e1 = x.function in
+    let e2 = x.in_function in
+    let e3 = x.in_block in
+    let both =
+      divisors (layout_of code homes) at a (used code s) (next code s) (world_of s) base program m x.stands (place-small at fit.0) x.holds
+      (housed code homes s.here.block s.here.at x.right) (operand-read code (used code s) a fit.1 (reads p code homes i s program base m x))
+      (fewer p code homes i s program base m x refl) in
+    rw (e1, e2, e3)
+      (by-test
+      (λ moved. Carried (layout_of code homes) (graph_of code) program base (words_of (TestDivisor at a)) (shape_of (layout_of code homes) (TestDivisor at a)) s m moved)
+      (nat_eq (value_in s.here.temps a) 0) _ _ (λ h. (refl, both.1 (eqb-true (value_in s.here.temps a) 0 h)))
+      (λ h. ([], nothing-written s.out, both.0 (λ z. let t : nat_eq (value_in s.here.temps a) 0 ≡ true = eq-eqb (value_in s.here.temps a) 0 z in let none : true ≡ false = sym t ∙ h in cc))))
+
+carry-locate : (p : Program) (code : Tac) (homes : List (Option Home)) (d offset : ℕ) (s : tac.State) (program : List (Option Instr)) (base : ℕ) (m : State) →
+    StandsBefore p code homes (Locate d offset) s program base m →
+    Carried (layout_of code homes) (graph_of code) program base (words_of (Locate d offset)) (shape_of (layout_of code homes) (Locate d offset)) s m (step p s)
+carry-locate p code homes d offset s program base m x =
+    let fit = both-true (nat_lt d code.temps) (nat_le offset code.frame) x.fits in
+    let within : offset ≤ code.frame = leb-true offset code.frame fit.1 in
+    let most : length s.region.bytes ≤ 67108864 = x.holds.lawful.sized.2 in
+    let end : s.here.base + code.frame ≤ end_address s.region = x.frame in
+    let i : Instruction = Locate d offset in
+    let e1 = x.function in
+    let e2 = x.in_function in
+    let e3 = x.in_block in
+    rw (e1, e2, e3)
+      ([], nothing-written s.out,
+      addresses (layout_of code homes) d offset (used code s) (next code s) (world_of s) base program m x.stands (omega arith) x.holds
+      (housed code homes s.here.block s.here.at x.right) (housed code homes s.here.block (suc s.here.at) x.right)
+      (written-next p code homes i s program base m d x refl) (follows p code homes i s program base m d x refl))
+
+-- an address in the region
+address-reached : (code : Tac) (Used : ℕ → Type 0) (s : tac.State) (at : Place) (size : ℕ) (a : Address) → spot_fits code size (spots.Region at a) ≡ true →
+    s.here.base + code.frame ≤ end_address s.region → ((t : ℕ) → has (address_reads a) t ≡ true → Used t) → IsReached Used (world_of s) size a
+address-reached code Used s at size (Word a) h frame f = operand-read code Used a (both-true (place_fits at) (operand_fits code a) h).1 f
+address-reached code Used s at size (Frame offset) h frame f =
+    let within : offset + size ≤ code.frame = leb-true (offset + size) code.frame (both-true (place_fits at) (nat_le (offset + size) code.frame) h).1 in
+    omega arith
+
+spot-place : (code : Tac) (at : Place) (size : ℕ) (a : Address) → spot_fits code size (spots.Region at a) ≡ true → IsPlace at
+spot-place code at size (Word a) h = place-small at (both-true (place_fits at) (operand_fits code a) h).0
+spot-place code at size (Frame offset) h = place-small at (both-true (place_fits at) (nat_le (offset + size) code.frame) h).0
+
+-- a load, by what it reads
+carry-load : (p : Program) (code : Tac) (homes : List (Option Home)) (d : ℕ) (form : Number) (at : Place) (a : Address) (s : tac.State) (program : List (Option Instr)) (base : ℕ) (m : State) →
+    StandsBefore p code homes (Load d form (spots.Region at a)) s program base m →
+    Carried (layout_of code homes) (graph_of code) program base (words_of (Load d form (spots.Region at a))) (shape_of (layout_of code homes) (Load d form (spots.Region at a))) s m (step p s)
+carry-load p code homes d form at a s program base m x =
+    let fit = both-true (nat_lt d code.temps) (spot_fits code (bytes_of form.size) (spots.Region at a)) x.fits in
+    let i : Instruction = Load d form (spots.Region at a) in
+    let both =
+      region-loads (layout_of code homes) d form at a (used code s) (next code s) (world_of s) base program m x.stands (spot-place code at (bytes_of form.size) a fit.1)
+      (address-reached code (used code s) s at (bytes_of form.size) a fit.1 x.frame (reads p code homes i s program base m x)) x.holds
+      (housed code homes s.here.block s.here.at x.right) (housed code homes s.here.block (suc s.here.at) x.right)
+      (written-next p code homes i s program base m d x refl) (follows p code homes i s program base m d x refl) in
+    load-step p code homes d form at a s program base m x both (some-or-none (range_of s.region (address_in (world_of s) a) (bytes_of form.size)))
+  where
+    load-step : (p : Program) (code : Tac) (homes : List (Option Home)) (d : ℕ) (form : Number) (at : Place) (a : Address) (s : tac.State) (program : List (Option Instr)) (base : ℕ) (m : State) →
+        StandsBefore p code homes (Load d form (spots.Region at a)) s program base m →
+        ((bs : List ℕ) → range_of s.region (address_in (world_of s) a) (bytes_of form.size) ≡ Some bs →
+          Comes (layout_of code homes) program (next code s) (with_temp (world_of s) d (wrapped (width_of form) (number_of bs))) base (words_of (Load d form (spots.Region at a)))
+          (behind m (loaded (layout_of code homes) d form (spots.Region at a))) [] m)
+        × (range_of s.region (address_in (world_of s) a) (bytes_of form.size) ≡ None → Ends program BadAddress at (words_of (Load d form (spots.Region at a))) m) →
+        (range_of s.region (address_in (world_of s) a) (bytes_of form.size) ≡ None) ⊎ ((bs : List ℕ) × (range_of s.region (address_in (world_of s) a) (bytes_of form.size) ≡ Some bs)) →
+        Carried (layout_of code homes) (graph_of code) program base (words_of (Load d form (spots.Region at a))) (shape_of (layout_of code homes) (Load d form (spots.Region at a))) s m (step p s)
+    load-step p code homes d form at (Word (Temp t)) s program base m x both o =
+        let e1 = x.function in
+        let e2 = x.in_function in
+        let e3 = x.in_block in
+        ⊎_elim (λ e4. rw (e1, e2, e3) (rw e4 (refl, both.1 e4))) (λ q. let e4 = q.1 in rw (e1, e2, e3) (rw e4 ([], nothing-written s.out, both.0 q.0 e4))) o
+    load-step p code homes d form at (Word (Constant c)) s program base m x both o =
+        let e1 = x.function in
+        let e2 = x.in_function in
+        let e3 = x.in_block in
+        ⊎_elim (λ e4. rw (e1, e2, e3) (rw e4 (refl, both.1 e4))) (λ q. let e4 = q.1 in rw (e1, e2, e3) (rw e4 ([], nothing-written s.out, both.0 q.0 e4))) o
+    load-step p code homes d form at (Frame offset) s program base m x both o =
+        let e1 = x.function in
+        let e2 = x.in_function in
+        let e3 = x.in_block in
+        ⊎_elim (λ e4. rw (e1, e2, e3) (rw e4 (refl, both.1 e4))) (λ q. let e4 = q.1 in rw (e1, e2, e3) (rw e4 ([], nothing-written s.out, both.0 q.0 e4))) o
+
+-- a store, by what it writes
+carry-store : (p : Program) (code : Tac) (homes : List (Option Home)) (size : Size) (at : Place) (a : Address) (b : Operand) (s : tac.State) (program : List (Option Instr)) (base : ℕ) (m : State) →
+    StandsBefore p code homes (Store (spots.Region at a) size b) s program base m →
+    Carried (layout_of code homes) (graph_of code) program base (words_of (Store (spots.Region at a) size b)) (shape_of (layout_of code homes) (Store (spots.Region at a) size b)) s m (step p s)
+carry-store p code homes size at a b s program base m x =
+    let fit = both-true (spot_fits code (bytes_of size) (spots.Region at a)) (operand_fits code b) x.fits in
+    let i : Instruction = Store (spots.Region at a) size b in
+    let both =
+      region-stores (layout_of code homes) size at a b (used code s) (next code s) (world_of s) base program m x.stands (spot-place code at (bytes_of size) a fit.0)
+      (address-reached code (used code s) s at (bytes_of size) a fit.0 x.frame (λ t u. reads p code homes i s program base m x t (has-left (address_reads a) (operand_reads b) t u)))
+      (operand-read code (used code s) b fit.1 (λ t u. reads p code homes i s program base m x t (has-right (address_reads a) (operand_reads b) t u))) x.holds
+      (housed code homes s.here.block s.here.at x.right) (fewer p code homes i s program base m x refl) in
+    store-step p code homes size at a b s program base m x both
+    (some-or-none (put_bytes s.region (address_in (world_of s) a) (low_bytes (bytes_of size) (value_in s.here.temps b))))
+  where
+    store-step : (p : Program) (code : Tac) (homes : List (Option Home)) (size : Size) (at : Place) (a : Address) (b : Operand) (s : tac.State) (program : List (Option Instr)) (base : ℕ) (m : State) →
+        StandsBefore p code homes (Store (spots.Region at a) size b) s program base m →
+        ((r : Contents) → put_bytes s.region (address_in (world_of s) a) (low_bytes (bytes_of size) (value_in s.here.temps b)) ≡ Some r →
+          Comes (layout_of code homes) program (next code s) (with_region (world_of s) r) base (words_of (Store (spots.Region at a) size b))
+          (behind m (stored (layout_of code homes) (spots.Region at a) size b)) [] m)
+        × (put_bytes s.region (address_in (world_of s) a) (low_bytes (bytes_of size) (value_in s.here.temps b)) ≡ None →
+          Ends program BadAddress at (words_of (Store (spots.Region at a) size b)) m) →
+        (put_bytes s.region (address_in (world_of s) a) (low_bytes (bytes_of size) (value_in s.here.temps b)) ≡ None)
+        ⊎ ((r : Contents) × (put_bytes s.region (address_in (world_of s) a) (low_bytes (bytes_of size) (value_in s.here.temps b)) ≡ Some r)) →
+        Carried (layout_of code homes) (graph_of code) program base (words_of (Store (spots.Region at a) size b)) (shape_of (layout_of code homes) (Store (spots.Region at a) size b)) s m (step p s)
+    store-step p code homes size at (Word (Temp t)) b s program base m x both o =
+        let e1 = x.function in
+        let e2 = x.in_function in
+        let e3 = x.in_block in
+        ⊎_elim (λ e4. rw (e1, e2, e3) (rw e4 (refl, both.1 e4))) (λ q. let e4 = q.1 in rw (e1, e2, e3) (rw e4 ([], nothing-written s.out, both.0 q.0 e4))) o
+    store-step p code homes size at (Word (Constant c)) b s program base m x both o =
+        let e1 = x.function in
+        let e2 = x.in_function in
+        let e3 = x.in_block in
+        ⊎_elim (λ e4. rw (e1, e2, e3) (rw e4 (refl, both.1 e4))) (λ q. let e4 = q.1 in rw (e1, e2, e3) (rw e4 ([], nothing-written s.out, both.0 q.0 e4))) o
+    store-step p code homes size at (Frame offset) b s program base m x both o =
+        let e1 = x.function in
+        let e2 = x.in_function in
+        let e3 = x.in_block in
+        ⊎_elim (λ e4. rw (e1, e2, e3) (rw e4 (refl, both.1 e4))) (λ q. let e4 = q.1 in rw (e1, e2, e3) (rw e4 ([], nothing-written s.out, both.0 q.0 e4))) o
+
+pub instructions : InstructionsAreCarried
+instructions p code homes (Compute d op form a b) s program base m h x = carry-compute p code homes d op form a b s program base m x
+instructions p code homes (TestDivisor at a) s program base m h x = carry-test p code homes at a s program base m x
+instructions p code homes (Copy d a) s program base m h x = carry-copy p code homes d a s program base m x
+instructions p code homes (Locate d offset) s program base m h x = carry-locate p code homes d offset s program base m x
+instructions p code homes (Load d form (spots.Region at a)) s program base m h x = carry-load p code homes d form at a s program base m x
+instructions p code homes (Load d form (spots.Area n offset)) s program base m h x = cc
+instructions p code homes (Store (spots.Region at a) size b) s program base m h x = carry-store p code homes size at a b s program base m x
+instructions p code homes (Store (spots.Area n offset) size b) s program base m h x = cc
+instructions p code homes (Move to from size) s program base m h x = cc
+instructions p code homes (Clear n size) s program base m h x = cc
+instructions p code homes (Call to at f arguments) s program base m h x = cc
+instructions p code homes (CallValue to at sig a arguments) s program base m h x = cc
+instructions p code homes (PutByte a) s program base m h x = cc
+instructions p code homes (Write at a b) s program base m h x = cc
+instructions p code homes (Alloc d a) s program base m h x = cc

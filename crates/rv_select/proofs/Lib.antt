@@ -14,3 +14,4 @@ pub mod Regions
 pub mod Stores
 pub mod Lives
 pub mod Carries
+pub mod Weights

@@ -106,3 +106,7 @@ InstructionsAreCarried =
     (p : Program) (code : Tac) (homes : List (Option Home)) (i : Instruction) (s : tac.State) (program : List (Option Instr)) (base : ℕ) (m : State) →
     IsTrue (has_shape i) → StandsBefore p code homes i s program base m →
     Carried (layout_of code homes) (graph_of code) program base (words_of i) (shape_of (layout_of code homes) i) s m (step p s)
+
+-- The code of an instruction has at most as many words as its weight.
+abbrev pub ShapesKeepWithin : Type 0
+ShapesKeepWithin = (y : Layout) (i : Instruction) → IsTrue (has_shape i) → length (shape_of y i) ≤ words_of i

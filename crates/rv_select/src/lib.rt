@@ -8,3 +8,5 @@
 
 pub mod law;
 
+
+pub use law::{instructions_are_carried, shapes_keep_within};

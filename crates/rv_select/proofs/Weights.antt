@@ -1,0 +1,85 @@
+-- The code of an instruction keeps within its weight.
+use Rattle.std.proofs.Common.{ℕ, ◌+◌, ◌*◌, ◌≤◌, Bool, true, false, List, [], ◌∷◌, ◌++◌, length, arith}
+use Rattle.std.specs.Prelude.{IsTrue}
+use Rattle.std.proofs.lemmas.List.{length-append}
+use Rattle.tl_base.specs.declared.place.Place.{Place}
+use Rattle.rv_isa.specs.declared.instr.Instr.{Instr}
+use Rattle.rv_isa.specs.declared.instr.Instr.TheVariants as instrs
+use Rattle.rv_isa.specs.declared.operation.BranchCondition.TheVariants.{Geu, Ltu, Ne}
+use Rattle.rv_isa.specs.declared.operation.ImmediateOp.TheVariants.{Addi}
+use Rattle.terra_words.specs.declared.words.FaultKind.TheVariants.{BadAddress, DivZero}
+use Rattle.tac_form.specs.declared.tac.Operand.{Operand}
+use Rattle.tac_form.specs.declared.tac.Address.{Address}
+use Rattle.tac_form.specs.declared.tac.Address.TheVariants.{Word, Frame}
+use Rattle.tac_form.specs.declared.tac.Spot.TheVariants as spots
+use Rattle.tac_form.specs.declared.tac.Instruction.{Instruction}
+use Rattle.tac_form.specs.declared.tac.Instruction.TheVariants.{Alloc, Call, CallValue, Clear, Compute, Copy, Load, Locate, Move, PutByte, Store, TestDivisor, Write}
+use Rattle.tac_form.specs.Flow.{bytes_of, width_of}
+use Rattle.tac_form.specs.Weights.{words_of}
+use Rattle.rv_operators.specs.Codes.{x0, x5, x6, code_of, zero_immediate}
+use Rattle.rv_operators.proofs.Short.{code-short}
+use Rattle.rv_select.specs.Places.{Layout, home_of}
+use Rattle.rv_select.specs.Shapes.{bounds_tested, failed, has_shape, load_of, located, over, put_to, reached, shape_of, store_of, taken}
+use Rattle.rv_select.specs.Steps.{ShapesKeepWithin}
+use Rattle.rv_select.proofs.Homes.{put-count, taken-count}
+use Rattle.rv_select.proofs.Faults.{failed-count}
+use Rattle.rv_select.proofs.Divisors.{located-count}
+
+-- most words of two pieces of code
+both : (a b : List Instr) (n k : ℕ) → length a ≤ n → length b ≤ k → length (a ++ b) ≤ n + k
+both a b n k h g = omega (arith, length-append a b)
+
+one-more : (i : Instr) (a : List Instr) (n : ℕ) → length a ≤ n → length (i ∷ a) ≤ 1 + n
+one-more i a n h = omega arith
+
+tested : (at : Place) (size : ℕ) → length (bounds_tested at size) ≤ 15
+tested at size = let h : length (failed BadAddress at) ≤ 11 = failed-count BadAddress at in omega arith
+
+word-reached : (y : Layout) (at : Place) (a : Operand) (size : ℕ) → length (reached y at (Word a) size) ≤ 23
+word-reached y at a size = both (taken y x5 a) (bounds_tested at size) 8 15 (taken-count y x5 a) (tested at size)
+
+store-part : (y : Layout) (i : Instr) (b : Operand) → length (taken y x6 b ++ i ∷ []) ≤ 9
+store-part y i b = both (taken y x6 b) (i ∷ []) 8 1 (taken-count y x6 b) (omega arith)
+
+pub within : ShapesKeepWithin
+within y (Compute d op form a b) h =
+    both (taken y x5 a) _ 8 15 (taken-count y x5 a)
+    (both (taken y x6 b) _ 8 7 (taken-count y x6 b) (both (code_of (width_of form) op) (put_to (home_of y d)) 4 3 (code-short (width_of form) op).short (put-count (home_of y d))))
+within y (TestDivisor at a) h =
+    both (taken y x5 a) (instrs.Branch Ne x5 x0 (over (failed DivZero at)) ∷ failed DivZero at) 8 12 (taken-count y x5 a)
+    (one-more (instrs.Branch Ne x5 x0 (over (failed DivZero at))) (failed DivZero at) 11 (failed-count DivZero at))
+within y (Copy d a) h = both (taken y x5 a) (put_to (home_of y d)) 8 3 (taken-count y x5 a) (put-count (home_of y d))
+within y (Locate d offset) h = both (located offset) (put_to (home_of y d)) 9 3 (located-count offset) (put-count (home_of y d))
+within y (Load d form (spots.Region at (Word a))) h =
+    more 27 29 _ (omega arith)
+    (both (reached y at (Word a) (bytes_of form.size)) (instrs.Load (load_of form.signed form.size) x5 x5 zero_immediate ∷ put_to (home_of y d)) 23 4
+    (word-reached y at a (bytes_of form.size)) (one-more (instrs.Load (load_of form.signed form.size) x5 x5 zero_immediate) (put_to (home_of y d)) 3 (put-count (home_of y d))))
+  where
+    more : (n k : ℕ) (a : List Instr) → n ≤ k → length a ≤ n → length a ≤ k
+    more n k a e g = omega arith
+within y (Load d form (spots.Region at (Frame offset))) h =
+    more 13 14 _ (omega arith)
+    (both (located offset) (instrs.Load (load_of form.signed form.size) x5 x5 zero_immediate ∷ put_to (home_of y d)) 9 4
+    (located-count offset) (one-more (instrs.Load (load_of form.signed form.size) x5 x5 zero_immediate) (put_to (home_of y d)) 3 (put-count (home_of y d))))
+  where
+    more : (n k : ℕ) (a : List Instr) → n ≤ k → length a ≤ n → length a ≤ k
+    more n k a e g = omega arith
+within y (Load d form (spots.Area n offset)) h = cc
+within y (Store (spots.Region at (Word a)) size b) h =
+    more 32 33 _ (omega arith)
+    (both (reached y at (Word a) (bytes_of size)) (taken y x6 b ++ instrs.Store (store_of size) x5 x6 zero_immediate ∷ []) 23 9
+    (word-reached y at a (bytes_of size)) (store-part y (instrs.Store (store_of size) x5 x6 zero_immediate) b))
+  where
+    more : (n k : ℕ) (a : List Instr) → n ≤ k → length a ≤ n → length a ≤ k
+    more n k a e g = omega arith
+within y (Store (spots.Region at (Frame offset)) size b) h =
+    both (located offset) (taken y x6 b ++ instrs.Store (store_of size) x5 x6 zero_immediate ∷ []) 9 9
+    (located-count offset) (store-part y (instrs.Store (store_of size) x5 x6 zero_immediate) b)
+within y (Store (spots.Area n offset) size b) h = cc
+within y (Move to from size) h = cc
+within y (Clear n size) h = cc
+within y (Call to at f arguments) h = cc
+within y (CallValue to at sig a arguments) h = cc
+within y (PutByte a) h = cc
+within y (Write at a b) h = cc
+within y (Alloc d a) h = cc
