@@ -2,7 +2,7 @@
 use Rattle.std.proofs.Common.{◌≡◌, ◌≢◌, ℕ, suc, ◌+◌, ◌-◌, ◌*◌, ◌/◌, ◌%◌, ◌^◌, ◌<◌, ◌≤◌, Bool, true, false, pos, negsuc, List, [], ◌∷◌, ◌++◌, length, refl, sym, ap, ◌∙◌, subst, ⊎_elim, arith}
 use Rattle.std.specs.Prelude.{if◌then◌else◌, nat_eq, nat_le, nat_lt, ◌&&◌}
 use Rattle.std.proofs.lemmas.List.{length-append}
-use Rattle.std.proofs.lemmas.Bool.{cases_Bool, cases_lt, le-leb, lt-leb, lt-ltb, eqb-true, cases_eq}
+use Rattle.std.proofs.lemmas.Bool.{cases_Bool, cases_lt, le-leb, lt-leb, lt-ltb, le-ltb, eq-eqb, ne_eqb, eqb-true}
 use Rattle.rv_isa.specs.declared.instr.Instr.{Instr}
 use Rattle.rv_isa.specs.declared.instr.Instr.TheVariants.{Lui, RegisterImmediate, Shift, Addiw}
 use Rattle.rv_isa.specs.declared.operation.ImmediateOp.TheVariants.{Addi}
@@ -204,3 +204,32 @@ constant-count d n = either (nat_eq (extended_word n) n)
         long : (a : List Instr) → length a ≤ 2 →
             length (a ++ (moved_up d eleven (n / 2 ^ 21 % 2 ^ 11) ++ (moved_up d eleven (n / 2 ^ 10 % 2 ^ 11) ++ moved_up d ten (n % 2 ^ 10)))) ≤ 8
         long a h = omega (arith, length-append a (moved_up d eleven (n / 2 ^ 21 % 2 ^ 11) ++ (moved_up d eleven (n / 2 ^ 10 % 2 ^ 11) ++ moved_up d ten (n % 2 ^ 10))))
+
+-- which numbers are the extension of their low 32 bits
+both-tests : (a b c d : ℕ) → (a < b → c ≡ d) → (b ≤ a → c ≢ d) → nat_lt a b ≡ nat_eq c d
+both-tests a b c d f g =
+    ⊎_elim (λ h. lt-ltb a b h ∙ sym (eq-eqb c d (f h))) (λ h. le-ltb a b h ∙ sym (ne_eqb c d (g h))) (cases_lt a b)
+
+near-zero : (n : ℕ) → n < 2 ^ 64 → (n + 2 ^ 31) % 2 ^ 64 < 2 ^ 32 → wrapped (width true 32) n ≡ n
+unfolding wrapped
+near-zero n h k =
+    ⊎_elim
+    (λ l. ap (λ b. if b then n % 2 ^ 32 + (2 ^ 64 - 2 ^ 32) else n % 2 ^ 32) (lt-leb (2 ^ 31) (n % 2 ^ 32) l) ∙ omega arith)
+    (λ l. ap (λ b. if b then n % 2 ^ 32 + (2 ^ 64 - 2 ^ 32) else n % 2 ^ 32) (le-leb (2 ^ 31) (n % 2 ^ 32) l) ∙ omega arith)
+    (cases_lt (n % 2 ^ 32) (2 ^ 31))
+
+far-off : (n : ℕ) → n < 2 ^ 64 → 2 ^ 32 ≤ (n + 2 ^ 31) % 2 ^ 64 → wrapped (width true 32) n ≢ n
+unfolding wrapped
+far-off n h k e =
+    ⊎_elim
+    (λ l.
+    let q : n % 2 ^ 32 ≡ n = sym (ap (λ b. if b then n % 2 ^ 32 + (2 ^ 64 - 2 ^ 32) else n % 2 ^ 32) (lt-leb (2 ^ 31) (n % 2 ^ 32) l)) ∙ e in
+    omega arith)
+    (λ l.
+    let q : n % 2 ^ 32 + (2 ^ 64 - 2 ^ 32) ≡ n = sym (ap (λ b. if b then n % 2 ^ 32 + (2 ^ 64 - 2 ^ 32) else n % 2 ^ 32) (le-leb (2 ^ 31) (n % 2 ^ 32) l)) ∙ e in
+    omega arith)
+    (cases_lt (n % 2 ^ 32) (2 ^ 31))
+
+pub short_test : (n : ℕ) → n < 2 ^ 64 → nat_lt ((n + 2 ^ 31) % 2 ^ 64) (2 ^ 32) ≡ nat_eq (extended_word n) n
+short_test n h =
+    both-tests ((n + 2 ^ 31) % 2 ^ 64) (2 ^ 32) (extended_word n) n (λ k. wrapped-32 n ∙ near-zero n h k) (λ k e. far-off n h k (sym (wrapped-32 n) ∙ e))

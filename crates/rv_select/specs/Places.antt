@@ -29,6 +29,10 @@ pub record Layout : Type 0 where
 abbrev pub layout_of : Tac → List (Option Home) → Layout
 layout_of code homes = record { homes = homes; areas = length code.areas; parameters = length code.parameters }
 
+-- code of one instruction depends on the homes alone
+abbrev pub with_homes : List (Option Home) → Layout
+with_homes homes = record { homes = homes; areas = 0; parameters = 0 }
+
 -- where slots and areas lie in the frame, and its bytes
 abbrev pub slot_offset : ℕ → ℕ
 slot_offset k = kept_bytes + 8 * k
@@ -59,6 +63,11 @@ uses y x = list_any (is_register x) y.homes
 abbrev pub IsHome : Layout → Home → Type 0
 IsHome y (Register x) = (18 ≤ x) × (x ≤ 27) × IsTrue (uses y x)
 IsHome y (Slot k) = k < length y.homes
+
+-- a register of the machine, or a slot whose offset is a word
+abbrev pub IsNearHome : Home → Type 0
+IsNearHome (Register x) = x ≤ 31
+IsNearHome (Slot k) = k < 2 ^ 60
 
 -- the word at an offset of private memory, and the word at a home, in an activation whose frame begins at an offset
 abbrev pub private_word : State → ℕ → ℕ

@@ -71,6 +71,10 @@ x12 = record { number = 12; in_range = lit≤ tt }
 abbrev pub x17 : Register
 x17 = record { number = 17; in_range = lit≤ tt }
 
+-- x7 gets the address of an offset of the frame, but for its lower part
+abbrev pub far_part : ℕ → List Instr
+far_part offset = Lui x7 (upper_of offset) ∷ RegisterRegister Add x7 x7 x2 ∷ []
+
 -- an instruction at an offset of the frame, where x7 takes the upper part of an offset that is too far for one instruction
 abbrev pub framed : (Register → Immediate → Instr) → ℕ → List Instr
 framed f offset =

@@ -6,7 +6,9 @@
 //! holds afterwards what three-address code sees then. The laws of `law` have that of each instruction.
 #![tactic(auto)]
 
+mod emit;
 pub mod law;
+mod operands;
 
 
 pub use law::{instructions_are_carried, shapes_keep_within};

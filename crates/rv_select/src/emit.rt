@@ -1,0 +1,255 @@
+// The words of operands and of places in the frame.
+
+ghost use Rattle.std.specs.Prelude.{◌≡◌, ◌^◌, ◌<◌, ◌≤◌, [], ◌∷◌, ◌++◌, map, nat_eq, OnOk};
+ghost use Rattle.rv_isa.specs.declared.instr.Instr.TheVariants as instrs;
+ghost use Rattle.rv_isa.specs.Table.{word_of};
+ghost use Rattle.rv_select.specs.Numbers.{constant, long_constant, moved_up, short_constant};
+ghost use Rattle.rv_machine.specs.Word.{extended_word};
+ghost use Rattle.rv_select.specs.Places.{slot_offset, IsNearHome};
+ghost use Rattle.rv_select.specs.Shapes.{far_part, framed, moved, put_to, taken_from};
+
+use crate::operands::{immediate, lower, register, upper};
+use reg_alloc::Home;
+use rv_isa::{
+    Immediate, ImmediateOp, Instr, LoadOp, Register, RegisterOp, ShiftCount, ShiftOp, StoreOp,
+    encode,
+};
+use tl_base::NoMemory;
+
+pub(crate) const X0: Register = Register { number: 0 };
+/// The address of the frame.
+pub(crate) const X2: Register = Register { number: 2 };
+/// The first operand and the result.
+pub(crate) const X5: Register = Register { number: 5 };
+/// The second operand.
+pub(crate) const X6: Register = Register { number: 6 };
+/// Upper parts of offsets.
+pub(crate) const X7: Register = Register { number: 7 };
+
+/// One instruction.
+pub(crate) fn put(code: &mut Vec<u32>, instruction: Instr) -> Result<(), NoMemory>
+    ensures { OnOk result (code.new.items ≡ code.old.items ++ word_of instruction ∷ []) }
+{
+    code.push(encode(instruction))?;
+    Ok(())
+}
+
+/// The low 32 bits of a number to a register, extended by their sign.
+fn push_short_constant(code: &mut Vec<u32>, rd: Register, number: u64) -> Result<(), NoMemory>
+    ensures { OnOk result (code.new.items ≡ code.old.items ++ map word_of (short_constant rd number)) }
+{
+    let imm = upper(number);
+    let low = lower(number);
+    if imm.value == 0 {
+        return put(
+            code,
+            Instr::Addiw {
+                rd,
+                rs1: X0,
+                imm: low,
+            },
+        );
+    }
+    put(code, Instr::Lui { rd, imm })?;
+    put(
+        code,
+        Instr::Addiw {
+            rd,
+            rs1: rd,
+            imm: low,
+        },
+    )
+}
+
+/// A register's number moved up by so many bits, and others put below.
+fn push_moved_up(
+    code: &mut Vec<u32>,
+    rd: Register,
+    count: ShiftCount,
+    number: u64,
+) -> Result<(), NoMemory>
+    requires { number ≤ 2047 }
+    ensures { OnOk result (code.new.items ≡ code.old.items ++ map word_of (moved_up rd count number)) }
+{
+    put(
+        code,
+        Instr::Shift {
+            op: ShiftOp::Slli,
+            rd,
+            rs1: rd,
+            count,
+        },
+    )?;
+    put(
+        code,
+        Instr::RegisterImmediate {
+            op: ImmediateOp::Addi,
+            rd,
+            rs1: rd,
+            imm: immediate(number),
+        },
+    )
+}
+
+fn push_long_constant(code: &mut Vec<u32>, rd: Register, number: u64) -> Result<(), NoMemory>
+    ensures { OnOk result (code.new.items ≡ code.old.items ++ map word_of (long_constant rd number)) }
+{
+    push_short_constant(code, rd, number >> 32)?;
+    push_moved_up(code, rd, ShiftCount { count: 11 }, (number >> 21) % 2048)?;
+    push_moved_up(code, rd, ShiftCount { count: 11 }, (number >> 10) % 2048)?;
+    push_moved_up(code, rd, ShiftCount { count: 10 }, number % 1024)
+}
+
+/// Whether a number is its low 32 bits, extended by their sign.
+#[tactic(auto, using(crate::proofs::Numbers::short_test))]
+fn is_short(number: u64) -> bool
+    ensures { result ≡ nat_eq (extended_word number) number }
+{
+    number.wrapping_add(1 << 31) < 1 << 32
+}
+
+/// A number of 64 bits to a register.
+pub(crate) fn push_constant(
+    code: &mut Vec<u32>,
+    rd: Register,
+    number: u64,
+) -> Result<(), NoMemory>
+    ensures { OnOk result (code.new.items ≡ code.old.items ++ map word_of (constant rd number)) }
+{
+    if is_short(number) {
+        push_short_constant(code, rd, number)
+    } else {
+        push_long_constant(code, rd, number)
+    }
+}
+
+/// x7 gets the address of an offset of the frame, but for its lower part.
+fn push_far(code: &mut Vec<u32>, offset: u64) -> Result<(), NoMemory>
+    ensures { OnOk result (code.new.items ≡ code.old.items ++ map word_of (far_part offset)) }
+{
+    put(
+        code,
+        Instr::Lui {
+            rd: X7,
+            imm: upper(offset),
+        },
+    )?;
+    put(
+        code,
+        Instr::RegisterRegister {
+            op: RegisterOp::Add,
+            rd: X7,
+            rs1: X7,
+            rs2: X2,
+        },
+    )
+}
+
+/// A register gets what is at an offset of the frame.
+pub(crate) fn push_frame_load(
+    code: &mut Vec<u32>,
+    op: LoadOp,
+    rd: Register,
+    offset: u64,
+) -> Result<(), NoMemory>
+    ensures { OnOk result (code.new.items ≡ code.old.items ++ map word_of (framed (λ r far. instrs.Load op rd r far) offset)) }
+{
+    if offset <= 2047 {
+        return put(
+            code,
+            Instr::Load {
+                op,
+                rd,
+                rs1: X2,
+                offset: immediate(offset),
+            },
+        );
+    }
+    push_far(code, offset)?;
+    put(
+        code,
+        Instr::Load {
+            op,
+            rd,
+            rs1: X7,
+            offset: lower(offset),
+        },
+    )
+}
+
+/// A register is stored at an offset of the frame.
+pub(crate) fn push_frame_store(
+    code: &mut Vec<u32>,
+    op: StoreOp,
+    rs2: Register,
+    offset: u64,
+) -> Result<(), NoMemory>
+    ensures { OnOk result (code.new.items ≡ code.old.items ++ map word_of (framed (λ r far. instrs.Store op r rs2 far) offset)) }
+{
+    if offset <= 2047 {
+        return put(
+            code,
+            Instr::Store {
+                op,
+                rs1: X2,
+                rs2,
+                offset: immediate(offset),
+            },
+        );
+    }
+    push_far(code, offset)?;
+    put(
+        code,
+        Instr::Store {
+            op,
+            rs1: X7,
+            rs2,
+            offset: lower(offset),
+        },
+    )
+}
+
+/// One register's word to another.
+pub(crate) fn push_moved(code: &mut Vec<u32>, to: Register, from: Register) -> Result<(), NoMemory>
+    ensures { OnOk result (code.new.items ≡ code.old.items ++ word_of (moved to from) ∷ []) }
+{
+    put(
+        code,
+        Instr::RegisterImmediate {
+            op: ImmediateOp::Addi,
+            rd: to,
+            rs1: from,
+            imm: Immediate { value: 0 },
+        },
+    )
+}
+
+/// A register gets the word at a home.
+fn push_taken_from(code: &mut Vec<u32>, rd: Register, home: Home) -> Result<(), NoMemory>
+    requires { IsNearHome home }
+    ensures { OnOk result (code.new.items ≡ code.old.items ++ map word_of (taken_from rd home)) }
+{
+    match home {
+        Home::Register(number) => push_moved(code, rd, register(number)),
+        Home::Slot(slot) => push_frame_load(code, LoadOp::Ld, rd, slot_offset(slot)),
+    }
+}
+
+/// A home gets the word in x5.
+fn push_put_to(code: &mut Vec<u32>, home: Home) -> Result<(), NoMemory>
+    requires { IsNearHome home }
+    ensures { OnOk result (code.new.items ≡ code.old.items ++ map word_of (put_to home)) }
+{
+    match home {
+        Home::Register(number) => push_moved(code, register(number), X5),
+        Home::Slot(slot) => push_frame_store(code, StoreOp::Sd, X5, slot_offset(slot)),
+    }
+}
+
+/// Where a slot lies in the frame, in bytes.
+fn slot_offset(slot: u64) -> u64
+    requires { slot < 2 ^ 60 }
+    ensures { result ≡ slot_offset slot }
+{
+    88 + 8 * slot
+}
