@@ -90,3 +90,6 @@ branch-way program condition a b n m taken h k there e =
 pub failed-count : (kind : FaultKind) (at : Place) → length (failed kind at) ≤ 11
 failed-count kind at =
     omega (arith, length-append (constant x11 (place_number at)) (fault_call kind), constant-count x11 (place_number at))
+
+pub failed_words : (kind : FaultKind) (at : Place) → length (failed kind at) ≡ length (constant x11 (place_number at)) + 3
+failed_words kind at = length-append (constant x11 (place_number at)) (fault_call kind)

@@ -64,11 +64,6 @@ abbrev pub IsHome : Layout → Home → Type 0
 IsHome y (Register x) = (18 ≤ x) × (x ≤ 27) × IsTrue (uses y x)
 IsHome y (Slot k) = k < length y.homes
 
--- a register of the machine, or a slot whose offset is a word
-abbrev pub IsNearHome : Home → Type 0
-IsNearHome (Register x) = x ≤ 31
-IsNearHome (Slot k) = k < 2 ^ 60
-
 -- the word at an offset of private memory, and the word at a home, in an activation whose frame begins at an offset
 abbrev pub private_word : State → ℕ → ℕ
 private_word m at = number_of (take 8 (drop at m.private))

@@ -121,7 +121,11 @@ over code = offset_of (4 * (length code + 1))
 abbrev pub place_number : Place → ℕ
 place_number at = at.line * 2 ^ 32 + at.word
 
--- the run ends by a fault of a kind at a place
+-- a number up to 2,047 to a register
+abbrev pub small : Register → ℕ → List Instr
+small d n = RegisterImmediate Addi d x0 (immediate_of n) ∷ []
+
+-- the run ends by a fault of a kind at the place in x11, and at a place
 abbrev pub fault_call : FaultKind → List Instr
 fault_call kind =
     RegisterImmediate Addi x10 x0 (immediate_of (fault_number kind))
@@ -131,6 +135,10 @@ fault_call kind =
 
 abbrev pub failed : FaultKind → Place → List Instr
 failed kind at = constant x11 (place_number at) ++ fault_call kind
+
+-- a branch over the code by which the run ends
+abbrev pub branched_over : BranchCondition → Register → Register → FaultKind → Place → List Instr
+branched_over condition a b kind at = Branch condition a b (over (failed kind at)) ∷ failed kind at
 
 -- a copy, an operator, and a test of a divisor
 abbrev pub copied : Layout → ℕ → Operand → List Instr

@@ -1,12 +1,12 @@
 // The words of operands and of places in the frame.
 
-ghost use Rattle.std.specs.Prelude.{◌≡◌, ◌^◌, ◌<◌, ◌≤◌, [], ◌∷◌, ◌++◌, map, nat_eq, OnOk};
+ghost use Rattle.std.specs.Prelude.{◌≡◌, ◌^◌, ◌<◌, ◌≤◌, [], ◌∷◌, ◌++◌, map, length, nat_eq, IfOk, OnOk};
 ghost use Rattle.rv_isa.specs.declared.instr.Instr.TheVariants as instrs;
 ghost use Rattle.rv_isa.specs.Table.{word_of};
 ghost use Rattle.rv_select.specs.Numbers.{constant, long_constant, moved_up, short_constant};
 ghost use Rattle.rv_machine.specs.Word.{extended_word};
-ghost use Rattle.rv_select.specs.Places.{slot_offset, IsNearHome};
-ghost use Rattle.rv_select.specs.Shapes.{far_part, framed, moved, put_to, taken_from};
+ghost use Rattle.rv_select.specs.Places.{home_of, slot_offset, with_homes};
+ghost use Rattle.rv_select.specs.Shapes.{far_part, framed, moved, put_to, taken, taken_from, x11};
 
 use crate::operands::{immediate, lower, register, upper};
 use reg_alloc::Home;
@@ -14,6 +14,7 @@ use rv_isa::{
     Immediate, ImmediateOp, Instr, LoadOp, Register, RegisterOp, ShiftCount, ShiftOp, StoreOp,
     encode,
 };
+use tac_form::Operand;
 use tl_base::NoMemory;
 
 pub(crate) const X0: Register = Register { number: 0 };
@@ -226,30 +227,85 @@ pub(crate) fn push_moved(code: &mut Vec<u32>, to: Register, from: Register) -> R
 
 /// A register gets the word at a home.
 fn push_taken_from(code: &mut Vec<u32>, rd: Register, home: Home) -> Result<(), NoMemory>
-    requires { IsNearHome home }
     ensures { OnOk result (code.new.items ≡ code.old.items ++ map word_of (taken_from rd home)) }
 {
     match home {
         Home::Register(number) => push_moved(code, rd, register(number)),
-        Home::Slot(slot) => push_frame_load(code, LoadOp::Ld, rd, slot_offset(slot)),
+        Home::Slot(slot) => push_frame_load(code, LoadOp::Ld, rd, slot_offset(slot)?),
     }
 }
 
 /// A home gets the word in x5.
 fn push_put_to(code: &mut Vec<u32>, home: Home) -> Result<(), NoMemory>
-    requires { IsNearHome home }
     ensures { OnOk result (code.new.items ≡ code.old.items ++ map word_of (put_to home)) }
 {
     match home {
         Home::Register(number) => push_moved(code, register(number), X5),
-        Home::Slot(slot) => push_frame_store(code, StoreOp::Sd, X5, slot_offset(slot)),
+        Home::Slot(slot) => push_frame_store(code, StoreOp::Sd, X5, slot_offset(slot)?),
     }
 }
 
-/// Where a slot lies in the frame, in bytes.
-fn slot_offset(slot: u64) -> u64
-    requires { slot < 2 ^ 60 }
-    ensures { result ≡ slot_offset slot }
+/// Where a slot lies in the frame, in bytes. No memory has a frame of 2 ^ 63 bytes.
+fn slot_offset(slot: u64) -> Result<u64, NoMemory>
+    ensures { IfOk result (λ offset. offset ≡ slot_offset slot) }
 {
-    88 + 8 * slot
+    if slot < 1 << 60 {
+        Ok(88 + 8 * slot)
+    } else {
+        Err(NoMemory)
+    }
+}
+
+/// A temporary's home. One that is never in use has none, and is never asked for.
+fn home_of(homes: &[Option<Home>], temp: u64) -> Home
+    ensures { result ≡ home_of (with_homes homes.now) temp }
+{
+    match homes.get(temp as usize) {
+        Some(Some(home)) => *home,
+        _ => Home::Slot(0),
+    }
+}
+
+/// A register gets an operand.
+pub(crate) fn push_taken(
+    code: &mut Vec<u32>,
+    homes: &[Option<Home>],
+    rd: Register,
+    operand: Operand,
+) -> Result<(), NoMemory>
+    ensures { OnOk result (code.new.items ≡ code.old.items ++ map word_of (taken (with_homes homes.now) rd operand)) }
+{
+    match operand {
+        Operand::Temp(temp) => push_taken_from(code, rd, home_of(homes, temp)),
+        Operand::Constant(number) => push_constant(code, rd, number),
+    }
+}
+
+/// A temporary's home gets the word in x5.
+pub(crate) fn push_put(
+    code: &mut Vec<u32>,
+    homes: &[Option<Home>],
+    temp: u64,
+) -> Result<(), NoMemory>
+    ensures { OnOk result (code.new.items ≡ code.old.items ++ map word_of (put_to (home_of (with_homes homes.now) temp))) }
+{
+    push_put_to(code, home_of(homes, temp))
+}
+
+/// How many words `push_constant` takes.
+pub(crate) fn constant_words(number: u64) -> u64
+    ensures { result ≡ length (constant x11 number) }
+{
+    if is_short(number) {
+        short_constant_words(number)
+    } else {
+        short_constant_words(number >> 32) + 6
+    }
+}
+
+fn short_constant_words(number: u64) -> u64
+    ensures words { result ≡ length (short_constant x11 number) }
+    ensures few { result ≤ 2 }
+{
+    if upper(number).value == 0 { 1 } else { 2 }
 }

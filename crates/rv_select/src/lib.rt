@@ -7,8 +7,10 @@
 #![tactic(auto)]
 
 mod emit;
+pub mod instructions;
 pub mod law;
 mod operands;
 
 
+pub use instructions::push_instruction;
 pub use law::{instructions_are_carried, shapes_keep_within};

@@ -6,13 +6,16 @@ ghost use Rattle.rv_select.specs.Shapes.{offset_of};
 
 use rv_isa::{BranchOffset, Immediate, Register, UpperImmediate};
 
-/// The register of a number up to 31.
+/// The register of a number, and x0 where there is none.
 pub(crate) fn register(number: u64) -> Register
-    requires { number ≤ 31 }
     ensures { result.number ≡ (register_of number).number }
 {
-    Register {
-        number: number as u8,
+    if number <= 31 {
+        Register {
+            number: number as u8,
+        }
+    } else {
+        Register { number: 0 }
     }
 }
 

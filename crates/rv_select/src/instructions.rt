@@ -1,0 +1,408 @@
+// The words of instructions of three-address code.
+
+ghost use Rattle.std.specs.Prelude.{◌≡◌, ◌*◌, ◌+◌, ◌≤◌, [], ◌∷◌, ◌++◌, map, length, IsTrue, OnOk};
+ghost use Rattle.rv_isa.specs.declared.instr.Instr.TheVariants as instrs;
+ghost use Rattle.rv_isa.specs.Table.{word_of};
+ghost use Rattle.terra_words.specs.Words.{fault_number};
+ghost use Rattle.tac_form.specs.Flow.{bytes_of, width_of};
+ghost use Rattle.rv_operators.specs.Codes.{code_of, x5, x6, zero_immediate};
+ghost use Rattle.rv_select.specs.Places.{home_of, with_homes};
+ghost use Rattle.rv_select.specs.Shapes.{bounds_tested, computed, copied, divisor_tested, failed, fault_call, branched_over, has_shape, in_region, load_of, loaded, located, place_number, put_to, reached, shape_of, small, store_of, stored};
+
+use crate::emit::{
+    X0, X5, X6, constant_words, push_constant, push_put, push_taken, put,
+};
+use crate::operands::{below_zero, immediate, offset, upper};
+use reg_alloc::Home;
+use rv_isa::{
+    BranchCondition, Immediate, ImmediateOp, Instr, LoadOp, Register, RegisterOp, StoreOp,
+};
+use rv_operators::push_operator;
+use tac_form::{Address, Instruction, Number, Operand, Size, Spot};
+use terra_words::{BinaryOperator, FaultKind, Width};
+use tl_base::{NoMemory, Place};
+
+/// The end of the region.
+const X4: Register = Register { number: 4 };
+/// The address of the frame in the region.
+const X8: Register = Register { number: 8 };
+const X10: Register = Register { number: 10 };
+const X11: Register = Register { number: 11 };
+const X17: Register = Register { number: 17 };
+
+/// The number of the machine's call that ends a run by a fault.
+const FAULT_CALL: u64 = 1024;
+
+/// Where the region begins.
+const REGION: u64 = 0x4000_0000;
+
+/// The words of an instruction.
+pub fn push_instruction(
+    code: &mut Vec<u32>,
+    homes: &[Option<Home>],
+    instruction: &Instruction,
+) -> Result<(), NoMemory>
+    requires { IsTrue (has_shape instruction.now) }
+    ensures { OnOk result (code.new.items ≡ code.old.items ++ map word_of (shape_of (with_homes homes.now) instruction.now)) }
+{
+    match instruction {
+        Instruction::Compute(temp, operator, form, a, b) => {
+            push_computed(code, homes, *temp, *operator, *form, *a, *b)
+        }
+        Instruction::TestDivisor(at, a) => push_divisor_test(code, homes, *at, *a),
+        Instruction::Copy(temp, a) => push_copied(code, homes, *temp, *a),
+        Instruction::Locate(temp, offset) => push_address(code, homes, *temp, *offset),
+        Instruction::Load(temp, form, spot) => push_loaded(code, homes, *temp, *form, *spot),
+        Instruction::Store(spot, size, a) => push_stored(code, homes, *spot, *size, *a),
+        _ => Ok(()),
+    }
+}
+
+fn push_address(
+    code: &mut Vec<u32>,
+    homes: &[Option<Home>],
+    temp: u64,
+    offset: u64,
+) -> Result<(), NoMemory>
+    ensures { OnOk result (code.new.items ≡ code.old.items ++ map word_of (located offset ++ put_to (home_of (with_homes homes.now) temp))) }
+{
+    push_located(code, offset)?;
+    push_put(code, homes, temp)
+}
+
+fn push_copied(
+    code: &mut Vec<u32>,
+    homes: &[Option<Home>],
+    temp: u64,
+    a: Operand,
+) -> Result<(), NoMemory>
+    ensures { OnOk result (code.new.items ≡ code.old.items ++ map word_of (copied (with_homes homes.now) temp a)) }
+{
+    push_taken(code, homes, X5, a)?;
+    push_put(code, homes, temp)
+}
+
+fn push_computed(
+    code: &mut Vec<u32>,
+    homes: &[Option<Home>],
+    temp: u64,
+    operator: BinaryOperator,
+    form: Number,
+    a: Operand,
+    b: Operand,
+) -> Result<(), NoMemory>
+    ensures { OnOk result (code.new.items ≡ code.old.items ++ map word_of (computed (with_homes homes.now) temp operator (width_of form) a b)) }
+{
+    push_taken(code, homes, X5, a)?;
+    push_taken(code, homes, X6, b)?;
+    push_operation(code, operator, form)?;
+    push_put(code, homes, temp)
+}
+
+/// An operator on numbers of a form.
+fn push_operation(
+    code: &mut Vec<u32>,
+    operator: BinaryOperator,
+    form: Number,
+) -> Result<(), NoMemory>
+    ensures { OnOk result (code.new.items ≡ code.old.items ++ map word_of (code_of (width_of form) operator)) }
+{
+    push_operator(code, width_of(form), operator)
+}
+
+/// The width of the words of a number.
+fn width_of(form: Number) -> Width
+    ensures { result ≡ width_of form }
+{
+    Width {
+        signed: form.signed,
+        bits: 8 * bytes_of(form.size),
+    }
+}
+
+fn bytes_of(size: Size) -> u64
+    ensures bytes { result ≡ bytes_of size }
+    ensures few { result ≤ 8 }
+    ensures some { 1 ≤ result }
+{
+    match size {
+        Size::One => 1,
+        Size::Two => 2,
+        Size::Four => 4,
+        Size::Eight => 8,
+    }
+}
+
+/// A place in one word.
+fn place_number(at: Place) -> u64
+    ensures { result ≡ place_number at }
+{
+    at.line as u64 * (1 << 32) + at.word as u64
+}
+
+fn fault_number(kind: FaultKind) -> u64
+    ensures number { result ≡ fault_number kind }
+    ensures few { result ≤ 6 }
+{
+    match kind {
+        FaultKind::BadAddress => 1,
+        FaultKind::DivZero => 2,
+        FaultKind::StackFull => 3,
+        FaultKind::CallDepth => 4,
+        FaultKind::NoReturn => 5,
+        FaultKind::BadCall => 6,
+    }
+}
+
+/// A small number to a register.
+fn push_small(code: &mut Vec<u32>, rd: Register, number: u64) -> Result<(), NoMemory>
+    requires { number ≤ 2047 }
+    ensures { OnOk result (code.new.items ≡ code.old.items ++ map word_of (small rd number)) }
+{
+    put(
+        code,
+        Instr::RegisterImmediate {
+            op: ImmediateOp::Addi,
+            rd,
+            rs1: X0,
+            imm: immediate(number),
+        },
+    )
+}
+
+/// The run ends by a fault.
+pub(crate) fn push_failed(
+    code: &mut Vec<u32>,
+    kind: FaultKind,
+    at: Place,
+) -> Result<(), NoMemory>
+    ensures { OnOk result (code.new.items ≡ code.old.items ++ map word_of (failed kind at)) }
+{
+    push_constant(code, X11, place_number(at))?;
+    push_small(code, X10, fault_number(kind))?;
+    push_small(code, X17, FAULT_CALL)?;
+    put(code, Instr::Ecall)
+}
+
+/// How many words `push_failed` takes.
+#[tactic(auto, using(crate::proofs::Faults::failed_words))]
+fn failed_words(kind: FaultKind, at: Place) -> u64
+    ensures words { result ≡ length (failed kind at) }
+    ensures few { result ≤ 11 }
+{
+    constant_words(place_number(at)) + 3
+}
+
+/// A branch over the words by which the run ends.
+fn push_branch_over(
+    code: &mut Vec<u32>,
+    condition: BranchCondition,
+    rs1: Register,
+    rs2: Register,
+    kind: FaultKind,
+    at: Place,
+) -> Result<(), NoMemory>
+    ensures { OnOk result (code.new.items ≡ code.old.items ++ map word_of (branched_over condition rs1 rs2 kind at)) }
+{
+    put(
+        code,
+        Instr::Branch {
+            condition,
+            rs1,
+            rs2,
+            offset: offset(4 * (failed_words(kind, at) + 1)),
+        },
+    )?;
+    push_failed(code, kind, at)
+}
+
+fn push_divisor_test(
+    code: &mut Vec<u32>,
+    homes: &[Option<Home>],
+    at: Place,
+    a: Operand,
+) -> Result<(), NoMemory>
+    ensures { OnOk result (code.new.items ≡ code.old.items ++ map word_of (divisor_tested (with_homes homes.now) at a)) }
+{
+    push_taken(code, homes, X5, a)?;
+    push_branch_over(code, BranchCondition::Ne, X5, X0, FaultKind::DivZero, at)
+}
+
+/// x5 gets the address of an offset of the frame in the region.
+fn push_located(code: &mut Vec<u32>, offset: u64) -> Result<(), NoMemory>
+    ensures { OnOk result (code.new.items ≡ code.old.items ++ map word_of (located offset)) }
+{
+    if offset <= 2047 {
+        return put(
+            code,
+            Instr::RegisterImmediate {
+                op: ImmediateOp::Addi,
+                rd: X5,
+                rs1: X8,
+                imm: immediate(offset),
+            },
+        );
+    }
+    push_constant(code, X5, offset)?;
+    put(
+        code,
+        Instr::RegisterRegister {
+            op: RegisterOp::Add,
+            rd: X5,
+            rs1: X5,
+            rs2: X8,
+        },
+    )
+}
+
+/// The run fails unless so many bytes from the address in x5 on lie in the region.
+fn push_bounds_test(code: &mut Vec<u32>, at: Place, size: u64) -> Result<(), NoMemory>
+    requires some { 1 ≤ size }
+    requires few { size ≤ 128 }
+    ensures { OnOk result (code.new.items ≡ code.old.items ++ map word_of (bounds_tested at size)) }
+{
+    put(
+        code,
+        Instr::Lui {
+            rd: X6,
+            imm: upper(REGION),
+        },
+    )?;
+    put(
+        code,
+        Instr::Branch {
+            condition: BranchCondition::Ltu,
+            rs1: X5,
+            rs2: X6,
+            offset: offset(12),
+        },
+    )?;
+    put(
+        code,
+        Instr::RegisterImmediate {
+            op: ImmediateOp::Addi,
+            rd: X6,
+            rs1: X4,
+            imm: below_zero(size - 1),
+        },
+    )?;
+    push_branch_over(code, BranchCondition::Geu, X6, X5, FaultKind::BadAddress, at)
+}
+
+/// x5 gets the address of bytes in the region.
+fn push_reached(
+    code: &mut Vec<u32>,
+    homes: &[Option<Home>],
+    at: Place,
+    address: Address,
+    size: u64,
+) -> Result<(), NoMemory>
+    requires some { 1 ≤ size }
+    requires few { size ≤ 128 }
+    ensures { OnOk result (code.new.items ≡ code.old.items ++ map word_of (reached (with_homes homes.now) at address size)) }
+{
+    match address {
+        Address::Word(a) => {
+            push_taken(code, homes, X5, a)?;
+            push_bounds_test(code, at, size)
+        }
+        Address::Frame(offset) => push_located(code, offset),
+    }
+}
+
+/// How a number is loaded.
+fn load_of(form: Number) -> LoadOp
+    ensures { result ≡ load_of form.signed form.size }
+{
+    match (form.signed, form.size) {
+        (true, Size::One) => LoadOp::Lb,
+        (true, Size::Two) => LoadOp::Lh,
+        (true, Size::Four) => LoadOp::Lw,
+        (false, Size::One) => LoadOp::Lbu,
+        (false, Size::Two) => LoadOp::Lhu,
+        (false, Size::Four) => LoadOp::Lwu,
+        (_, Size::Eight) => LoadOp::Ld,
+    }
+}
+
+/// How a number of a size is stored.
+fn store_of(size: Size) -> StoreOp
+    ensures { result ≡ store_of size }
+{
+    match size {
+        Size::One => StoreOp::Sb,
+        Size::Two => StoreOp::Sh,
+        Size::Four => StoreOp::Sw,
+        Size::Eight => StoreOp::Sd,
+    }
+}
+
+fn push_loaded(
+    code: &mut Vec<u32>,
+    homes: &[Option<Home>],
+    temp: u64,
+    form: Number,
+    spot: Spot,
+) -> Result<(), NoMemory>
+    requires { IsTrue (in_region spot) }
+    ensures { OnOk result (code.new.items ≡ code.old.items ++ map word_of (loaded (with_homes homes.now) temp form spot)) }
+{
+    match spot {
+        Spot::Region(at, address) => {
+            push_reached(code, homes, at, address, bytes_of(form.size))?;
+            push_load(code, form)?;
+            push_put(code, homes, temp)
+        }
+        Spot::Area(_, _) => Ok(()),
+    }
+}
+
+/// x5 gets the number at the address in x5.
+fn push_load(code: &mut Vec<u32>, form: Number) -> Result<(), NoMemory>
+    ensures { OnOk result (code.new.items ≡ code.old.items ++ word_of (instrs.Load (load_of form.signed form.size) x5 x5 zero_immediate) ∷ []) }
+{
+    put(
+        code,
+        Instr::Load {
+            op: load_of(form),
+            rd: X5,
+            rs1: X5,
+            offset: Immediate { value: 0 },
+        },
+    )
+}
+
+fn push_stored(
+    code: &mut Vec<u32>,
+    homes: &[Option<Home>],
+    spot: Spot,
+    size: Size,
+    b: Operand,
+) -> Result<(), NoMemory>
+    requires { IsTrue (in_region spot) }
+    ensures { OnOk result (code.new.items ≡ code.old.items ++ map word_of (stored (with_homes homes.now) spot size b)) }
+{
+    match spot {
+        Spot::Region(at, address) => {
+            push_reached(code, homes, at, address, bytes_of(size))?;
+            push_taken(code, homes, X6, b)?;
+            push_store(code, size)
+        }
+        Spot::Area(_, _) => Ok(()),
+    }
+}
+
+/// The number in x6 is stored at the address in x5.
+fn push_store(code: &mut Vec<u32>, size: Size) -> Result<(), NoMemory>
+    ensures { OnOk result (code.new.items ≡ code.old.items ++ word_of (instrs.Store (store_of size) x5 x6 zero_immediate) ∷ []) }
+{
+    put(
+        code,
+        Instr::Store {
+            op: store_of(size),
+            rs1: X5,
+            rs2: X6,
+            offset: Immediate { value: 0 },
+        },
+    )
+}
