@@ -7,7 +7,7 @@ ghost use Rattle.terra_words.specs.Words.{fault_number};
 ghost use Rattle.tac_form.specs.Flow.{bytes_of, width_of};
 ghost use Rattle.rv_operators.specs.Codes.{code_of, x5, x6, zero_immediate};
 ghost use Rattle.rv_select.specs.Places.{home_of, with_homes};
-ghost use Rattle.rv_select.specs.Shapes.{bounds_tested, computed, copied, divisor_tested, failed, fault_call, branched_over, has_shape, in_region, load_of, loaded, located, place_number, put_to, reached, shape_of, small, store_of, stored};
+ghost use Rattle.rv_select.specs.Shapes.{bounds_tested, computed, copied, divisor_tested, failed, fault_call, branched_over, has_shape, in_region, load_of, loaded, located, place_number, put_to, reached, shape_of, small, store_of, stored, taken};
 
 use crate::emit::{
     X0, X5, X6, constant_words, push_constant, push_put, push_taken, put,
@@ -78,7 +78,7 @@ fn push_copied(
 ) -> Result<(), NoMemory>
     ensures { OnOk result (code.new.items ≡ code.old.items ++ map word_of (copied (with_homes homes.now) temp a)) }
 {
-    push_taken(code, homes, X5, a)?;
+    push_first(code, homes, a)?;
     push_put(code, homes, temp)
 }
 
@@ -93,8 +93,47 @@ fn push_computed(
 ) -> Result<(), NoMemory>
     ensures { OnOk result (code.new.items ≡ code.old.items ++ map word_of (computed (with_homes homes.now) temp operator (width_of form) a b)) }
 {
-    push_taken(code, homes, X5, a)?;
-    push_taken(code, homes, X6, b)?;
+    push_operands(code, homes, a, b)?;
+    push_result(code, homes, temp, operator, form)
+}
+
+/// x5 and x6 get operands.
+fn push_operands(
+    code: &mut Vec<u32>,
+    homes: &[Option<Home>],
+    a: Operand,
+    b: Operand,
+) -> Result<(), NoMemory>
+    ensures { OnOk result (code.new.items ≡ code.old.items ++ map word_of (taken (with_homes homes.now) x5 a ++ taken (with_homes homes.now) x6 b)) }
+{
+    push_first(code, homes, a)?;
+    push_second(code, homes, b)
+}
+
+/// x5 gets an operand.
+fn push_first(code: &mut Vec<u32>, homes: &[Option<Home>], a: Operand) -> Result<(), NoMemory>
+    ensures { OnOk result (code.new.items ≡ code.old.items ++ map word_of (taken (with_homes homes.now) x5 a)) }
+{
+    push_taken(code, homes, X5, a)
+}
+
+/// x6 gets an operand.
+fn push_second(code: &mut Vec<u32>, homes: &[Option<Home>], b: Operand) -> Result<(), NoMemory>
+    ensures { OnOk result (code.new.items ≡ code.old.items ++ map word_of (taken (with_homes homes.now) x6 b)) }
+{
+    push_taken(code, homes, X6, b)
+}
+
+/// A temporary's home gets what an operator gives of x5 and x6.
+fn push_result(
+    code: &mut Vec<u32>,
+    homes: &[Option<Home>],
+    temp: u64,
+    operator: BinaryOperator,
+    form: Number,
+) -> Result<(), NoMemory>
+    ensures { OnOk result (code.new.items ≡ code.old.items ++ map word_of (code_of (width_of form) operator ++ put_to (home_of (with_homes homes.now) temp))) }
+{
     push_operation(code, operator, form)?;
     push_put(code, homes, temp)
 }
@@ -224,7 +263,7 @@ fn push_divisor_test(
 ) -> Result<(), NoMemory>
     ensures { OnOk result (code.new.items ≡ code.old.items ++ map word_of (divisor_tested (with_homes homes.now) at a)) }
 {
-    push_taken(code, homes, X5, a)?;
+    push_first(code, homes, a)?;
     push_branch_over(code, BranchCondition::Ne, X5, X0, FaultKind::DivZero, at)
 }
 
@@ -303,7 +342,7 @@ fn push_reached(
 {
     match address {
         Address::Word(a) => {
-            push_taken(code, homes, X5, a)?;
+            push_first(code, homes, a)?;
             push_bounds_test(code, at, size)
         }
         Address::Frame(offset) => push_located(code, offset),
@@ -385,7 +424,7 @@ fn push_stored(
     match spot {
         Spot::Region(at, address) => {
             push_reached(code, homes, at, address, bytes_of(size))?;
-            push_taken(code, homes, X6, b)?;
+            push_second(code, homes, b)?;
             push_store(code, size)
         }
         Spot::Area(_, _) => Ok(()),
