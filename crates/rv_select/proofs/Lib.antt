@@ -15,3 +15,4 @@ pub mod Stores
 pub mod Lives
 pub mod Carries
 pub mod Weights
+pub mod Jumps

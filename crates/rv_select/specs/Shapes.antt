@@ -4,7 +4,7 @@ use Rattle.std.proofs.Common.{lit≤, subst, sym, refl, eqb→eq}
 use lib.Dec.{T}
 use Rattle.tl_base.specs.declared.place.Place.{Place}
 use Rattle.rv_isa.specs.declared.instr.Instr.{Instr}
-use Rattle.rv_isa.specs.declared.instr.Instr.TheVariants.{Lui, Jal, Branch, Load, Store, RegisterImmediate, Shift, RegisterRegister, Ecall}
+use Rattle.rv_isa.specs.declared.instr.Instr.TheVariants.{Lui, Auipc, Jalr, Branch, Load, Store, RegisterImmediate, Shift, RegisterRegister, Ecall}
 use Rattle.rv_isa.specs.declared.operation.BranchCondition.{BranchCondition}
 use Rattle.rv_isa.specs.declared.operation.BranchCondition.TheVariants.{Eq, Ne, Ltu, Geu}
 use Rattle.rv_isa.specs.declared.operation.ImmediateOp.TheVariants.{Addi, Andi}
@@ -35,6 +35,8 @@ use Rattle.tac_form.specs.declared.tac.Address.{Address}
 use Rattle.tac_form.specs.declared.tac.Address.TheVariants.{Word, Frame}
 use Rattle.tac_form.specs.declared.tac.Spot.{Spot}
 use Rattle.tac_form.specs.declared.tac.Spot.TheVariants as spots
+use Rattle.tac_form.specs.declared.tac.Exit.{Exit}
+use Rattle.tac_form.specs.declared.tac.Exit.TheVariants as exits
 use Rattle.tac_form.specs.declared.tac.Instruction.{Instruction}
 use Rattle.tac_form.specs.declared.tac.Instruction.TheVariants as instructions
 use Rattle.tac_form.specs.Flow.{bytes_of, width_of}
@@ -334,3 +336,21 @@ has_shape (instructions.Locate d offset) = true
 has_shape (instructions.Load d form spot) = in_region spot
 has_shape (instructions.Store spot size a) = in_region spot
 has_shape _ = false
+
+-- A jump from an address to another, both below 2 ^ 30: how far it is, in 32 bits, in two parts.
+abbrev pub distance : (from to : ℕ) → ℕ
+distance from to = (to + (2 ^ 32 - from)) % 2 ^ 32
+
+abbrev pub jump : (from to : ℕ) → List Instr
+jump from to = Auipc x5 (upper_of (distance from to)) ∷ Jalr x0 x5 (lower_of (distance from to)) ∷ []
+
+-- The code of an exit that stands at an address, by the addresses of the blocks: a branch passes the jump to the second block.
+abbrev pub branch_jumps : (at : ℕ) → (starts : ℕ → ℕ) → (first second : ℕ) → List Instr
+branch_jumps at starts first second =
+    Branch Ne x5 x0 (offset_of 12) ∷ (jump (at + 4) (starts second) ++ jump (at + 12) (starts first))
+
+abbrev pub exit_shape : Layout → (at : ℕ) → (starts : ℕ → ℕ) → Exit → List Instr
+exit_shape y at starts (exits.Jump e) = jump at (starts e.block)
+exit_shape y at starts (exits.Branch a e f) = taken y x5 a ++ branch_jumps (at + 4 * length (taken y x5 a)) starts e.block f.block
+exit_shape y at starts (exits.Return v) = []
+exit_shape y at starts (exits.Fail kind at_place) = failed kind at_place

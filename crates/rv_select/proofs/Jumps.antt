@@ -1,0 +1,68 @@
+-- Jumps from block to block.
+use Rattle.std.proofs.Common.{◌≡◌, ◌≢◌, ℕ, zero, suc, ◌+◌, ◌-◌, ◌*◌, ◌/◌, ◌%◌, ◌^◌, ◌<◌, ◌≤◌, Bool, true, false, not, List, [], ◌∷◌, ◌++◌, length, Option, Some, None, refl, sym, ap, ◌∙◌, subst, ⊎_elim, inl, inr, arith}
+use Rattle.std.specs.Prelude.{if◌then◌else◌, nat_eq, nat_le, ◌⊎◌}
+use Rattle.std.proofs.lemmas.Bool.{cases_lt, eq-eqb, ne_eqb, le-leb, lt-leb}
+use Rattle.rv_isa.specs.declared.instr.Instr.{Instr}
+use Rattle.rv_isa.specs.declared.instr.Instr.TheVariants.{Auipc, Branch, Jalr}
+use Rattle.rv_isa.specs.declared.operation.BranchCondition.TheVariants.{Ne}
+use Rattle.rv_machine.specs.Word.{low, word, extended_word}
+use Rattle.rv_machine.specs.Machine.{State, GoesOn, act, at_with, jumps}
+use Rattle.terra_words.specs.Words.{wrapped}
+use Rattle.rv_operators.specs.Codes.{x0, x5}
+use Rattle.rv_operators.specs.Runs.{Stands}
+use Rattle.rv_operators.proofs.Values.{width, wrapped-32}
+use Rattle.rv_select.specs.Numbers.{lower_of, upper_number, upper_of}
+use Rattle.rv_select.specs.Shapes.{distance, jump}
+use Rattle.rv_select.proofs.Straight.{low-below, written-elsewhere, written-there}
+use Rattle.rv_select.proofs.Numbers.{Parts, parts, upper-is}
+use Rattle.rv_select.proofs.Ways.{Near, Way, at_pc, near-both, near-pc, step-way, way-both}
+
+-- the upper part, extended by its sign
+low-upper : (u : ℕ) → u < 2 ^ 19 → wrapped (width true 32) (u * 2 ^ 12) ≡ u * 2 ^ 12
+unfolding wrapped
+low-upper u h =
+    ap (λ b. if b then u * 2 ^ 12 % 2 ^ 32 + (2 ^ 64 - 2 ^ 32) else u * 2 ^ 12 % 2 ^ 32) (lt-leb (2 ^ 31) (u * 2 ^ 12 % 2 ^ 32) (omega arith)) ∙ omega arith
+
+high-upper : (u : ℕ) → u < 2 ^ 20 → 2 ^ 19 ≤ u → wrapped (width true 32) (u * 2 ^ 12) ≡ u * 2 ^ 12 + (2 ^ 64 - 2 ^ 32)
+unfolding wrapped
+high-upper u k h =
+    ap (λ b. if b then u * 2 ^ 12 % 2 ^ 32 + (2 ^ 64 - 2 ^ 32) else u * 2 ^ 12 % 2 ^ 32) (le-leb (2 ^ 31) (u * 2 ^ 12 % 2 ^ 32) (omega arith)) ∙ omega arith
+
+-- where a jump goes, by the sum of its parts
+goes-there : (from to x l n : ℕ) → n ≡ (to + (2 ^ 32 - from)) % 2 ^ 32 → from < 2 ^ 30 → to < 2 ^ 30 → to % 2 ≡ 0 → l < 2 ^ 64 →
+    (n < 2 ^ 31 → (x + l) % 2 ^ 64 ≡ n) → (2 ^ 31 ≤ n → (x + l) % 2 ^ 64 ≡ n + (2 ^ 64 - 2 ^ 32)) →
+    low (low (from + x) + l) ≡ to
+unfolding low
+goes-there from to x l n e h k even s f g =
+    ⊎_elim
+    (λ a.
+    let sum : (x + l) % 2 ^ 64 ≡ n = f a in
+    let whole : (from + x) % 2 ^ 64 + l ≡ (from + x) % 2 ^ 64 + l = refl in
+    folds from x l to n sum (omega arith))
+    (λ a.
+    let sum : (x + l) % 2 ^ 64 ≡ n + (2 ^ 64 - 2 ^ 32) = g a in
+    folds from x l to (n + (2 ^ 64 - 2 ^ 32)) sum (omega arith))
+    (cases_lt n (2 ^ 31))
+  where
+    folds : (from x l to v : ℕ) → (x + l) % 2 ^ 64 ≡ v → (from + v) % 2 ^ 64 ≡ to → ((from + x) % 2 ^ 64 + l) % 2 ^ 64 ≡ to
+    folds from x l to v a b = let same : ((from + x) % 2 ^ 64 + l) % 2 ^ 64 ≡ (from + (x + l) % 2 ^ 64) % 2 ^ 64 = omega arith in same ∙ (ap (λ z. (from + z) % 2 ^ 64) a ∙ b)
+
+-- the parts of a distance, which is small or nearly 2 ^ 32
+record Sum (n x l : ℕ) : Type 0 where
+  ahead : n < 2 ^ 30 → (x + l) % 2 ^ 64 ≡ n
+  back : 2 ^ 32 - 2 ^ 30 ≤ n → n < 2 ^ 32 → (x + l) % 2 ^ 64 ≡ n + (2 ^ 64 - 2 ^ 32)
+
+low-sum : (n l : ℕ) → l ≡ n % 4096 → l < 2048 → Sum n (wrapped (width true 32) (upper_number n * 2 ^ 12)) l
+low-sum n l e h = record {
+  ahead = λ a. ap (λ z. (z + l) % 2 ^ 64) (low-upper (upper_number n) (omega arith)) ∙ omega arith;
+  back = λ a b. ap (λ z. (z + l) % 2 ^ 64) (high-upper (upper_number n) (omega arith) (omega arith)) ∙ omega arith;
+}
+
+high-sum : (n l : ℕ) → l ≡ n % 4096 → 2048 ≤ l → Sum n (wrapped (width true 32) (upper_number n * 2 ^ 12)) (2 ^ 64 - suc (4095 - l))
+high-sum n l e h = record {
+  ahead = λ a. ap (λ z. (z + (2 ^ 64 - suc (4095 - l))) % 2 ^ 64) (low-upper (upper_number n) (omega arith)) ∙ omega arith;
+  back = λ a b. ⊎_elim
+      (λ top. ap (λ z. (z + (2 ^ 64 - suc (4095 - l))) % 2 ^ 64) (high-upper (upper_number n) (omega arith) (omega arith)) ∙ omega arith)
+      (λ top. ap (λ z. (z + (2 ^ 64 - suc (4095 - l))) % 2 ^ 64) (low-upper (upper_number n) (omega arith)) ∙ omega arith)
+      (cases_lt (n + 2048) (2 ^ 32));
+}
