@@ -11,10 +11,10 @@ use Rattle.terra_words.specs.Words.{wrapped}
 use Rattle.rv_operators.specs.Codes.{x0, x5}
 use Rattle.rv_operators.specs.Runs.{Stands}
 use Rattle.rv_operators.proofs.Values.{width, wrapped-32}
-use Rattle.rv_select.specs.Numbers.{lower_of, upper_number, upper_of}
+use Rattle.rv_select.specs.Numbers.{below_zero, immediate_of, lower_of, upper_number, upper_of}
 use Rattle.rv_select.specs.Shapes.{distance, jump}
 use Rattle.rv_select.proofs.Straight.{low-below, written-elsewhere, written-there}
-use Rattle.rv_select.proofs.Numbers.{Parts, parts, upper-is}
+use Rattle.rv_select.proofs.Numbers.{Parts, below-is, immediate-is, parts, upper-is}
 use Rattle.rv_select.proofs.Ways.{Near, Way, at_pc, near-both, near-pc, step-way, way-both}
 
 -- the upper part, extended by its sign
@@ -66,3 +66,54 @@ high-sum n l e h = record {
       (λ top. ap (λ z. (z + (2 ^ 64 - suc (4095 - l))) % 2 ^ 64) (low-upper (upper_number n) (omega arith)) ∙ omega arith)
       (cases_lt (n + 2048) (2 ^ 32));
 }
+
+sum-of : (n : ℕ) → Sum n (extended_word ((upper_of n).value * 2 ^ 12)) (word (lower_of n).value)
+sum-of n =
+    subst (λ x. Sum n x (word (lower_of n).value)) (sym (ap (λ u. extended_word (u * 2 ^ 12)) (upper-is n) ∙ wrapped-32 (upper_number n * 2 ^ 12)))
+    (⊎_elim
+    (λ h.
+    subst (λ b. Sum n (wrapped (width true 32) (upper_number n * 2 ^ 12)) (word (if b then immediate_of (n % 4096) else below_zero (4095 - n % 4096)).value)) (sym (le-leb (n % 4096) 2047 (omega arith)))
+      (subst (λ v. Sum n (wrapped (width true 32) (upper_number n * 2 ^ 12)) v) (sym (immediate-is (n % 4096) (omega arith))) (low-sum n (n % 4096) refl h)))
+    (λ h.
+    subst (λ b. Sum n (wrapped (width true 32) (upper_number n * 2 ^ 12)) (word (if b then immediate_of (n % 4096) else below_zero (4095 - n % 4096)).value)) (sym (lt-leb (n % 4096) 2047 (omega arith)))
+      (subst (λ v. Sum n (wrapped (width true 32) (upper_number n * 2 ^ 12)) v) (sym (below-is (4095 - n % 4096) (omega arith))) (high-sum n (n % 4096) refl h)))
+    (cases_lt (n % 4096) 2048))
+
+-- The run comes by a jump to another address, and nothing but scratch registers changes.
+pub record Jumped (program : List (Option Instr)) (steps to : ℕ) (m : State) : Type 0 where
+  pub after : State
+  pub way : Way program steps m after
+  pub near : Near m after
+  pub pc : after.pc ≡ to
+
+target-is : (from to : ℕ) → from < 2 ^ 30 → to < 2 ^ 30 → to % 2 ≡ 0 →
+    low (low (from + extended_word ((upper_of (distance from to)).value * 2 ^ 12)) + word (lower_of (distance from to)).value) ≡ to
+target-is from to h k even =
+    let n : ℕ = distance from to in
+    let s : Sum n (extended_word ((upper_of n).value * 2 ^ 12)) (word (lower_of n).value) = sum-of n in
+    goes-there from to (extended_word ((upper_of n).value * 2 ^ 12)) (word (lower_of n).value) n refl h k even (parts n).small
+    (λ a. s.ahead (close n from to refl h k a)) (λ a. s.back (far n from to refl h k a) (omega arith))
+  where
+    close : (n from to : ℕ) → n ≡ (to + (2 ^ 32 - from)) % 2 ^ 32 → from < 2 ^ 30 → to < 2 ^ 30 → n < 2 ^ 31 → n < 2 ^ 30
+    close n from to e h k a = omega arith
+    far : (n from to : ℕ) → n ≡ (to + (2 ^ 32 - from)) % 2 ^ 32 → from < 2 ^ 30 → to < 2 ^ 30 → 2 ^ 31 ≤ n → 2 ^ 32 - 2 ^ 30 ≤ n
+    far n from to e h k a = omega arith
+
+even-stays : (t to : ℕ) → t ≡ to → to % 2 ≡ 0 → t - t % 2 ≡ to
+even-stays t to e h = omega arith
+
+pub jumps-there : (program : List (Option Instr)) (m : State) (from to : ℕ) → m.pc ≡ from → from < 2 ^ 30 → to < 2 ^ 30 → to % 2 ≡ 0 → Stands program from (jump from to) → Jumped program 2 to m
+jumps-there program m from to e h k even there =
+    let n : ℕ = distance from to in
+    let x : ℕ = extended_word ((upper_of n).value * 2 ^ 12) in
+    let here : Stands program m.pc (jump from to) = subst (λ q. Stands program q (jump from to)) (sym e) there in
+    let one : State = at_with m (low (m.pc + 4)) 5 (low (m.pc + x)) in
+    let t : ℕ = low (low (m.pc + x) + word (lower_of n).value) in
+    let two : State = at_with one (t - t % 2) 0 (low (one.pc + 4)) in
+    let is : t ≡ to = ap (λ q. low (low (q + x) + word (lower_of n).value)) e ∙ target-is from to h k even in
+    record {
+      after = two;
+      way = way-both program 1 1 m one two (step-way program (Auipc x5 (upper_of n)) m one here.0 refl) (step-way program (Jalr x0 x5 (lower_of n)) one two here.1.0 refl);
+      near = record { keeps = λ r five six seven. written-elsewhere m.registers 5 (low (m.pc + x)) r five; region = refl; private = refl };
+      pc = even-stays t to is even;
+    }
