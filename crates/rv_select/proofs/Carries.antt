@@ -40,7 +40,7 @@ use Rattle.rv_select.proofs.Divisors.{addresses, divisors}
 use Rattle.rv_select.proofs.Regions.{region-loads}
 use Rattle.rv_select.proofs.Stores.{region-stores}
 
-both-true : (a b : Bool) → (a && b) ≡ true → (a ≡ true) × (b ≡ true)
+pub both-true : (a b : Bool) → (a && b) ≡ true → (a ≡ true) × (b ≡ true)
 both-true true b e = (refl, e)
 both-true false b e = cc
 
@@ -93,11 +93,11 @@ has-right : (xs ys : List ℕ) (t : ℕ) → has ys t ≡ true → has (xs ++ ys
 has-right [] ys t h = h
 has-right (x ∷ xs) ys t h = or-second (nat_eq x t) (has (xs ++ ys) t) (has-right xs ys t h)
 
-operand-read : (code : Tac) (Used : ℕ → Type 0) (a : Operand) → operand_fits code a ≡ true → ((t : ℕ) → has (operand_reads a) t ≡ true → Used t) → IsRead Used a
+pub operand-read : (code : Tac) (Used : ℕ → Type 0) (a : Operand) → operand_fits code a ≡ true → ((t : ℕ) → has (operand_reads a) t ≡ true → Used t) → IsRead Used a
 operand-read code Used (Temp t) fits f = f t (ap (λ b. b || false) (eq-eqb t t refl))
 operand-read code Used (Constant c) fits f = ltb-true c (2 ^ 64) fits
 
-place-small : (at : Place) → place_fits at ≡ true → IsPlace at
+pub place-small : (at : Place) → place_fits at ≡ true → IsPlace at
 place-small at h =
     let b = both-true (nat_lt at.line (2 ^ 32)) (nat_lt at.word (2 ^ 32)) h in
     let l : at.line < 2 ^ 32 = ltb-true at.line (2 ^ 32) b.0 in
@@ -123,7 +123,7 @@ carry-copy p code homes d a s program base m x =
       (written-next p code homes (Copy d a) s program base m d x refl) (follows p code homes (Copy d a) s program base m d x refl))
 
 -- by a test, and by whether there is something
-by-test : {A : Type 0} (P : A → Type 0) (c : Bool) (x y : A) → (c ≡ true → P x) → (c ≡ false → P y) → P (if c then x else y)
+pub by-test : {A : Type 0} (P : A → Type 0) (c : Bool) (x y : A) → (c ≡ true → P x) → (c ≡ false → P y) → P (if c then x else y)
 by-test P true x y f g = f refl
 by-test P false x y f g = g refl
 

@@ -16,3 +16,4 @@ pub mod Lives
 pub mod Carries
 pub mod Weights
 pub mod Jumps
+pub mod Exits

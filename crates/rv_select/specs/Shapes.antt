@@ -354,3 +354,10 @@ exit_shape y at starts (exits.Jump e) = jump at (starts e.block)
 exit_shape y at starts (exits.Branch a e f) = taken y x5 a ++ branch_jumps (at + 4 * length (taken y x5 a)) starts e.block f.block
 exit_shape y at starts (exits.Return v) = []
 exit_shape y at starts (exits.Fail kind at_place) = failed kind at_place
+
+-- which exits have a code so far
+abbrev pub has_exit_shape : Exit → Bool
+has_exit_shape (exits.Jump e) = true
+has_exit_shape (exits.Branch a e f) = true
+has_exit_shape (exits.Return v) = false
+has_exit_shape (exits.Fail kind at) = nat_le (fault_number kind) 5

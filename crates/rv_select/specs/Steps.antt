@@ -1,6 +1,6 @@
 -- What the code of an instruction promises: one step of three-address code is at least one and at most its weight of the
 -- machine's steps, and the machine holds afterwards what three-address code sees then.
-use Rattle.std.specs.Prelude.{◌≡◌, ℕ, ◌+◌, ◌*◌, ◌^◌, ◌<◌, ◌≤◌, List, ◌++◌, length, Option, Some, slice_get, IsTrue, ◌⊎◌}
+use Rattle.std.specs.Prelude.{◌≡◌, ℕ, ◌+◌, ◌*◌, ◌^◌, ◌<◌, ◌≤◌, ◌%◌, List, [], ◌++◌, length, Option, Some, None, slice_get, IsTrue, ◌⊎◌}
 use Rattle.tl_base.specs.declared.place.Place.{Place}
 use Rattle.rv_isa.specs.declared.instr.Instr.{Instr}
 use Rattle.reg_alloc.specs.declared.assignment.Home.{Home}
@@ -13,6 +13,7 @@ use Rattle.terra_words.specs.declared.words.FaultKind.{FaultKind}
 use Rattle.terra_words.specs.Words.{fault_number}
 use Rattle.terra_words.specs.Runs.{Returned, Fault, Stuck, Over, More}
 use Rattle.tac_form.specs.declared.tac.Instruction.{Instruction}
+use Rattle.tac_form.specs.declared.tac.Exit.{Exit}
 use Rattle.tac_form.specs.declared.tac.Block.{Block}
 use Rattle.tac_form.specs.declared.tac.Tac.{Tac}
 use Rattle.tac_form.specs.declared.graph.FlowBlock.{FlowBlock}
@@ -20,11 +21,11 @@ use Rattle.tac_form.specs.Flow as tac
 use Rattle.tac_form.specs.Flow.{Program, Goes, Stops, put, step}
 use Rattle.tac_form.specs.Graph.{graph_of}
 use Rattle.tac_form.specs.Live.{InUse}
-use Rattle.tac_form.specs.Fits.{instruction_fits}
-use Rattle.tac_form.specs.Weights.{words_of}
+use Rattle.tac_form.specs.Fits.{exit_fits, instruction_fits}
+use Rattle.tac_form.specs.Weights.{exit_words, words_of}
 use Rattle.rv_operators.specs.Runs.{Stands}
 use Rattle.rv_select.specs.Places.{Layout, World, Holds, Keeps, layout_of}
-use Rattle.rv_select.specs.Shapes.{has_shape, place_number, shape_of}
+use Rattle.rv_select.specs.Shapes.{exit_shape, has_exit_shape, has_shape, place_number, shape_of}
 
 -- what is in use after an instruction was in use before it, or is what it writes
 abbrev pub Follows : (Used Next : ℕ → Type 0) → (d : ℕ) → Type 0
@@ -110,3 +111,34 @@ InstructionsAreCarried =
 -- The code of an instruction has at most as many words as its weight.
 abbrev pub ShapesKeepWithin : Type 0
 ShapesKeepWithin = (y : Layout) (i : Instruction) → IsTrue (has_shape i) → length (shape_of y i) ≤ words_of i
+
+-- The machine does from a state what an exit does that stays in its function: it comes to the address of the block at which
+-- three-address code stands then. Where three-address code needs one more count, nothing is promised.
+abbrev pub Left : Layout → List FlowBlock → List (Option Instr) → (base weight : ℕ) → (starts : ℕ → ℕ) → tac.State → State → tac.Moved → Type 0
+Left y graph program base weight starts s m (Goes t) =
+    (t.out ≡ s.out) × Comes y program (InUse graph t.here.block t.here.at) (world_of t) base weight (starts t.here.block) [] m
+Left y graph program base weight starts s m (Stops (Over (Fault kind at) out)) = (out ≡ s.out) × Ends program kind at weight m
+Left y graph program base weight starts s m (Stops (Over (Returned v) out)) = ⊥
+Left y graph program base weight starts s m (Stops (Over Stuck out)) = Unit {0}
+Left y graph program base weight starts s m (Stops (More out)) = Unit {0}
+
+-- Where a function's code stands at a block's exit. Code and blocks stand at addresses below 2 ^ 30.
+pub record StandsAtExit (p : Program) (code : Tac) (homes : List (Option Home)) (exit : Exit) (starts : ℕ → ℕ) (s : tac.State) (program : List (Option Instr)) (base : ℕ) (m : State) : Type 0 where
+  pub block : Block
+  pub function : p.code s.here.function ≡ Some code
+  pub in_function : slice_get code.blocks s.here.block ≡ Some block
+  pub in_block : slice_get block.instructions s.here.at ≡ None
+  pub is : block.exit ≡ exit
+  pub fits : IsTrue (exit_fits code exit)
+  pub right : IsRight code homes
+  pub near : m.pc + 256 ≤ 2 ^ 30
+  pub blocks : (b : ℕ) → (starts b < 2 ^ 30) × (starts b % 2 ≡ 0)
+  pub stands : Stands program m.pc (exit_shape (layout_of code homes) m.pc starts exit)
+  pub holds : Holds (layout_of code homes) (InUse (graph_of code) s.here.block s.here.at) (world_of s) base m
+
+-- Each exit that has code so far is carried out by it, within its weight.
+abbrev pub ExitsAreCarried : Type 0
+ExitsAreCarried =
+    (p : Program) (code : Tac) (homes : List (Option Home)) (exit : Exit) (starts : ℕ → ℕ) (s : tac.State) (program : List (Option Instr)) (base : ℕ) (m : State) →
+    IsTrue (has_exit_shape exit) → StandsAtExit p code homes exit starts s program base m →
+    Left (layout_of code homes) (graph_of code) program base (exit_words exit) starts s m (step p s)
