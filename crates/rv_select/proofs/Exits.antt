@@ -13,6 +13,7 @@ use Rattle.reg_alloc.specs.declared.assignment.Home.{Home}
 use Rattle.rv_machine.specs.Word.{low}
 use Rattle.rv_machine.specs.Machine.{State}
 use Rattle.terra_words.specs.declared.words.FaultKind.{FaultKind}
+use Rattle.terra_words.specs.declared.words.FaultKind.TheVariants.{BadAddress, DivZero, StackFull, CallDepth, NoReturn, BadCall}
 use Rattle.terra_words.specs.Words.{fault_number}
 use Rattle.tac_form.specs.declared.tac.Operand.{Operand}
 use Rattle.tac_form.specs.declared.tac.Edge.{Edge}
@@ -33,7 +34,7 @@ use Rattle.rv_select.specs.Places.{Holds, Housed, IsRead, Layout, World, layout_
 use Rattle.rv_select.specs.Shapes.{branch_jumps, jump, taken}
 use Rattle.rv_select.specs.Steps.{AreFewer, Comes, ExitsAreCarried, Left, StandsAtExit, world_of}
 use Rattle.rv_select.proofs.Straight.{Loads, loads-five, low-below}
-use Rattle.rv_select.proofs.Ways.{Near, Way, at_pc, near-both, near-pc, scratch-near, stands-back, stands-front, straight-way, way-both}
+use Rattle.rv_select.proofs.Ways.{Near, Way, at_pc, near-both, near-pc, near-same, scratch-near, stands-back, stands-front, straight-way, way-both, way-none}
 use Rattle.rv_select.proofs.Homes.{take-operand, taken-count}
 use Rattle.rv_select.proofs.Faults.{branch-way, fails}
 use Rattle.rv_select.proofs.Divisors.{stays}
@@ -83,3 +84,107 @@ jump-comes y Used Next w base k weight from to program m n p h f way near e smal
     let j : Jumped program 2 to n = jumps-there program n from to e small few even there in
     stays y Used Next w base (k + 2) weight to program m j.after p h f (way-both program k 2 m n j.after way j.way) (near-both m n j.after near j.near)
     (subst (λ q. q < 2 ^ 64) (sym j.pc) (omega arith)) (omega arith) enough j.pc
+
+-- a branch, over an operand that stands in x5, and the jump that it comes to
+low-near : (n : ℕ) → n < 2 ^ 30 → low n ≡ n
+unfolding low
+low-near n h = omega arith
+
+branch-comes : (y : Layout) (Used Next : ℕ → Type 0) (w : World) (base v first second to : ℕ) (taken_it : Bool) (A : List Instr) (starts : ℕ → ℕ) (program : List (Option Instr)) (m : State)
+    (l : Loads 5 A m v) → Holds y Used w base m → Housed y Used → AreFewer Used Next → length A ≤ 8 → m.pc + 256 ≤ 2 ^ 30 →
+    ((b : ℕ) → (starts b < 2 ^ 30) × (starts b % 2 ≡ 0)) → Stands program m.pc (A ++ branch_jumps (m.pc + 4 * length A) starts first second) →
+    not (nat_eq v 0) ≡ taken_it → (if taken_it then starts first else starts second) ≡ to → Comes y program Next w base 19 to [] m
+branch-comes y Used Next w base v first second to taken_it A starts program m l p h f short near blocks there e is =
+    let at : ℕ = m.pc + 4 * length A in
+    let at-is : l.after.pc ≡ at = l.behind ∙ low-near at (omega arith) in
+    let B : List Instr = branch_jumps at starts first second in
+    let rest : Stands program l.after.pc B = subst (λ q. Stands program q B) (sym l.behind) (stands-back program m.pc A B p.pc there) in
+    let one : Way program (length A) m l.after = straight-way program A m l.after (stands-front program m.pc A B there) l.straight l.goes in
+    let t : ℕ = if taken_it then low (l.after.pc + 12) else low (l.after.pc + 4) in
+    let n : State = at_pc l.after t in
+    let two : Way program 1 l.after n = branch-way program Ne x5 x0 12 l.after taken_it (omega arith) (omega arith) rest.0 (ap (λ x. not (nat_eq x 0)) l.gives ∙ e) in
+    let way : Way program (length A + 1) m n = way-both program (length A) 1 m l.after n one two in
+    let around : Near m n = near-both m l.after n (scratch-near A m l.after (loads-five A m v l)) (near-pc l.after t) in
+    let next : low (l.after.pc + 4) ≡ at + 4 = ap (λ q. low (q + 4)) at-is ∙ low-near (at + 4) (omega arith) in
+    let both : Stands program (at + 4) (jump (at + 4) (starts second) ++ jump (at + 12) (starts first)) =
+      subst (λ q. Stands program q (jump (at + 4) (starts second) ++ jump (at + 12) (starts first))) next rest.1 in
+    let third : low (at + 4 + 4 * 2) ≡ at + 12 = low-near (at + 4 + 4 * 2) (omega arith) ∙ omega arith in
+    let last : Stands program (at + 12) (jump (at + 12) (starts first)) =
+      subst (λ q. Stands program q (jump (at + 12) (starts first))) third
+      (stands-back program (at + 4) (jump (at + 4) (starts second)) (jump (at + 12) (starts first)) (omega arith) both) in
+    let nearer : Stands program (at + 4) (jump (at + 4) (starts second)) = stands-front program (at + 4) (jump (at + 4) (starts second)) (jump (at + 12) (starts first)) both in
+    let far-is : low (l.after.pc + 12) ≡ at + 12 = ap (λ q. low (q + 12)) at-is ∙ low-near (at + 12) (omega arith) in
+    choose taken_it n around way next far-is nearer last is refl
+  where
+    choose : (b : Bool) (n : State) → Near m n → Way program (length A + 1) m n → low (l.after.pc + 4) ≡ m.pc + 4 * length A + 4 → low (l.after.pc + 12) ≡ m.pc + 4 * length A + 12 →
+        Stands program (m.pc + 4 * length A + 4) (jump (m.pc + 4 * length A + 4) (starts second)) →
+        Stands program (m.pc + 4 * length A + 12) (jump (m.pc + 4 * length A + 12) (starts first)) →
+        (if b then starts first else starts second) ≡ to → n.pc ≡ (if b then low (l.after.pc + 12) else low (l.after.pc + 4)) → Comes y program Next w base 19 to [] m
+    choose true n around way a b c d is pc =
+        subst (λ q. Comes y program Next w base 19 q [] m) is
+        (jump-comes y Used Next w base (length A + 1) 19 (m.pc + 4 * length A + 12) (starts first) program m n p h f way around (pc ∙ b) (omega arith) (blocks first).0 (blocks first).1 d (omega arith))
+    choose false n around way a b c d is pc =
+        subst (λ q. Comes y program Next w base 19 q [] m) is
+        (jump-comes y Used Next w base (length A + 1) 19 (m.pc + 4 * length A + 4) (starts second) program m n p h f way around (pc ∙ a) (omega arith) (blocks second).0 (blocks second).1 c (omega arith))
+
+zero-or-more : (n : ℕ) → (n ≡ 0) ⊎ ((k : ℕ) × (n ≡ suc k))
+zero-or-more zero = inl refl
+zero-or-more (suc k) = inr (k, refl)
+
+-- what follows an exit was in use before it
+module _ (p : Program) (code : Tac) (homes : List (Option Home)) (exit : Exit) (starts : ℕ → ℕ) (s : tac.State) (program : List (Option Instr)) (base : ℕ) (m : State)
+    (x : StandsAtExit p code homes exit starts s program base m) where
+  abbrev here : ℕ → Type 0
+  here = InUse (graph_of code) s.here.block s.here.at
+
+  exit-is : (block_of x.block).next ≡ exit_next exit
+  exit-is = ap exit_next x.is
+
+  reads-here : (t : ℕ) → has (exit_reads exit) t ≡ true → here t
+  reads-here t h =
+      let g = exit-in-graph code x.block s.here.block s.here.at x.in_function x.in_block in
+      inl (exit-reads-live (graph_of code) s.here.block s.here.at t (block_of x.block) g.0 g.1 (ap (λ e. has (exit_reads e) t) x.is ∙ h))
+
+  next-here : (c : ℕ) → ((q : ℕ → Bool) → q c ≡ true → list_any q (exit_next exit) ≡ true) → AreFewer here (InUse (graph_of code) c 0)
+  next-here c h t u =
+      let g = exit-in-graph code x.block s.here.block s.here.at x.in_function x.in_block in
+      next-live (graph_of code) s.here.block s.here.at t (block_of x.block) c g.0 g.1
+      (λ k e. ap (λ ns. list_any (λ d. read_within (graph_of code) k d 0 t) ns) exit-is ∙ h (λ d. read_within (graph_of code) k d 0 t) e) u
+
+  where-housed : Housed (layout_of code homes) here
+  where-housed = housed code homes s.here.block s.here.at x.right
+
+carry-jump : (p : Program) (code : Tac) (homes : List (Option Home)) (e : Edge) (starts : ℕ → ℕ) (s : tac.State) (program : List (Option Instr)) (base : ℕ) (m : State) →
+    StandsAtExit p code homes (Jump e) starts s program base m → Left (layout_of code homes) (graph_of code) program base 5 starts s m (step p s)
+carry-jump p code homes e starts s program base m x =
+    let y : Layout = layout_of code homes in
+    let comes : Comes y program (InUse (graph_of code) e.block 0) (world_of s) base 5 (starts e.block) [] m =
+      jump-comes y (InUse (graph_of code) s.here.block s.here.at) (InUse (graph_of code) e.block 0) (world_of s) base 0 5 m.pc (starts e.block) program m m x.holds
+      (where-housed p code homes (Jump e) starts s program base m x)
+      (next-here p code homes (Jump e) starts s program base m x e.block (λ q h. or-left (q e.block) false h)) (way-none program m) (near-same m) refl (omega (arith, x.near))
+      (x.blocks e.block).0 (x.blocks e.block).1 x.stands (omega arith) in
+    let e1 = x.function in
+    let e2 = x.in_function in
+    let e3 = x.in_block in
+    let e4 = x.is in
+    rw (e1, e2, e3) (rw e4
+      (by-test (λ moved. Left (layout_of code homes) (graph_of code) program base 5 starts s m moved) e.counts _ _
+      (λ h. ⊎_elim (λ z. rw z tt) (λ z. let q = z.1 in rw q (refl, comes)) (zero-or-more s.left)) (λ h. (refl, comes))))
+
+carry-fail : (p : Program) (code : Tac) (homes : List (Option Home)) (kind : FaultKind) (at : Place) (starts : ℕ → ℕ) (s : tac.State) (program : List (Option Instr)) (base : ℕ) (m : State) →
+    nat_le (fault_number kind) 5 ≡ true → StandsAtExit p code homes (Fail kind at) starts s program base m →
+    Left (layout_of code homes) (graph_of code) program base 11 starts s m (step p s)
+carry-fail p code homes kind at starts s program base m few x =
+    let e1 = x.function in
+    let e2 = x.in_function in
+    let e3 = x.in_block in
+    let e4 = x.is in
+    rw (e1, e2, e3) (rw e4 (refl, fails program m kind at x.holds.pc (place-small at x.fits) (some kind) (leb-true (fault_number kind) 5 few) x.stands))
+  where
+    some : (kind : FaultKind) → 1 ≤ fault_number kind
+    some BadAddress = omega arith
+    some DivZero = omega arith
+    some StackFull = omega arith
+    some CallDepth = omega arith
+    some NoReturn = omega arith
+    some BadCall = omega arith
