@@ -188,3 +188,43 @@ carry-fail p code homes kind at starts s program base m few x =
     some CallDepth = omega arith
     some NoReturn = omega arith
     some BadCall = omega arith
+
+carry-branch : (p : Program) (code : Tac) (homes : List (Option Home)) (a : Operand) (e f : Edge) (starts : ℕ → ℕ) (s : tac.State) (program : List (Option Instr)) (base : ℕ) (m : State) →
+    StandsAtExit p code homes (Branch a e f) starts s program base m → Left (layout_of code homes) (graph_of code) program base 19 starts s m (step p s)
+carry-branch p code homes a e f starts s program base m x =
+    let y : Layout = layout_of code homes in
+    let used : ℕ → Type 0 = InUse (graph_of code) s.here.block s.here.at in
+    let v : ℕ = value_in s.here.temps a in
+    let fit = both-true (operand_fits code a && edge_fits code e) (edge_fits code f) x.fits in
+    let fit-a = both-true (operand_fits code a) (edge_fits code e) fit.0 in
+    let h : Housed y used = where-housed p code homes (Branch a e f) starts s program base m x in
+    let l : Loads 5 (taken y x5 a) m v =
+      take-operand y x5 used (world_of s) base m a (λ q. omega (arith, q)) x.holds h (operand-read code used a fit-a.0 (reads-here p code homes (Branch a e f) starts s program base m x)) in
+    let first : v ≢ 0 → Comes y program (InUse (graph_of code) e.block 0) (world_of s) base 19 (starts e.block) [] m =
+      λ n. branch-comes y used (InUse (graph_of code) e.block 0) (world_of s) base v e.block f.block (starts e.block) true (taken y x5 a) starts program m l x.holds h
+        (next-here p code homes (Branch a e f) starts s program base m x e.block (λ q g. or-left (q e.block) (q f.block || false) g)) (taken-count y x5 a) x.near x.blocks x.stands
+        (ap not (ne_eqb v 0 n)) refl in
+    let second : v ≡ 0 → Comes y program (InUse (graph_of code) f.block 0) (world_of s) base 19 (starts f.block) [] m =
+      λ z. branch-comes y used (InUse (graph_of code) f.block 0) (world_of s) base v e.block f.block (starts f.block) false (taken y x5 a) starts program m l x.holds h
+        (next-here p code homes (Branch a e f) starts s program base m x f.block (λ q g. or-second (q e.block) (q f.block || false) (or-left (q f.block) false g))) (taken-count y x5 a) x.near x.blocks x.stands
+        (ap not (eq-eqb v 0 z)) refl in
+    let e1 = x.function in
+    let e2 = x.in_function in
+    let e3 = x.in_block in
+    let e4 = x.is in
+    rw (e1, e2, e3) (rw e4
+      (by-test (λ moved. Left (layout_of code homes) (graph_of code) program base 19 starts s m moved) (nat_eq (value_in s.here.temps a) 0) _ _
+      (λ z.
+      let comes = second (eqb-true (value_in s.here.temps a) 0 z) in
+      by-test (λ moved. Left (layout_of code homes) (graph_of code) program base 19 starts s m moved) f.counts _ _
+        (λ c. ⊎_elim (λ k. rw k tt) (λ k. let q = k.1 in rw q (refl, comes)) (zero-or-more s.left)) (λ c. (refl, comes)))
+      (λ z.
+      let comes = first (λ o. let t : nat_eq (value_in s.here.temps a) 0 ≡ true = eq-eqb (value_in s.here.temps a) 0 o in let none : true ≡ false = sym t ∙ z in cc) in
+      by-test (λ moved. Left (layout_of code homes) (graph_of code) program base 19 starts s m moved) e.counts _ _
+        (λ c. ⊎_elim (λ k. rw k tt) (λ k. let q = k.1 in rw q (refl, comes)) (zero-or-more s.left)) (λ c. (refl, comes)))))
+
+pub exits : ExitsAreCarried
+exits p code homes (Jump e) starts s program base m h x = carry-jump p code homes e starts s program base m x
+exits p code homes (Branch a e f) starts s program base m h x = carry-branch p code homes a e f starts s program base m x
+exits p code homes (Return v) starts s program base m h x = cc
+exits p code homes (Fail kind at) starts s program base m h x = carry-fail p code homes kind at starts s program base m h x

@@ -13,4 +13,4 @@ mod operands;
 
 
 pub use instructions::push_instruction;
-pub use law::{instructions_are_carried, shapes_keep_within};
+pub use law::{exits_are_carried, instructions_are_carried, shapes_keep_within};
