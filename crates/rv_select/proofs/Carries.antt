@@ -115,12 +115,14 @@ carry-copy p code homes d a s program base m x =
     let e1 = x.function in
     let e2 = x.in_function in
     let e3 = x.in_block in
-    rw (e1, e2, e3)
-      ([], nothing-written s.out,
+    rw (e1, e2, e3) (
+      [],
+      nothing-written s.out,
       copies (layout_of code homes) d a (used code s) (next code s) (world_of s) base program m x.stands x.holds
-      (housed code homes s.here.block s.here.at x.right) (housed code homes s.here.block (suc s.here.at) x.right)
-      (operand-read code (used code s) a fit.1 (reads p code homes (Copy d a) s program base m x))
-      (written-next p code homes (Copy d a) s program base m d x refl) (follows p code homes (Copy d a) s program base m d x refl))
+          (housed code homes s.here.block s.here.at x.right) (housed code homes s.here.block (suc s.here.at) x.right)
+          (operand-read code (used code s) a fit.1 (reads p code homes (Copy d a) s program base m x))
+          (written-next p code homes (Copy d a) s program base m d x refl) (follows p code homes (Copy d a) s program base m d x refl),
+    )
 
 -- by a test, and by whether there is something
 pub by-test : {A : Type 0} (P : A → Type 0) (c : Bool) (x y : A) → (c ≡ true → P x) → (c ≡ false → P y) → P (if c then x else y)
@@ -145,17 +147,19 @@ carry-compute p code homes d op form a b s program base m x =
     let e2 = x.in_function in
     let e3 = x.in_block in
     rw (e1, e2, e3)
-      (by-test
-      (λ moved. Carried (layout_of code homes) (graph_of code) program base (words_of (Compute d op form a b)) (shape_of (layout_of code homes) (Compute d op form a b)) s m moved)
-      (divides op && nat_eq (value_in s.here.temps b) 0) _ _ (λ h. tt)
-      (λ h.
-      ([], nothing-written s.out,
+    (by-test
+    (λ moved. Carried (layout_of code homes) (graph_of code) program base (words_of (Compute d op form a b)) (shape_of (layout_of code homes) (Compute d op form a b)) s m moved)
+    (divides op && nat_eq (value_in s.here.temps b) 0) _ _ (λ h. tt)
+    (λ h. (
+      [],
+      nothing-written s.out,
       operators (layout_of code homes) d op form a b (used code s) (next code s) (world_of s) base program m x.stands
-      (no-zero (divides op) (nat_eq (value_in s.here.temps b) 0) (value_in s.here.temps b) h refl) x.holds
-      (housed code homes s.here.block s.here.at x.right) (housed code homes s.here.block (suc s.here.at) x.right)
-      (operand-read code (used code s) a fit-a.1 (λ t u. reads p code homes i s program base m x t (has-left (operand_reads a) (operand_reads b) t u)))
-      (operand-read code (used code s) b fit.1 (λ t u. reads p code homes i s program base m x t (has-right (operand_reads a) (operand_reads b) t u)))
-      (written-next p code homes i s program base m d x refl) (follows p code homes i s program base m d x refl))))
+          (no-zero (divides op) (nat_eq (value_in s.here.temps b) 0) (value_in s.here.temps b) h refl) x.holds
+          (housed code homes s.here.block s.here.at x.right) (housed code homes s.here.block (suc s.here.at) x.right)
+          (operand-read code (used code s) a fit-a.1 (λ t u. reads p code homes i s program base m x t (has-left (operand_reads a) (operand_reads b) t u)))
+          (operand-read code (used code s) b fit.1 (λ t u. reads p code homes i s program base m x t (has-right (operand_reads a) (operand_reads b) t u)))
+          (written-next p code homes i s program base m d x refl) (follows p code homes i s program base m d x refl),
+    )))
 
 carry-test : (p : Program) (code : Tac) (homes : List (Option Home)) (at : Place) (a : Operand) (s : tac.State) (program : List (Option Instr)) (base : ℕ) (m : State) →
     StandsBefore p code homes (TestDivisor at a) s program base m →
@@ -167,14 +171,14 @@ carry-test p code homes at a s program base m x =
     let e2 = x.in_function in
     let e3 = x.in_block in
     let both =
-      divisors (layout_of code homes) at a (used code s) (next code s) (world_of s) base program m x.stands (place-small at fit.0) x.holds
-      (housed code homes s.here.block s.here.at x.right) (operand-read code (used code s) a fit.1 (reads p code homes i s program base m x))
-      (fewer p code homes i s program base m x refl) in
+    divisors (layout_of code homes) at a (used code s) (next code s) (world_of s) base program m x.stands (place-small at fit.0) x.holds
+    (housed code homes s.here.block s.here.at x.right) (operand-read code (used code s) a fit.1 (reads p code homes i s program base m x))
+    (fewer p code homes i s program base m x refl) in
     rw (e1, e2, e3)
-      (by-test
-      (λ moved. Carried (layout_of code homes) (graph_of code) program base (words_of (TestDivisor at a)) (shape_of (layout_of code homes) (TestDivisor at a)) s m moved)
-      (nat_eq (value_in s.here.temps a) 0) _ _ (λ h. (refl, both.1 (eqb-true (value_in s.here.temps a) 0 h)))
-      (λ h. ([], nothing-written s.out, both.0 (λ z. let t : nat_eq (value_in s.here.temps a) 0 ≡ true = eq-eqb (value_in s.here.temps a) 0 z in let none : true ≡ false = sym t ∙ h in cc))))
+    (by-test
+    (λ moved. Carried (layout_of code homes) (graph_of code) program base (words_of (TestDivisor at a)) (shape_of (layout_of code homes) (TestDivisor at a)) s m moved)
+    (nat_eq (value_in s.here.temps a) 0) _ _ (λ h. (refl, both.1 (eqb-true (value_in s.here.temps a) 0 h)))
+    (λ h. ([], nothing-written s.out, both.0 (λ z. let t : nat_eq (value_in s.here.temps a) 0 ≡ true = eq-eqb (value_in s.here.temps a) 0 z in let none : true ≡ false = sym t ∙ h in cc))))
 
 carry-locate : (p : Program) (code : Tac) (homes : List (Option Home)) (d offset : ℕ) (s : tac.State) (program : List (Option Instr)) (base : ℕ) (m : State) →
     StandsBefore p code homes (Locate d offset) s program base m →
@@ -188,11 +192,13 @@ carry-locate p code homes d offset s program base m x =
     let e1 = x.function in
     let e2 = x.in_function in
     let e3 = x.in_block in
-    rw (e1, e2, e3)
-      ([], nothing-written s.out,
+    rw (e1, e2, e3) (
+      [],
+      nothing-written s.out,
       addresses (layout_of code homes) d offset (used code s) (next code s) (world_of s) base program m x.stands (omega arith) x.holds
-      (housed code homes s.here.block s.here.at x.right) (housed code homes s.here.block (suc s.here.at) x.right)
-      (written-next p code homes i s program base m d x refl) (follows p code homes i s program base m d x refl))
+          (housed code homes s.here.block s.here.at x.right) (housed code homes s.here.block (suc s.here.at) x.right)
+          (written-next p code homes i s program base m d x refl) (follows p code homes i s program base m d x refl),
+    )
 
 -- an address in the region
 address-reached : (code : Tac) (Used : ℕ → Type 0) (s : tac.State) (at : Place) (size : ℕ) (a : Address) → spot_fits code size (spots.Region at a) ≡ true →
@@ -214,17 +220,17 @@ carry-load p code homes d form at a s program base m x =
     let fit = both-true (nat_lt d code.temps) (spot_fits code (bytes_of form.size) (spots.Region at a)) x.fits in
     let i : Instruction = Load d form (spots.Region at a) in
     let both =
-      region-loads (layout_of code homes) d form at a (used code s) (next code s) (world_of s) base program m x.stands (spot-place code at (bytes_of form.size) a fit.1)
-      (address-reached code (used code s) s at (bytes_of form.size) a fit.1 x.frame (reads p code homes i s program base m x)) x.holds
-      (housed code homes s.here.block s.here.at x.right) (housed code homes s.here.block (suc s.here.at) x.right)
-      (written-next p code homes i s program base m d x refl) (follows p code homes i s program base m d x refl) in
+    region-loads (layout_of code homes) d form at a (used code s) (next code s) (world_of s) base program m x.stands (spot-place code at (bytes_of form.size) a fit.1)
+    (address-reached code (used code s) s at (bytes_of form.size) a fit.1 x.frame (reads p code homes i s program base m x)) x.holds
+    (housed code homes s.here.block s.here.at x.right) (housed code homes s.here.block (suc s.here.at) x.right)
+    (written-next p code homes i s program base m d x refl) (follows p code homes i s program base m d x refl) in
     load-step p code homes d form at a s program base m x both (some-or-none (range_of s.region (address_in (world_of s) a) (bytes_of form.size)))
   where
     load-step : (p : Program) (code : Tac) (homes : List (Option Home)) (d : ℕ) (form : Number) (at : Place) (a : Address) (s : tac.State) (program : List (Option Instr)) (base : ℕ) (m : State) →
         StandsBefore p code homes (Load d form (spots.Region at a)) s program base m →
         ((bs : List ℕ) → range_of s.region (address_in (world_of s) a) (bytes_of form.size) ≡ Some bs →
-          Comes (layout_of code homes) program (next code s) (with_temp (world_of s) d (wrapped (width_of form) (number_of bs))) base (words_of (Load d form (spots.Region at a)))
-          (behind m (loaded (layout_of code homes) d form (spots.Region at a))) [] m)
+        Comes (layout_of code homes) program (next code s) (with_temp (world_of s) d (wrapped (width_of form) (number_of bs))) base (words_of (Load d form (spots.Region at a)))
+        (behind m (loaded (layout_of code homes) d form (spots.Region at a))) [] m)
         × (range_of s.region (address_in (world_of s) a) (bytes_of form.size) ≡ None → Ends program BadAddress at (words_of (Load d form (spots.Region at a))) m) →
         (range_of s.region (address_in (world_of s) a) (bytes_of form.size) ≡ None) ⊎ ((bs : List ℕ) × (range_of s.region (address_in (world_of s) a) (bytes_of form.size) ≡ Some bs)) →
         Carried (layout_of code homes) (graph_of code) program base (words_of (Load d form (spots.Region at a))) (shape_of (layout_of code homes) (Load d form (spots.Region at a))) s m (step p s)
@@ -252,20 +258,20 @@ carry-store p code homes size at a b s program base m x =
     let fit = both-true (spot_fits code (bytes_of size) (spots.Region at a)) (operand_fits code b) x.fits in
     let i : Instruction = Store (spots.Region at a) size b in
     let both =
-      region-stores (layout_of code homes) size at a b (used code s) (next code s) (world_of s) base program m x.stands (spot-place code at (bytes_of size) a fit.0)
-      (address-reached code (used code s) s at (bytes_of size) a fit.0 x.frame (λ t u. reads p code homes i s program base m x t (has-left (address_reads a) (operand_reads b) t u)))
-      (operand-read code (used code s) b fit.1 (λ t u. reads p code homes i s program base m x t (has-right (address_reads a) (operand_reads b) t u))) x.holds
-      (housed code homes s.here.block s.here.at x.right) (fewer p code homes i s program base m x refl) in
+    region-stores (layout_of code homes) size at a b (used code s) (next code s) (world_of s) base program m x.stands (spot-place code at (bytes_of size) a fit.0)
+    (address-reached code (used code s) s at (bytes_of size) a fit.0 x.frame (λ t u. reads p code homes i s program base m x t (has-left (address_reads a) (operand_reads b) t u)))
+    (operand-read code (used code s) b fit.1 (λ t u. reads p code homes i s program base m x t (has-right (address_reads a) (operand_reads b) t u))) x.holds
+    (housed code homes s.here.block s.here.at x.right) (fewer p code homes i s program base m x refl) in
     store-step p code homes size at a b s program base m x both
     (some-or-none (put_bytes s.region (address_in (world_of s) a) (low_bytes (bytes_of size) (value_in s.here.temps b))))
   where
     store-step : (p : Program) (code : Tac) (homes : List (Option Home)) (size : Size) (at : Place) (a : Address) (b : Operand) (s : tac.State) (program : List (Option Instr)) (base : ℕ) (m : State) →
         StandsBefore p code homes (Store (spots.Region at a) size b) s program base m →
         ((r : Contents) → put_bytes s.region (address_in (world_of s) a) (low_bytes (bytes_of size) (value_in s.here.temps b)) ≡ Some r →
-          Comes (layout_of code homes) program (next code s) (with_region (world_of s) r) base (words_of (Store (spots.Region at a) size b))
-          (behind m (stored (layout_of code homes) (spots.Region at a) size b)) [] m)
+        Comes (layout_of code homes) program (next code s) (with_region (world_of s) r) base (words_of (Store (spots.Region at a) size b))
+        (behind m (stored (layout_of code homes) (spots.Region at a) size b)) [] m)
         × (put_bytes s.region (address_in (world_of s) a) (low_bytes (bytes_of size) (value_in s.here.temps b)) ≡ None →
-          Ends program BadAddress at (words_of (Store (spots.Region at a) size b)) m) →
+        Ends program BadAddress at (words_of (Store (spots.Region at a) size b)) m) →
         (put_bytes s.region (address_in (world_of s) a) (low_bytes (bytes_of size) (value_in s.here.temps b)) ≡ None)
         ⊎ ((r : Contents) × (put_bytes s.region (address_in (world_of s) a) (low_bytes (bytes_of size) (value_in s.here.temps b)) ≡ Some r)) →
         Carried (layout_of code homes) (graph_of code) program base (words_of (Store (spots.Region at a) size b)) (shape_of (layout_of code homes) (Store (spots.Region at a) size b)) s m (step p s)

@@ -77,8 +77,8 @@ RegionLoadsAreCarried =
     Stands program m.pc (loaded y d form (spots.Region at a)) → IsPlace at → IsReached Used w (bytes_of form.size) a →
     Holds y Used w base m → Housed y Used → Housed y Next → Next d → Follows Used Next d →
     ((bs : List ℕ) → range_of w.region (address_in w a) (bytes_of form.size) ≡ Some bs →
-      Comes y program Next (with_temp w d (wrapped (width_of form) (number_of bs))) base (words_of (Load d form (spots.Region at a)))
-      (behind m (loaded y d form (spots.Region at a))) [] m)
+    Comes y program Next (with_temp w d (wrapped (width_of form) (number_of bs))) base (words_of (Load d form (spots.Region at a)))
+    (behind m (loaded y d form (spots.Region at a))) [] m)
     × (range_of w.region (address_in w a) (bytes_of form.size) ≡ None → Ends program BadAddress at (words_of (Load d form (spots.Region at a))) m)
 
 -- a store to the region
@@ -88,6 +88,6 @@ RegionStoresAreCarried =
     Stands program m.pc (stored y (spots.Region at a) size b) → IsPlace at → IsReached Used w (bytes_of size) a → IsRead Used b →
     Holds y Used w base m → Housed y Used → AreFewer Used Next →
     ((r : Contents) → put_bytes w.region (address_in w a) (low_bytes (bytes_of size) (value_in w.temps b)) ≡ Some r →
-      Comes y program Next (with_region w r) base (words_of (Store (spots.Region at a) size b)) (behind m (stored y (spots.Region at a) size b)) [] m)
+    Comes y program Next (with_region w r) base (words_of (Store (spots.Region at a) size b)) (behind m (stored y (spots.Region at a) size b)) [] m)
     × (put_bytes w.region (address_in w a) (low_bytes (bytes_of size) (value_in w.temps b)) ≡ None →
-      Ends program BadAddress at (words_of (Store (spots.Region at a) size b)) m)
+    Ends program BadAddress at (words_of (Store (spots.Region at a) size b)) m)

@@ -53,25 +53,24 @@ tests : (y : Layout) (Used Next : ℕ → Type 0) (w : World) (base v : ℕ) (at
 tests y Used Next w base v at A F program m l is fa ff stands place p h f =
     let first : Way program (length A) m l.after = straight-way program A m l.after (stands-front program m.pc A (Branch Ne x5 x0 (over F) ∷ F) stands) l.straight l.goes in
     let rest : Stands program l.after.pc (Branch Ne x5 x0 (over F) ∷ F) =
-      subst (λ z. Stands program z (Branch Ne x5 x0 (over F) ∷ F)) (sym l.behind) (stands-back program m.pc A (Branch Ne x5 x0 (over F) ∷ F) p.pc stands) in
-    let near : Near m l.after = scratch-near A m l.after (loads-five A m v l) in
-    (
+    subst (λ z. Stands program z (Branch Ne x5 x0 (over F) ∷ F)) (sym l.behind) (stands-back program m.pc A (Branch Ne x5 x0 (over F) ∷ F) p.pc stands) in
+    let near : Near m l.after = scratch-near A m l.after (loads-five A m v l) in (
       λ n.
           let t : ℕ = low (l.after.pc + 4 * (length F + 1)) in
           let e : nat_eq (l.after.registers 5) 0 ≡ false = ap (λ x. nat_eq x 0) l.gives ∙ ne_eqb v 0 n in
           let way : Way program (length A + 1) m (at_pc l.after t) =
-            way-both program (length A) 1 m l.after (at_pc l.after t) first
-            (branch-way program Ne x5 x0 (4 * (length F + 1)) l.after true (omega arith) (omega arith) rest.0 (ap not e)) in
+          way-both program (length A) 1 m l.after (at_pc l.after t) first
+          (branch-way program Ne x5 x0 (4 * (length F + 1)) l.after true (omega arith) (omega arith) rest.0 (ap not e)) in
           stays y Used Next w base (length A + 1) 20 (behind m (A ++ (Branch Ne x5 x0 (over F) ∷ F))) program m (at_pc l.after t) p h f way
-            (near-both m l.after (at_pc l.after t) near (near-pc l.after t)) (low-below (l.after.pc + 4 * (length F + 1))) (omega arith) (omega arith)
-            (over-low l.after.pc (length F) ∙ behind-both A (Branch Ne x5 x0 (over F) ∷ F) m.pc l.after.pc (low (l.after.pc + 4 * suc (length F))) l.behind refl),
+          (near-both m l.after (at_pc l.after t) near (near-pc l.after t)) (low-below (l.after.pc + 4 * (length F + 1))) (omega arith) (omega arith)
+          (over-low l.after.pc (length F) ∙ behind-both A (Branch Ne x5 x0 (over F) ∷ F) m.pc l.after.pc (low (l.after.pc + 4 * suc (length F))) l.behind refl),
       λ z.
           let t : ℕ = low (l.after.pc + 4) in
           let e : nat_eq (l.after.registers 5) 0 ≡ true = ap (λ x. nat_eq x 0) l.gives ∙ eq-eqb v 0 z in
           later-ends program DivZero at (length A + 1) 11 20 m (at_pc l.after t)
-            (way-both program (length A) 1 m l.after (at_pc l.after t) first
-            (branch-way program Ne x5 x0 (4 * (length F + 1)) l.after false (omega arith) (omega arith) rest.0 (ap not e)))
-            (fails program (at_pc l.after t) DivZero at (low-below (l.after.pc + 4)) place (omega arith) (omega arith) (subst (λ c. Stands program t c) is rest.1)) (omega arith),
+          (way-both program (length A) 1 m l.after (at_pc l.after t) first
+          (branch-way program Ne x5 x0 (4 * (length F + 1)) l.after false (omega arith) (omega arith) rest.0 (ap not e)))
+          (fails program (at_pc l.after t) DivZero at (low-below (l.after.pc + 4)) place (omega arith) (omega arith) (subst (λ c. Stands program t c) is rest.1)) (omega arith),
     )
 
 pub divisors : DivisorsAreTested

@@ -58,9 +58,11 @@ or-second false b q = q
 
 -- what an exit reads is live before it
 exit-reads-live : (graph : List FlowBlock) (block at t : ℕ) (f : FlowBlock) → slice_get graph block ≡ Some f → slice_get f.steps at ≡ None → has f.reads t ≡ true → IsLive graph block at t
-exit-reads-live graph block at t f e g h =
-    (1, ap (λ o. at_place o at (λ c. read_within graph 0 c 0 t) (read_within graph 0 block (suc at) t) t) e
-    ∙ (ap (λ o. at_step f o (λ c. read_within graph 0 c 0 t) (read_within graph 0 block (suc at) t) t) g ∙ or-left (has f.reads t) (list_any (λ c. read_within graph 0 c 0 t) f.next) h))
+exit-reads-live graph block at t f e g h = (
+  1,
+  ap (λ o. at_place o at (λ c. read_within graph 0 c 0 t) (read_within graph 0 block (suc at) t) t) e
+      ∙ (ap (λ o. at_step f o (λ c. read_within graph 0 c 0 t) (read_within graph 0 block (suc at) t) t) g ∙ or-left (has f.reads t) (list_any (λ c. read_within graph 0 c 0 t) f.next) h),
+)
 
 -- what is live where a block begins that follows is live before the exit
 next-live : (graph : List FlowBlock) (block at t : ℕ) (f : FlowBlock) (c : ℕ) → slice_get graph block ≡ Some f → slice_get f.steps at ≡ None →
@@ -68,11 +70,12 @@ next-live : (graph : List FlowBlock) (block at t : ℕ) (f : FlowBlock) (c : ℕ
 next-live graph block at t f c e g h u =
     ⊎_elim
     (λ live.
-    inl
-      (suc live.0,
+    inl (
+      suc live.0,
       ap (λ o. at_place o at (λ d. read_within graph live.0 d 0 t) (read_within graph live.0 block (suc at) t) t) e
-      ∙ (ap (λ o. at_step f o (λ d. read_within graph live.0 d 0 t) (read_within graph live.0 block (suc at) t) t) g
-      ∙ or-second (has f.reads t) (list_any (λ d. read_within graph live.0 d 0 t) f.next) (h live.0 live.1))))
+          ∙ (ap (λ o. at_step f o (λ d. read_within graph live.0 d 0 t) (read_within graph live.0 block (suc at) t) t) g
+          ∙ or-second (has f.reads t) (list_any (λ d. read_within graph live.0 d 0 t) f.next) (h live.0 live.1)),
+    ))
     (λ written. let none : false ≡ true = written in cc)
     u
 
@@ -107,11 +110,11 @@ branch-comes y Used Next w base v first second to taken_it A starts program m l 
     let around : Near m n = near-both m l.after n (scratch-near A m l.after (loads-five A m v l)) (near-pc l.after t) in
     let next : low (l.after.pc + 4) ≡ at + 4 = ap (λ q. low (q + 4)) at-is ∙ low-near (at + 4) (omega arith) in
     let both : Stands program (at + 4) (jump (at + 4) (starts second) ++ jump (at + 12) (starts first)) =
-      subst (λ q. Stands program q (jump (at + 4) (starts second) ++ jump (at + 12) (starts first))) next rest.1 in
+    subst (λ q. Stands program q (jump (at + 4) (starts second) ++ jump (at + 12) (starts first))) next rest.1 in
     let third : low (at + 4 + 4 * 2) ≡ at + 12 = low-near (at + 4 + 4 * 2) (omega arith) ∙ omega arith in
     let last : Stands program (at + 12) (jump (at + 12) (starts first)) =
-      subst (λ q. Stands program q (jump (at + 12) (starts first))) third
-      (stands-back program (at + 4) (jump (at + 4) (starts second)) (jump (at + 12) (starts first)) (omega arith) both) in
+    subst (λ q. Stands program q (jump (at + 12) (starts first))) third
+    (stands-back program (at + 4) (jump (at + 4) (starts second)) (jump (at + 12) (starts first)) (omega arith) both) in
     let nearer : Stands program (at + 4) (jump (at + 4) (starts second)) = stands-front program (at + 4) (jump (at + 4) (starts second)) (jump (at + 12) (starts first)) both in
     let far-is : low (l.after.pc + 12) ≡ at + 12 = ap (λ q. low (q + 12)) at-is ∙ low-near (at + 12) (omega arith) in
     choose taken_it n around way next far-is nearer last is refl
@@ -159,17 +162,17 @@ carry-jump : (p : Program) (code : Tac) (homes : List (Option Home)) (e : Edge) 
 carry-jump p code homes e starts s program base m x =
     let y : Layout = layout_of code homes in
     let comes : Comes y program (InUse (graph_of code) e.block 0) (world_of s) base 5 (starts e.block) [] m =
-      jump-comes y (InUse (graph_of code) s.here.block s.here.at) (InUse (graph_of code) e.block 0) (world_of s) base 0 5 m.pc (starts e.block) program m m x.holds
-      (where-housed p code homes (Jump e) starts s program base m x)
-      (next-here p code homes (Jump e) starts s program base m x e.block (λ q h. or-left (q e.block) false h)) (way-none program m) (near-same m) refl (omega (arith, x.near))
-      (x.blocks e.block).0 (x.blocks e.block).1 x.stands (omega arith) in
+    jump-comes y (InUse (graph_of code) s.here.block s.here.at) (InUse (graph_of code) e.block 0) (world_of s) base 0 5 m.pc (starts e.block) program m m x.holds
+    (where-housed p code homes (Jump e) starts s program base m x)
+    (next-here p code homes (Jump e) starts s program base m x e.block (λ q h. or-left (q e.block) false h)) (way-none program m) (near-same m) refl (omega (arith, x.near))
+    (x.blocks e.block).0 (x.blocks e.block).1 x.stands (omega arith) in
     let e1 = x.function in
     let e2 = x.in_function in
     let e3 = x.in_block in
     let e4 = x.is in
     rw (e1, e2, e3) (rw e4
-      (by-test (λ moved. Left (layout_of code homes) (graph_of code) program base 5 starts s m moved) e.counts _ _
-      (λ h. ⊎_elim (λ z. rw z tt) (λ z. let q = z.1 in rw q (refl, comes)) (zero-or-more s.left)) (λ h. (refl, comes))))
+    (by-test (λ moved. Left (layout_of code homes) (graph_of code) program base 5 starts s m moved) e.counts _ _
+    (λ h. ⊎_elim (λ z. rw z tt) (λ z. let q = z.1 in rw q (refl, comes)) (zero-or-more s.left)) (λ h. (refl, comes))))
 
 carry-fail : (p : Program) (code : Tac) (homes : List (Option Home)) (kind : FaultKind) (at : Place) (starts : ℕ → ℕ) (s : tac.State) (program : List (Option Instr)) (base : ℕ) (m : State) →
     nat_le (fault_number kind) 5 ≡ true → StandsAtExit p code homes (Fail kind at) starts s program base m →
@@ -199,29 +202,29 @@ carry-branch p code homes a e f starts s program base m x =
     let fit-a = both-true (operand_fits code a) (edge_fits code e) fit.0 in
     let h : Housed y used = where-housed p code homes (Branch a e f) starts s program base m x in
     let l : Loads 5 (taken y x5 a) m v =
-      take-operand y x5 used (world_of s) base m a (λ q. omega (arith, q)) x.holds h (operand-read code used a fit-a.0 (reads-here p code homes (Branch a e f) starts s program base m x)) in
+    take-operand y x5 used (world_of s) base m a (λ q. omega (arith, q)) x.holds h (operand-read code used a fit-a.0 (reads-here p code homes (Branch a e f) starts s program base m x)) in
     let first : v ≢ 0 → Comes y program (InUse (graph_of code) e.block 0) (world_of s) base 19 (starts e.block) [] m =
-      λ n. branch-comes y used (InUse (graph_of code) e.block 0) (world_of s) base v e.block f.block (starts e.block) true (taken y x5 a) starts program m l x.holds h
-        (next-here p code homes (Branch a e f) starts s program base m x e.block (λ q g. or-left (q e.block) (q f.block || false) g)) (taken-count y x5 a) x.near x.blocks x.stands
-        (ap not (ne_eqb v 0 n)) refl in
+    λ n. branch-comes y used (InUse (graph_of code) e.block 0) (world_of s) base v e.block f.block (starts e.block) true (taken y x5 a) starts program m l x.holds h
+    (next-here p code homes (Branch a e f) starts s program base m x e.block (λ q g. or-left (q e.block) (q f.block || false) g)) (taken-count y x5 a) x.near x.blocks x.stands
+    (ap not (ne_eqb v 0 n)) refl in
     let second : v ≡ 0 → Comes y program (InUse (graph_of code) f.block 0) (world_of s) base 19 (starts f.block) [] m =
-      λ z. branch-comes y used (InUse (graph_of code) f.block 0) (world_of s) base v e.block f.block (starts f.block) false (taken y x5 a) starts program m l x.holds h
-        (next-here p code homes (Branch a e f) starts s program base m x f.block (λ q g. or-second (q e.block) (q f.block || false) (or-left (q f.block) false g))) (taken-count y x5 a) x.near x.blocks x.stands
-        (ap not (eq-eqb v 0 z)) refl in
+    λ z. branch-comes y used (InUse (graph_of code) f.block 0) (world_of s) base v e.block f.block (starts f.block) false (taken y x5 a) starts program m l x.holds h
+    (next-here p code homes (Branch a e f) starts s program base m x f.block (λ q g. or-second (q e.block) (q f.block || false) (or-left (q f.block) false g))) (taken-count y x5 a) x.near x.blocks x.stands
+    (ap not (eq-eqb v 0 z)) refl in
     let e1 = x.function in
     let e2 = x.in_function in
     let e3 = x.in_block in
     let e4 = x.is in
     rw (e1, e2, e3) (rw e4
-      (by-test (λ moved. Left (layout_of code homes) (graph_of code) program base 19 starts s m moved) (nat_eq (value_in s.here.temps a) 0) _ _
-      (λ z.
-      let comes = second (eqb-true (value_in s.here.temps a) 0 z) in
-      by-test (λ moved. Left (layout_of code homes) (graph_of code) program base 19 starts s m moved) f.counts _ _
-        (λ c. ⊎_elim (λ k. rw k tt) (λ k. let q = k.1 in rw q (refl, comes)) (zero-or-more s.left)) (λ c. (refl, comes)))
-      (λ z.
-      let comes = first (λ o. let t : nat_eq (value_in s.here.temps a) 0 ≡ true = eq-eqb (value_in s.here.temps a) 0 o in let none : true ≡ false = sym t ∙ z in cc) in
-      by-test (λ moved. Left (layout_of code homes) (graph_of code) program base 19 starts s m moved) e.counts _ _
-        (λ c. ⊎_elim (λ k. rw k tt) (λ k. let q = k.1 in rw q (refl, comes)) (zero-or-more s.left)) (λ c. (refl, comes)))))
+    (by-test (λ moved. Left (layout_of code homes) (graph_of code) program base 19 starts s m moved) (nat_eq (value_in s.here.temps a) 0) _ _
+    (λ z.
+    let comes = second (eqb-true (value_in s.here.temps a) 0 z) in
+    by-test (λ moved. Left (layout_of code homes) (graph_of code) program base 19 starts s m moved) f.counts _ _
+    (λ c. ⊎_elim (λ k. rw k tt) (λ k. let q = k.1 in rw q (refl, comes)) (zero-or-more s.left)) (λ c. (refl, comes)))
+    (λ z.
+    let comes = first (λ o. let t : nat_eq (value_in s.here.temps a) 0 ≡ true = eq-eqb (value_in s.here.temps a) 0 o in let none : true ≡ false = sym t ∙ z in cc) in
+    by-test (λ moved. Left (layout_of code homes) (graph_of code) program base 19 starts s m moved) e.counts _ _
+    (λ c. ⊎_elim (λ k. rw k tt) (λ k. let q = k.1 in rw q (refl, comes)) (zero-or-more s.left)) (λ c. (refl, comes)))))
 
 pub exits : ExitsAreCarried
 exits p code homes (Jump e) starts s program base m h x = carry-jump p code homes e starts s program base m x

@@ -47,12 +47,12 @@ fails program m kind at p h l u there =
     let k : Loads 11 code m (place_number at) = constant-loads x11 m (place_number at) (λ e. omega (arith, e)) h in
     let a : State = k.after in
     let rest : Stands program a.pc (fault_call kind) =
-      subst (λ q. Stands program q (fault_call kind)) (sym k.behind) (stands-back program m.pc code (fault_call kind) p there) in
+    subst (λ q. Stands program q (fault_call kind)) (sym k.behind) (stands-back program m.pc code (fault_call kind) p there) in
     let b : State = at_with a (low (a.pc + 4)) 10 (fault_number kind) in
     let c : State = at_with b (low (b.pc + 4)) 17 1024 in
     let one : Way program (length code) m a = straight-way program code m a (stands-front program m.pc code (fault_call kind) there) k.straight k.goes in
     let two : Way program 1 a b =
-      step-way program (RegisterImmediate Addi x10 x0 (immediate_of (fault_number kind))) a b rest.0 (small-load x10 (fault_number kind) a (λ e. omega (arith, e)) (omega arith)) in
+    step-way program (RegisterImmediate Addi x10 x0 (immediate_of (fault_number kind))) a b rest.0 (small-load x10 (fault_number kind) a (λ e. omega (arith, e)) (omega arith)) in
     let three : Way program 1 b c = step-way program (RegisterImmediate Addi x17 x0 (immediate_of 1024)) b c rest.1.0 (small-load x17 1024 b (λ e. omega (arith, e)) (omega arith)) in
     let way : Way program (length code + 1 + 1) m c = way-both program (length code + 1) 1 m b c (way-both program (length code) 1 m a b one two) three in
     let last : act Ecall c ≡ Throws (fault_number kind) (place_number at) = throws c (fault_number kind) (place_number at) refl refl k.gives l u in

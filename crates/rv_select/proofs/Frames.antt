@@ -85,15 +85,15 @@ far-reach : (f : Register → Immediate → Instr) (offset : ℕ) (m : State) �
 far-reach f offset m h k =
     let u : ℕ = upper_number offset * 2 ^ 12 in
     let l : Loads 7 (Lui x7 (upper_of offset) ∷ []) m u =
-      loads-one (Lui x7 (upper_of offset)) m 7 u (λ e. omega (arith, e)) refl
-      (ap (λ v. GoesOn (at_with m (low (m.pc + 4)) 7 v)) (upper-word offset k)) in
+    loads-one (Lui x7 (upper_of offset)) m 7 u (λ e. omega (arith, e)) refl
+    (ap (λ v. GoesOn (at_with m (low (m.pc + 4)) 7 v)) (upper-word offset k)) in
     let v : ℕ = low (u + m.registers 2) in
     let s : Loads 7 (RegisterRegister Add x7 x7 x2 ∷ []) l.after v =
-      loads-one (RegisterRegister Add x7 x7 x2) l.after 7 v (λ e. omega (arith, e)) refl
-      (ap (λ a. GoesOn (at_with l.after (low (l.after.pc + 4)) 7 (low (a + l.after.registers 2)))) l.gives
-      ∙ ap (λ a. GoesOn (at_with l.after (low (l.after.pc + 4)) 7 (low (u + a)))) (l.keeps 2 (λ e. omega (arith, e)) (λ e. omega (arith, e)))) in
+    loads-one (RegisterRegister Add x7 x7 x2) l.after 7 v (λ e. omega (arith, e)) refl
+    (ap (λ a. GoesOn (at_with l.after (low (l.after.pc + 4)) 7 (low (a + l.after.registers 2)))) l.gives
+    ∙ ap (λ a. GoesOn (at_with l.after (low (l.after.pc + 4)) 7 (low (u + a)))) (l.keeps 2 (λ e. omega (arith, e)) (λ e. omega (arith, e)))) in
     let both : Loads 7 (Lui x7 (upper_of offset) ∷ RegisterRegister Add x7 x7 x2 ∷ []) m v =
-      loads-both 7 u v (Lui x7 (upper_of offset) ∷ []) (RegisterRegister Add x7 x7 x2 ∷ []) m l s in
+    loads-both 7 u v (Lui x7 (upper_of offset) ∷ []) (RegisterRegister Add x7 x7 x2 ∷ []) m l s in
     record {
       first = Lui x7 (upper_of offset) ∷ RegisterRegister Add x7 x7 x2 ∷ [];
       register = x7;
@@ -135,7 +135,7 @@ framed-some f offset = either (nat_le offset 2047)
 pub framed-loads : (f : Register → Immediate → Instr) (d v offset : ℕ) (m : State) → d ≢ 0 → m.pc < 2 ^ 64 → offset < 2 ^ 30 →
     ((r : Register) (far : Immediate) → AreStraight (f r far ∷ [])) →
     ((r : Register) (far : Immediate) (n : State) → low (value_at n r + word far.value) ≡ low (m.registers 2 + offset) → n.region ≡ m.region → n.private ≡ m.private →
-      act (f r far) n ≡ GoesOn (at_with n (low (n.pc + 4)) d v)) →
+    act (f r far) n ≡ GoesOn (at_with n (low (n.pc + 4)) d v)) →
     Loads d (framed f offset) m v
 framed-loads f d v offset m o p k s h =
     let x : Reach f offset m = reach f offset m p k in

@@ -55,10 +55,10 @@ from-slot y d base k m n p f g h =
     framed-loads (λ r offset. Load Ld d r offset) d.number (private_word m (base + slot_offset k)) (slot_offset k) m n p (slot-near y base k m f h) (λ r far. refl)
     (λ r far s a e q.
     ap (λ x. loads s Ld d x) (a ∙ frame-sum (m.registers 2) base (slot_offset k) (length m.private) f.pointer room f.private)
-      ∙ (ap (λ x. loads_from s Ld d (place_of (length x) (length s.private) (2 ^ 32 + (base + slot_offset k)) 8)) e
-      ∙ (ap (λ x. loads_from s Ld d (place_of (length m.region) (length x) (2 ^ 32 + (base + slot_offset k)) 8)) q
-      ∙ (ap (λ x. loads_from s Ld d x) (private-place (length m.region) (length m.private) (base + slot_offset k) g room)
-      ∙ ap (λ x. GoesOn (at_with s (low (s.pc + 4)) d.number (number_of (take 8 (drop (base + slot_offset k) x))))) q))))
+    ∙ (ap (λ x. loads_from s Ld d (place_of (length x) (length s.private) (2 ^ 32 + (base + slot_offset k)) 8)) e
+    ∙ (ap (λ x. loads_from s Ld d (place_of (length m.region) (length x) (2 ^ 32 + (base + slot_offset k)) 8)) q
+    ∙ (ap (λ x. loads_from s Ld d x) (private-place (length m.region) (length m.private) (base + slot_offset k) g room)
+    ∙ ap (λ x. GoesOn (at_with s (low (s.pc + 4)) d.number (number_of (take 8 (drop (base + slot_offset k) x))))) q))))
 
 pub take-home : (y : Layout) (d : Register) (base : ℕ) (m : State) (h : Home) (v : ℕ) → d.number ≢ 0 → m.pc < 2 ^ 64 → HasFrame y base m → length m.region ≤ 67108864 →
     IsHome y h → word_at base m h ≡ v → v < 2 ^ 64 → Loads d.number (taken_from d h) m v
@@ -111,8 +111,8 @@ to-register y base x m l u s =
     let v : low (m.registers 5 + 0) ≡ m.registers 5 = ap low z ∙ low-small (m.registers 5) s in
     let d : (register_of x).number ≡ x = register-is x (omega arith) in
     let k : Loads x (put_to (homes.Register x)) m (m.registers 5) =
-      loads-one (moved (register_of x) x5) m x (m.registers 5) (λ q. omega (arith, q)) refl
-      (ap (λ w. GoesOn (at_with m (low (m.pc + 4)) (register_of x).number w)) v ∙ ap (λ n. GoesOn (at_with m (low (m.pc + 4)) n (m.registers 5))) d) in
+    loads-one (moved (register_of x) x5) m x (m.registers 5) (λ q. omega (arith, q)) refl
+    (ap (λ w. GoesOn (at_with m (low (m.pc + 4)) (register_of x).number w)) v ∙ ap (λ n. GoesOn (at_with m (low (m.pc + 4)) n (m.registers 5))) d) in
     record {
       after = at_with m (low (m.pc + 4)) x (m.registers 5);
       goes = ap (λ n. then_on n (λ t. GoesOn t))
@@ -144,10 +144,10 @@ to-slot y base k m p f g h s =
     let five : x.at.registers 5 ≡ m.registers 5 = x.before.keeps 5 (λ q. omega (arith, q)) in
     let after : State = word_stored x.at at (x.at.registers 5) in
     let e : act (Store Sd x.register x5 x.far) x.at ≡ GoesOn after =
-      ap (λ a. stores x.at Sd a (x.at.registers 5)) (x.address ∙ frame-sum (m.registers 2) base (slot_offset k) (length m.private) f.pointer room f.private)
-      ∙ (ap (λ z. stores_to x.at (bytes_of 8 (x.at.registers 5)) (place_of (length z) (length x.at.private) (2 ^ 32 + at) 8)) x.before.region
-      ∙ (ap (λ z. stores_to x.at (bytes_of 8 (x.at.registers 5)) (place_of (length m.region) (length z) (2 ^ 32 + at) 8)) x.before.private
-      ∙ ap (λ z. stores_to x.at (bytes_of 8 (x.at.registers 5)) z) (private-place (length m.region) (length m.private) at g room))) in
+    ap (λ a. stores x.at Sd a (x.at.registers 5)) (x.address ∙ frame-sum (m.registers 2) base (slot_offset k) (length m.private) f.pointer room f.private)
+    ∙ (ap (λ z. stores_to x.at (bytes_of 8 (x.at.registers 5)) (place_of (length z) (length x.at.private) (2 ^ 32 + at) 8)) x.before.region
+    ∙ (ap (λ z. stores_to x.at (bytes_of 8 (x.at.registers 5)) (place_of (length m.region) (length z) (2 ^ 32 + at) 8)) x.before.private
+    ∙ ap (λ z. stores_to x.at (bytes_of 8 (x.at.registers 5)) z) (private-place (length m.region) (length m.private) at g room))) in
     let here : at + 8 ≤ length x.at.private = subst (λ z. at + 8 ≤ length z) (sym x.before.private) room in
     subst (λ code. Puts y base code m (homes.Slot k)) (sym x.code)
     (record {
@@ -162,7 +162,7 @@ to-slot y base k m p f g h s =
         long = stored-length x.at.private at (x.at.registers 5) here ∙ ap length x.before.private;
         outside = λ a n o.
             other-part x.at.private (bytes_of 8 (x.at.registers 5)) at a n (omega (arith, here))
-              (⊎_elim (λ l. inl (omega (arith, l))) (λ l. inr (omega (arith, l, h))) o)
+            (⊎_elim (λ l. inl (omega (arith, l))) (λ l. inr (omega (arith, l, h))) o)
             ∙ ap (λ z. take n (drop a z)) x.before.private;
       };
       straight = straight-both x.first (Store Sd x.register x5 x.far ∷ []) x.before.straight refl;

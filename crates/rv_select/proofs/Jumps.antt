@@ -73,10 +73,10 @@ sum-of n =
     (⊎_elim
     (λ h.
     subst (λ b. Sum n (wrapped (width true 32) (upper_number n * 2 ^ 12)) (word (if b then immediate_of (n % 4096) else below_zero (4095 - n % 4096)).value)) (sym (le-leb (n % 4096) 2047 (omega arith)))
-      (subst (λ v. Sum n (wrapped (width true 32) (upper_number n * 2 ^ 12)) v) (sym (immediate-is (n % 4096) (omega arith))) (low-sum n (n % 4096) refl h)))
+    (subst (λ v. Sum n (wrapped (width true 32) (upper_number n * 2 ^ 12)) v) (sym (immediate-is (n % 4096) (omega arith))) (low-sum n (n % 4096) refl h)))
     (λ h.
     subst (λ b. Sum n (wrapped (width true 32) (upper_number n * 2 ^ 12)) (word (if b then immediate_of (n % 4096) else below_zero (4095 - n % 4096)).value)) (sym (lt-leb (n % 4096) 2047 (omega arith)))
-      (subst (λ v. Sum n (wrapped (width true 32) (upper_number n * 2 ^ 12)) v) (sym (below-is (4095 - n % 4096) (omega arith))) (high-sum n (n % 4096) refl h)))
+    (subst (λ v. Sum n (wrapped (width true 32) (upper_number n * 2 ^ 12)) v) (sym (below-is (4095 - n % 4096) (omega arith))) (high-sum n (n % 4096) refl h)))
     (cases_lt (n % 4096) 2048))
 
 -- The run comes by a jump to another address, and nothing but scratch registers changes.
@@ -96,6 +96,7 @@ target-is from to h k even =
   where
     close : (n from to : ℕ) → n ≡ (to + (2 ^ 32 - from)) % 2 ^ 32 → from < 2 ^ 30 → to < 2 ^ 30 → n < 2 ^ 31 → n < 2 ^ 30
     close n from to e h k a = omega arith
+
     far : (n from to : ℕ) → n ≡ (to + (2 ^ 32 - from)) % 2 ^ 32 → from < 2 ^ 30 → to < 2 ^ 30 → 2 ^ 31 ≤ n → 2 ^ 32 - 2 ^ 30 ≤ n
     far n from to e h k a = omega arith
 

@@ -32,10 +32,12 @@ or-left false b e = cc
 -- what an instruction reads is live before it
 pub read-live : (graph : List FlowBlock) (block at t : ℕ) (f : FlowBlock) (s : Step) → slice_get graph block ≡ Some f → slice_get f.steps at ≡ Some s → has s.reads t ≡ true →
     IsLive graph block at t
-read-live graph block at t f s e g h =
-    (1, ap (λ o. at_place o at (λ c. read_within graph 0 c 0 t) (read_within graph 0 block (suc at) t) t) e
-    ∙ (ap (λ o. at_step f o (λ c. read_within graph 0 c 0 t) (read_within graph 0 block (suc at) t) t) g
-    ∙ or-left (has s.reads t) (not (is_written s.write t) && read_within graph 0 block (suc at) t) h))
+read-live graph block at t f s e g h = (
+  1,
+  ap (λ o. at_place o at (λ c. read_within graph 0 c 0 t) (read_within graph 0 block (suc at) t) t) e
+      ∙ (ap (λ o. at_step f o (λ c. read_within graph 0 c 0 t) (read_within graph 0 block (suc at) t) t) g
+      ∙ or-left (has s.reads t) (not (is_written s.write t) && read_within graph 0 block (suc at) t) h),
+)
 
 or-right : (a b c : Bool) → b ≡ false → c ≡ true → (a || (not b && c)) ≡ true
 or-right true b c e f = refl
@@ -48,13 +50,14 @@ use-follows graph block at t f s e g u =
     ⊎_elim
     (λ live.
     ⊎_elim (λ w. inl w)
-      (λ w.
-      inr (inl
-        (suc live.0,
-        ap (λ o. at_place o at (λ c. read_within graph live.0 c 0 t) (read_within graph live.0 block (suc at) t) t) e
-        ∙ (ap (λ o. at_step f o (λ c. read_within graph live.0 c 0 t) (read_within graph live.0 block (suc at) t) t) g
-        ∙ or-right (has s.reads t) (is_written s.write t) (read_within graph live.0 block (suc at) t) w live.1))))
-      (cases_Bool (is_written s.write t)))
+    (λ w.
+    inr (inl (
+      suc live.0,
+      ap (λ o. at_place o at (λ c. read_within graph live.0 c 0 t) (read_within graph live.0 block (suc at) t) t) e
+          ∙ (ap (λ o. at_step f o (λ c. read_within graph live.0 c 0 t) (read_within graph live.0 block (suc at) t) t) g
+          ∙ or-right (has s.reads t) (is_written s.write t) (read_within graph live.0 block (suc at) t) w live.1),
+    )))
+    (cases_Bool (is_written s.write t)))
     (λ written. inl (sym (ap (λ o. written_in o at t) e ∙ ap (λ o. step_writes o t) g) ∙ written))
     u
 
@@ -97,12 +100,12 @@ housed code hs block at r = record {
       subst (λ o. IsHome (layout_of code hs) (or_first o)) (sym h.1) (home-of-kind code hs t h.0 h.1 h.2);
   apart = λ t u a b same.
       ⊎_elim (λ e. e)
-        (λ n.
-        let g = some-home (length hs) (slice_get hs t) (r.homes_are block at t a) in
-        let h = some-home (length hs) (slice_get hs u) (r.homes_are block at u b) in
-        let first : or_first (slice_get hs t) ≡ g.0 = ap or_first g.1 in
-        let second : or_first (slice_get hs u) ≡ h.0 = ap or_first h.1 in
-        let equal : g.0 ≡ h.0 = sym first ∙ (same ∙ second) in
-        absurd (r.apart block at t u a b n (g.1 ∙ (ap (λ x. Some (Some x)) equal ∙ sym h.1))))
-        (cases_eq t u);
+      (λ n.
+      let g = some-home (length hs) (slice_get hs t) (r.homes_are block at t a) in
+      let h = some-home (length hs) (slice_get hs u) (r.homes_are block at u b) in
+      let first : or_first (slice_get hs t) ≡ g.0 = ap or_first g.1 in
+      let second : or_first (slice_get hs u) ≡ h.0 = ap or_first h.1 in
+      let equal : g.0 ≡ h.0 = sym first ∙ (same ∙ second) in
+      absurd (r.apart block at t u a b n (g.1 ∙ (ap (λ x. Some (Some x)) equal ∙ sym h.1))))
+      (cases_eq t u);
 }

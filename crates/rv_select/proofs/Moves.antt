@@ -137,15 +137,15 @@ put-holds y Used Next w base d v code m p q h n follows e s = record {
   };
   pc = subst (λ z. z < 2 ^ 64) (sym p.behind) (low-below (m.pc + 4 * length code));
   values = λ t u. ⊎_elim
-    (λ same. subst (λ x. word_at base p.after (home_of y x) ≡ put w.temps d v x) (sym same) (p.holds ∙ (e ∙ sym (ap (λ b. if b then v else w.temps d) (eq-eqb d d refl)))))
-    (λ other.
-    p.others (home_of y t) (h.homes t u) (λ g. other (h.apart t d u n g))
-    ∙ (q.values t (before t u other) ∙ sym (ap (λ b. if b then v else w.temps t) (ne_eqb t d other))))
-    (cases_eq t d);
+      (λ same. subst (λ x. word_at base p.after (home_of y x) ≡ put w.temps d v x) (sym same) (p.holds ∙ (e ∙ sym (ap (λ b. if b then v else w.temps d) (eq-eqb d d refl)))))
+      (λ other.
+      p.others (home_of y t) (h.homes t u) (λ g. other (h.apart t d u n g))
+      ∙ (q.values t (before t u other) ∙ sym (ap (λ b. if b then v else w.temps t) (ne_eqb t d other))))
+      (cases_eq t d);
   words = λ t u. ⊎_elim
-    (λ same. subst (λ x. put w.temps d v x < 2 ^ 64) (sym same) (subst (λ z. z < 2 ^ 64) (ap (λ b. if b then v else w.temps d) (sym (eq-eqb d d refl))) s))
-    (λ other. subst (λ z. z < 2 ^ 64) (ap (λ b. if b then v else w.temps t) (sym (ne_eqb t d other))) (q.words t (before t u other)))
-    (cases_eq t d);
+      (λ same. subst (λ x. put w.temps d v x < 2 ^ 64) (sym same) (subst (λ z. z < 2 ^ 64) (ap (λ b. if b then v else w.temps d) (sym (eq-eqb d d refl))) s))
+      (λ other. subst (λ z. z < 2 ^ 64) (ap (λ b. if b then v else w.temps t) (sym (ne_eqb t d other))) (q.words t (before t u other)))
+      (cases_eq t d);
   areas = λ k l. p.memory.outside (base + area_offset y k) (length (w.areas k)) (inr (omega arith)) ∙ q.areas k l;
   short = q.short;
   area_bytes = q.area_bytes;
@@ -177,11 +177,11 @@ then-put y Used Next w base d v k weight target program m n p h h' u follows way
     let b : List Instr = put_to (home_of y d) in
     let q : Holds y Used w base n = near-holds y Used w base m n p h near small in
     let r : Puts y base b n (home_of y d) =
-      put-home y base n (home_of y d) small q.frame (region-small y Used w base n q) (h'.homes d u) (subst (λ x. x < 2 ^ 64) (sym e) l) in
+    put-home y base n (home_of y d) small q.frame (region-small y Used w base n q) (h'.homes d u) (subst (λ x. x < 2 ^ 64) (sym e) l) in
     let most : length b ≤ 3 = put-count (home_of y d) in
     let least : 1 ≤ length b = some-put (home_of y d) in
     let whole : Way program (k + length b) m r.after =
-      way-both program k (length b) m n r.after way (straight-way program b n r.after stands r.straight r.goes) in
+    way-both program k (length b) m n r.after way (straight-way program b n r.after stands r.straight r.goes) in
     record {
       steps = k + length b;
       after = r.after;
@@ -227,16 +227,16 @@ computes y Used Next w base d va vb op wide A B program m is divisor sa sb l k f
     let n : State = k.after in
     let five : n.registers 5 ≡ va = k.keeps 5 (λ e. omega (arith, e)) (λ e. omega (arith, e)) ∙ l.gives in
     let o : Leads (code_of wide op) n (applied wide op (n.registers 5) (n.registers 6)) =
-      operator-computes wide op is n (subst (λ x. x < 2 ^ 64) (sym five) sa) (subst (λ x. x < 2 ^ 64) (sym k.gives) sb)
-      (λ e z. divisor e (sym k.gives ∙ z)) in
+    operator-computes wide op is n (subst (λ x. x < 2 ^ 64) (sym five) sa) (subst (λ x. x < 2 ^ 64) (sym k.gives) sb)
+    (λ e z. divisor e (sym k.gives ∙ z)) in
     let short : length (code_of wide op) ≤ 4 = (code-short wide op).short in
     let s : Scratch (A ++ (B ++ code_of wide op)) m o.after =
-      scratch-both A (B ++ code_of wide op) m l.after o.after (loads-five A m va l)
-      (scratch-both B (code_of wide op) l.after n o.after (loads-six B l.after vb k) (leads-scratch (code_of wide op) n _ o (code-short wide op).straight)) in
+    scratch-both A (B ++ code_of wide op) m l.after o.after (loads-five A m va l)
+    (scratch-both B (code_of wide op) l.after n o.after (loads-six B l.after vb k) (leads-scratch (code_of wide op) n _ o (code-short wide op).straight)) in
     let gives : o.after.registers 5 ≡ applied wide op va vb =
-      o.gives ∙ (ap (λ x. applied wide op x (n.registers 6)) five ∙ ap (λ x. applied wide op va x) k.gives) in
+    o.gives ∙ (ap (λ x. applied wide op x (n.registers 6)) five ∙ ap (λ x. applied wide op va x) k.gives) in
     let count : length (A ++ (B ++ code_of wide op)) ≡ length A + (length B + length (code_of wide op)) =
-      length-append A (B ++ code_of wide op) ∙ ap (λ x. length A + x) (length-append B (code_of wide op)) in
+    length-append A (B ++ code_of wide op) ∙ ap (λ x. length A + x) (length-append B (code_of wide op)) in
     straight-put y Used Next w base d (applied wide op va vb) 23 (A ++ (B ++ code_of wide op)) program m o.after p h h' u follows s gives
     (applied-small wide op va vb is) (omega (arith, count, short, fa, fb)) stands
 
@@ -260,7 +260,7 @@ operators y d op form a b Used Next w base program m stands divisor p h h' ra rb
     let q : Holds y Used w base l.after = scratch-holds y Used w base (taken y x5 a) m l.after p h (loads-five (taken y x5 a) m va l) in
     let k : Loads 6 (taken y x6 b) l.after vb = take-operand y x6 Used w base l.after b (λ e. omega (arith, e)) q h rb in
     let whole : (taken y x5 a ++ (taken y x6 b ++ code_of wide op)) ++ put_to (home_of y d) ≡ computed y d op wide a b =
-      in-row (taken y x5 a) (taken y x6 b) (code_of wide op) (put_to (home_of y d)) in
+    in-row (taken y x5 a) (taken y x6 b) (code_of wide op) (put_to (home_of y d)) in
     subst (λ x. Comes y program Next (with_temp w d (applied wide op va vb)) base 23 (behind m x) [] m) whole
     (computes y Used Next w base d va vb op wide (taken y x5 a) (taken y x6 b) program m (wide-size form.size) divisor
     (value-small Used y w base m a p ra) (value-small Used y w base m b p rb) l k (taken-count y x5 a) (taken-count y x6 b) p h h' u follows

@@ -63,10 +63,10 @@ parts n =
     ⊎_elim
     (λ h.
     subst (λ b. Parts n (word (if b then immediate_of (n % 4096) else below_zero (4095 - n % 4096)).value)) (sym (le-leb (n % 4096) 2047 (omega arith)))
-      (subst (λ v. Parts n v) (sym (immediate-is (n % 4096) (omega arith))) (low-parts n (n % 4096) refl h)))
+    (subst (λ v. Parts n v) (sym (immediate-is (n % 4096) (omega arith))) (low-parts n (n % 4096) refl h)))
     (λ h.
     subst (λ b. Parts n (word (if b then immediate_of (n % 4096) else below_zero (4095 - n % 4096)).value)) (sym (lt-leb (n % 4096) 2047 (omega arith)))
-      (subst (λ v. Parts n v) (sym (below-is (4095 - n % 4096) (omega arith))) (high-parts n (n % 4096) refl h)))
+    (subst (λ v. Parts n v) (sym (below-is (4095 - n % 4096) (omega arith))) (high-parts n (n % 4096) refl h)))
     (cases_lt (n % 4096) 2048)
 
 -- the low 32 bits decide, and they are kept
@@ -134,8 +134,8 @@ unfolding shifted_left
 up-loads d count n v m o h e =
     let s : ℕ = low (v * 2 ^ count.count) in
     let l : Loads d.number (Shift Slli d d count ∷ []) m s =
-      loads-one (Shift Slli d d count) m d.number s o refl
-      (ap (λ x. GoesOn (at_with m (low (m.pc + 4)) d.number (low (x * 2 ^ count.count)))) (loaded-value m d o ∙ e)) in
+    loads-one (Shift Slli d d count) m d.number s o refl
+    (ap (λ x. GoesOn (at_with m (low (m.pc + 4)) d.number (low (x * 2 ^ count.count)))) (loaded-value m d o ∙ e)) in
     loads-both d.number s (low (s + n)) (Shift Slli d d count ∷ []) (RegisterImmediate Addi d d (immediate_of n) ∷ []) m l
     (loads-one (RegisterImmediate Addi d d (immediate_of n)) l.after d.number (low (s + n)) o refl
     (ap (λ x. GoesOn (at_with l.after (low (l.after.pc + 4)) d.number (low (x + word (immediate_of n).value)))) (loaded-value l.after d o ∙ l.gives)
@@ -170,7 +170,7 @@ long-loads d m n o h =
     let e1 : v1 % 2 ^ 43 ≡ (n / 2 ^ 32 * 2 ^ 11 + n / 2 ^ 21 % 2 ^ 11) % 2 ^ 43 = up-first v0 (n / 2 ^ 32) (n / 2 ^ 21 % 2 ^ 11) (extended-low (n / 2 ^ 32)) in
     let f1 : n / 2 ^ 32 * 2 ^ 11 + n / 2 ^ 21 % 2 ^ 11 ≡ n / 2 ^ 21 = omega arith in
     let e2 : v2 % 2 ^ 54 ≡ (n / 2 ^ 21 * 2 ^ 11 + n / 2 ^ 10 % 2 ^ 11) % 2 ^ 54 =
-      up-second v1 (n / 2 ^ 21) (n / 2 ^ 10 % 2 ^ 11) (e1 ∙ ap (λ x. x % 2 ^ 43) f1) in
+    up-second v1 (n / 2 ^ 21) (n / 2 ^ 10 % 2 ^ 11) (e1 ∙ ap (λ x. x % 2 ^ 43) f1) in
     let f2 : n / 2 ^ 21 * 2 ^ 11 + n / 2 ^ 10 % 2 ^ 11 ≡ n / 2 ^ 10 = omega arith in
     let e3 : v3 ≡ (n / 2 ^ 10 * 2 ^ 10 + n % 2 ^ 10) % 2 ^ 64 = up-third v2 (n / 2 ^ 10) (n % 2 ^ 10) (e2 ∙ ap (λ x. x % 2 ^ 54) f2) in
     let f3 : (n / 2 ^ 10 * 2 ^ 10 + n % 2 ^ 10) % 2 ^ 64 ≡ n = omega arith in

@@ -150,12 +150,12 @@ module _ (program : List (Option Instr)) (m : State) (at : Place) (F : List Inst
       ⊎_elim
       (λ h.
       later-ends program BadAddress at 2 11 15 m low_fails (to-low h)
-        (fails program low_fails BadAddress at (low-below (one.pc + 12)) place (omega arith) (omega arith)
-        (subst (λ c. Stands program low_fails.pc c) is (subst (λ q. Stands program q F) (pc-three m.pc) there.1.1.1.1))) (omega arith))
+      (fails program low_fails BadAddress at (low-below (one.pc + 12)) place (omega arith) (omega arith)
+      (subst (λ c. Stands program low_fails.pc c) is (subst (λ q. Stands program q F) (pc-three m.pc) there.1.1.1.1))) (omega arith))
       (λ h.
       later-ends program BadAddress at 4 11 15 m high_fails (to-high h.0 h.1)
-        (fails program high_fails BadAddress at (low-below (three.pc + 4)) place (omega arith) (omega arith)
-        (subst (λ c. Stands program high_fails.pc c) is there.1.1.1.1)) (omega arith))
+      (fails program high_fails BadAddress at (low-below (three.pc + 4)) place (omega arith) (omega arith)
+      (subst (λ c. Stands program high_fails.pc c) is there.1.1.1.1)) (omega arith))
       o
 
 -- the end of the region is a small number, and larger than an access
@@ -249,7 +249,7 @@ accessed-count r a size h k = length-take-le size (drop (a - first_address) r.by
 load-act : (m n : State) (r : Contents) (form : Number) (a : ℕ) → n.region ≡ r.bytes → n.registers 5 ≡ a → a < 2 ^ 64 → AreBytes r.bytes → first_address ≤ a →
     a + bytes_of form.size ≤ end_address r →
     act (Load (load_of form.signed form.size) x5 x5 zero_immediate) n ≡
-      GoesOn (at_with n (low (n.pc + 4)) 5 (wrapped (width_of form) (number_of (accessed r a (bytes_of form.size)))))
+    GoesOn (at_with n (low (n.pc + 4)) 5 (wrapped (width_of form) (number_of (accessed r a (bytes_of form.size)))))
 load-act m n r form a e f small bytes h k =
     let op = load_of form.signed form.size in
     let zero-sum : a + 0 ≡ a = omega arith in
@@ -262,8 +262,8 @@ load-act m n r form a e f small bytes h k =
     ∙ (ap (λ x. GoesOn (at_with n (low (n.pc + 4)) 5 (load_value op (take x (drop (a - 2 ^ 30) n.region))))) width
     ∙ (ap (λ x. GoesOn (at_with n (low (n.pc + 4)) 5 (load_value op (take (bytes_of form.size) (drop (a - 2 ^ 30) x))))) e
     ∙ ap (λ x. GoesOn (at_with n (low (n.pc + 4)) 5 x))
-      (load-is form (accessed r a (bytes_of form.size)) (take-bytes (bytes_of form.size) (drop (a - first_address) r.bytes) (drop-bytes (a - first_address) r.bytes bytes))
-      (accessed-count r a (bytes_of form.size) h k)))))))
+    (load-is form (accessed r a (bytes_of form.size)) (take-bytes (bytes_of form.size) (drop (a - first_address) r.bytes) (drop-bytes (a - first_address) r.bytes bytes))
+    (accessed-count r a (bytes_of form.size) h k)))))))
 
 near-five : (m : State) (pc v : ℕ) → Near m (at_with m pc 5 v)
 near-five m pc v = record { keeps = λ r five six seven. written-elsewhere m.registers 5 v r five; region = refl; private = refl }
@@ -287,8 +287,8 @@ load-ends y d form Used Next w base most a code program m r p h h' u follows sma
     let rest : Stands program n.pc (i ∷ b) = subst (λ q. Stands program q (i ∷ b)) (sym r.pc) (stands-back program m.pc code (i ∷ b) p.pc there) in
     let t : State = at_with n (low (n.pc + 4)) 5 v in
     let way : Way program (r.steps + 1) m t =
-      way-both program r.steps 1 m n t r.way
-      (step-way program i n t rest.0 (load-act m n w.region form a (r.near.region ∙ p.region) r.five small p.bytes low-end high-end)) in
+    way-both program r.steps 1 m n t r.way
+    (step-way program i n t rest.0 (load-act m n w.region form a (r.near.region ∙ p.region) r.five small p.bytes low-end high-end)) in
     then-put y Used Next w base d v (r.steps + 1) (most + 4) (behind m (code ++ (i ∷ b))) program m t p h h' u follows way
     (near-both m n t r.near (near-five n (low (n.pc + 4)) v)) (low-below (n.pc + 4)) (written-there n.registers 5 v (λ e. omega (arith, e))) value (omega (arith, r.few)) rest.1
     (pc-more n.pc (length b) ∙ behind-both code (i ∷ b) m.pc n.pc (low (n.pc + 4 * suc (length b))) r.pc refl)
@@ -336,7 +336,7 @@ weaker-ends program at weight more m h e = record { steps = e.steps; last = e.la
 -- a load by whether the access is inside
 load-cases : (y : Layout) (d : ℕ) (form : Number) (at : Place) (Next : ℕ → Type 0) (w : World) (base weight target a : ℕ) (program : List (Option Instr)) (m : State) →
     ((first_address ≤ a) × (a + bytes_of form.size ≤ end_address w.region) →
-      Comes y program Next (with_temp w d (wrapped (width_of form) (number_of (accessed w.region a (bytes_of form.size))))) base weight target [] m) →
+    Comes y program Next (with_temp w d (wrapped (width_of form) (number_of (accessed w.region a (bytes_of form.size))))) base weight target [] m) →
     ((a < first_address) ⊎ ((first_address ≤ a) × (end_address w.region < a + bytes_of form.size)) → Ends program BadAddress at weight m) →
     ((bs : List ℕ) → range_of w.region a (bytes_of form.size) ≡ Some bs → Comes y program Next (with_temp w d (wrapped (width_of form) (number_of bs))) base weight target [] m)
     × (range_of w.region a (bytes_of form.size) ≡ None → Ends program BadAddress at weight m)
@@ -346,8 +346,7 @@ load-cases y d form at Next w base weight target a program m f g =
     ⊎_elim
     (λ h.
     let e : range_of w.region a size ≡ Some (accessed w.region a size) =
-      range-is w.region a size some ∙ ap (λ b. if b then Some (accessed w.region a size) else None) (inside-true w.region a size h.0 h.1) in
-    (
+    range-is w.region a size some ∙ ap (λ b. if b then Some (accessed w.region a size) else None) (inside-true w.region a size h.0 h.1) in (
       λ bs q.
           let same : accessed w.region a size ≡ bs = cc in
           subst (λ z. Comes y program Next (with_temp w d (wrapped (width_of form) (number_of z))) base weight target [] m) same (f h),
@@ -355,7 +354,7 @@ load-cases y d form at Next w base weight target a program m f g =
     ))
     (λ h.
     let e : range_of w.region a size ≡ None =
-      range-is w.region a size some ∙ ap (λ b. if b then Some (accessed w.region a size) else None) (outside-false w.region a size h) in
+    range-is w.region a size some ∙ ap (λ b. if b then Some (accessed w.region a size) else None) (outside-false w.region a size h) in
     (λ bs q. let none : None ≡ Some bs = sym e ∙ q in cc, λ q. g h))
     (insides w.region a size)
 
@@ -373,9 +372,9 @@ region-loads y d form at (Word a) Used Next w base program m there place r p h h
     load-cases y d form at Next w base 29 (behind m (code ++ rest)) v program m
     (λ i.
     weaker y program Next _ base 16 29 (behind m (code ++ rest)) [] m (omega arith)
-      (load-ends y d form Used Next w base 12 v code program m
-      (word-inside y Used w base program m at a (bytes_of form.size) p h r some (omega arith) front i.0 i.1)
-      p h h' u follows (value-small Used y w base m a p r) i.0 i.1 (wrapped-small (width_of form) _ (wide-size form.size)) there))
+    (load-ends y d form Used Next w base 12 v code program m
+    (word-inside y Used w base program m at a (bytes_of form.size) p h r some (omega arith) front i.0 i.1)
+    p h h' u follows (value-small Used y w base m a p r) i.0 i.1 (wrapped-small (width_of form) _ (wide-size form.size)) there))
     (λ o.
     weaker-ends program at 23 29 m (omega arith) (word-outside y Used w base program m at a (bytes_of form.size) p h r some (omega arith) front place o))
 region-loads y d form at (Frame offset) Used Next w base program m there place r p h h' u follows =
@@ -387,8 +386,8 @@ region-loads y d form at (Frame offset) Used Next w base program m there place r
     load-cases y d form at Next w base 14 (behind m (code ++ rest)) a program m
     (λ i.
     weaker y program Next _ base 13 14 (behind m (code ++ rest)) [] m (omega arith)
-      (load-ends y d form Used Next w base 9 a code program m
-      (frame-reached y Used w base program m offset p small (stands-front program m.pc code rest there))
-      p h h' u follows small i.0 i.1 (wrapped-small (width_of form) _ (wide-size form.size)) there))
+    (load-ends y d form Used Next w base 9 a code program m
+    (frame-reached y Used w base program m offset p small (stands-front program m.pc code rest there))
+    p h h' u follows small i.0 i.1 (wrapped-small (width_of form) _ (wide-size form.size)) there))
     (λ o.
     absurd (⊎_elim (λ k. omega (arith, k, low-enough y Used w base offset m p)) (λ k. omega (arith, k.1, r)) o))

@@ -128,14 +128,14 @@ store-ends y size b Used Next w base most a code program m r p h f rb small low-
     let count : length bs ≡ bytes_of size = length-low_bytes (bytes_of size) v in
     let new : List ℕ = with_bytes w.region.bytes (a - 2 ^ 30) (words.bytes_of (bytes_of size) v) in
     let is : new ≡ overwritten w.region.bytes (a - first_address) bs =
-      with-is w.region.bytes (words.bytes_of (bytes_of size) v) (a - 2 ^ 30) ∙ ap (λ z. overwritten w.region.bytes (a - first_address) z) (bytes-same (bytes_of size) v) in
+    with-is w.region.bytes (words.bytes_of (bytes_of size) v) (a - 2 ^ 30) ∙ ap (λ z. overwritten w.region.bytes (a - first_address) z) (bytes-same (bytes_of size) v) in
     let z : State = with-bytes-there t new in
     let all : Near m t = near-both m n t r.near near in
     let k : Keeps y base m t = near-keeps y base m t all in
     let way : Way program (r.steps + length B + 1) m z =
-      way-both program (r.steps + length B) 1 m t z
-      (way-both program r.steps (length B) m n t r.way (straight-way program B n t (stands-front program n.pc B (i ∷ []) rest) l.straight l.goes))
-      (step-way program i t z last.0 (store-act t w.region size a v s.region five l.gives small low-end high-end)) in
+    way-both program (r.steps + length B) 1 m t z
+    (way-both program r.steps (length B) m n t r.way (straight-way program B n t (stands-front program n.pc B (i ∷ []) rest) l.straight l.goes))
+    (step-way program i t z last.0 (store-act t w.region size a v s.region five l.gives small low-end high-end)) in
     let few : length B ≤ 8 = taken-count y x6 b in
     record {
       steps = r.steps + length B + 1;
@@ -160,7 +160,7 @@ put-is r a (b ∷ bs) h = refl
 
 store-cases : (y : Layout) (size : Size) (at : Place) (Next : ℕ → Type 0) (w : World) (base weight target a v : ℕ) (program : List (Option Instr)) (m : State) →
     ((first_address ≤ a) × (a + bytes_of size ≤ end_address w.region) →
-      Comes y program Next (with_region w (stored-region w.region a (low_bytes (bytes_of size) v))) base weight target [] m) →
+    Comes y program Next (with_region w (stored-region w.region a (low_bytes (bytes_of size) v))) base weight target [] m) →
     ((a < first_address) ⊎ ((first_address ≤ a) × (end_address w.region < a + bytes_of size)) → Ends program BadAddress at weight m) →
     ((r : Contents) → put_bytes w.region a (low_bytes (bytes_of size) v) ≡ Some r → Comes y program Next (with_region w r) base weight target [] m)
     × (put_bytes w.region a (low_bytes (bytes_of size) v) ≡ None → Ends program BadAddress at weight m)
@@ -170,11 +170,10 @@ store-cases y size at Next w base weight target a v program m f g =
     let some : 1 ≤ bytes_of size = (size-range size).0 in
     let new : Contents = stored-region w.region a bs in
     let first : put_bytes w.region a bs ≡ (if is_inside w.region a (bytes_of size) then Some new else None) =
-      put-is w.region a bs (omega arith) ∙ ap (λ n. if is_inside w.region a n then Some new else None) count in
+    put-is w.region a bs (omega arith) ∙ ap (λ n. if is_inside w.region a n then Some new else None) count in
     ⊎_elim
     (λ h.
-    let e : put_bytes w.region a bs ≡ Some new = first ∙ ap (λ b. if b then Some new else None) (inside-true w.region a (bytes_of size) h.0 h.1) in
-    (
+    let e : put_bytes w.region a bs ≡ Some new = first ∙ ap (λ b. if b then Some new else None) (inside-true w.region a (bytes_of size) h.0 h.1) in (
       λ r q.
           let same : new ≡ r = cc in
           subst (λ z. Comes y program Next (with_region w z) base weight target [] m) same (f h),
@@ -196,9 +195,9 @@ region-stores y size at (Word a) b Used Next w base program m there place r rb p
     store-cases y size at Next w base 33 (behind m (code ++ rest)) v (value_in w.temps b) program m
     (λ i.
     weaker y program Next _ base 21 33 (behind m (code ++ rest)) [] m (omega arith)
-      (store-ends y size b Used Next w base 12 v code program m
-      (word-inside y Used w base program m at a (bytes_of size) p h r some (omega arith) front i.0 i.1)
-      p h f rb (value-small Used y w base m a p r) i.0 i.1 there))
+    (store-ends y size b Used Next w base 12 v code program m
+    (word-inside y Used w base program m at a (bytes_of size) p h r some (omega arith) front i.0 i.1)
+    p h f rb (value-small Used y w base m a p r) i.0 i.1 there))
     (λ o.
     weaker-ends program at 23 33 m (omega arith) (word-outside y Used w base program m at a (bytes_of size) p h r some (omega arith) front place o))
 region-stores y size at (Frame offset) b Used Next w base program m there place r rb p h f =
@@ -210,7 +209,7 @@ region-stores y size at (Frame offset) b Used Next w base program m there place 
     store-cases y size at Next w base 18 (behind m (code ++ rest)) a (value_in w.temps b) program m
     (λ i.
     store-ends y size b Used Next w base 9 a code program m
-      (frame-reached y Used w base program m offset p small (stands-front program m.pc code rest there))
-      p h f rb small i.0 i.1 there)
+    (frame-reached y Used w base program m offset p small (stands-front program m.pc code rest there))
+    p h f rb small i.0 i.1 there)
     (λ o.
     absurd (⊎_elim (λ k. omega (arith, k, low-enough y Used w base offset m p)) (λ k. omega (arith, k.1, r)) o))

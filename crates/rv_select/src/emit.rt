@@ -110,11 +110,7 @@ fn is_short(number: u64) -> bool
 }
 
 /// A number of 64 bits to a register.
-pub(crate) fn push_constant(
-    code: &mut Vec<u32>,
-    rd: Register,
-    number: u64,
-) -> Result<(), NoMemory>
+pub(crate) fn push_constant(code: &mut Vec<u32>, rd: Register, number: u64) -> Result<(), NoMemory>
     ensures { OnOk result (code.new.items ≡ code.old.items ++ map word_of (constant rd number)) }
 {
     if is_short(number) {

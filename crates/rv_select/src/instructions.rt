@@ -9,9 +9,7 @@ ghost use Rattle.rv_operators.specs.Codes.{code_of, x5, x6, zero_immediate};
 ghost use Rattle.rv_select.specs.Places.{home_of, with_homes};
 ghost use Rattle.rv_select.specs.Shapes.{bounds_tested, computed, copied, divisor_tested, failed, fault_call, branched_over, has_shape, in_region, load_of, loaded, located, place_number, put_to, reached, shape_of, small, store_of, stored, taken};
 
-use crate::emit::{
-    X0, X5, X6, constant_words, push_constant, push_put, push_taken, put,
-};
+use crate::emit::{X0, X5, X6, constant_words, push_constant, push_put, push_taken, put};
 use crate::operands::{below_zero, immediate, offset, upper};
 use reg_alloc::Home;
 use rv_isa::{
@@ -26,8 +24,11 @@ use tl_base::{NoMemory, Place};
 const X4: Register = Register { number: 4 };
 /// The address of the frame in the region.
 const X8: Register = Register { number: 8 };
+
 const X10: Register = Register { number: 10 };
+
 const X11: Register = Register { number: 11 };
+
 const X17: Register = Register { number: 17 };
 
 /// The number of the machine's call that ends a run by a fault.
@@ -210,11 +211,7 @@ fn push_small(code: &mut Vec<u32>, rd: Register, number: u64) -> Result<(), NoMe
 }
 
 /// The run ends by a fault.
-pub(crate) fn push_failed(
-    code: &mut Vec<u32>,
-    kind: FaultKind,
-    at: Place,
-) -> Result<(), NoMemory>
+pub(crate) fn push_failed(code: &mut Vec<u32>, kind: FaultKind, at: Place) -> Result<(), NoMemory>
     ensures { OnOk result (code.new.items ≡ code.old.items ++ map word_of (failed kind at)) }
 {
     push_constant(code, X11, place_number(at))?;
@@ -325,7 +322,14 @@ fn push_bounds_test(code: &mut Vec<u32>, at: Place, size: u64) -> Result<(), NoM
             imm: below_zero(size - 1),
         },
     )?;
-    push_branch_over(code, BranchCondition::Geu, X6, X5, FaultKind::BadAddress, at)
+    push_branch_over(
+        code,
+        BranchCondition::Geu,
+        X6,
+        X5,
+        FaultKind::BadAddress,
+        at,
+    )
 }
 
 /// x5 gets the address of bytes in the region.

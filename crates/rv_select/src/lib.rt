@@ -11,6 +11,5 @@ pub mod instructions;
 pub mod law;
 mod operands;
 
-
 pub use instructions::push_instruction;
 pub use law::{exits_are_carried, instructions_are_carried, shapes_keep_within};
