@@ -1,10 +1,9 @@
 -- Words in private memory.
-use Rattle.std.proofs.Common.{◌≡◌, ◌≢◌, ℕ, zero, suc, ◌+◌, ◌-◌, ◌*◌, ◌/◌, ◌%◌, ◌^◌, ◌<◌, ◌≤◌, List, [], ◌∷◌, ◌++◌, length, take, drop, Option, Some, None, refl, sym, ap, ◌∙◌, ⊎_elim, arith, append_assoc}
-use Rattle.std.specs.Prelude.{if◌then◌else◌, nat_le, nat_lt, ◌⊎◌}
-use Rattle.std.proofs.lemmas.Bool.{cases_lt, le-leb, lt-leb, le-ltb, lt-ltb}
+use Rattle.std.proofs.Common.{◌≡◌, ℕ, suc, ◌+◌, ◌-◌, ◌*◌, ◌/◌, ◌%◌, ◌^◌, ◌<◌, ◌≤◌, List, length, take, drop, Some, None, sym, ap, ◌∙◌, ⊎_elim, arith, append_assoc}
+use Rattle.std.specs.Prelude.{if◌then◌else◌, nat_le, ◌⊎◌}
+use Rattle.std.proofs.lemmas.Bool.{le-leb, lt-leb, le-ltb}
 use Rattle.terra_memory.specs.Numbers.{overwritten}
 use Rattle.terra_memory.proofs.Overwriting.{length-overwritten, part-overwritten, part-overwritten_before, part-overwritten_behind}
-use Rattle.rv_machine.specs.declared.memory.Place.{Place}
 use Rattle.rv_machine.specs.declared.memory.Place.TheVariants.{Private}
 use Rattle.rv_machine.specs.Word.{number_of, bytes_of}
 use Rattle.rv_machine.specs.Memory.{offset_in, place_of, place_in, with_bytes}

@@ -1,8 +1,7 @@
 -- Each instruction at its place in a function's code.
-use Rattle.std.proofs.Common.{◌≡◌, ◌≢◌, ℕ, zero, suc, ◌+◌, ◌*◌, ◌^◌, ◌<◌, ◌≤◌, Bool, true, false, not, ◌&&◌, ◌||◌, List, [], ◌∷◌, ◌++◌, length, Option, Some, None, refl, sym, ap, ◌∙◌, subst, ⊎_elim, inl, inr, arith}
-use Rattle.std.specs.Prelude.{if◌then◌else◌, nat_eq, nat_le, nat_lt, slice_get, ◌⊎◌, IsTrue}
-use Rattle.std.specs.List.{list_any}
-use Rattle.std.proofs.lemmas.Bool.{cases_Bool, cases_eq, eq-eqb, ne_eqb, eqb-true, leb-true, ltb-true}
+use Rattle.std.proofs.Common.{◌≡◌, ◌≢◌, ℕ, suc, ◌+◌, ◌^◌, ◌<◌, ◌≤◌, Bool, true, false, ◌&&◌, ◌||◌, List, [], ◌∷◌, ◌++◌, length, Option, Some, None, refl, sym, ap, ◌∙◌, ⊎_elim, inl, inr, arith}
+use Rattle.std.specs.Prelude.{if◌then◌else◌, nat_eq, nat_le, nat_lt, ◌⊎◌}
+use Rattle.std.proofs.lemmas.Bool.{cases_Bool, eq-eqb, eqb-true, leb-true, ltb-true}
 use Rattle.std.proofs.lemmas.List.{append-nil}
 use Rattle.tl_base.specs.declared.place.Place.{Place}
 use Rattle.rv_isa.specs.declared.instr.Instr.{Instr}
@@ -12,7 +11,7 @@ use Rattle.terra_memory.specs.Region.{Contents, end_address, range_of}
 use Rattle.terra_words.specs.declared.words.BinaryOperator.{BinaryOperator}
 use Rattle.terra_memory.specs.Numbers.{low_bytes, number_of}
 use Rattle.terra_words.specs.declared.words.FaultKind.TheVariants.{BadAddress}
-use Rattle.terra_words.specs.Words.{applied, divides, wrapped}
+use Rattle.terra_words.specs.Words.{divides, wrapped}
 use Rattle.terra_words.specs.Runs.{put_bytes}
 use Rattle.tac_form.specs.declared.tac.Number.{Number}
 use Rattle.tac_form.specs.declared.tac.Size.{Size}
@@ -30,8 +29,8 @@ use Rattle.tac_form.specs.Graph.{block_of, graph_of, instruction_reads, instruct
 use Rattle.tac_form.specs.Live.{InUse, has, is_written}
 use Rattle.tac_form.specs.Fits.{operand_fits, place_fits, spot_fits}
 use Rattle.tac_form.specs.Weights.{words_of}
-use Rattle.rv_select.specs.Places.{Holds, Housed, IsRead, Layout, layout_of, value_in}
-use Rattle.rv_select.specs.Shapes.{loaded, place_number, shape_of, stored}
+use Rattle.rv_select.specs.Places.{IsRead, layout_of, value_in}
+use Rattle.rv_select.specs.Shapes.{loaded, shape_of, stored}
 use Rattle.rv_select.specs.Steps.{AreFewer, Carried, Comes, Ends, Follows, IsPlace, InstructionsAreCarried, StandsBefore, behind, with_temp, world_of}
 use Rattle.rv_select.proofs.Claims.{IsReached, address_in, with_region}
 use Rattle.rv_select.proofs.Lives.{housed, read-live, step-in-graph, use-follows, write-used}

@@ -1,5 +1,5 @@
 -- Tests of divisors, and addresses of the frame in the region.
-use Rattle.std.proofs.Common.{◌≡◌, ◌≢◌, ℕ, suc, ◌+◌, ◌-◌, ◌*◌, ◌%◌, ◌^◌, ◌<◌, ◌≤◌, Bool, true, false, not, List, [], ◌∷◌, ◌++◌, length, Option, Some, refl, sym, ap, ◌∙◌, subst, ⊎_elim, arith}
+use Rattle.std.proofs.Common.{◌≡◌, ◌≢◌, ℕ, suc, ◌+◌, ◌*◌, ◌^◌, ◌<◌, ◌≤◌, Bool, true, false, not, List, [], ◌∷◌, ◌++◌, length, Option, refl, sym, ap, ◌∙◌, subst, ⊎_elim, arith}
 use Rattle.std.specs.Prelude.{if◌then◌else◌, nat_eq, nat_le}
 use Rattle.std.proofs.lemmas.Bool.{cases_lt, eq-eqb, ne_eqb, le-leb, lt-leb}
 use Rattle.std.proofs.lemmas.List.{length-append}
@@ -9,17 +9,17 @@ use Rattle.rv_isa.specs.declared.instr.Instr.TheVariants.{Branch, RegisterImmedi
 use Rattle.rv_isa.specs.declared.operation.ImmediateOp.TheVariants.{Addi}
 use Rattle.rv_isa.specs.declared.operation.RegisterOp.TheVariants.{Add}
 use Rattle.rv_isa.specs.declared.operation.BranchCondition.TheVariants.{Ne}
-use Rattle.rv_machine.specs.Word.{low, word}
+use Rattle.rv_machine.specs.Word.{low}
 use Rattle.rv_machine.specs.Machine.{State, GoesOn, at_with}
 use Rattle.terra_words.specs.declared.words.FaultKind.TheVariants.{DivZero}
 use Rattle.rv_operators.specs.Codes.{x0, x5}
 use Rattle.rv_operators.specs.Runs.{Stands}
-use Rattle.rv_select.specs.Places.{World, Holds, Housed, Layout, home_of, value_in}
+use Rattle.rv_select.specs.Places.{World, Holds, Housed, Layout, value_in}
 use Rattle.rv_select.specs.Numbers.{constant, immediate_of}
-use Rattle.rv_select.specs.Shapes.{divisor_tested, failed, located, over, put_to, taken, x8}
+use Rattle.rv_select.specs.Shapes.{failed, located, over, taken, x8}
 use Rattle.rv_select.specs.Steps.{Comes, Ends, AreFewer, IsPlace, behind}
 use Rattle.rv_select.proofs.Claims.{AddressesAreCarried, DivisorsAreTested}
-use Rattle.rv_select.proofs.Straight.{Loads, behind-both, loads-both, loads-as, loads-five, loads-one, low-below, low-small}
+use Rattle.rv_select.proofs.Straight.{Loads, behind-both, loads-both, loads-five, loads-one, low-below, low-small}
 use Rattle.rv_select.proofs.Numbers.{constant-count, constant-loads, immediate-is}
 use Rattle.rv_select.proofs.Ways.{Near, Way, at_pc, near-both, near-pc, scratch-near, stands-back, stands-front, straight-way, way-both}
 use Rattle.rv_select.proofs.Homes.{take-operand, taken-count}

@@ -1,13 +1,11 @@
 -- Exits of blocks.
-use Rattle.std.proofs.Common.{◌≡◌, ◌≢◌, ℕ, zero, suc, ◌+◌, ◌-◌, ◌*◌, ◌/◌, ◌%◌, ◌^◌, ◌<◌, ◌≤◌, Bool, true, false, not, ◌&&◌, ◌||◌, List, [], ◌∷◌, ◌++◌, length, map, option_map, Option, Some, None, refl, sym, ap, ◌∙◌, subst, ⊎_elim, inl, inr, arith}
-use Rattle.std.specs.Prelude.{if◌then◌else◌, nat_eq, nat_le, nat_lt, slice_get, ◌⊎◌, IsTrue}
+use Rattle.std.proofs.Common.{◌≡◌, ◌≢◌, ℕ, zero, suc, ◌+◌, ◌*◌, ◌%◌, ◌^◌, ◌<◌, ◌≤◌, Bool, true, false, not, ◌&&◌, ◌||◌, List, [], ◌++◌, length, option_map, Option, Some, None, refl, sym, ap, ◌∙◌, subst, ⊎_elim, inl, inr, arith}
+use Rattle.std.specs.Prelude.{if◌then◌else◌, nat_eq, nat_le, slice_get, ◌⊎◌}
 use Rattle.std.specs.List.{list_any}
-use Rattle.std.proofs.lemmas.Bool.{cases_Bool, cases_eq, eq-eqb, ne_eqb, eqb-true, leb-true}
-use Rattle.std.proofs.lemmas.List.{length-append}
+use Rattle.std.proofs.lemmas.Bool.{eq-eqb, ne_eqb, eqb-true, leb-true}
 use Rattle.std.proofs.lemmas.Option.{slice_get-map}
 use Rattle.tl_base.specs.declared.place.Place.{Place}
 use Rattle.rv_isa.specs.declared.instr.Instr.{Instr}
-use Rattle.rv_isa.specs.declared.instr.Instr.TheVariants as instrs
 use Rattle.rv_isa.specs.declared.operation.BranchCondition.TheVariants.{Ne}
 use Rattle.reg_alloc.specs.declared.assignment.Home.{Home}
 use Rattle.rv_machine.specs.Word.{low}
@@ -24,16 +22,15 @@ use Rattle.tac_form.specs.declared.tac.Tac.{Tac}
 use Rattle.tac_form.specs.declared.graph.FlowBlock.{FlowBlock}
 use Rattle.tac_form.specs.Flow as tac
 use Rattle.tac_form.specs.Flow.{Program, step}
-use Rattle.tac_form.specs.Graph.{block_of, exit_next, exit_reads, graph_of, operand_reads, step_of}
-use Rattle.tac_form.specs.Live.{InUse, IsLive, at_place, at_step, before_exit, has, read_within}
-use Rattle.tac_form.specs.Fits.{edge_fits, operand_fits, place_fits}
-use Rattle.tac_form.specs.Weights.{exit_words}
+use Rattle.tac_form.specs.Graph.{block_of, exit_next, exit_reads, graph_of, step_of}
+use Rattle.tac_form.specs.Live.{InUse, IsLive, at_place, at_step, has, read_within}
+use Rattle.tac_form.specs.Fits.{edge_fits, operand_fits}
 use Rattle.rv_operators.specs.Codes.{x0, x5}
 use Rattle.rv_operators.specs.Runs.{Stands}
-use Rattle.rv_select.specs.Places.{Holds, Housed, IsRead, Layout, World, layout_of, value_in}
+use Rattle.rv_select.specs.Places.{Holds, Housed, Layout, World, layout_of, value_in}
 use Rattle.rv_select.specs.Shapes.{branch_jumps, jump, taken}
 use Rattle.rv_select.specs.Steps.{AreFewer, Comes, ExitsAreCarried, Left, StandsAtExit, world_of}
-use Rattle.rv_select.proofs.Straight.{Loads, loads-five, low-below}
+use Rattle.rv_select.proofs.Straight.{Loads, loads-five}
 use Rattle.rv_select.proofs.Ways.{Near, Way, at_pc, near-both, near-pc, near-same, scratch-near, stands-back, stands-front, straight-way, way-both, way-none}
 use Rattle.rv_select.proofs.Homes.{take-operand, taken-count}
 use Rattle.rv_select.proofs.Faults.{branch-way, fails}

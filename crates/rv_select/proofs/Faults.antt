@@ -1,7 +1,7 @@
 -- Code that ends the run by a fault, and branches over it.
-use Rattle.std.proofs.Common.{◌≡◌, ◌≢◌, ℕ, suc, ◌+◌, ◌-◌, ◌*◌, ◌%◌, ◌^◌, ◌<◌, ◌≤◌, Bool, true, false, not, List, [], ◌∷◌, ◌++◌, length, Option, Some, refl, sym, ap, ◌∙◌, subst, arith}
+use Rattle.std.proofs.Common.{◌≡◌, ◌≢◌, ℕ, suc, ◌+◌, ◌%◌, ◌^◌, ◌<◌, ◌≤◌, Bool, List, length, Option, Some, refl, sym, ap, ◌∙◌, subst, arith}
 use Rattle.std.specs.Prelude.{if◌then◌else◌, nat_eq, nat_le, ◌&&◌}
-use Rattle.std.proofs.lemmas.Bool.{eq-eqb, ne_eqb, le-leb}
+use Rattle.std.proofs.lemmas.Bool.{le-leb}
 use Rattle.std.proofs.lemmas.List.{length-append}
 use Rattle.tl_base.specs.declared.place.Place.{Place}
 use Rattle.rv_isa.specs.declared.instr.Instr.{Instr}
@@ -9,20 +9,18 @@ use Rattle.rv_isa.specs.declared.instr.Instr.TheVariants.{Branch, RegisterImmedi
 use Rattle.rv_isa.specs.declared.operation.ImmediateOp.TheVariants.{Addi}
 use Rattle.rv_isa.specs.declared.operation.BranchCondition.{BranchCondition}
 use Rattle.rv_isa.specs.declared.operand.Register.{Register}
-use Rattle.rv_isa.specs.declared.operand.BranchOffset.{BranchOffset}
-use Rattle.rv_machine.specs.declared.stops.Stop.TheVariants.{TerraFault}
 use Rattle.rv_machine.specs.declared.stops.MachineKind.TheVariants.{BadCall}
 use Rattle.rv_machine.specs.Word.{low, word}
 use Rattle.rv_machine.specs.Arithmetic.{is_taken}
-use Rattle.rv_machine.specs.Machine.{State, GoesOn, Throws, Faults, act, at_with, fetch, goes_to, run_of, stands, throw_call, value_at, write_call}
+use Rattle.rv_machine.specs.Machine.{State, GoesOn, Throws, Faults, act, at_with, fetch, goes_to, run_of, throw_call, value_at, write_call}
 use Rattle.terra_words.specs.declared.words.FaultKind.{FaultKind}
 use Rattle.terra_words.specs.Words.{fault_number}
 use Rattle.rv_operators.specs.Codes.{x0}
 use Rattle.rv_operators.specs.Runs.{Stands}
 use Rattle.rv_select.specs.Numbers.{constant, immediate_of}
-use Rattle.rv_select.specs.Shapes.{failed, fault_call, offset_of, over, place_number, x10, x11, x17}
+use Rattle.rv_select.specs.Shapes.{failed, fault_call, offset_of, place_number, x10, x11, x17}
 use Rattle.rv_select.specs.Steps.{Ends}
-use Rattle.rv_select.proofs.Straight.{Loads, loads-one, low-below}
+use Rattle.rv_select.proofs.Straight.{Loads}
 use Rattle.rv_select.proofs.Numbers.{constant-count, constant-loads, immediate-is}
 use Rattle.rv_select.proofs.Ways.{Way, at_pc, offset-is, stands-back, stands-front, step-way, straight-way, throw-step, way-both}
 

@@ -1,28 +1,21 @@
 -- Instructions at offsets of the frame.
-use Rattle.std.proofs.Common.{◌≡◌, ◌≢◌, ℕ, ◌+◌, ◌-◌, ◌*◌, ◌/◌, ◌%◌, ◌^◌, ◌<◌, ◌≤◌, Bool, true, false, List, [], ◌∷◌, ◌++◌, length, take, drop, Option, Some, None, refl, sym, ap, ◌∙◌, subst, ⊎_elim, arith}
-use Rattle.std.specs.Prelude.{if◌then◌else◌, nat_eq, nat_le}
+use Rattle.std.proofs.Common.{◌≡◌, ◌≢◌, ℕ, ◌+◌, ◌*◌, ◌%◌, ◌^◌, ◌<◌, ◌≤◌, Bool, true, false, List, [], ◌∷◌, ◌++◌, length, refl, sym, ap, ◌∙◌, subst, ⊎_elim, arith}
+use Rattle.std.specs.Prelude.{if◌then◌else◌, nat_le}
 use Rattle.std.proofs.lemmas.Bool.{cases_lt, le-leb, lt-leb}
-use Rattle.std.proofs.lemmas.List.{length-append}
 use Rattle.rv_isa.specs.declared.instr.Instr.{Instr}
-use Rattle.rv_isa.specs.declared.instr.Instr.TheVariants.{Lui, Load, Store, RegisterImmediate, RegisterRegister}
+use Rattle.rv_isa.specs.declared.instr.Instr.TheVariants.{Lui, RegisterImmediate, RegisterRegister}
 use Rattle.rv_isa.specs.declared.operation.ImmediateOp.TheVariants.{Addi}
 use Rattle.rv_isa.specs.declared.operation.RegisterOp.TheVariants.{Add}
-use Rattle.rv_isa.specs.declared.operation.LoadOp.{LoadOp}
-use Rattle.rv_isa.specs.declared.operation.StoreOp.{StoreOp}
 use Rattle.rv_isa.specs.declared.operand.Register.{Register}
 use Rattle.rv_isa.specs.declared.operand.Immediate.{Immediate}
-use Rattle.rv_machine.specs.declared.memory.Place.{Place}
-use Rattle.rv_machine.specs.declared.memory.Place.TheVariants.{Private}
-use Rattle.rv_machine.specs.Word.{low, word, extended_word, bytes_of}
-use Rattle.rv_machine.specs.Memory.{bytes_at, load_value, load_width, place_of, store_width, with_bytes}
-use Rattle.rv_machine.specs.Machine.{State, GoesOn, act, at_with, value_at, loads, loads_from, stores, stores_to}
-use Rattle.rv_operators.specs.Claims.{acts, then_on}
+use Rattle.rv_machine.specs.Word.{low, word, extended_word}
+use Rattle.rv_machine.specs.Machine.{State, GoesOn, act, at_with, value_at}
+use Rattle.rv_operators.specs.Claims.{acts}
 use Rattle.rv_operators.specs.Runs.{AreStraight}
-use Rattle.rv_operators.proofs.Runs.{straight-both}
 use Rattle.rv_select.specs.Numbers.{immediate_of, lower_of, upper_number, upper_of}
 use Rattle.rv_select.specs.Shapes.{framed, x2, x7}
-use Rattle.rv_select.proofs.Straight.{Scratch, Loads, loads-one, loads-both, loads-as, behind-both, goes-both, low-first, register-value, scratch-none, then-loads}
-use Rattle.rv_select.proofs.Numbers.{Parts, parts, extended-small, immediate-is, upper-is}
+use Rattle.rv_select.proofs.Straight.{Scratch, Loads, loads-one, loads-both, register-value, scratch-none, then-loads}
+use Rattle.rv_select.proofs.Numbers.{parts, extended-small, immediate-is, upper-is}
 
 -- Code that comes before an instruction with a register and an offset, and changes x7 alone.
 pub record Before (code : List Instr) (m after : State) : Type 0 where

@@ -1,29 +1,26 @@
 -- Words at homes.
-use Rattle.std.proofs.Common.{◌≡◌, ◌≢◌, ℕ, ◌+◌, ◌-◌, ◌*◌, ◌%◌, ◌^◌, ◌<◌, ◌≤◌, Bool, true, false, List, [], ◌∷◌, ◌++◌, length, take, drop, Option, Some, None, refl, sym, ap, ◌∙◌, subst, ⊎_elim, inl, inr, arith}
-use Rattle.std.specs.Prelude.{if◌then◌else◌, nat_eq, nat_le, slice_get, ◌⊎◌}
-use Rattle.std.proofs.lemmas.Bool.{cases_Bool, cases_lt, cases_eq}
+use Rattle.std.proofs.Common.{◌≡◌, ◌≢◌, ℕ, ◌+◌, ◌*◌, ◌^◌, ◌<◌, ◌≤◌, List, [], ◌∷◌, length, take, drop, refl, sym, ap, ◌∙◌, subst, ⊎_elim, inl, inr, arith}
+use Rattle.std.specs.Prelude.{◌⊎◌}
+use Rattle.std.proofs.lemmas.Bool.{cases_lt}
 use Rattle.rv_isa.specs.declared.instr.Instr.{Instr}
-use Rattle.rv_isa.specs.declared.instr.Instr.TheVariants.{Load, Store, RegisterImmediate}
-use Rattle.rv_isa.specs.declared.operation.ImmediateOp.TheVariants.{Addi}
+use Rattle.rv_isa.specs.declared.instr.Instr.TheVariants.{Load, Store}
 use Rattle.rv_isa.specs.declared.operation.LoadOp.TheVariants.{Ld}
 use Rattle.rv_isa.specs.declared.operation.StoreOp.TheVariants.{Sd}
 use Rattle.rv_isa.specs.declared.operand.Register.{Register}
-use Rattle.rv_isa.specs.declared.operand.Immediate.{Immediate}
 use Rattle.reg_alloc.specs.declared.assignment.Home.{Home}
 use Rattle.reg_alloc.specs.declared.assignment.Home.TheVariants as homes
-use Rattle.rv_machine.specs.Word.{low, word, number_of, bytes_of}
+use Rattle.rv_machine.specs.Word.{low, number_of, bytes_of}
 use Rattle.rv_machine.specs.Memory.{place_of, with_bytes}
 use Rattle.rv_machine.specs.Machine.{State, GoesOn, act, at_with, value_at, loads, loads_from, stores, stores_to}
 use Rattle.tac_form.specs.declared.tac.Operand.{Operand}
 use Rattle.tac_form.specs.declared.tac.Operand.TheVariants.{Temp, Constant}
-use Rattle.tac_form.specs.Flow.{Temps}
 use Rattle.rv_operators.specs.Claims.{acts, then_on}
-use Rattle.rv_operators.specs.Codes.{x0, x5, zero_immediate}
+use Rattle.rv_operators.specs.Codes.{x5}
 use Rattle.rv_operators.specs.Runs.{AreStraight}
 use Rattle.rv_operators.proofs.Runs.{straight-both}
-use Rattle.rv_select.specs.Places.{Layout, World, HasFrame, Holds, Housed, IsHome, IsRead, frame_bytes, home_of, private_word, slot_offset, uses, value_in, word_at}
+use Rattle.rv_select.specs.Places.{Layout, World, HasFrame, Holds, Housed, IsHome, IsRead, home_of, private_word, slot_offset, value_in, word_at}
 use Rattle.rv_select.specs.Numbers.{register_of}
-use Rattle.rv_select.specs.Shapes.{framed, moved, put_to, taken, taken_from}
+use Rattle.rv_select.specs.Shapes.{moved, put_to, taken, taken_from}
 use Rattle.rv_select.proofs.Bytes.{other-part, private-place, stored-length, stored-word}
 use Rattle.rv_select.proofs.Numbers.{constant-count, constant-loads, register-is}
 use Rattle.rv_select.proofs.Straight.{Loads, behind-both, goes-both, loads-one, low-first, low-small, register-value, written-elsewhere, written-there}

@@ -1,21 +1,20 @@
 -- Jumps from block to block.
-use Rattle.std.proofs.Common.{◌≡◌, ◌≢◌, ℕ, zero, suc, ◌+◌, ◌-◌, ◌*◌, ◌/◌, ◌%◌, ◌^◌, ◌<◌, ◌≤◌, Bool, true, false, not, List, [], ◌∷◌, ◌++◌, length, Option, Some, None, refl, sym, ap, ◌∙◌, subst, ⊎_elim, inl, inr, arith}
-use Rattle.std.specs.Prelude.{if◌then◌else◌, nat_eq, nat_le, ◌⊎◌}
-use Rattle.std.proofs.lemmas.Bool.{cases_lt, eq-eqb, ne_eqb, le-leb, lt-leb}
+use Rattle.std.proofs.Common.{◌≡◌, ℕ, suc, ◌+◌, ◌-◌, ◌*◌, ◌%◌, ◌^◌, ◌<◌, ◌≤◌, true, List, Option, refl, sym, ap, ◌∙◌, subst, ⊎_elim, arith}
+use Rattle.std.specs.Prelude.{if◌then◌else◌}
+use Rattle.std.proofs.lemmas.Bool.{cases_lt, le-leb, lt-leb}
 use Rattle.rv_isa.specs.declared.instr.Instr.{Instr}
-use Rattle.rv_isa.specs.declared.instr.Instr.TheVariants.{Auipc, Branch, Jalr}
-use Rattle.rv_isa.specs.declared.operation.BranchCondition.TheVariants.{Ne}
+use Rattle.rv_isa.specs.declared.instr.Instr.TheVariants.{Auipc, Jalr}
 use Rattle.rv_machine.specs.Word.{low, word, extended_word}
-use Rattle.rv_machine.specs.Machine.{State, GoesOn, act, at_with, jumps}
+use Rattle.rv_machine.specs.Machine.{State, at_with}
 use Rattle.terra_words.specs.Words.{wrapped}
 use Rattle.rv_operators.specs.Codes.{x0, x5}
 use Rattle.rv_operators.specs.Runs.{Stands}
 use Rattle.rv_operators.proofs.Values.{width, wrapped-32}
 use Rattle.rv_select.specs.Numbers.{below_zero, immediate_of, lower_of, upper_number, upper_of}
 use Rattle.rv_select.specs.Shapes.{distance, jump}
-use Rattle.rv_select.proofs.Straight.{low-below, written-elsewhere, written-there}
-use Rattle.rv_select.proofs.Numbers.{Parts, below-is, immediate-is, parts, upper-is}
-use Rattle.rv_select.proofs.Ways.{Near, Way, at_pc, near-both, near-pc, step-way, way-both}
+use Rattle.rv_select.proofs.Straight.{written-elsewhere}
+use Rattle.rv_select.proofs.Numbers.{below-is, immediate-is, parts, upper-is}
+use Rattle.rv_select.proofs.Ways.{Near, Way, step-way, way-both}
 
 -- the upper part, extended by its sign
 low-upper : (u : ℕ) → u < 2 ^ 19 → wrapped (width true 32) (u * 2 ^ 12) ≡ u * 2 ^ 12

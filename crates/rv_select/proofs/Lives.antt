@@ -1,20 +1,20 @@
 -- What is in use at an instruction and behind it.
-use Rattle.std.proofs.Common.{◌≡◌, ◌≢◌, ℕ, zero, suc, ◌+◌, ◌^◌, ◌<◌, ◌≤◌, Bool, true, false, not, ◌&&◌, ◌||◌, List, [], ◌∷◌, length, map, option_map, Option, Some, None, refl, sym, ap, ◌∙◌, subst, ⊎_elim, inl, inr, arith}
-use Rattle.std.specs.Prelude.{nat_eq, nat_le, nat_lt, slice_get, ◌⊎◌, IsTrue}
+use Rattle.std.proofs.Common.{◌≡◌, ℕ, zero, suc, Bool, true, false, not, ◌&&◌, ◌||◌, List, [], ◌∷◌, length, option_map, Option, Some, None, refl, sym, ap, ◌∙◌, subst, ⊎_elim, inl, inr}
+use Rattle.std.specs.Prelude.{nat_le, slice_get, ◌⊎◌}
 use Rattle.std.specs.List.{list_any}
-use Rattle.std.proofs.lemmas.Bool.{cases_Bool, cases_eq, eq-eqb, eqb-true, leb-true, ltb-true}
+use Rattle.std.proofs.lemmas.Bool.{cases_Bool, cases_eq, eq-eqb, leb-true, ltb-true}
 use Rattle.std.proofs.lemmas.Option.{slice_get-map}
 use Rattle.tac_form.specs.declared.tac.Instruction.{Instruction}
 use Rattle.tac_form.specs.declared.tac.Block.{Block}
 use Rattle.tac_form.specs.declared.tac.Tac.{Tac}
 use Rattle.tac_form.specs.declared.graph.Step.{Step}
 use Rattle.tac_form.specs.declared.graph.FlowBlock.{FlowBlock}
-use Rattle.tac_form.specs.Graph.{block_of, graph_of, instruction_reads, instruction_write, step_of, steps_of}
-use Rattle.tac_form.specs.Live.{InUse, IsLive, at_place, at_step, before_step, has, is_written, read_within, step_writes, written_in}
+use Rattle.tac_form.specs.Graph.{block_of, graph_of, step_of}
+use Rattle.tac_form.specs.Live.{InUse, IsLive, at_place, at_step, has, is_written, read_within, step_writes, written_in}
 use Rattle.reg_alloc.specs.declared.assignment.Home.{Home}
 use Rattle.reg_alloc.specs.declared.assignment.Home.TheVariants as homes
-use Rattle.reg_alloc.specs.Right.{IsRight, has_home, is_home, is_some_home}
-use Rattle.rv_select.specs.Places.{Housed, IsHome, Layout, home_of, is_register, layout_of, or_first, uses}
+use Rattle.reg_alloc.specs.Right.{IsRight, is_home, is_some_home}
+use Rattle.rv_select.specs.Places.{Housed, IsHome, is_register, layout_of, or_first}
 
 -- the step of an instruction in the flow graph
 pub step-in-graph : (code : Tac) (b : Block) (i : Instruction) (block at : ℕ) → slice_get code.blocks block ≡ Some b → slice_get b.instructions at ≡ Some i →

@@ -1,6 +1,6 @@
 -- Copies and operators.
-use Rattle.std.proofs.Common.{◌≡◌, ◌≢◌, ℕ, ◌+◌, ◌-◌, ◌*◌, ◌%◌, ◌^◌, ◌<◌, ◌≤◌, Bool, true, false, List, [], ◌∷◌, ◌++◌, length, take, drop, append_assoc, Option, Some, None, refl, sym, ap, ◌∙◌, subst, ⊎_elim, inl, inr, arith}
-use Rattle.std.specs.Prelude.{if◌then◌else◌, nat_eq, ◌⊎◌, IsTrue}
+use Rattle.std.proofs.Common.{◌≡◌, ◌≢◌, ℕ, ◌+◌, ◌*◌, ◌^◌, ◌<◌, ◌≤◌, true, false, List, [], ◌++◌, length, take, drop, append_assoc, Option, refl, sym, ap, ◌∙◌, subst, ⊎_elim, inl, inr, arith}
+use Rattle.std.specs.Prelude.{if◌then◌else◌, ◌⊎◌, IsTrue}
 use Rattle.std.proofs.lemmas.Bool.{cases_eq, eq-eqb, ne_eqb}
 use Rattle.std.proofs.lemmas.List.{length-append}
 use Rattle.rv_isa.specs.declared.instr.Instr.{Instr}
@@ -9,29 +9,28 @@ use Rattle.rv_isa.specs.declared.operation.StoreOp.TheVariants.{Sd}
 use Rattle.reg_alloc.specs.declared.assignment.Home.{Home}
 use Rattle.reg_alloc.specs.declared.assignment.Home.TheVariants as homes
 use Rattle.rv_machine.specs.Word.{low, number_of}
-use Rattle.rv_machine.specs.Machine.{State, GoesOn, run_of, after_output}
+use Rattle.rv_machine.specs.Machine.{State}
 use Rattle.terra_words.specs.declared.words.Width.{Width}
 use Rattle.terra_words.specs.declared.words.BinaryOperator.{BinaryOperator}
 use Rattle.terra_words.specs.Words.{applied, divides}
-use Rattle.tac_form.specs.declared.tac.Number.{Number}
 use Rattle.tac_form.specs.declared.tac.Size.{Size}
 use Rattle.tac_form.specs.declared.tac.Size.TheVariants.{One, Two, Four, Eight}
 use Rattle.tac_form.specs.declared.tac.Operand.{Operand}
 use Rattle.tac_form.specs.declared.tac.Operand.TheVariants.{Temp, Constant}
-use Rattle.tac_form.specs.Flow.{Temps, put, bytes_of, width_of}
-use Rattle.rv_operators.specs.Claims.{acts, then_on, Leads}
+use Rattle.tac_form.specs.Flow.{put, bytes_of, width_of}
+use Rattle.rv_operators.specs.Claims.{Leads}
 use Rattle.rv_operators.specs.Codes.{x5, x6, code_of, is_width}
-use Rattle.rv_operators.specs.Runs.{AreStraight, Stands}
+use Rattle.rv_operators.specs.Runs.{Stands}
 use Rattle.rv_operators.proofs.Operators.{computed as operator-computes}
 use Rattle.rv_operators.proofs.Short.{code-short}
-use Rattle.rv_select.specs.Places.{Layout, World, HasFrame, Holds, Housed, IsHome, IsRead, Keeps, area_offset, frame_bytes, home_of, is_lasting, private_word, slot_offset, uses, value_in, word_at}
-use Rattle.rv_select.specs.Shapes.{copied, computed, put_to, taken}
+use Rattle.rv_select.specs.Places.{Layout, World, Holds, Housed, IsHome, IsRead, Keeps, area_offset, frame_bytes, home_of, is_lasting, slot_offset, uses, value_in, word_at}
+use Rattle.rv_select.specs.Shapes.{computed, put_to, taken}
 use Rattle.rv_select.specs.Steps.{Comes, Follows, behind, with_temp}
 use Rattle.rv_select.proofs.Claims.{CopiesAreCarried, OperatorsAreCarried}
-use Rattle.rv_select.proofs.Straight.{Loads, Scratch, behind-both, goes-both, leads-scratch, loads-five, loads-six, low-below, scratch-both}
+use Rattle.rv_select.proofs.Straight.{Loads, Scratch, behind-both, leads-scratch, loads-five, loads-six, low-below, scratch-both}
 use Rattle.rv_select.proofs.Ways.{Near, Way, scratch-near, stands-back, stands-front, straight-way, way-both}
 use Rattle.rv_select.proofs.Frames.{framed-some}
-use Rattle.rv_select.proofs.Homes.{Puts, SameOutside, put-count, put-home, region-small, take-operand, taken-count}
+use Rattle.rv_select.proofs.Homes.{Puts, put-count, put-home, region-small, take-operand, taken-count}
 use Rattle.rv_select.proofs.Small.{applied-small}
 
 -- a word at a home depends on neither scratch registers nor the region

@@ -10,13 +10,13 @@ use Rattle.rv_isa.specs.declared.operation.ShiftOp.TheVariants.{Slli}
 use Rattle.rv_isa.specs.declared.operand.Register.{Register}
 use Rattle.rv_isa.specs.declared.operand.ShiftCount.{ShiftCount}
 use Rattle.rv_machine.specs.Word.{low, word, extended_word}
-use Rattle.rv_machine.specs.Machine.{State, GoesOn, act, at_with, value_at}
+use Rattle.rv_machine.specs.Machine.{State, GoesOn, at_with, value_at}
 use Rattle.rv_machine.specs.Arithmetic.{shifted_left}
 use Rattle.terra_words.specs.Words.{wrapped}
 use Rattle.rv_operators.specs.Codes.{x0}
 use Rattle.rv_operators.proofs.Values.{width, wrapped-32}
 use Rattle.rv_select.specs.Numbers.{register_if, register_of, immediate_if, immediate_of, below_zero_if, below_zero, lower_of, upper_number, upper_if, upper_of, short_constant, eleven, ten, moved_up, long_constant, constant}
-use Rattle.rv_select.proofs.Straight.{Loads, loads-one, loads-both, loads-as, loaded-value, low-small}
+use Rattle.rv_select.proofs.Straight.{Loads, loads-one, loads-both, loads-as, loaded-value}
 
 register-if : (n : ℕ) (b : Bool) (e : nat_le n 31 ≡ b) → b ≡ true → (register_if n b e).number ≡ n
 register-if n true e h = refl

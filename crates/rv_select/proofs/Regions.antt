@@ -1,33 +1,24 @@
 -- Loads from the region and stores to it.
-use Rattle.std.proofs.Common.{◌≡◌, ◌≢◌, ℕ, zero, suc, ◌+◌, ◌-◌, ◌*◌, ◌/◌, ◌%◌, ◌^◌, ◌<◌, ◌≤◌, Bool, true, false, not, List, [], ◌∷◌, ◌++◌, length, take, drop, Option, Some, None, refl, sym, ap, ◌∙◌, subst, ⊎_elim, inl, inr, arith}
-use Rattle.std.specs.Prelude.{if◌then◌else◌, nat_eq, nat_le, nat_lt, ◌⊎◌, ◌&&◌}
-use Rattle.std.proofs.lemmas.Bool.{cases_Bool, cases_lt, eq-eqb, ne_eqb, le-leb, lt-leb, le-ltb, lt-ltb}
-use Rattle.std.proofs.lemmas.List.{length-append, length-take, length-drop, length-take-le}
+use Rattle.std.proofs.Common.{◌≡◌, ℕ, zero, suc, ◌+◌, ◌-◌, ◌*◌, ◌^◌, ◌<◌, ◌≤◌, true, false, not, List, [], ◌∷◌, ◌++◌, length, take, drop, Option, Some, None, refl, sym, ap, ◌∙◌, subst, ⊎_elim, inl, inr, arith}
+use Rattle.std.specs.Prelude.{if◌then◌else◌, nat_le, nat_lt, ◌⊎◌, ◌&&◌}
+use Rattle.std.proofs.lemmas.Bool.{cases_lt, le-leb, lt-leb, le-ltb, lt-ltb}
+use Rattle.std.proofs.lemmas.List.{length-drop, length-take-le}
 use Rattle.tl_base.specs.declared.place.Place.{Place}
 use Rattle.rv_isa.specs.declared.instr.Instr.{Instr}
-use Rattle.rv_isa.specs.declared.instr.Instr.TheVariants.{Branch, Load, RegisterImmediate, Store}
+use Rattle.rv_isa.specs.declared.instr.Instr.TheVariants.{Branch, Load, RegisterImmediate}
 use Rattle.rv_isa.specs.declared.operation.ImmediateOp.TheVariants.{Addi}
 use Rattle.rv_isa.specs.declared.operation.BranchCondition.TheVariants.{Geu, Ltu}
-use Rattle.rv_machine.specs.declared.memory.Place as places
 use Rattle.rv_machine.specs.declared.memory.Place.TheVariants.{Region}
-use Rattle.rv_machine.specs.Word as words
-use Rattle.rv_machine.specs.Word.{low, word}
-use Rattle.rv_machine.specs.Memory.{load_value, load_width, offset_in, place_in, place_of, store_width, with_bytes}
-use Rattle.rv_machine.specs.Machine.{State, GoesOn, act, at_with, loads, loads_from, stores, stores_to}
-use Rattle.terra_memory.specs.Numbers.{low_bytes, number_of, overwritten, part}
-use Rattle.terra_memory.specs.Region.{Contents, IsLawful, end_address, first_address, is_inside, range_of}
-use Rattle.terra_memory.proofs.Bytes.{length-low_bytes}
-use Rattle.terra_memory.proofs.Overwriting.{length-overwritten}
-use Rattle.terra_memory.proofs.RegionLaws.{inside_parts}
+use Rattle.rv_machine.specs.Word.{low}
+use Rattle.rv_machine.specs.Memory.{load_value, load_width, offset_in, place_in, place_of}
+use Rattle.rv_machine.specs.Machine.{State, GoesOn, act, at_with, loads, loads_from}
+use Rattle.terra_memory.specs.Numbers.{number_of, part}
+use Rattle.terra_memory.specs.Region.{Contents, end_address, first_address, is_inside, range_of}
 use Rattle.terra_words.specs.declared.words.FaultKind.TheVariants.{BadAddress}
 use Rattle.terra_words.specs.Words.{wrapped}
-use Rattle.terra_words.specs.Runs.{put_bytes}
-use Rattle.tac_form.specs.declared.tac.Size.{Size}
 use Rattle.tac_form.specs.declared.tac.Number.{Number}
 use Rattle.tac_form.specs.declared.tac.Operand.{Operand}
-use Rattle.tac_form.specs.declared.tac.Address.{Address}
 use Rattle.tac_form.specs.declared.tac.Address.TheVariants.{Word, Frame}
-use Rattle.tac_form.specs.declared.tac.Spot.TheVariants as spots
 use Rattle.tac_form.specs.Flow.{bytes_of, width_of}
 use Rattle.rv_operators.specs.Codes.{x5, x6, zero_immediate}
 use Rattle.rv_operators.specs.Runs.{Stands}
@@ -35,15 +26,15 @@ use Rattle.rv_select.specs.Places.{AreBytes, World, Holds, Housed, IsRead, Layou
 use Rattle.rv_select.specs.Numbers.{below_zero}
 use Rattle.rv_select.specs.Shapes as shapes
 use Rattle.rv_select.specs.Shapes.{bounds_tested, failed, load_of, loaded, located, offset_of, over, put_to, reached, store_of, stored, taken, x4}
-use Rattle.rv_select.specs.Steps.{AreFewer, Comes, Ends, Follows, IsPlace, behind, with_temp}
-use Rattle.rv_select.proofs.Straight.{Loads, behind-both, loads-five, loads-six, low-below, low-small, written-elsewhere, written-there}
+use Rattle.rv_select.specs.Steps.{Comes, Ends, Follows, IsPlace, behind, with_temp}
+use Rattle.rv_select.proofs.Straight.{Loads, behind-both, loads-five, low-below, low-small, written-elsewhere, written-there}
 use Rattle.rv_select.proofs.Numbers.{below-is}
 use Rattle.rv_select.proofs.Ways.{Near, Way, at_pc, near-both, near-pc, scratch-near, stands-back, stands-front, step-way, straight-way, way-both}
 use Rattle.rv_select.proofs.Homes.{take-operand, taken-count}
-use Rattle.rv_select.proofs.Words.{bytes-same, load-bytes, load-is, low-are-bytes, overwritten-bytes, size-range, store-bytes, take-bytes, drop-bytes}
-use Rattle.rv_select.proofs.Claims.{IsReached, RegionLoadsAreCarried, RegionStoresAreCarried, address_in, with_region}
+use Rattle.rv_select.proofs.Words.{load-bytes, load-is, size-range, take-bytes, drop-bytes}
+use Rattle.rv_select.proofs.Claims.{RegionLoadsAreCarried}
 use Rattle.rv_select.proofs.Small.{wrapped-small}
-use Rattle.rv_select.proofs.Moves.{near-holds, near-keeps, then-put, value-small, fewer-holds, wide-size}
+use Rattle.rv_select.proofs.Moves.{then-put, value-small, wide-size}
 use Rattle.rv_select.proofs.Faults.{branch-way, failed-count, fails, later-ends}
 use Rattle.rv_select.proofs.Divisors.{located-count, located-loads}
 

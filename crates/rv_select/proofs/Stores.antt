@@ -1,11 +1,9 @@
 -- Stores to the region.
-use Rattle.std.proofs.Common.{◌≡◌, ◌≢◌, ℕ, zero, suc, ◌+◌, ◌-◌, ◌*◌, ◌/◌, ◌%◌, ◌^◌, ◌<◌, ◌≤◌, Bool, true, false, not, List, [], ◌∷◌, ◌++◌, length, take, drop, append_assoc, Option, Some, None, refl, sym, ap, ◌∙◌, subst, ⊎_elim, inl, inr, arith}
+use Rattle.std.proofs.Common.{◌≡◌, ℕ, ◌+◌, ◌-◌, ◌*◌, ◌/◌, ◌%◌, ◌^◌, ◌<◌, ◌≤◌, List, [], ◌∷◌, ◌++◌, length, Option, Some, None, refl, sym, ap, ◌∙◌, subst, ⊎_elim, arith}
 use Rattle.std.specs.Prelude.{if◌then◌else◌, ◌⊎◌}
-use Rattle.std.proofs.lemmas.List.{length-append}
 use Rattle.tl_base.specs.declared.place.Place.{Place}
 use Rattle.rv_isa.specs.declared.instr.Instr.{Instr}
 use Rattle.rv_isa.specs.declared.instr.Instr.TheVariants.{Store}
-use Rattle.rv_machine.specs.declared.memory.Place.TheVariants.{Region}
 use Rattle.rv_machine.specs.Word as words
 use Rattle.rv_machine.specs.Word.{low}
 use Rattle.rv_machine.specs.Memory.{place_of, store_width, with_bytes}
@@ -18,24 +16,22 @@ use Rattle.terra_words.specs.declared.words.FaultKind.TheVariants.{BadAddress}
 use Rattle.terra_words.specs.Runs.{put_bytes}
 use Rattle.tac_form.specs.declared.tac.Size.{Size}
 use Rattle.tac_form.specs.declared.tac.Operand.{Operand}
-use Rattle.tac_form.specs.declared.tac.Address.{Address}
 use Rattle.tac_form.specs.declared.tac.Address.TheVariants.{Word, Frame}
-use Rattle.tac_form.specs.declared.tac.Spot.TheVariants as spots
 use Rattle.tac_form.specs.Flow.{bytes_of}
 use Rattle.rv_operators.specs.Codes.{x5, x6, zero_immediate}
 use Rattle.rv_operators.specs.Runs.{Stands}
 use Rattle.reg_alloc.specs.declared.assignment.Home.{Home}
 use Rattle.reg_alloc.specs.declared.assignment.Home.TheVariants as homes
 use Rattle.rv_select.specs.Places.{AreBytes, World, Holds, Housed, IsRead, Keeps, Layout, home_of, value_in, word_at}
-use Rattle.rv_select.specs.Shapes.{bounds_tested, located, reached, store_of, stored, taken}
-use Rattle.rv_select.specs.Steps.{AreFewer, Comes, Ends, IsPlace, behind}
+use Rattle.rv_select.specs.Shapes.{bounds_tested, located, store_of, taken}
+use Rattle.rv_select.specs.Steps.{AreFewer, Comes, Ends, behind}
 use Rattle.rv_select.proofs.Straight.{Loads, behind-both, loads-six, low-below, low-first, low-small}
 use Rattle.rv_select.proofs.Bytes.{with-is}
 use Rattle.rv_select.proofs.Ways.{Near, Way, near-both, scratch-near, stands-back, stands-front, step-way, straight-way, way-both}
 use Rattle.rv_select.proofs.Homes.{take-operand, taken-count}
 use Rattle.rv_select.proofs.Words.{bytes-same, low-are-bytes, overwritten-bytes, size-range, store-bytes}
-use Rattle.rv_select.proofs.Claims.{IsReached, RegionStoresAreCarried, address_in, with_region}
-use Rattle.rv_select.proofs.Moves.{fewer-holds, near-holds, near-keeps, value-small}
+use Rattle.rv_select.proofs.Claims.{RegionStoresAreCarried, with_region}
+use Rattle.rv_select.proofs.Moves.{near-holds, near-keeps, value-small}
 use Rattle.rv_select.proofs.Regions.{Reached, end-small, frame-reached, inside-true, insides, low-enough, outside-false, region-place, weaker, weaker-ends, word-inside, word-outside}
 
 -- the region after a store

@@ -1,18 +1,16 @@
 -- Ways of the machine's run, and what states on them share.
-use Rattle.std.proofs.Common.{◌≡◌, ◌≢◌, ℕ, suc, ◌+◌, ◌-◌, ◌*◌, ◌%◌, ◌^◌, ◌<◌, ◌≤◌, Bool, true, false, pos, List, [], ◌∷◌, ◌++◌, length, Option, Some, refl, sym, ap, ◌∙◌, subst, arith}
+use Rattle.std.proofs.Common.{◌≡◌, ◌≢◌, ℕ, suc, ◌+◌, ◌*◌, ◌%◌, ◌^◌, ◌<◌, ◌≤◌, Bool, true, false, pos, List, [], ◌∷◌, ◌++◌, length, Option, Some, refl, sym, ap, ◌∙◌, subst, arith}
 use Rattle.std.specs.Prelude.{if◌then◌else◌, nat_eq, nat_le}
 use Rattle.std.proofs.lemmas.Bool.{ne_eqb, le-leb, eq-eqb}
-use Rattle.std.proofs.lemmas.List.{length-append}
 use Rattle.rv_isa.specs.declared.instr.Instr.{Instr}
-use Rattle.rv_isa.specs.declared.operand.BranchOffset.{BranchOffset}
 use Rattle.rv_machine.specs.declared.stops.Stop.TheVariants.{Returned, TerraFault}
 use Rattle.rv_machine.specs.Word.{low, word}
-use Rattle.rv_machine.specs.Machine.{State, GoesOn, Throws, Writes, act, after_output, after_step, branches, fetch, goes_to, obeys, run_of, stands, step}
+use Rattle.rv_machine.specs.Machine.{State, GoesOn, Throws, act, after_step, fetch, obeys, run_of, stands, step}
 use Rattle.rv_operators.specs.Claims.{acts}
 use Rattle.rv_operators.specs.Runs.{AreStraight, Stands}
 use Rattle.rv_operators.proofs.Runs.{not-zero, one-step, straight-runs}
 use Rattle.rv_select.specs.Shapes.{offset_if, offset_of}
-use Rattle.rv_select.proofs.Straight.{Loads, Scratch}
+use Rattle.rv_select.proofs.Straight.{Scratch}
 
 -- In so many steps the run comes from one state to another, and writes nothing.
 pub record Way (program : List (Option Instr)) (steps : ℕ) (m n : State) : Type 0 where

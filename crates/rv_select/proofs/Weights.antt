@@ -1,25 +1,20 @@
 -- The code of an instruction keeps within its weight.
-use Rattle.std.proofs.Common.{ℕ, ◌+◌, ◌*◌, ◌≤◌, Bool, true, false, List, [], ◌∷◌, ◌++◌, length, arith}
-use Rattle.std.specs.Prelude.{IsTrue}
+use Rattle.std.proofs.Common.{ℕ, ◌+◌, ◌≤◌, List, [], ◌∷◌, ◌++◌, length, arith}
 use Rattle.std.proofs.lemmas.List.{length-append}
 use Rattle.tl_base.specs.declared.place.Place.{Place}
 use Rattle.rv_isa.specs.declared.instr.Instr.{Instr}
 use Rattle.rv_isa.specs.declared.instr.Instr.TheVariants as instrs
-use Rattle.rv_isa.specs.declared.operation.BranchCondition.TheVariants.{Geu, Ltu, Ne}
-use Rattle.rv_isa.specs.declared.operation.ImmediateOp.TheVariants.{Addi}
+use Rattle.rv_isa.specs.declared.operation.BranchCondition.TheVariants.{Ne}
 use Rattle.terra_words.specs.declared.words.FaultKind.TheVariants.{BadAddress, DivZero}
 use Rattle.tac_form.specs.declared.tac.Operand.{Operand}
-use Rattle.tac_form.specs.declared.tac.Address.{Address}
 use Rattle.tac_form.specs.declared.tac.Address.TheVariants.{Word, Frame}
 use Rattle.tac_form.specs.declared.tac.Spot.TheVariants as spots
-use Rattle.tac_form.specs.declared.tac.Instruction.{Instruction}
 use Rattle.tac_form.specs.declared.tac.Instruction.TheVariants.{Alloc, Call, CallValue, Clear, Compute, Copy, Load, Locate, Move, PutByte, Store, TestDivisor, Write}
 use Rattle.tac_form.specs.Flow.{bytes_of, width_of}
-use Rattle.tac_form.specs.Weights.{words_of}
 use Rattle.rv_operators.specs.Codes.{x0, x5, x6, code_of, zero_immediate}
 use Rattle.rv_operators.proofs.Short.{code-short}
 use Rattle.rv_select.specs.Places.{Layout, home_of}
-use Rattle.rv_select.specs.Shapes.{bounds_tested, failed, has_shape, load_of, located, over, put_to, reached, shape_of, store_of, taken}
+use Rattle.rv_select.specs.Shapes.{bounds_tested, failed, load_of, located, over, put_to, reached, store_of, taken}
 use Rattle.rv_select.specs.Steps.{ShapesKeepWithin}
 use Rattle.rv_select.proofs.Homes.{put-count, taken-count}
 use Rattle.rv_select.proofs.Faults.{failed-count}

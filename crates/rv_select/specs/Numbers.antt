@@ -1,5 +1,5 @@
 -- Numbers as operands of instructions, and the code that loads one of 64 bits.
-use Rattle.std.specs.Prelude.{◌≡◌, ℕ, ◌+◌, ◌-◌, ◌*◌, ◌/◌, ◌%◌, ◌^◌, pos, negsuc, Bool, true, false, nat_eq, nat_le, nat_lt, if◌then◌else◌, List, [], ◌∷◌, ◌++◌}
+use Rattle.std.specs.Prelude.{◌≡◌, ℕ, ◌+◌, ◌-◌, ◌/◌, ◌%◌, ◌^◌, pos, negsuc, Bool, true, false, nat_eq, nat_le, nat_lt, if◌then◌else◌, List, [], ◌∷◌, ◌++◌}
 use Rattle.std.proofs.Common.{lit≤, lit<, subst, sym, refl, ltb→lt}
 use lib.Dec.{T, leb→le}
 use Rattle.rv_isa.specs.declared.instr.Instr.{Instr}
