@@ -255,10 +255,15 @@ abbrev pub write_call : List Instr
 write_call =
     RegisterImmediate Addi x10 x0 (immediate_of 1) ∷ RegisterImmediate Addi x17 x0 (immediate_of 64) ∷ Ecall ∷ []
 
+-- a register gets an operand whose low byte alone matters
+abbrev pub byte_taken : Layout → Register → Operand → List Instr
+byte_taken y d (Temp t) = taken y d (Temp t)
+byte_taken y d (Constant c) = constant d (c % 256)
+
 -- One byte is written from the word of the return address, which x6 keeps meanwhile.
 abbrev pub byte_put : Layout → Operand → List Instr
 byte_put y a =
-    taken y x5 a
+    byte_taken y x5 a
     ++ (Load Ld x6 x2 zero_immediate
     ∷ Store Sb x2 x5 zero_immediate
     ∷ moved x11 x2
