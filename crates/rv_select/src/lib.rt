@@ -13,3 +13,6 @@ mod operands;
 
 pub use instructions::push_instruction;
 pub use law::{exits_are_carried, instructions_are_carried, shapes_keep_within};
+
+#[cfg(test)]
+mod tests;
