@@ -9,8 +9,9 @@ use Rattle.rv_isa.specs.declared.operation.StoreOp.TheVariants.{Sd}
 use Rattle.rv_isa.specs.declared.operand.Register.{Register}
 use Rattle.reg_alloc.specs.declared.assignment.Home.{Home}
 use Rattle.reg_alloc.specs.declared.assignment.Home.TheVariants as homes
-use Rattle.rv_machine.specs.Word.{low, number_of, bytes_of}
-use Rattle.rv_machine.specs.Memory.{place_of, with_bytes}
+use Rattle.terra_memory.specs.Numbers.{low_bytes, number_of, overwritten}
+use Rattle.rv_machine.specs.Word.{low}
+use Rattle.rv_machine.specs.Memory.{place_of}
 use Rattle.rv_machine.specs.Machine.{State, GoesOn, act, at_with, value_at, loads, loads_from, stores, stores_to}
 use Rattle.tac_form.specs.declared.tac.Operand.{Operand}
 use Rattle.tac_form.specs.declared.tac.Operand.TheVariants.{Temp, Constant}
@@ -21,7 +22,7 @@ use Rattle.rv_operators.proofs.Runs.{straight-both}
 use Rattle.rv_select.specs.Places.{Layout, World, HasFrame, Holds, Housed, IsHome, IsRead, home_of, private_word, slot_offset, value_in, word_at}
 use Rattle.rv_select.specs.Numbers.{register_of}
 use Rattle.rv_select.specs.Shapes.{moved, put_to, taken, taken_from}
-use Rattle.rv_select.proofs.Bytes.{other-part, private-place, stored-length, stored-word}
+use Rattle.rv_select.proofs.Bytes.{other-than-word, private-place, stored-length, stored-word}
 use Rattle.rv_select.proofs.Numbers.{constant-count, constant-loads, register-is}
 use Rattle.rv_select.proofs.Straight.{Loads, behind-both, goes-both, loads-one, low-first, low-small, register-value, written-elsewhere, written-there}
 use Rattle.rv_select.proofs.Frames.{Reach, framed-count, framed-loads, reach}
@@ -130,7 +131,7 @@ to-register y base x m l u s =
 -- a state in which a word was stored in private memory
 abbrev pub word_stored : State → ℕ → ℕ → State
 word_stored s at x =
-    record { pc = low (s.pc + 4); registers = s.registers; region = s.region; private = with_bytes s.private at (bytes_of 8 x) }
+    record { pc = low (s.pc + 4); registers = s.registers; region = s.region; private = overwritten s.private at (low_bytes 8 x) }
 
 to-slot : (y : Layout) (base k : ℕ) (m : State) → m.pc < 2 ^ 64 → HasFrame y base m → length m.region ≤ 67108864 → k < length y.homes → m.registers 5 < 2 ^ 64 →
     Puts y base (put_to (homes.Slot k)) m (homes.Slot k)
@@ -142,9 +143,9 @@ to-slot y base k m p f g h s =
     let after : State = word_stored x.at at (x.at.registers 5) in
     let e : act (Store Sd x.register x5 x.far) x.at ≡ GoesOn after =
     ap (λ a. stores x.at Sd a (x.at.registers 5)) (x.address ∙ frame-sum (m.registers 2) base (slot_offset k) (length m.private) f.pointer room f.private)
-    ∙ (ap (λ z. stores_to x.at (bytes_of 8 (x.at.registers 5)) (place_of (length z) (length x.at.private) (2 ^ 32 + at) 8)) x.before.region
-    ∙ (ap (λ z. stores_to x.at (bytes_of 8 (x.at.registers 5)) (place_of (length m.region) (length z) (2 ^ 32 + at) 8)) x.before.private
-    ∙ ap (λ z. stores_to x.at (bytes_of 8 (x.at.registers 5)) z) (private-place (length m.region) (length m.private) at g room))) in
+    ∙ (ap (λ z. stores_to x.at (low_bytes 8 (x.at.registers 5)) (place_of (length z) (length x.at.private) (2 ^ 32 + at) 8)) x.before.region
+    ∙ (ap (λ z. stores_to x.at (low_bytes 8 (x.at.registers 5)) (place_of (length m.region) (length z) (2 ^ 32 + at) 8)) x.before.private
+    ∙ ap (λ z. stores_to x.at (low_bytes 8 (x.at.registers 5)) z) (private-place (length m.region) (length m.private) at g room))) in
     let here : at + 8 ≤ length x.at.private = subst (λ z. at + 8 ≤ length z) (sym x.before.private) room in
     subst (λ code. Puts y base code m (homes.Slot k)) (sym x.code)
     (record {
@@ -158,7 +159,7 @@ to-slot y base k m p f g h s =
       memory = record {
         long = stored-length x.at.private at (x.at.registers 5) here ∙ ap length x.before.private;
         outside = λ a n o.
-            other-part x.at.private (bytes_of 8 (x.at.registers 5)) at a n (omega (arith, here))
+            other-than-word x.at.private at (x.at.registers 5) a n (omega (arith, here))
             (⊎_elim (λ l. inl (omega (arith, l))) (λ l. inr (omega (arith, l, h))) o)
             ∙ ap (λ z. take n (drop a z)) x.before.private;
       };
@@ -171,7 +172,7 @@ to-slot y base k m p f g h s =
     elsewhere n keeps same here (homes.Register z) i o = keeps z (λ q. omega (arith, q, i.0))
     elsewhere n keeps same here (homes.Slot j) i o =
         ap number_of
-        (other-part n.private (bytes_of 8 (n.registers 5)) (base + slot_offset k) (base + slot_offset j) 8 (omega (arith, here))
+        (other-than-word n.private (base + slot_offset k) (n.registers 5) (base + slot_offset j) 8 (omega (arith, here))
         (⊎_elim (λ l. inl (omega (arith, l))) (λ l. inr (omega (arith, l, apart j o))) (cases_lt j k))
         ∙ ap (λ z. take 8 (drop (base + slot_offset j) z)) same)
       where

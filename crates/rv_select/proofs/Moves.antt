@@ -8,7 +8,8 @@ use Rattle.rv_isa.specs.declared.instr.Instr.TheVariants.{Store}
 use Rattle.rv_isa.specs.declared.operation.StoreOp.TheVariants.{Sd}
 use Rattle.reg_alloc.specs.declared.assignment.Home.{Home}
 use Rattle.reg_alloc.specs.declared.assignment.Home.TheVariants as homes
-use Rattle.rv_machine.specs.Word.{low, number_of}
+use Rattle.terra_memory.specs.Numbers.{number_of}
+use Rattle.rv_machine.specs.Word.{low}
 use Rattle.rv_machine.specs.Machine.{State}
 use Rattle.terra_words.specs.declared.words.Width.{Width}
 use Rattle.terra_words.specs.declared.words.BinaryOperator.{BinaryOperator}

@@ -4,9 +4,8 @@ use Rattle.std.specs.Prelude.{if◌then◌else◌, ◌⊎◌}
 use Rattle.tl_base.specs.declared.place.Place.{Place}
 use Rattle.rv_isa.specs.declared.instr.Instr.{Instr}
 use Rattle.rv_isa.specs.declared.instr.Instr.TheVariants.{Store}
-use Rattle.rv_machine.specs.Word as words
 use Rattle.rv_machine.specs.Word.{low}
-use Rattle.rv_machine.specs.Memory.{place_of, store_width, with_bytes}
+use Rattle.rv_machine.specs.Memory.{place_of, store_width}
 use Rattle.rv_machine.specs.Machine.{State, GoesOn, act, stores, stores_to}
 use Rattle.terra_memory.specs.Numbers.{low_bytes, overwritten}
 use Rattle.terra_memory.specs.Region.{Contents, IsLawful, end_address, first_address, is_inside}
@@ -26,10 +25,9 @@ use Rattle.rv_select.specs.Places.{AreBytes, World, Holds, Housed, IsRead, Keeps
 use Rattle.rv_select.specs.Shapes.{bounds_tested, located, store_of, taken}
 use Rattle.rv_select.specs.Steps.{AreFewer, Comes, Ends, behind}
 use Rattle.rv_select.proofs.Straight.{Loads, behind-both, loads-six, low-below, low-first, low-small}
-use Rattle.rv_select.proofs.Bytes.{with-is}
 use Rattle.rv_select.proofs.Ways.{Near, Way, near-both, scratch-near, stands-back, stands-front, step-way, straight-way, way-both}
 use Rattle.rv_select.proofs.Homes.{take-operand, taken-count}
-use Rattle.rv_select.proofs.Words.{bytes-same, low-are-bytes, overwritten-bytes, size-range, store-bytes}
+use Rattle.rv_select.proofs.Words.{low-are-bytes, overwritten-bytes, size-range, store-bytes}
 use Rattle.rv_select.proofs.Claims.{RegionStoresAreCarried, with_region}
 use Rattle.rv_select.proofs.Moves.{near-holds, near-keeps, value-small}
 use Rattle.rv_select.proofs.Regions.{Reached, end-small, frame-reached, inside-true, insides, low-enough, outside-false, region-place, weaker, weaker-ends, word-inside, word-outside}
@@ -82,18 +80,18 @@ region-holds y Used Next w base t bytes r p f c e g are = record {
 -- the store, once the address stands in x5 and the word in x6
 store-act : (t : State) (r : Contents) (size : Size) (a v : ℕ) → t.region ≡ r.bytes → t.registers 5 ≡ a → t.registers 6 ≡ v → a < 2 ^ 64 → first_address ≤ a →
     a + bytes_of size ≤ end_address r →
-    act (Store (store_of size) x5 x6 zero_immediate) t ≡ GoesOn (with-bytes-there t (with_bytes r.bytes (a - 2 ^ 30) (words.bytes_of (bytes_of size) v)))
+    act (Store (store_of size) x5 x6 zero_immediate) t ≡ GoesOn (with-bytes-there t (overwritten r.bytes (a - 2 ^ 30) (low_bytes (bytes_of size) v)))
 store-act t r size a v e f g small h k =
     let op = store_of size in
     let zero-sum : a + 0 ≡ a = omega arith in
     let address : low (t.registers 5 + 0) ≡ a = ap (λ x. low (x + 0)) f ∙ (ap low zero-sum ∙ low-small a small) in
     let width : store_width op ≡ bytes_of size = store-bytes size in
     ap (λ x. stores t op x (t.registers 6)) address
-    ∙ (ap (λ x. stores_to t (words.bytes_of x (t.registers 6)) (place_of (length t.region) (length t.private) a x)) width
-    ∙ (ap (λ x. stores_to t (words.bytes_of (bytes_of size) x) (place_of (length t.region) (length t.private) a (bytes_of size))) g
-    ∙ (ap (λ x. stores_to t (words.bytes_of (bytes_of size) v) (place_of (length x) (length t.private) a (bytes_of size))) e
-    ∙ (ap (λ x. stores_to t (words.bytes_of (bytes_of size) v) x) (region-place (length r.bytes) (length t.private) a (bytes_of size) h k)
-    ∙ ap (λ x. GoesOn (with-bytes-there t (with_bytes x (a - 2 ^ 30) (words.bytes_of (bytes_of size) v)))) e))))
+    ∙ (ap (λ x. stores_to t (low_bytes x (t.registers 6)) (place_of (length t.region) (length t.private) a x)) width
+    ∙ (ap (λ x. stores_to t (low_bytes (bytes_of size) x) (place_of (length t.region) (length t.private) a (bytes_of size))) g
+    ∙ (ap (λ x. stores_to t (low_bytes (bytes_of size) v) (place_of (length x) (length t.private) a (bytes_of size))) e
+    ∙ (ap (λ x. stores_to t (low_bytes (bytes_of size) v) x) (region-place (length r.bytes) (length t.private) a (bytes_of size) h k)
+    ∙ ap (λ x. GoesOn (with-bytes-there t (overwritten x (a - 2 ^ 30) (low_bytes (bytes_of size) v)))) e))))
 
 pc-more : (p n : ℕ) → low (low (p + 4 * n) + 4) ≡ low (p + 4 * (n + 1))
 unfolding low
@@ -122,9 +120,8 @@ store-ends y size b Used Next w base most a code program m r p h f rb small low-
     let s : Holds y Used w base t = near-holds y Used w base n t q h near pc-t in
     let bs : List ℕ = low_bytes (bytes_of size) v in
     let count : length bs ≡ bytes_of size = length-low_bytes (bytes_of size) v in
-    let new : List ℕ = with_bytes w.region.bytes (a - 2 ^ 30) (words.bytes_of (bytes_of size) v) in
-    let is : new ≡ overwritten w.region.bytes (a - first_address) bs =
-    with-is w.region.bytes (words.bytes_of (bytes_of size) v) (a - 2 ^ 30) ∙ ap (λ z. overwritten w.region.bytes (a - first_address) z) (bytes-same (bytes_of size) v) in
+    let new : List ℕ = overwritten w.region.bytes (a - first_address) bs in
+    let is : new ≡ overwritten w.region.bytes (a - first_address) bs = refl in
     let z : State = with-bytes-there t new in
     let all : Near m t = near-both m n t r.near near in
     let k : Keeps y base m t = near-keeps y base m t all in

@@ -5,8 +5,7 @@ use Rattle.std.specs.Int.{w8, w16, w32, cast_signed}
 use Rattle.std.proofs.lemmas.Bool.{cases_lt, le-leb, lt-leb}
 use Rattle.std.proofs.lemmas.Int.{to_z_pos}
 use mir.Facts.{to_z-neg}
-use Rattle.terra_memory.specs.Numbers as numbers
-use Rattle.terra_memory.specs.Numbers.{low_bytes, overwritten}
+use Rattle.terra_memory.specs.Numbers.{low_bytes, number_of, overwritten}
 use Rattle.terra_words.specs.declared.words.Width.{Width}
 use Rattle.terra_words.specs.Words.{wrapped}
 use Rattle.tac_form.specs.declared.tac.Size.{Size}
@@ -14,20 +13,10 @@ use Rattle.tac_form.specs.declared.tac.Size.TheVariants.{One, Two, Four, Eight}
 use Rattle.tac_form.specs.declared.tac.Number.{Number}
 use Rattle.tac_form.specs.Flow as flow
 use Rattle.tac_form.specs.Flow.{width_of}
-use Rattle.rv_machine.specs.Word.{number_of, bytes_of, word}
+use Rattle.rv_machine.specs.Word.{word}
 use Rattle.rv_machine.specs.Memory.{load_value, load_width, store_width}
 use Rattle.rv_select.specs.Places.{AreBytes}
 use Rattle.rv_select.specs.Shapes.{load_of, store_of}
-
-pub number-same : (bs : List ℕ) → number_of bs ≡ numbers.number_of bs
-unfolding numbers.number_of
-number-same [] = refl
-number-same (b ∷ bs) = ap (λ n. b + 256 * n) (number-same bs)
-
-pub bytes-same : (n v : ℕ) → bytes_of n v ≡ low_bytes n v
-unfolding low_bytes
-bytes-same zero v = refl
-bytes-same (suc n) v = ap (λ bs. v % 256 ∷ bs) (bytes-same n (v / 256))
 
 -- bytes are below 256
 pub take-bytes : (n : ℕ) (xs : List ℕ) → AreBytes xs → AreBytes (take n xs)
@@ -58,6 +47,7 @@ limit zero = 1
 limit (suc n) = 256 * limit n
 
 pub number-below : (bs : List ℕ) → AreBytes bs → number_of bs < limit (length bs)
+unfolding number_of
 number-below [] h = omega arith
 number-below (b ∷ bs) h = let k : number_of bs < limit (length bs) = number-below bs h.1 in omega (arith, h.0)
 
@@ -141,8 +131,8 @@ value-is false Four bs h e = plain-32 (number_of bs) (below-limit bs 4 h e)
 value-is false Eight bs h e = plain-64 false (number_of bs) (below-limit bs 8 h e)
 
 pub load-is : (form : Number) (bs : List ℕ) → AreBytes bs → length bs ≡ flow.bytes_of form.size →
-    load_value (load_of form.signed form.size) bs ≡ wrapped (width_of form) (numbers.number_of bs)
-load-is form bs h e = value-is form.signed form.size bs h e ∙ ap (wrapped (width_of form)) (number-same bs)
+    load_value (load_of form.signed form.size) bs ≡ wrapped (width_of form) (number_of bs)
+load-is form bs h e = value-is form.signed form.size bs h e
 
 -- how many bytes these are
 pub load-bytes : (sg : Bool) (z : Size) → load_width (load_of sg z) ≡ flow.bytes_of z

@@ -11,7 +11,7 @@ use Rattle.std.specs.Prelude.{◌≡◌, ℕ, ◌+◌, ◌*◌, ◌^◌, ◌<◌
 use Rattle.std.specs.List.{list_any}
 use Rattle.reg_alloc.specs.declared.assignment.Home.{Home}
 use Rattle.reg_alloc.specs.declared.assignment.Home.TheVariants.{Register, Slot}
-use Rattle.rv_machine.specs.Word.{number_of}
+use Rattle.terra_memory.specs.Numbers.{number_of}
 use Rattle.rv_machine.specs.Machine.{State}
 use Rattle.terra_memory.specs.Region.{Contents, IsLawful, end_address, heap_limit}
 use Rattle.tac_form.specs.declared.tac.Operand.{Operand}
