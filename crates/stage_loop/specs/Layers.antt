@@ -1,13 +1,10 @@
 -- The layers as one stage: how Lua code stands in it, and what each question means.
 use Rattle.std.specs.Prelude.{◌≡◌, [], false, refl}
-use Rattle.tl_base.specs.Layer.{State, Seen, Ended, SpentAt, Meaning}
+use Rattle.tl_base.specs.Layer.{Ended, Meaning}
 use Rattle.stage_form.specs.Stage.{Stage}
 use Rattle.stage_form.specs.Within.{Fitting, within}
 use Rattle.tl_tree.specs.Code.{Items}
 use Rattle.lua_table.specs.LuaState.{LuaState}
-use Rattle.lua_table.specs.declared.call.LibCall.{LibCall}
-use Rattle.lua_table.specs.declared.call.LibTurn.{LibTurn}
-use Rattle.lua_table.specs.declared.call.LibTurn.TheVariants as turns
 use Rattle.lua_model.specs.declared.end.LuaEnd.{LuaEnd}
 use Rattle.lua_model.specs.declared.end.LuaEnd.TheVariants.{Done, Raised}
 use Rattle.lua_model.specs.declared.question.LuaQuestion.{LuaQuestion}
@@ -15,9 +12,9 @@ use Rattle.lua_model.specs.declared.question.LuaQuestion.TheVariants as question
 use Rattle.lua_model.specs.declared.question.LuaAnswer.{LuaAnswer}
 use Rattle.lua_model.specs.declared.question.LuaAnswer.TheVariants as answers
 use Rattle.lua_model.specs.Meaning.{LuaGiven, lua}
-use Rattle.lua_base.specs.Calls.{called}
 use Rattle.lua_eval.specs.Frames.{is_go}
 use Rattle.lua_eval.specs.Rest.{lua_rest, LuaFits}
+use Rattle.stage_loop.specs.Library.{library, library_rest}
 use Rattle.stage_loop.specs.declared.staged.Task.{Task}
 use Rattle.stage_loop.specs.declared.staged.Task.TheVariants.{Evaluate, Library, Specialise}
 use Rattle.stage_loop.specs.declared.staged.Staged.{Staged}
@@ -31,20 +28,6 @@ task_of (questions.Specialise n env) = Specialise
 -- Lua code has the whole world
 abbrev pub lua_fitting : Fitting LuaState LuaState LuaQuestion Task LuaAnswer LuaAnswer LuaEnd LuaEnd
 lua_fitting = record { part = λ w. w; with_part = λ w p. p; question = task_of; answer = λ a. a; end = λ e. e }
-
--- what shows of an answer of the library. No function that is there asks
-abbrev pub seen_of : LibTurn → State LuaState → Seen LuaState Task LuaEnd
-seen_of (turns.Values vs) s = Ended (Done vs) s
-seen_of (turns.Raise v place) s = Ended (Raised v place) s
-seen_of turns.Spent s = SpentAt s
-seen_of (turns.CallBack f vs next) s = Ended (Done []) s
-seen_of (turns.Check f next) s = Ended (Done []) s
-seen_of (turns.Layout t next) s = Ended (Done []) s
-seen_of (turns.TypeText t next) s = Ended (Done []) s
-
--- a call of the library ends at once
-abbrev pub library : LibCall → Meaning LuaState Task LuaAnswer LuaEnd
-library call first later = let left = called first.state call in seen_of left.turn left.left
 
 -- it ends at once, with no values
 abbrev pub nothing : Meaning LuaState Task LuaAnswer LuaEnd
@@ -67,7 +50,7 @@ lua_stage items = record { meaning = task_meaning items; go = answers.Go; answer
 -- what remains to be done by a layer of the stage
 abbrev pub staged_rest : Staged → Meaning LuaState Task LuaAnswer LuaEnd
 staged_rest (layers.Lua lua) = within lua_fitting (lua_rest lua)
-staged_rest (layers.Library call) = library call
+staged_rest (layers.Library call) = library_rest call
 staged_rest (layers.Nothing alloc) = nothing
 
 abbrev pub StagedFits : Staged → LuaGiven → Type 0

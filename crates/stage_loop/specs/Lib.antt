@@ -2,3 +2,5 @@
 pub mod Staging
 -- The layers as one stage.
 pub mod Layers
+-- Calls of functions of the library.
+pub mod Library

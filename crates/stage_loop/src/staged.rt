@@ -1,17 +1,15 @@
 // The layers as one stage: Lua code, and the functions of the library that it calls.
 
-ghost use Rattle.std.specs.Prelude.{◌≡◌, ◌≤◌, false, IfOk, OnOk};
-ghost use Rattle.tl_base.specs.Layer.{state};
+ghost use Rattle.std.specs.Prelude.{◌≡◌, false};
 ghost use Rattle.tl_tree.specs.Arena.{items_of};
 ghost use Rattle.lua_table.specs.Keeping.{KeepsHeap};
-ghost use Rattle.lua_base.specs.Calls.{turned, called};
 ghost use Rattle.lua_eval.specs.Slots.{ArePaths};
 ghost use Rattle.stage_loop.specs.Layers.{task_of};
 
-use lua_base::call;
+use crate::library::Library;
 use lua_eval::Lua;
 use lua_model::{LuaAnswer, LuaEnd, LuaJob, LuaQuestion};
-use lua_table::{Heap, LibCall, LibTurn};
+use lua_table::{Heap, LibCall};
 use lua_value::Values;
 use stage_form::Stages;
 use std::alloc::Global;
@@ -40,23 +38,11 @@ fn task_of(question: LuaQuestion) -> Task
     }
 }
 
-/// Calls a function of the library, which pays no more than is left.
-fn call_library(heap: &mut Heap, asked: &LibCall, budget: &mut Budget) -> Result<LibTurn, NoMemory>
-    ensures does { IfOk result (λ turn.
-        turned turn (state heap.new budget.new) ≡ called (state heap.old budget.old) asked.now) }
-    ensures kept { OnOk result (KeepsHeap heap.old heap.new) }
-    ensures paid { OnOk result (budget.new ≤ budget.old) }
-{
-    let turn = call(heap, asked, budget)?;
-    Ok(turn)
-}
-
 /// A layer of the stage, which is to begin, or is suspended.
 #[derive(Drop)]
 pub enum Staged<'a> {
     Lua(Lua<'a>),
-    /// It ends at once.
-    Library(LibCall),
+    Library(Library),
     /// It ends at once, with no values.
     Nothing(Global),
 }
@@ -93,18 +79,7 @@ impl Layer for Staged<'_> {
                 Turn::Ask(question) => Ok(Turn::Ask(task_of(question))),
                 Turn::Spent => Ok(Turn::Spent),
             },
-            Staged::Library(asked) => match call_library(heap, asked, budget)? {
-                LibTurn::Values(values) => Ok(Turn::End(LuaEnd::Done(values))),
-                LibTurn::Raise(value, place) => Ok(Turn::End(LuaEnd::Raised(value, place))),
-                LibTurn::Spent => Ok(Turn::Spent),
-                // No function that is there asks.
-                LibTurn::CallBack { .. }
-                | LibTurn::Check { .. }
-                | LibTurn::Layout { .. }
-                | LibTurn::TypeText { .. } => {
-                    Ok(Turn::End(LuaEnd::Done(Values::new(heap.allocator()))))
-                }
-            },
+            Staged::Library(library) => library.resume(heap, budget, answer),
             Staged::Nothing(alloc) => Ok(Turn::End(LuaEnd::Done(Values::new(*alloc)))),
         }
     }
@@ -153,7 +128,7 @@ impl<'a> Stages for LuaStage<'a> {
     fn start(&self, alloc: Global, question: Task) -> Staged<'a> {
         match question {
             Task::Evaluate(job) => Staged::Lua(Lua::start(alloc, self.tree, self.slots, job)),
-            Task::Library(call) => Staged::Library(call),
+            Task::Library(call) => Staged::Library(Library::new(call)),
             Task::Specialise => Staged::Nothing(alloc),
         }
     }
