@@ -1,4 +1,4 @@
-"""Lua's core as docs/LANGUAGE.md has it ("Lua in the profile"), evaluated with the units that it pays.
+"""Lua as docs/LANGUAGE.md has it ("Lua in the profile", and its library), evaluated with the units that it pays.
 
 An own reading of the rules, by recursion on the tree: no part of it follows the crates. It takes sources that have a
 tree.
@@ -6,17 +6,19 @@ tree.
 
 import re
 
+import library
+
 LARGEST = 99_999_999_999_999
 LONGEST = 65_535
 MOST_CALLS = 200
 
 
 class Raised(Exception):
-    """An error, whose text is `text`."""
+    """An error, whose value is `value`."""
 
-    def __init__(self, place, text):
-        super().__init__(text)
-        self.place, self.text = place, text
+    def __init__(self, place, value):
+        super().__init__(value)
+        self.place, self.value = place, value
 
 
 class Spent(Exception):
@@ -37,8 +39,24 @@ class Returned(Exception):
 
 
 class Table:
+    """The entries stand in order of first insertion; one that is emptied keeps its place, with None as its value."""
+
     def __init__(self, number):
-        self.number, self.pairs = number, {}
+        self.number, self.pairs, self.metatable = number, {}, None
+
+    def get(self, key):
+        return self.pairs.get(key_of(key), (None, None))[1]
+
+    def set(self, key, value):
+        place = key_of(key)
+        if place in self.pairs or value is not None:
+            self.pairs[place] = (self.pairs.get(place, (key,))[0], value)
+
+    def border(self):
+        n = 0
+        while self.get(n + 1) is not None:
+            n += 1
+        return n
 
 
 class Closure:
@@ -52,13 +70,14 @@ class Library:
 
 
 class Scope:
-    """What a block that runs sees: its variables, the last one in front of those before it, and the values of `...`."""
+    """What a block that runs sees: its variables, the last one in front of those before it, the values of `...`, and the
+    place of the call of the function around it."""
 
-    def __init__(self, variables, varargs):
-        self.variables, self.varargs = variables, varargs
+    def __init__(self, variables, varargs, call):
+        self.variables, self.varargs, self.call = variables, varargs, call
 
     def inner(self):
-        return Scope(self.variables, self.varargs)
+        return Scope(self.variables, self.varargs, self.call)
 
     def variable(self, name):
         seen = self.variables
@@ -106,7 +125,7 @@ def text_of(v):
     return b"%s: %d" % (kind(v).encode(), v.number)
 
 
-NUMERAL = re.compile(rb"[ \t\n\v\f\r]*([-+]?)(?:0[xX]([0-9a-fA-F]+)|([0-9]+))[ \t\n\v\f\r]*\Z")
+NUMERAL = re.compile(rb"[ \t\n\v\f\r]*([-+]?)(?:0x([0-9a-fA-F]+)|([0-9]+))[ \t\n\v\f\r]*\Z")
 NUMERAL_LIKE = re.compile(rb"[ \t\n\v\f\r]*[-+]?\.?[0-9]")
 
 
@@ -114,12 +133,18 @@ class Machine:
     def __init__(self, units):
         self.left, self.printed = units, bytearray()
         self.tables, self.closures, self.calls = 0, 0, 0
-        self.globals, self.texts = self.new_table(), self.new_table()
-        self.globals.pairs[key_of(b"_G")] = self.globals
-        self.globals.pairs[key_of(b"_VERSION")] = b"Lua 5.1"
-        self.globals.pairs[key_of(b"string")] = self.texts
-        for name in ("print", "type"):
-            self.globals.pairs[key_of(name.encode())] = Library(name)
+        self.globals, self.texts, tables = self.new_table(), self.new_table(), self.new_table()
+        self.globals.set(b"_G", self.globals)
+        self.globals.set(b"_VERSION", b"Lua 5.1")
+        for name in library.BASIC:
+            self.globals.set(name.encode(), Library(name))
+        self.globals.set(b"string", self.texts)
+        self.globals.set(b"table", tables)
+        for table, names in ((self.texts, library.ON_TEXTS), (tables, library.ON_TABLES)):
+            for name in names:
+                table.set(name.encode(), Library(name))
+        self.next = self.globals.get(b"next")
+        self.ipairs_next = Library("ipairs")
 
     def pay(self, units):
         if units > self.left:
@@ -156,39 +181,68 @@ class Machine:
 
     # -- fields
 
-    def read(self, o, key, place):
-        if isinstance(o, bytes):
-            o = self.texts
-        if not isinstance(o, Table):
-            self.fail(place, "attempt to index a %s value" % kind(o))
-        return o.pairs.get(key_of(key))
+    def handler(self, o, event):
+        return o.metatable.get(event) if isinstance(o, Table) and o.metatable else None
 
-    def store(self, o, key, value, place):
-        if not isinstance(o, Table):
-            self.fail(place, "attempt to index a %s value" % kind(o))
-        if key is None:
-            self.fail(place, "table index is nil")
-        if value is None:
-            o.pairs.pop(key_of(key), None)
-        else:
-            o.pairs[key_of(key)] = value
+    def read(self, o, key, place, outer):
+        while True:
+            if isinstance(o, bytes):
+                o = self.texts
+            if not isinstance(o, Table):
+                self.fail(place, "attempt to index a %s value" % kind(o))
+            value = o.get(key)
+            handler = self.handler(o, b"__index") if value is None else None
+            if handler is None:
+                return value
+            if isinstance(handler, (Closure, Library)):
+                return (self.call_other(handler, [o, key], place, outer) + [None])[0]
+            self.pay(1)
+            o = handler
+
+    def store(self, o, key, value, place, outer):
+        while True:
+            if not isinstance(o, Table):
+                self.fail(place, "attempt to index a %s value" % kind(o))
+            handler = self.handler(o, b"__newindex") if o.get(key) is None else None
+            if handler is None:
+                if key is None:
+                    self.fail(place, "table index is nil")
+                return o.set(key, value)
+            if isinstance(handler, (Closure, Library)):
+                self.call_other(handler, [o, key, value], place, outer)
+                return
+            self.pay(1)
+            o = handler
 
     # -- calls
 
-    def call(self, f, args, place):
+    def call(self, f, args, place, outer):
+        """A call by a node."""
+        if isinstance(f, Table):
+            handler = self.handler(f, b"__call")
+            if isinstance(handler, (Closure, Library)):
+                return self.call_other(handler, [f] + args, place, outer)
         if not isinstance(f, (Closure, Library)):
             self.fail(place, "attempt to call a %s value" % kind(f))
         if self.calls == MOST_CALLS:
             self.fail(place, "stack overflow")
         self.calls += 1
         try:
-            return self.enter(f, args) if isinstance(f, Closure) else self.library(f, args, place)
+            if isinstance(f, Closure):
+                return self.enter(f, args, place)
+            return library.call(self, f, args, place, outer)
         finally:
             self.calls -= 1
 
-    def enter(self, f, args):
+    def call_other(self, f, args, place, outer):
+        """A call by a function of the library or by an event, which pays for one of a function of Lua code."""
+        if isinstance(f, Closure):
+            self.pay(1)
+        return self.call(f, args, place, outer)
+
+    def enter(self, f, args, place):
         names, variadic, block = f.body
-        scope = Scope(f.variables, args[len(names) :] if variadic else [])
+        scope = Scope(f.variables, args[len(names) :] if variadic else [], place)
         for i, name in enumerate(names):
             scope.declare(name, args[i] if i < len(args) else None)
         try:
@@ -196,18 +250,6 @@ class Machine:
         except Returned as r:
             return r.values
         return []
-
-    def library(self, f, args, place):
-        if f.name == "print":
-            text = b"\t".join(text_of(v) for v in args) + b"\n"
-            self.pay_text(len(text))
-            self.printed += text
-            return []
-        if not args:
-            self.fail(place, "bad argument 1 to type")
-        name = kind(args[0]).encode()
-        self.pay_text(len(name))
-        return [name]
 
     # -- statements
 
@@ -267,7 +309,7 @@ class Machine:
     def do_each(self, scope, place, names, es, block):
         f, state, last = (self.many(es, scope) + [None] * 3)[:3]
         while True:
-            values = self.call(f, [state, last], place) + [None] * len(names)
+            values = self.call(f, [state, last], place, scope.call) + [None] * len(names)
             last = values[0]
             if last is None:
                 return
@@ -283,13 +325,13 @@ class Machine:
     def do_function(self, scope, place, first, path, body):
         self.pay(1)
         if not path:
-            self.assign_name(first[2], self.closure(body, scope), scope)
+            self.assign_name(first[2], self.closure(body, scope), scope, first[1])
             return
-        o = self.named(first[2], scope)
+        o = self.named(first[2], scope, first[1])
         for at, key in path[:-1]:
-            o = self.read(o, key, at)
+            o = self.read(o, key, at, scope.call)
         at, key = path[-1]
-        self.store(o, key, self.closure(body, scope), at)
+        self.store(o, key, self.closure(body, scope), at, scope.call)
 
     def do_local_function(self, scope, place, name, body):
         scope.declare(name, None)
@@ -313,9 +355,9 @@ class Machine:
         values += [None] * (len(targets) - len(values))
         for (target, o, key), value in reversed(list(zip(ready, values))):
             if target[0] == "name":
-                self.assign_name(target[2], value, scope)
+                self.assign_name(target[2], value, scope, target[1])
             else:
-                self.store(o, key, value, target[1])
+                self.store(o, key, value, target[1], scope.call)
 
     def do_call(self, scope, place, e):
         self.evaluate(e, scope)
@@ -328,16 +370,16 @@ class Machine:
 
     # -- expressions
 
-    def named(self, name, scope):
+    def named(self, name, scope, place):
         variable = scope.variable(name)
-        return variable[1] if variable else self.globals.pairs.get(key_of(name.encode()))
+        return variable[1] if variable else self.read(self.globals, name.encode(), place, scope.call)
 
-    def assign_name(self, name, value, scope):
+    def assign_name(self, name, value, scope, place):
         variable = scope.variable(name)
         if variable:
             variable[1] = value
         else:
-            self.store(self.globals, name.encode(), value, None)
+            self.store(self.globals, name.encode(), value, place, scope.call)
 
     def closure(self, body, scope):
         self.closures += 1
@@ -369,7 +411,7 @@ class Machine:
         if what == "constant":
             return [e[2]]
         if what == "name":
-            return [self.named(e[2], scope)]
+            return [self.named(e[2], scope, place)]
         if what == "varargs":
             return list(scope.varargs)
         if what == "closure":
@@ -378,18 +420,18 @@ class Machine:
             return [self.one(e[2], scope)]
         if what == "index":
             o = self.one(e[2], scope)
-            return [self.read(o, self.key(e[3], scope), place)]
+            return [self.read(o, self.key(e[3], scope), place, scope.call)]
         if what == "invoke":
             f = self.one(e[2], scope)
-            return self.call(f, self.many(e[3], scope), place)
+            return self.call(f, self.many(e[3], scope), place, scope.call)
         if what == "method":
             o = self.one(e[2], scope)
-            f = self.read(o, e[3], place)
-            return self.call(f, [o] + self.many(e[4], scope), place)
+            f = self.read(o, e[3], place, scope.call)
+            return self.call(f, [o] + self.many(e[4], scope), place, scope.call)
         if what == "table":
             return [self.construct(e, scope)]
         if what == "unary":
-            return [self.unary(e[2], self.one(e[3], scope), place)]
+            return [self.unary(e[2], self.one(e[3], scope), place, scope.call)]
         return [self.binary(e, scope)]
 
     def construct(self, e, scope):
@@ -399,27 +441,32 @@ class Machine:
                 values = self.evaluate(value, scope) if i + 1 == len(e[2]) else [self.one(value, scope)]
                 for v in values:
                     count += 1
-                    self.store(table, count, v, e[1])
+                    self.store(table, count, v, e[1], scope.call)
             else:
                 key = key if isinstance(key, bytes) else self.one(key, scope)
-                self.store(table, key, self.one(value, scope), e[1])
+                self.store(table, key, self.one(value, scope), e[1], scope.call)
         return table
 
-    def unary(self, sign, v, place):
+    def handled(self, event, operands, place, outer, fault):
+        """The first value of the handler of the first operand that has one."""
+        for v in operands:
+            handler = self.handler(v, event)
+            if handler is not None:
+                return (self.call_other(handler, operands, place, outer) + [None])[0]
+        self.fail(place, fault)
+
+    def unary(self, sign, v, place, outer):
         if sign == "not":
             return v is None or v is False
         if sign == "#":
             if isinstance(v, bytes):
                 return len(v)
             if isinstance(v, Table):
-                n = 0
-                while key_of(n + 1) in v.pairs:
-                    n += 1
-                return n
+                return v.border()
             self.fail(place, "attempt to get length of a %s value" % kind(v))
         n = self.number(v, place)
         if n is None:
-            self.fail(place, "attempt to perform arithmetic on a %s value" % kind(v))
+            return self.handled(b"__unm", [v], place, outer, "attempt to perform arithmetic on a %s value" % kind(v))
         return -n
 
     def binary(self, e, scope):
@@ -429,41 +476,70 @@ class Machine:
             return self.one(right, scope) if (v is None or v is False) == (sign == "or") else v
         a, b = self.one(left, scope), self.one(right, scope)
         if sign in ("==", "~="):
-            return (key_of(a) == key_of(b)) == (sign == "==")
+            return self.equal(a, b, place, scope.call) == (sign == "==")
         if sign in ("<", "<=", ">", ">="):
-            return self.compare(sign[1:], *((a, b) if sign[0] == "<" else (b, a)), place)
+            return self.compare(sign[1:], *((a, b) if sign[0] == "<" else (b, a)), place, scope.call)
         if sign == "..":
-            return self.concatenate(a, b, place)
-        return self.arithmetic(sign, a, b, place)
+            return self.concatenate(a, b, place, scope.call)
+        return self.arithmetic(sign, a, b, place, scope.call)
 
-    def compare(self, equal, a, b, place):
+    def shared(self, event, a, b):
+        """The handler that both have."""
+        handler = self.handler(a, event)
+        return handler if handler is not None and key_of(handler) == key_of(self.handler(b, event)) else None
+
+    def truth(self, handler, args, place, outer):
+        v = (self.call_other(handler, args, place, outer) + [None])[0]
+        return v is not None and v is not False
+
+    def equal(self, a, b, place, outer):
+        if key_of(a) == key_of(b):
+            return True
+        handler = self.shared(b"__eq", a, b)
+        return self.truth(handler, [a, b], place, outer) if handler is not None else False
+
+    def compare(self, equal, a, b, place, outer):
         if kind(a) == kind(b) and kind(a) in ("number", "string"):
             return a <= b if equal else a < b
+        handler = self.shared(b"__le" if equal else b"__lt", a, b)
+        if handler is not None:
+            return self.truth(handler, [a, b], place, outer)
+        handler = self.shared(b"__lt", a, b) if equal else None
+        if handler is not None:
+            return not self.truth(handler, [b, a], place, outer)
         if kind(a) == kind(b):
             self.fail(place, "attempt to compare two %s values" % kind(a))
         self.fail(place, "attempt to compare %s with %s" % (kind(a), kind(b)))
 
-    def concatenate(self, a, b, place):
+    def concatenate(self, a, b, place, outer):
         for v in (a, b):
             if kind(v) not in ("number", "string"):
-                self.fail(place, "attempt to concatenate a %s value" % kind(v))
-        text = text_of(a) + text_of(b)
+                fault = "attempt to concatenate a %s value" % kind(v)
+                return self.handled(b"__concat", [a, b], place, outer, fault)
+        return self.make(text_of(a) + text_of(b), place)
+
+    def make(self, text, place):
+        """A text that is made."""
         if len(text) > LONGEST:
             self.fail(place, "text too long")
         self.pay_text(len(text))
         return text
 
-    def arithmetic(self, sign, a, b, place):
+    def arithmetic(self, sign, a, b, place, outer):
         numbers = []
         for v in (a, b):
             n = self.number(v, place)
             if n is None:
-                self.fail(place, "attempt to perform arithmetic on a %s value" % kind(v))
+                fault = "attempt to perform arithmetic on a %s value" % kind(v)
+                return self.handled(EVENTS[sign], [a, b], place, outer, fault)
             numbers.append(n)
         result = computed(sign, *numbers)
         if result is None or abs(result) > LARGEST:
             self.fail(place, "number out of profile")
         return result
+
+
+EVENTS = {"+": b"__add", "-": b"__sub", "*": b"__mul", "/": b"__div", "%": b"__mod", "^": b"__pow"}
 
 
 def computed(sign, a, b):
@@ -498,12 +574,13 @@ def staged(chunk, units):
     """What a chunk prints, how it ends, and the units that are left."""
     machine = Machine(units)
     try:
-        machine.run(chunk, Scope(None, []))
+        machine.run(chunk, Scope(None, [], None))
         end = ("done", None, None)
     except Returned:
         end = ("done", None, None)
     except Spent:
         end = ("spent", None, None)
     except Raised as r:
-        end = ("raised", r.place, r.text)
+        text = text_of(r.value) if kind(r.value) in ("string", "number") else b"(error object is not a string)"
+        end = ("raised", r.place, text)
     return bytes(machine.printed), end, machine.left
