@@ -194,7 +194,33 @@ class Call:
     def do_sub(self):
         return [self.make(self.part(self.text(1), self.number(2), self.number(3, -1)))]
 
+    def do_format(self):
+        pieces, n = self.text(1).split(b"%"), 1
+        out, pieces = pieces[0], pieces[1:]
+        while pieces:
+            piece = pieces.pop(0)
+            if piece[:1] in (b"d", b"s"):
+                n += 1
+                out += (b"%d" % self.number(n) if piece[:1] == b"d" else self.text(n)) + piece[1:]
+            elif piece == b"" and pieces:
+                out += b"%" + pieces.pop(0)
+            else:
+                self.bad(1)
+        return [self.make(out)]
+
     # -- functions on tables
+
+    def do_concat(self):
+        table, separator = self.table(1), self.text(2, b"")
+        first, last = self.number(3, 1), self.number(4, table.border())
+        values = []
+        for i in range(first, last + 1):
+            self.machine.pay(1)
+            v = table.get(i)
+            if lua.kind(v) not in ("string", "number"):
+                self.bad(1)
+            values.append(lua.text_of(v))
+        return [self.make(separator.join(values))]
 
     def do_insert(self):
         table = self.table(1)
