@@ -3,9 +3,9 @@
 
     rows.py [PROGRAMS.jsonl]
 
-The rows of `by_hand.txt` were worked out by hand, most with their units, those of `by_rule.txt` without them. `lua.py`
+The rows of `by_hand.txt` and `by_library.txt` were worked out by hand, most with their units, those of `by_rule.txt` without them. `lua.py`
 has to give what they expect: `=> ` a line that is printed, `=< ` one that is printed with one unit less, `=! ` an
-error behind its place, `=- ` why there is no tree, `=s ` units that don't suffice.
+error, behind its place or with the place alone behind `=@ `, `=- ` why there is no tree, `=s ` units that don't suffice.
 The rows behind them are programs: those of a file of JSON objects with `name`, `source`, and what is expected of each
 as `out`, `notes` and `units`; where no file is given, those that stand in `stdin`. What is written to `stdout` is what
 `lua.py` gives.
@@ -85,7 +85,7 @@ class Rows:
 
     def expected(self, name, lines):
         """A row with what is expected of it; it is given just what it pays, or the units that spend it."""
-        marks = ("=> ", "=< ", "=! ", "=- ", "=s ")
+        marks = ("=> ", "=< ", "=! ", "=@ ", "=- ", "=s ")
         lines, wanted = [x for x in lines if not x.startswith(marks)], [x for x in lines if x.startswith(marks)]
         units, name = name.split(" ", 1)
         refusal = kept(wanted, "=- ")
@@ -104,7 +104,9 @@ class Rows:
         sure(whole[0] == print_of(kept(wanted, "=> ")), name, whole)
         sure((whole[1][0] == "raised") == bool(errors), name, whole)
         if errors:
-            sure(whole[1][2] == errors[0].encode() and errors[0].startswith("%d:%d: " % whole[1][1]), name, whole)
+            place = "%d:%d" % whole[1][1]
+            at = kept(wanted, "=@ ") or [":".join(errors[0].split(":")[:2])]
+            sure(whole[1][2] == errors[0].encode() and at[0] == place, name, whole)
         if units != "?" and paid > 0:
             sure(runs[1][0] == print_of(kept(wanted, "=< ")) and runs[1][1][0] == "spent", name, runs[1])
 
@@ -119,9 +121,9 @@ class Rows:
 
 def main():
     rows = Rows()
-    for file in ("by_hand.txt", "by_rule.txt"):
+    for file in ("by_hand.txt", "by_library.txt", "by_rule.txt"):
         for head, lines in parts((HERE / file).read_text()):
-            rows.expected(head if file == "by_hand.txt" else "? " + head, lines)
+            rows.expected("? " + head if file == "by_rule.txt" else head, lines)
     if len(sys.argv) > 1:
         for line in open(sys.argv[1]):
             program = json.loads(line)

@@ -53,6 +53,7 @@ pub fn make(
     ensures does { IfOk result (λ turn.
         turned turn (state heap.new budget.new) ≡ making (state heap.old budget.old) bytes.now place) }
     ensures kept { OnOk result (KeepsHeap heap.old heap.new) }
+    ensures paid { OnOk result (budget.new ≤ budget.old) }
 {
     if bytes.len() > Text::MAX_LEN {
         return raise_too_long(heap, budget, place);
@@ -72,6 +73,7 @@ pub fn raise_too_long(
     ensures does { IfOk result (λ turn.
         turned turn (state heap.new budget.new) ≡ too_long (state heap.old budget.old) place) }
     ensures kept { OnOk result (KeepsHeap heap.old heap.new) }
+    ensures paid { OnOk result (budget.new ≤ budget.old) }
 {
     raise(heap, budget, place, b"text too long")
 }
@@ -87,6 +89,7 @@ pub fn make_or(
     ensures does { IfOk result (λ turn.
         turned turn (state heap.new budget.new) ≡ making_or (state heap.old budget.old) made place function) }
     ensures kept { OnOk result (KeepsHeap heap.old heap.new) }
+    ensures paid { OnOk result (budget.new ≤ budget.old) }
 {
     match made {
         Ok(text) => make(heap, budget, text.bytes(), place),
@@ -109,6 +112,7 @@ fn raise_bad_argument(
     ensures does { IfOk result (λ turn.
         turned turn (state heap.new budget.new) ≡ bad_argument (state heap.old budget.old) place position function) }
     ensures kept { OnOk result (KeepsHeap heap.old heap.new) }
+    ensures paid { OnOk result (budget.new ≤ budget.old) }
 {
     match u32::try_from(position) {
         Ok(position) => bad_argument(heap, budget, place, position, function),

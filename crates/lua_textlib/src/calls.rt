@@ -1,6 +1,6 @@
 // Which function is called.
 
-ghost use Rattle.std.specs.Prelude.{◌≡◌, IfOk, OnOk};
+ghost use Rattle.std.specs.Prelude.{◌≡◌, IfOk, OnOk, ◌≤◌};
 ghost use Rattle.tl_base.specs.Layer.{state};
 ghost use Rattle.lua_table.specs.Keeping.{KeepsHeap};
 ghost use Rattle.lua_base.specs.Calls.{turned};
@@ -20,6 +20,7 @@ pub fn call(heap: &mut Heap, call: &LibCall, budget: &mut Budget) -> Result<LibT
     ensures does { IfOk result (λ turn.
         turned turn (state heap.new budget.new) ≡ called (state heap.old budget.old) call.now) }
     ensures kept { OnOk result (KeepsHeap heap.old heap.new) }
+    ensures paid { OnOk result (budget.new ≤ budget.old) }
 {
     let args = call.args.as_slice();
     let place = call.place;

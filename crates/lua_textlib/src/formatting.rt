@@ -34,6 +34,7 @@ pub fn format(
     ensures does { IfOk result (λ turn.
         turned turn (state heap.new budget.new) ≡ format_turned (state heap.old budget.old) args.now place) }
     ensures kept { OnOk result (KeepsHeap heap.old heap.new) }
+    ensures paid { OnOk result (budget.new ≤ budget.old) }
 {
     let Some(text) = text_in(heap, argument(args, 0))? else {
         return bad_argument(heap, budget, place, 1, LibFn::Format);

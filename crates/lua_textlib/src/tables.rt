@@ -28,6 +28,7 @@ pub fn concat(
     ensures does { IfOk result (λ turn.
         turned turn (state heap.new budget.new) ≡ concat_turned (state heap.old budget.old) args.now place) }
     ensures kept { OnOk result (KeepsHeap heap.old heap.new) }
+    ensures paid { OnOk result (budget.new ≤ budget.old) }
 {
     let Some(table) = table_in(argument(args, 0)) else {
         return bad_argument(heap, budget, place, 1, LibFn::Concat);
@@ -77,8 +78,9 @@ fn joined(
     first: Number,
     last: Number,
 ) -> Result<Result<Text2, Refusal>, NoMemory>
-    ensures { IfOk result (λ made. record { made = made; left = budget.new } ≡
+    ensures does { IfOk result (λ made. record { made = made; left = budget.new } ≡
         joined heap.now table separator.now [] first (count_between first last) [] budget.old) }
+    ensures paid { OnOk result (budget.new ≤ budget.old) }
 {
     let mut made = Text2::new(heap.allocator());
     let mut before: &[u8] = &[];
@@ -102,8 +104,9 @@ fn join_value(
     made: &mut Text2,
 ) -> Result<Option<Refusal>, NoMemory>
     requires { IsInProfile at }
-    ensures { IfOk result (λ refusal. record { made = grew refusal made.new; left = budget.new } ≡
+    ensures does { IfOk result (λ refusal. record { made = grew refusal made.new; left = budget.new } ≡
         joined_step heap.now table before.now at made.old budget.old) }
+    ensures paid { OnOk result (budget.new ≤ budget.old) }
 {
     if !budget.pay(1) {
         return Ok(Some(Refusal::Spent));
@@ -172,6 +175,7 @@ pub fn insert(
     ensures does { IfOk result (λ turn.
         turned turn (state heap.new budget.new) ≡ insert_turned (state heap.old budget.old) args.now place) }
     ensures kept { OnOk result (KeepsHeap heap.old heap.new) }
+    ensures paid { OnOk result (budget.new ≤ budget.old) }
 {
     let Some(table) = table_in(argument(args, 0)) else {
         return bad_argument(heap, budget, place, 1, LibFn::TableInsert);
@@ -205,6 +209,7 @@ fn insert_at(
     ensures does { IfOk result (λ turn.
         turned turn (state heap.new budget.new) ≡ inserted (state heap.old budget.old) table at value) }
     ensures kept { OnOk result (KeepsHeap heap.old heap.new) }
+    ensures paid { OnOk result (budget.new ≤ budget.old) }
 {
     let shift = gap(at, end);
     if !budget.pay(shift + 1) {
@@ -265,6 +270,7 @@ pub fn remove(
     ensures does { IfOk result (λ turn.
         turned turn (state heap.new budget.new) ≡ remove_turned (state heap.old budget.old) args.now place) }
     ensures kept { OnOk result (KeepsHeap heap.old heap.new) }
+    ensures paid { OnOk result (budget.new ≤ budget.old) }
 {
     let Some(table) = table_in(argument(args, 0)) else {
         return bad_argument(heap, budget, place, 1, LibFn::Remove);
@@ -293,6 +299,7 @@ fn remove_at(
     ensures does { IfOk result (λ turn.
         turned turn (state heap.new budget.new) ≡ removed (state heap.old budget.old) table at) }
     ensures kept { OnOk result (KeepsHeap heap.old heap.new) }
+    ensures paid { OnOk result (budget.new ≤ budget.old) }
 {
     let behind = gap(at, end);
     if !budget.pay(behind + 1) {

@@ -29,6 +29,7 @@ pub fn len(
     ensures does { IfOk result (λ turn.
         turned turn (state heap.new budget.new) ≡ len_turned (state heap.old budget.old) args.now place) }
     ensures kept { OnOk result (KeepsHeap heap.old heap.new) }
+    ensures paid { OnOk result (budget.new ≤ budget.old) }
 {
     let Some(text) = text_in(heap, argument(args, 0))? else {
         return bad_argument(heap, budget, place, 1, LibFn::Len);
@@ -55,6 +56,7 @@ pub fn sub(
     ensures does { IfOk result (λ turn.
         turned turn (state heap.new budget.new) ≡ sub_turned (state heap.old budget.old) args.now place) }
     ensures kept { OnOk result (KeepsHeap heap.old heap.new) }
+    ensures paid { OnOk result (budget.new ≤ budget.old) }
 {
     let Some(text) = text_in(heap, argument(args, 0))? else {
         return bad_argument(heap, budget, place, 1, LibFn::Sub);
@@ -83,6 +85,7 @@ pub fn byte(
     ensures does { IfOk result (λ turn.
         turned turn (state heap.new budget.new) ≡ byte_turned (state heap.old budget.old) args.now place) }
     ensures kept { OnOk result (KeepsHeap heap.old heap.new) }
+    ensures paid { OnOk result (budget.new ≤ budget.old) }
 {
     let Some(text) = text_in(heap, argument(args, 0))? else {
         return bad_argument(heap, budget, place, 1, LibFn::Byte);
@@ -152,6 +155,7 @@ pub fn rep(
     ensures does { IfOk result (λ turn.
         turned turn (state heap.new budget.new) ≡ rep_turned (state heap.old budget.old) args.now place) }
     ensures kept { OnOk result (KeepsHeap heap.old heap.new) }
+    ensures paid { OnOk result (budget.new ≤ budget.old) }
 {
     let Some(text) = text_in(heap, argument(args, 0))? else {
         return bad_argument(heap, budget, place, 1, LibFn::Rep);
@@ -175,6 +179,7 @@ fn repeat(
     ensures does { IfOk result (λ turn. turned turn (state heap.new budget.new) ≡
         making (state heap.old budget.old) (repeated times (bytes_in heap.old text.now)) place) }
     ensures kept { OnOk result (KeepsHeap heap.old heap.new) }
+    ensures paid { OnOk result (budget.new ≤ budget.old) }
 {
     let size = text.bytes(heap).len() * times;
     if size > Text::MAX_LEN {
@@ -227,6 +232,7 @@ pub fn char(
     ensures does { IfOk result (λ turn.
         turned turn (state heap.new budget.new) ≡ char_turned (state heap.old budget.old) args.now place) }
     ensures kept { OnOk result (KeepsHeap heap.old heap.new) }
+    ensures paid { OnOk result (budget.new ≤ budget.old) }
 {
     let made = chars(heap, args)?;
     make_or(heap, budget, made, place, LibFn::Char)

@@ -1,7 +1,9 @@
 -- Calls of functions of the library, as a layer of the stage.
-use Rattle.std.specs.Prelude.{List, [], ◌∷◌, Option, Some, None}
+use Rattle.std.specs.Prelude.{Bool, true, false, List, [], ◌∷◌, Option, Some, None, if◌then◌else◌}
 use Rattle.tl_base.specs.declared.place.Place.{Place}
 use Rattle.tl_base.specs.Layer.{State, Given, Seen, Ended, SpentAt, Asks, Meaning}
+use Rattle.lua_value.specs.declared.library.LibFn.{LibFn}
+use Rattle.lua_value.specs.declared.library.LibFn.TheVariants.{Byte, Char, Format, Len, Rep, Sub, Concat, TableInsert, Remove}
 use Rattle.lua_table.specs.LuaState.{LuaState}
 use Rattle.lua_table.specs.declared.call.Back.{Back}
 use Rattle.lua_table.specs.declared.call.Back.TheVariants as backs
@@ -15,10 +17,29 @@ use Rattle.lua_model.specs.declared.job.LuaJob.TheVariants.{Call}
 use Rattle.lua_model.specs.declared.question.LuaAnswer.{LuaAnswer}
 use Rattle.lua_model.specs.declared.question.LuaAnswer.TheVariants as answers
 use Rattle.lua_base.specs.Calls.{Turned}
-use Rattle.lua_base.specs.Basic.{called, backed}
+use Rattle.lua_base.specs.Basic.{backed}
+use Rattle.lua_base.specs.Basic as basic
+use Rattle.lua_textlib.specs.Calls as textlib
 use Rattle.stage_loop.specs.declared.staged.Task.{Task}
 use Rattle.stage_loop.specs.declared.staged.Task.TheVariants.{Evaluate}
 use Rattle.stage_loop.specs.declared.library.Library.{Library}
+
+-- the functions on texts and on tables; all others are basic ones
+abbrev pub is_on_texts_or_tables : LibFn → Bool
+is_on_texts_or_tables Byte = true
+is_on_texts_or_tables Char = true
+is_on_texts_or_tables Format = true
+is_on_texts_or_tables Len = true
+is_on_texts_or_tables Rep = true
+is_on_texts_or_tables Sub = true
+is_on_texts_or_tables Concat = true
+is_on_texts_or_tables TableInsert = true
+is_on_texts_or_tables Remove = true
+is_on_texts_or_tables _ = false
+
+-- what a call comes to
+abbrev pub library_called : State LuaState → LibCall → Turned
+library_called s call = if is_on_texts_or_tables call.function then textlib.called s call else basic.called s call
 
 -- an answer, as a function of the library is given it; none of them is answered with what begins a layer
 abbrev pub back_of : LuaAnswer → Back
@@ -51,7 +72,7 @@ library_seen place (given ∷ later) turn s =
 
 -- what a call that is to begin, or that waits, comes to with an answer
 abbrev pub library_turned : LibCall → Option LibNext → Given LuaState LuaAnswer → Turned
-library_turned call None first = called first.state call
+library_turned call None first = library_called first.state call
 library_turned call (Some next) first = backed first.state next (back_of first.answer)
 
 -- what remains to be done by it

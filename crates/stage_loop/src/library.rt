@@ -6,12 +6,12 @@ ghost use Rattle.lua_table.specs.Keeping.{KeepsHeap};
 ghost use Rattle.lua_table.specs.LuaState.{LuaState};
 ghost use Rattle.lua_base.specs.Basic.{backed};
 ghost use Rattle.lua_base.specs.Calls.{turned};
-ghost use Rattle.stage_loop.specs.Library.{back_of, library_turned, turn_seen, library_seen, library_rest};
+ghost use Rattle.stage_loop.specs.Library.{is_on_texts_or_tables, library_called, back_of, library_turned, turn_seen, library_seen, library_rest};
 
 use crate::staged::Task;
 use lua_model::{LuaAnswer, LuaEnd, LuaJob};
 use lua_table::{Back, Heap, LibCall, LibNext, LibTurn};
-use lua_value::Values;
+use lua_value::{LibFn, Values};
 use tl_base::{Budget, NoMemory, Turn};
 
 /// A call of a function of the library, which is to begin, or waits for what it called back.
@@ -70,7 +70,7 @@ impl Library {
     {
         match self.waiting.take() {
             Some(next) => back(heap, next, answer, budget),
-            None => lua_base::call(heap, &self.call, budget),
+            None => call(heap, &self.call, budget),
         }
     }
 
@@ -100,6 +100,38 @@ impl Library {
                 Turn::End(LuaEnd::Done(Values::new(heap.allocator())))
             }
         }
+    }
+}
+
+/// Tells whether a function is one on texts or on tables.
+fn is_on_texts_or_tables(function: LibFn) -> bool
+    ensures { result ≡ is_on_texts_or_tables function }
+{
+    match function {
+        LibFn::Byte
+        | LibFn::Char
+        | LibFn::Format
+        | LibFn::Len
+        | LibFn::Rep
+        | LibFn::Sub
+        | LibFn::Concat
+        | LibFn::TableInsert
+        | LibFn::Remove => true,
+        _ => false,
+    }
+}
+
+/// Calls a function of the library.
+fn call(heap: &mut Heap, asked: &LibCall, budget: &mut Budget) -> Result<LibTurn, NoMemory>
+    ensures does { IfOk result (λ turn.
+        turned turn (state heap.new budget.new) ≡ library_called (state heap.old budget.old) asked.now) }
+    ensures kept { OnOk result (KeepsHeap heap.old heap.new) }
+    ensures paid { OnOk result (budget.new ≤ budget.old) }
+{
+    if is_on_texts_or_tables(asked.function) {
+        lua_textlib::call(heap, asked, budget)
+    } else {
+        lua_base::call(heap, asked, budget)
     }
 }
 
