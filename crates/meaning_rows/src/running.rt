@@ -14,10 +14,7 @@ use tl_base::{FnId, NoMemory, Place, TermId, Text2, TextId, TypeId};
 pub fn row(work: &mut Work, word: &str, words: &[&str]) -> Result<Option<String>, NoMemory> {
     let n = number_at(words, 1);
     match word {
-        "pointer" => {
-            let t = work.store.types_mut().pointer_to(TypeId(n))?;
-            number(work.store.allocator(), t.0)
-        }
+        "pointer" => pointer(work, TypeId(n)),
         "array" => {
             let t = work
                 .store
@@ -113,6 +110,17 @@ fn typed_function(work: &mut Work, term: TermId, made: TermId) -> Result<FnId, N
     work.store.begin_typing(f);
     work.store.finish_typing(f, made);
     Ok(f)
+}
+
+/// `pointer TYPE`
+fn pointer(work: &mut Work, target: TypeId) -> Result<Option<String>, NoMemory> {
+    let alloc = work.store.allocator();
+    let types = work.store.types_mut();
+    if target.0 >= types.len() {
+        return Ok(Some(String::from_str(alloc, "no such type")?));
+    }
+    let t = types.pointer_to(target)?;
+    number(alloc, t.0)
 }
 
 /// `run FUNCTION MEMORY COUNT ARGUMENT..`
