@@ -268,11 +268,11 @@ call lib:type 5 = raises '3:7:~bad~argument~1~to~type at 3:7 left 4 '
 call lib:type 0 = spent left 0 '
 call lib:type 0 nil = spent left 0 '
 global '_G = table:0 '_VERSION -> 'Lua~5.1
-global '_VERSION = 'Lua~5.1 'print -> lib:print
-global 'print = lib:print 'type -> lib:type
-global 'type = lib:type 'string -> table:1
-global 'string = table:1 last
-global 'pcall = nil no key
+global '_VERSION = 'Lua~5.1 'assert -> lib:assert
+global 'print = lib:print 'rawequal -> lib:rawequal
+global 'type = lib:type 'unpack -> lib:unpack
+global 'string = table:1 'table -> table:2
+global 'pcall = lib:pcall 'print -> lib:print
 -- ---- arithmetic (section 2.5.1), exact: where no whole number of the profile is the result, it raises
 + 99999999999998 1 = 99999999999999
 + 99999999999999 1 = raises number out of profile
