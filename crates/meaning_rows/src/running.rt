@@ -15,18 +15,8 @@ pub fn row(work: &mut Work, word: &str, words: &[&str]) -> Result<Option<String>
     let n = number_at(words, 1);
     match word {
         "pointer" => pointer(work, TypeId(n)),
-        "array" => {
-            let t = work
-                .store
-                .types_mut()
-                .array_of(TypeId(n), number_at(words, 2))?;
-            number(work.store.allocator(), t.0)
-        }
-        "function" => {
-            let params = types_from(work.store.allocator(), words, 2)?;
-            let t = work.store.types_mut().function_of(&params, TypeId(n))?;
-            number(work.store.allocator(), t.0)
-        }
+        "array" => array(work, TypeId(n), number_at(words, 2)),
+        "function" => function_type(work, words),
         "struct" => structure(work, words),
         "bytes" => bytes(work, words),
         "fn" => function(work, words),
@@ -120,6 +110,36 @@ fn pointer(work: &mut Work, target: TypeId) -> Result<Option<String>, NoMemory> 
         return Ok(Some(String::from_str(alloc, "no such type")?));
     }
     let t = types.pointer_to(target)?;
+    number(alloc, t.0)
+}
+
+/// `array ELEMENT COUNT`
+fn array(work: &mut Work, element: TypeId, count: u64) -> Result<Option<String>, NoMemory> {
+    let alloc = work.store.allocator();
+    let types = work.store.types_mut();
+    if element.0 >= types.len() {
+        return Ok(Some(String::from_str(alloc, "no such type")?));
+    }
+    let t = types.array_of(element, count)?;
+    number(alloc, t.0)
+}
+
+/// `function RESULT PARAMETER..`, of at most two parameters
+fn function_type(work: &mut Work, words: &[&str]) -> Result<Option<String>, NoMemory> {
+    let alloc = work.store.allocator();
+    let returns = TypeId(number_at(words, 1));
+    let first = TypeId(number_at(words, 2));
+    let second = TypeId(number_at(words, 3));
+    let types = work.store.types_mut();
+    let count = types.len();
+    if returns.0 >= count || first.0 >= count || second.0 >= count {
+        return Ok(Some(String::from_str(alloc, "no such type")?));
+    }
+    let t = match words.len() {
+        2 => types.function_of(&[], returns)?,
+        3 => types.function_of(&[first], returns)?,
+        _ => types.function_of(&[first, second], returns)?,
+    };
     number(alloc, t.0)
 }
 
