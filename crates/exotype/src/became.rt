@@ -1,0 +1,11 @@
+// What a Lua value becomes in Terra code.
+
+use crate::fault::Fault;
+use tl_base::TermId;
+
+/// What a value becomes where one term is wanted: a term, or the error that is raised in its place.
+#[derive(Clone, Copy, Debug, PartialEq, Eq)]
+pub enum Became {
+    Term(TermId),
+    Refused(Fault),
+}

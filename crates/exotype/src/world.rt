@@ -1,0 +1,61 @@
+// The world of a staging.
+
+ghost use Rattle.std.specs.Prelude.{◌≡◌, ◌≤◌};
+ghost use Rattle.exotype.specs.World.{opening};
+
+use crate::exports::Exports;
+use crate::kept::Kept;
+use lua_table::Heap;
+use std::alloc::Global;
+use std::marker::Model;
+use terra_term::Store;
+use terra_types::Types;
+
+/// What a staging has made so far: Lua's heap, Terra's store, what is kept of types, and the exports; with the bytes of memory
+/// that a run of its program has, which are at most 67,108,864.
+///
+/// Contracts see each part as its lists. Nothing that was made is taken away. After a `NoMemory` of a call that makes more than one
+/// thing, some of them may be there: a staging ends with it.
+#[derive(Drop)]
+pub struct World {
+    pub heap: Heap,
+    pub store: Store,
+    pub kept: Kept,
+    pub exports: Exports,
+    memory: u64,
+}
+
+impl Model for World {
+    ghost use Rattle.std.specs.Prelude.{◌≤◌};
+    ghost use Rattle.exotype.specs.World.{StageState};
+
+    ghost Value = { StageState };
+
+    ghost view = { λ w. record { heap = w.heap; store = w.store; kept = w.kept; exports = w.exports; memory = w.memory } };
+
+    ghost invariant = { λ w. w.memory ≤ 67108864 };
+}
+
+impl World {
+    /// A world with nothing in it but these types, whose program will have so many bytes of memory.
+    pub fn new(alloc: Global, types: Types, memory: u64) -> World
+        requires { memory ≤ 67108864 }
+        ensures { result ≡ opening types memory }
+    {
+        World {
+            heap: Heap::new(alloc),
+            store: Store::new(alloc, types),
+            kept: Kept::new(alloc),
+            exports: Exports::new(alloc),
+            memory,
+        }
+    }
+
+    /// The bytes of memory that a run has.
+    pub fn memory(&self) -> u64
+        ensures same { result ≡ self.now.memory }
+        ensures within { result ≤ 67108864 }
+    {
+        self.memory
+    }
+}
