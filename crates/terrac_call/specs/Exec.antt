@@ -1,6 +1,7 @@
 -- What is due for `exec`: an image is read, a function of it is called, and the run of the image says how that ends.
 use Rattle.std.specs.Prelude.{ℕ, ◌≡◌, ◌/◌, ◌%◌, ◌^◌, ◌<◌, ◌≤◌, ◌==◌, if◌then◌else◌, List, length, Option, Some, None}
 use Rattle.tl_base.specs.declared.place.Place.{Place}
+use Rattle.elf_image.specs.declared.error.ImageError.{ImageError}
 use Rattle.elf_image.specs.declared.image.Image.{Image}
 use Rattle.elf_image.specs.declared.image.Symbol.{Symbol}
 use Rattle.elf_image.specs.Calls.{symbol_named}

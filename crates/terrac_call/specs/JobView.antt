@@ -1,6 +1,7 @@
 -- What values of the program show of a job and its arguments.
 use Rattle.std.specs.Prelude.{ℕ, ◌≡◌, List, ◌++◌, Option, Some, None, length, map, string_bytes}
 use Rattle.std.specs.Borrow.{Bor}
+use Rattle.terrac_call.specs.declared.status.Status.TheVariants as statuses
 use Rattle.terrac_call.specs.Statuses.{text_of}
 use Rattle.terrac_call.specs.declared.words.Call.{Call as CallValue}
 use Rattle.terrac_call.specs.declared.words.Limits.{Limits as LimitsValue}
