@@ -10,3 +10,4 @@ pub mod Runs
 pub mod Laws
 pub mod ImageRun
 pub mod Shown
+pub mod Place

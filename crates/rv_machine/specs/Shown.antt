@@ -16,6 +16,16 @@ hart_state hart =
       private = hart.private.items;
     }
 
+-- the state of the hart if it stood at this address
+abbrev pub stands_at : Hart → ℕ → State
+stands_at hart pc =
+    record {
+      pc = pc;
+      registers = slice_index hart.registers;
+      region = hart.region.items;
+      private = hart.private.items;
+    }
+
 -- the instructions of its text
 abbrev pub program_of : Machine → List (Option Instr)
 program_of machine = map found_of machine.text.items

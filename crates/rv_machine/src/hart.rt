@@ -27,8 +27,13 @@ pub(crate) struct Hart {
     pub registers: [u64; 32],
     pub region: Vec<u8>,
     pub private: Vec<u8>,
+    /// At how many places of the region eight bytes begin, and of private memory.
+    pub region_starts: usize,
+    pub private_starts: usize,
     ghost region_fits: { length region.items ≤ 67108864 },
     ghost private_fits: { length private.items ≤ 603979776 },
+    ghost region_within: { region_starts ≤ length region.items - 7 },
+    ghost private_within: { private_starts ≤ length private.items - 7 },
     ghost zero: { slice_index registers 0 ≡ 0 },
 }
 
@@ -50,11 +55,15 @@ impl Hart {
         requires private { length private.items ≤ 603979776 }
         ensures { hart_state result ≡ loaded_state region.items private.items }
     {
+        let region_starts = region.len().saturating_sub(7);
+        let private_starts = private.len().saturating_sub(7);
         Hart {
             pc: 0,
             registers: [0; 32],
             region,
             private,
+            region_starts,
+            private_starts,
         }
     }
 
@@ -167,7 +176,7 @@ impl Hart {
     }
 
     // What any instruction does. One that stops the run leaves the hart as it was.
-    fn execute<K: Sink>(&mut self, instr: Instr, out: &mut K) -> Result<(), Stop>
+    pub(crate) fn execute<K: Sink>(&mut self, instr: Instr, out: &mut K) -> Result<(), Stop>
         ensures ok { OnOk result (WentOn (act instr (hart_state self.old)) (hart_state self.new) (K.taken out.old) (K.taken out.new) (out.new ≡ out.old)) }
         ensures quiet { OnOk result (K.faults out.new ≡ K.faults out.old) }
         ensures err { IfErr result (λ stop. StoppedAt stop (hart_state self.old).pc (act instr (hart_state self.old)) (K.taken out.old) (K.taken out.new)) }
@@ -199,7 +208,7 @@ impl Hart {
 
     // What an instruction does that reaches neither memory nor the environment.
     #[inline]
-    fn go_on(&mut self, instr: Instr)
+    pub(crate) fn go_on(&mut self, instr: Instr)
         requires { IsPlain instr }
         ensures { act instr (hart_state self.old) ≡ GoesOn (hart_state self.new) }
     {
@@ -334,7 +343,7 @@ impl Hart {
 
     // The value of a register, of which x0 reads zero.
     #[inline]
-    fn read(&self, register: Register) -> u64
+    pub(crate) fn read(&self, register: Register) -> u64
         ensures { result ≡ value_at (hart_state self.now) register }
     {
         self.registers[register.number as usize]
@@ -352,7 +361,7 @@ impl Hart {
     // The address that a register and an offset give.
     #[inline]
     #[tactic(auto, unfolding(crate::specs::Word::low))]
-    fn address(&self, register: Register, offset: Immediate) -> u64
+    pub(crate) fn address(&self, register: Register, offset: Immediate) -> u64
         ensures { result ≡ low (value_at (hart_state self.now) register + word offset.value) }
     {
         self.read(register).wrapping_add(immediate_word(offset))
@@ -400,7 +409,7 @@ impl Hart {
 
     // Loads from an address to a register.
     #[inline]
-    fn load(&mut self, op: LoadOp, register: Register, address: u64) -> Result<(), Stop>
+    pub(crate) fn load(&mut self, op: LoadOp, register: Register, address: u64) -> Result<(), Stop>
         ensures ok { OnOk result (loads (hart_state self.old) op register address ≡ GoesOn (hart_state self.new)) }
         ensures stop { IfErr result (λ stop. stop ≡ MachineFault BadAccess (hart_state self.old).pc) }
         ensures err { OnErr result (loads (hart_state self.old) op register address ≡ Faults BadAccess) }
@@ -418,7 +427,7 @@ impl Hart {
     // Stores bytes of a value at an address.
     #[inline]
     #[tactic(auto, unfolding(crate::specs::Word::low))]
-    fn store(&mut self, op: StoreOp, address: u64, value: u64) -> Result<(), Stop>
+    pub(crate) fn store(&mut self, op: StoreOp, address: u64, value: u64) -> Result<(), Stop>
         ensures ok { OnOk result (stores (hart_state self.old) op address value ≡ GoesOn (hart_state self.new)) }
         ensures stop { IfErr result (λ stop. stop ≡ MachineFault BadAccess (hart_state self.old).pc) }
         ensures err { OnErr result (stores (hart_state self.old) op address value ≡ Faults BadAccess) }
@@ -445,7 +454,7 @@ impl Hart {
 
 // A write to a register, which x0 ignores.
 #[inline]
-fn put(registers: &mut [u64; 32], number: u8, value: u64)
+pub(crate) fn put(registers: &mut [u64; 32], number: u8, value: u64)
     requires { number < 32 }
     ensures registers { slice_index registers.new ≡ written (slice_index registers.old) number value }
     ensures zero { slice_index registers.new 0 ≡ slice_index registers.old 0 }
@@ -470,7 +479,7 @@ fn registers_for(end: u64, heap: u64, limit: u64, arguments: &[u64]) -> [u64; 32
 }
 
 // The word of an upper immediate, over twelve zeros.
-fn upper(imm: UpperImmediate) -> u64
+pub(crate) fn upper(imm: UpperImmediate) -> u64
     ensures { result ≡ upper_word imm }
 {
     extended_word(u64::from(imm.value) << 12)
@@ -483,20 +492,20 @@ fn immediate_word(imm: Immediate) -> u64
     i64::from(imm.value).cast_unsigned()
 }
 
-fn branch_word(offset: BranchOffset) -> u64
+pub(crate) fn branch_word(offset: BranchOffset) -> u64
     ensures { result ≡ word offset.bytes }
 {
     i64::from(offset.bytes).cast_unsigned()
 }
 
-fn jump_word(offset: JumpOffset) -> u64
+pub(crate) fn jump_word(offset: JumpOffset) -> u64
     ensures { result ≡ word offset.bytes }
 {
     i64::from(offset.bytes).cast_unsigned()
 }
 
 // An address without its lowest bit.
-fn even(address: u64) -> u64
+pub(crate) fn even(address: u64) -> u64
     ensures { result ≡ address - address % 2 }
 {
     address - address % 2

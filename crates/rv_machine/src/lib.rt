@@ -23,6 +23,7 @@ pub mod image_run;
 pub mod machine;
 pub mod memory;
 mod output;
+mod quiet;
 pub mod stops;
 
 pub use image_run::{images_have_runs, run_image};

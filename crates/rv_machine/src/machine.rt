@@ -78,10 +78,12 @@ impl Machine {
         ensures program { program_of self.new ≡ program_of self.old }
         ensures heap { heap_of self.new ≡ heap_of self.old }
     {
-        for _ in 0..steps {
+        let mut left = steps;
+        while left > 0 {
             if let Err(stop) = self.step(out) {
                 return stop;
             }
+            left = self.hart.run_quietly(&self.text, left - 1);
         }
         if self.hart.pc == 0 {
             Stop::Returned(self.hart.registers[10])
