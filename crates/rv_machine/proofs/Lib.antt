@@ -4,5 +4,6 @@ pub mod Taken
 pub mod Runs
 pub mod Programs
 pub mod Reaches
+pub mod Places
 pub mod Regions
 pub mod ImageRuns

@@ -3,7 +3,7 @@
 // Here the hart stands at a place of text, which is a number for each address: the distance from the begin of text, turned right by
 // two bits. So a place within text is the number of its word, and one word further is the next number.
 
-ghost use Rattle.std.specs.Prelude.{◌≡◌, ◌≢◌, ◌+◌, ◌-◌, ◌^◌, ◌<◌, ◌≤◌, ℕ, length, map, IfSome, Some, None};
+ghost use Rattle.std.specs.Prelude.{◌≡◌, ◌≢◌, ◌+◌, ◌-◌, ◌^◌, ◌<◌, ◌≤◌, ℕ, length, map, IfSome, Some, None, if◌then◌else◌};
 ghost use Rattle.rv_machine.specs.Word.{low, word};
 ghost use Rattle.rv_machine.specs.Decoded.{found_of};
 ghost use Rattle.rv_machine.specs.Place.{address_at};

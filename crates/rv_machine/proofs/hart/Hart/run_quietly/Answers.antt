@@ -1,0 +1,24 @@
+use Rattle.std.proofs.Common.{◌≡◌, ◌+◌, ◌-◌, ℕ, suc, map, sym, ap, ◌∙◌, arith}
+use Rattle.rv_machine.specs.Decoded.{found_of}
+use Rattle.rv_machine.specs.Machine.{State, GoesOn, run_of}
+use Rattle.rv_machine.specs.Place.{address_at}
+use Rattle.rv_machine.specs.Shown.{hart_state, stands_at}
+use Rattle.rv_machine.proofs.Runs.{run_of-moved}
+use Rattle.rv_machine.proofs.hart.Hart.run_quietly.Goals as goal
+
+pub returns-in-None-clause-run : goal.returns-in-None-clause-run
+returns-in-None-clause-run c =
+    λ rest.
+    c.loop-left.invariant.1 rest
+    ∙ ap (λ (s : State). run_of (map found_of c.args.text.now) s rest) (sym (c.advance.ensures.none c.in-None.is (address_at c.loop-left.at)) ∙ sym c.stand.ensures)
+
+pub loop-left-preserved : goal.loop-left-preserved
+loop-left-preserved c =
+    let program = map found_of c.args.text.now in (
+      omega (arith, c.loop-left.invariant.0),
+      λ rest.
+          (let sum : c.args.steps - (c.loop-left.left - 1) + rest ≡ c.args.steps - c.loop-left.left + suc rest = omega (arith, c.loop-left.invariant.0, c.loop-left-test.true) in
+          ap (run_of program (hart_state c.args.self.now)) sum
+          ∙ c.loop-left.invariant.1 (suc rest)
+          ∙ run_of-moved program (stands_at c.loop-left.self (address_at c.loop-left.at)) rest (GoesOn (stands_at c.advance.new.self (address_at c.in-Some.next))) c.in-Some.ensures.on c.in-Some.ensures.some),
+    )
