@@ -1,5 +1,5 @@
 -- The runs of images, by those of their programs.
-use Rattle.std.proofs.Common.{◌≡◌, ◌⊎◌, inl, inr, ℕ, ◌-◌, List, [], ◌++◌, length, ◌≤◌, ◌<◌, take, drop, Option, refl, sym, ap, ◌∙◌, subst}
+use Rattle.std.proofs.Common.{◌≡◌, inl, inr, ℕ, ◌-◌, List, [], ◌++◌, length, ◌≤◌, take, drop, Option, refl, sym, ap, ◌∙◌, subst}
 use Rattle.std.proofs.lemmas.Bool.{cases_order}
 use Rattle.elf_image.specs.declared.image.Image.{Image}
 use Rattle.rv_isa.specs.declared.instr.Instr.{Instr}

@@ -1,13 +1,12 @@
 -- Places of text, and accesses where eight bytes lie wholly in an area.
-use Rattle.std.proofs.Common.{◌≡◌, ◌≢◌, ℕ, suc, ◌+◌, ◌-◌, ◌*◌, ◌/◌, ◌%◌, ◌^◌, ◌<◌, ◌≤◌, List, length, map, Option, Some, None, refl, sym, ap, ◌∙◌, arith}
-use Rattle.std.specs.Prelude.{if◌then◌else◌, nat_lt, nat_le, slice_get, option_map, IfSome}
-use Rattle.std.proofs.lemmas.Bool.{lt-ltb, le-ltb, le-leb, lt-leb}
+use Rattle.std.proofs.Common.{◌≡◌, ℕ, ◌+◌, ◌-◌, ◌^◌, ◌<◌, ◌≤◌, List, length, map, Option, Some, None, ap, ◌∙◌, arith}
+use Rattle.std.specs.Prelude.{if◌then◌else◌, nat_le, slice_get, option_map, IfSome}
+use Rattle.std.proofs.lemmas.Bool.{le-ltb, le-leb, lt-leb}
 use Rattle.rv_isa.specs.declared.operation.LoadOp.{LoadOp}
 use Rattle.rv_isa.specs.declared.operation.LoadOp.TheVariants.{Lb, Lh, Lw, Ld, Lbu, Lhu, Lwu}
 use Rattle.rv_isa.specs.declared.operation.StoreOp.{StoreOp}
 use Rattle.rv_isa.specs.declared.operation.StoreOp.TheVariants.{Sb, Sh, Sw, Sd}
 use Rattle.rv_machine.specs.declared.decoded.Decoded.{Decoded}
-use Rattle.rv_machine.specs.declared.memory.Place.{Place}
 use Rattle.rv_machine.specs.declared.memory.Place.TheVariants.{Region, Private}
 use Rattle.rv_machine.specs.Word.{low}
 use Rattle.rv_machine.specs.Place.{address_at}

@@ -1,6 +1,6 @@
 -- Memory: where bytes lie, and what loads and stores of each width do. The region lies at 0x40000000 and private memory at
 -- 2 ^ 32; both are read and written, misaligned too. Numbers lie in them as in Terra's memory, the lowest byte first.
-use Rattle.std.specs.Prelude.{ℕ, ◌+◌, ◌-◌, ◌^◌, ◌≤◌, nat_lt, nat_le, if◌then◌else◌, List, ◌++◌, length, take, drop, Option, Some, None}
+use Rattle.std.specs.Prelude.{ℕ, ◌+◌, ◌-◌, ◌^◌, ◌≤◌, nat_lt, nat_le, if◌then◌else◌, List, Option, Some, None}
 use Rattle.std.specs.Int.{w8, w16, w32, cast_signed}
 use Rattle.rv_isa.specs.declared.operation.LoadOp.{LoadOp}
 use Rattle.rv_isa.specs.declared.operation.LoadOp.TheVariants.{Lb, Lh, Lw, Ld, Lbu, Lhu, Lwu}

@@ -9,7 +9,7 @@ use rv_isa::{
     RegisterOp, ShiftCount, ShiftOp, StoreOp, UpperImmediate,
 };
 
-/// A word of text, decoded. The commonest instructions have a variant of their own, so that a step asks only once which one it
+/// A word of text, decoded. The commonest instructions have a variant of their own, so that a quiet step asks only once which one it
 /// is to carry out.
 #[derive(Clone, Copy, PartialEq, Eq, Debug)]
 pub enum Decoded {
@@ -128,6 +128,96 @@ impl Decoded {
             Some(instr) => instruction(instr),
             None => Decoded::Illegal,
         }
+    }
+
+    /// The instruction that the word was found to be, or none.
+    pub(crate) fn found(self) -> Option<Instr>
+        ensures { result ≡ found_of self }
+    {
+        match self {
+            Decoded::Illegal => None,
+            Decoded::LoadUpper { rd, imm } => Some(Instr::Lui { rd, imm }),
+            Decoded::Jump { rd, offset } => Some(Instr::Jal { rd, offset }),
+            Decoded::JumpRegister { rd, rs1, offset } => Some(Instr::Jalr { rd, rs1, offset }),
+            Decoded::BranchEqual { rs1, rs2, offset } => Some(Instr::Branch {
+                condition: BranchCondition::Eq,
+                rs1,
+                rs2,
+                offset,
+            }),
+            Decoded::BranchNotEqual { rs1, rs2, offset } => Some(Instr::Branch {
+                condition: BranchCondition::Ne,
+                rs1,
+                rs2,
+                offset,
+            }),
+            Decoded::AddImmediate { rd, rs1, imm } => Some(Instr::RegisterImmediate {
+                op: ImmediateOp::Addi,
+                rd,
+                rs1,
+                imm,
+            }),
+            Decoded::ShiftLeft { rd, rs1, count } => Some(Instr::Shift {
+                op: ShiftOp::Slli,
+                rd,
+                rs1,
+                count,
+            }),
+            Decoded::Add { rd, rs1, rs2 } => Some(of_registers(RegisterOp::Add, rd, rs1, rs2)),
+            Decoded::Subtract { rd, rs1, rs2 } => Some(of_registers(RegisterOp::Sub, rd, rs1, rs2)),
+            Decoded::Xor { rd, rs1, rs2 } => Some(of_registers(RegisterOp::Xor, rd, rs1, rs2)),
+            Decoded::Multiply { rd, rs1, rs2 } => Some(of_registers(RegisterOp::Mul, rd, rs1, rs2)),
+            Decoded::LoadByte { rd, rs1, offset } => Some(of_load(LoadOp::Lbu, rd, rs1, offset)),
+            Decoded::LoadWord { rd, rs1, offset } => Some(of_load(LoadOp::Lw, rd, rs1, offset)),
+            Decoded::LoadDouble { rd, rs1, offset } => Some(of_load(LoadOp::Ld, rd, rs1, offset)),
+            Decoded::StoreByte { rs1, rs2, offset } => Some(of_store(
+                StoreOp::Sb,
+                rs1,
+                rs2,
+                offset,
+            )),
+            Decoded::StoreWord { rs1, rs2, offset } => Some(of_store(
+                StoreOp::Sw,
+                rs1,
+                rs2,
+                offset,
+            )),
+            Decoded::StoreDouble { rs1, rs2, offset } => {
+                Some(of_store(StoreOp::Sd, rs1, rs2, offset))
+            }
+            Decoded::Other(instr) => Some(instr),
+        }
+    }
+}
+
+// An instruction on two registers.
+fn of_registers(op: RegisterOp, rd: Register, rs1: Register, rs2: Register) -> Instr
+    ensures { result ≡ RegisterRegister op rd rs1 rs2 }
+{
+    Instr::RegisterRegister { op, rd, rs1, rs2 }
+}
+
+// A load.
+fn of_load(op: LoadOp, rd: Register, rs1: Register, offset: Immediate) -> Instr
+    ensures { result ≡ Load op rd rs1 offset }
+{
+    Instr::Load {
+        op,
+        rd,
+        rs1,
+        offset,
+    }
+}
+
+// A store.
+fn of_store(op: StoreOp, rs1: Register, rs2: Register, offset: Immediate) -> Instr
+    ensures { result ≡ Store op rs1 rs2 offset }
+{
+    Instr::Store {
+        op,
+        rs1,
+        rs2,
+        offset,
     }
 }
 

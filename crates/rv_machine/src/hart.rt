@@ -79,7 +79,6 @@ impl Hart {
     }
 
     /// Carries out a word of text. One that stops the run leaves the hart as it was.
-    #[inline(always)]
     pub(crate) fn perform<K: Sink>(&mut self, word: &Decoded, out: &mut K) -> Result<(), Stop>
         ensures ok { OnOk result (WentOn (obeys (Some (found_of word.now)) (hart_state self.old)) (hart_state self.new) (K.taken out.old) (K.taken out.new) (out.new ≡ out.old)) }
         ensures quiet { OnOk result (K.faults out.new ≡ K.faults out.old) }
@@ -88,95 +87,14 @@ impl Hart {
         ensures untouched { IfErr result (λ stop. stop ≢ WriteFault → out.new ≡ out.old) }
         ensures same { OnErr result (hart_state self.new ≡ hart_state self.old) }
     {
-        match *word {
-            Decoded::Illegal => Err(self.fault(MachineKind::IllegalWord)),
-            Decoded::LoadByte { rd, rs1, offset } => {
-                self.load(LoadOp::Lbu, rd, self.address(rs1, offset))
-            }
-            Decoded::LoadWord { rd, rs1, offset } => {
-                self.load(LoadOp::Lw, rd, self.address(rs1, offset))
-            }
-            Decoded::LoadDouble { rd, rs1, offset } => {
-                self.load(LoadOp::Ld, rd, self.address(rs1, offset))
-            }
-            Decoded::StoreByte { rs1, rs2, offset } => {
-                self.store(StoreOp::Sb, self.address(rs1, offset), self.read(rs2))
-            }
-            Decoded::StoreWord { rs1, rs2, offset } => {
-                self.store(StoreOp::Sw, self.address(rs1, offset), self.read(rs2))
-            }
-            Decoded::StoreDouble { rs1, rs2, offset } => {
-                self.store(StoreOp::Sd, self.address(rs1, offset), self.read(rs2))
-            }
-            Decoded::LoadUpper { rd, imm } => {
-                self.write(rd, upper(imm));
-                Ok(())
-            }
-            Decoded::Jump { rd, offset } => {
-                self.jump(rd, self.ahead(jump_word(offset)));
-                Ok(())
-            }
-            Decoded::JumpRegister { rd, rs1, offset } => {
-                self.jump(rd, even(self.address(rs1, offset)));
-                Ok(())
-            }
-            Decoded::BranchEqual { rs1, rs2, offset } => {
-                self.branch(self.read(rs1) == self.read(rs2), offset);
-                Ok(())
-            }
-            Decoded::BranchNotEqual { rs1, rs2, offset } => {
-                self.branch(self.read(rs1) != self.read(rs2), offset);
-                Ok(())
-            }
-            Decoded::AddImmediate { rd, rs1, imm } => {
-                self.write(rd, self.address(rs1, imm));
-                Ok(())
-            }
-            Decoded::ShiftLeft { rd, rs1, count } => {
-                self.shift_left(rd, rs1, count);
-                Ok(())
-            }
-            Decoded::Add { rd, rs1, rs2 } => {
-                self.write_value(RegisterOp::Add, rd, rs1, rs2);
-                Ok(())
-            }
-            Decoded::Subtract { rd, rs1, rs2 } => {
-                self.write_value(RegisterOp::Sub, rd, rs1, rs2);
-                Ok(())
-            }
-            Decoded::Xor { rd, rs1, rs2 } => {
-                self.write_value(RegisterOp::Xor, rd, rs1, rs2);
-                Ok(())
-            }
-            Decoded::Multiply { rd, rs1, rs2 } => {
-                self.write_value(RegisterOp::Mul, rd, rs1, rs2);
-                Ok(())
-            }
-            Decoded::Other(instr) => self.execute(instr, out),
+        match word.found() {
+            Some(instr) => self.execute(instr, out),
+            None => Err(self.fault(MachineKind::IllegalWord)),
         }
     }
 
-    // SLLI.
-    #[inline(always)]
-    fn shift_left(&mut self, rd: Register, rs1: Register, count: ShiftCount)
-        ensures { writes (hart_state self.old) rd (shift_value Slli (value_at (hart_state self.old) rs1) count.count) ≡ GoesOn (hart_state self.new) }
-    {
-        self.write(
-            rd,
-            shift_value(ShiftOp::Slli, self.read(rs1), u32::from(count.count)),
-        )
-    }
-
-    // Writes what an operation on two registers gives.
-    #[inline(always)]
-    fn write_value(&mut self, op: RegisterOp, rd: Register, rs1: Register, rs2: Register)
-        ensures { writes (hart_state self.old) rd (register_value op (value_at (hart_state self.old) rs1) (value_at (hart_state self.old) rs2)) ≡ GoesOn (hart_state self.new) }
-    {
-        self.write(rd, register_value(op, self.read(rs1), self.read(rs2)))
-    }
-
     // What any instruction does. One that stops the run leaves the hart as it was.
-    pub(crate) fn execute<K: Sink>(&mut self, instr: Instr, out: &mut K) -> Result<(), Stop>
+    fn execute<K: Sink>(&mut self, instr: Instr, out: &mut K) -> Result<(), Stop>
         ensures ok { OnOk result (WentOn (act instr (hart_state self.old)) (hart_state self.new) (K.taken out.old) (K.taken out.new) (out.new ≡ out.old)) }
         ensures quiet { OnOk result (K.faults out.new ≡ K.faults out.old) }
         ensures err { IfErr result (λ stop. StoppedAt stop (hart_state self.old).pc (act instr (hart_state self.old)) (K.taken out.old) (K.taken out.new)) }

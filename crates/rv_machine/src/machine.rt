@@ -8,6 +8,7 @@ ghost use Rattle.rv_machine.specs.Machine.{fetch};
 
 use crate::decoded::Decoded;
 use crate::hart::Hart;
+use crate::quiet::place_at;
 use crate::stops::{MachineKind, Stop};
 use elf_image::Image;
 use rv_isa::decode;
@@ -80,6 +81,7 @@ impl Machine {
     {
         let mut left = steps;
         while left > 0 {
+            // each step that may write or stop, and the quiet ones after it
             if let Err(stop) = self.step(out) {
                 return stop;
             }
@@ -93,7 +95,6 @@ impl Machine {
     }
 
     // One instruction, or none where the run is over. One that stops the run leaves the state as it was.
-    #[inline]
     fn step<K: Sink>(&mut self, out: &mut K) -> Result<(), Stop>
         ensures going { OnOk result ((state_of self.old).pc ≢ 0) }
         ensures over { IfErr result (λ stop. (state_of self.old).pc ≡ 0 → stop ≡ Returned ((state_of self.old).registers 10) × K.taken out.new ≡ K.taken out.old) }
@@ -126,24 +127,11 @@ impl Machine {
 }
 
 // The word of text at an address, if there is one.
-#[inline]
 fn fetch(text: &[Decoded], address: u64) -> Option<&Decoded>
     requires { length text.now < 2 ^ 62 - 2 ^ 14 }
     ensures { option_map (λ word. found_of word.now) result ≡ fetch (map found_of text.now) address }
 {
-    text.get(text_index(address))
-}
-
-// Where the word at an address stands in text. An address before text, or between two words, gets a number past every text: the
-// two lowest bits of its distance become the two highest of the number.
-#[inline]
-fn text_index(address: u64) -> usize
-    ensures inside { 65536 ≤ address → address % 4 ≡ 0 → result ≡ (address - 65536) / 4 }
-    ensures before { address < 65536 → 2 ^ 62 - 2 ^ 14 ≤ result }
-    ensures between { address % 4 ≢ 0 → 2 ^ 62 ≤ result }
-{
-    let distance = address.wrapping_sub(TEXT);
-    (distance / 4 + distance % 4 * (1 << 62)) as usize
+    text.get(place_at(address))
 }
 
 /// The laws of runs and of text. A run that isn't over goes on from where it stands, so a run may be made in parts; one that is

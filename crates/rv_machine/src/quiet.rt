@@ -110,11 +110,23 @@ impl Hart {
                 Some(self.set(rd, self.address(rs1, imm), at))
             }
             Decoded::ShiftLeft { rd, rs1, count } => Some(self.set_shifted(rd, rs1, count, at)),
-            Decoded::Add { rd, rs1, rs2 } => Some(self.set_value(RegisterOp::Add, rd, rs1, rs2, at)),
+            Decoded::Add { rd, rs1, rs2 } => Some(self.set_value(
+                RegisterOp::Add,
+                rd,
+                rs1,
+                rs2,
+                at,
+            )),
             Decoded::Subtract { rd, rs1, rs2 } => {
                 Some(self.set_value(RegisterOp::Sub, rd, rs1, rs2, at))
             }
-            Decoded::Xor { rd, rs1, rs2 } => Some(self.set_value(RegisterOp::Xor, rd, rs1, rs2, at)),
+            Decoded::Xor { rd, rs1, rs2 } => Some(self.set_value(
+                RegisterOp::Xor,
+                rd,
+                rs1,
+                rs2,
+                at,
+            )),
             Decoded::Multiply { rd, rs1, rs2 } => {
                 Some(self.set_value(RegisterOp::Mul, rd, rs1, rs2, at))
             }
@@ -214,7 +226,13 @@ impl Hart {
 
     // Loads to a register, where eight bytes lie at the address.
     #[inline(always)]
-    fn load_inside(&mut self, op: LoadOp, register: Register, address: u64, at: usize) -> Option<usize>
+    fn load_inside(
+        &mut self,
+        op: LoadOp,
+        register: Register,
+        address: u64,
+        at: usize,
+    ) -> Option<usize>
         requires within { at < 2 ^ 62 - 2 ^ 14 }
         ensures some { IfSome result (λ next. loads (stands_at self.old (address_at at)) op register address ≡ GoesOn (stands_at self.new (address_at next))) }
         ensures none { result ≡ None → (pc : ℕ) → stands_at self.new pc ≡ stands_at self.old pc }
@@ -299,7 +317,7 @@ fn address_of(at: usize) -> u64
 // The place of an address.
 #[inline]
 #[tactic(auto, unfolding(crate::specs::Word::low, crate::specs::Place::address_at))]
-fn place_at(address: u64) -> usize
+pub(crate) fn place_at(address: u64) -> usize
     ensures { address_at result ≡ address }
 {
     let distance = address.wrapping_sub(TEXT);

@@ -1,4 +1,4 @@
-use Rattle.std.proofs.Common.{◌≡◌, ◌+◌, ◌-◌, ◌%◌, ◌^◌, ◌≤◌, ℕ, List, length, sym, ap, ◌∙◌, arith}
+use Rattle.std.proofs.Common.{◌+◌, ◌-◌, ◌%◌, ◌^◌, ℕ, List, sym, ap, ◌∙◌, arith}
 use Rattle.rv_machine.specs.Machine.{loads_from, writes}
 use Rattle.rv_machine.specs.Memory.{load_width, load_value}
 use Rattle.rv_machine.specs.Place.{address_at}

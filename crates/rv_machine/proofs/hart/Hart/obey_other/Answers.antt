@@ -1,7 +1,7 @@
 use Rattle.std.proofs.Common.{sym, ap, ◌∙◌, ℕ}
 use Rattle.rv_isa.specs.declared.instr.Instr.{Instr}
 use Rattle.rv_isa.specs.declared.instr.Instr.TheVariants.{Load, Store}
-use Rattle.rv_machine.specs.Machine.{State, GoesOn, act, loads, stores, value_at}
+use Rattle.rv_machine.specs.Machine.{GoesOn, act, loads, stores, value_at}
 use Rattle.rv_machine.specs.Place.{address_at}
 use Rattle.rv_machine.specs.Shown.{hart_state, stands_at}
 use Rattle.rv_machine.proofs.hart.Hart.obey_other.Goals as goal

@@ -1,4 +1,4 @@
-use Rattle.std.proofs.Common.{◌≡◌, ◌+◌, ◌-◌, ℕ, suc, map, sym, ap, ◌∙◌, arith}
+use Rattle.std.proofs.Common.{◌≡◌, ◌+◌, ◌-◌, suc, map, sym, ap, ◌∙◌, arith}
 use Rattle.rv_machine.specs.Decoded.{found_of}
 use Rattle.rv_machine.specs.Machine.{State, GoesOn, run_of}
 use Rattle.rv_machine.specs.Place.{address_at}

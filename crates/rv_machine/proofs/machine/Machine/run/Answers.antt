@@ -1,4 +1,4 @@
-use Rattle.std.proofs.Common.{◌≡◌, ◌+◌, ◌-◌, ◌<◌, ℕ, List, inl, inr, map, refl, sym, ap, ◌∙◌, subst, ⊎_elim, arith, Option}
+use Rattle.std.proofs.Common.{◌≡◌, ◌+◌, ◌-◌, ◌<◌, List, inl, map, refl, sym, ap, ◌∙◌, subst, ⊎_elim, arith, Option}
 use Rattle.std.proofs.lemmas.Bool.{cases_eq}
 use Rattle.rv_isa.specs.declared.instr.Instr.{Instr}
 use Rattle.rv_machine.specs.declared.stops.Stop.{Stop}
@@ -56,14 +56,14 @@ loop-left-preserved g c =
       c.in_default.ensures.heap ∙ c.loop-left.invariant.1,
       c.in_default.ensures.quiet ∙ c.loop-left.invariant.2,
       (
-      went.0,
-      went.1,
-      λ k.
-          (let sum : c.args.steps - quiet + k ≡ count + 1 + (c.loop-left.left - 1 - quiet + k) = omega (arith, c.run_quietly-left.ensures.left, c.loop-left.invariant.4, c.loop-left-test.true) in
-          ap (run_of program start) sum
-          ∙ went.2 (c.loop-left.left - 1 - quiet + k)
-          ∙ ap (after_output went.0) (subst (λ (p : List (Option Instr)). run_of p (state_of c.step.new.self) (c.loop-left.left - 1 - quiet + k) ≡ run_of p (hart_state c.run_quietly-left.new.self) k) (ap (map found_of) c.deref.ensures.value ∙ same) (c.run_quietly-left.ensures.run k))),
-      went.3,
+        went.0,
+        went.1,
+        λ k.
+            (let sum : c.args.steps - quiet + k ≡ count + 1 + (c.loop-left.left - 1 - quiet + k) = omega (arith, c.run_quietly-left.ensures.left, c.loop-left.invariant.4, c.loop-left-test.true) in
+            ap (run_of program start) sum
+            ∙ went.2 (c.loop-left.left - 1 - quiet + k)
+            ∙ ap (after_output went.0) (subst (λ (p : List (Option Instr)). run_of p (state_of c.step.new.self) (c.loop-left.left - 1 - quiet + k) ≡ run_of p (hart_state c.run_quietly-left.new.self) k) (ap (map found_of) c.deref.ensures.value ∙ same) (c.run_quietly-left.ensures.run k))),
+        went.3,
       ),
       omega (arith, c.run_quietly-left.ensures.left, c.loop-left.invariant.4),
     )
