@@ -6,8 +6,11 @@ use Rattle.tl_base.specs.declared.ids.TypeId.{TypeId}
 use Rattle.tl_base.specs.declared.ids.FnId.{FnId}
 use Rattle.terra_words.specs.Runs.{Value, word, bytes, number, Run}
 use Rattle.terra_types.specs.declared.types.TypeForm.{TypeForm}
+use Rattle.terra_types.specs.declared.types.TypeForm.TheVariants as forms
+use Rattle.terra_types.specs.Opening.{boolean, unit}
+use Rattle.terra_types.specs.Sizes.{bytes_of}
 use Rattle.terra_term.specs.declared.lists.TypedName.{TypedName}
-use Rattle.terra_meaning.specs.Values.{bytes_at, IsValue}
+use Rattle.terra_meaning.specs.Values.{form_at, bytes_at, IsValue}
 use Rattle.terra_meaning.specs.Running.{Held, held, lies, Variable, State, Got, Gives, Ends, next}
 use Rattle.terra_meaning.specs.Meaning.{Wanted, the_value, the_address}
 use Rattle.tac_form.specs.declared.tac.Operand.{Operand}
@@ -21,6 +24,15 @@ use Rattle.tac_lower.specs.Items.{Item, does}
 use Rattle.tac_lower.specs.Pieces.{Used, with_temp, Piece, following, then_piece, taken, Result, a_word, an_area, an_offset, Holder, in_temp, at_offset, Bound, Holders}
 use Rattle.tac_lower.proofs.Places.{Point, step_on, after, after-append, DoesAt, EndsAt, HasAt, has-front, has-back}
 
+-- how many bytes the values of a form have that are no aggregates
+abbrev pub SizedBy : TypeForm → ℕ → Type 0
+SizedBy (forms.Integer i) n = n ≡ bytes_of i
+SizedBy forms.Bool n = n ≡ 1
+SizedBy forms.Unit n = n ≡ 0
+SizedBy (forms.Pointer t) n = n ≡ 8
+SizedBy (forms.Function params result) n = n ≡ 8
+SizedBy _ n = Unit {0}
+
 -- A call of a function in a program: its code, its frame's address, its callers, and the types.
 pub record Setting : Type 0 where
   pub program : Program
@@ -32,6 +44,9 @@ pub record Setting : Type 0 where
   pub memory : ℕ
   pub there : program.code function ≡ Some tac
   pub low : base + tac.frame < 2 ^ 64
+  pub sizes : (t : TypeId) → SizedBy (form_at types t) (bytes_at types t)
+  pub boolean_is : form_at types boolean ≡ forms.Bool
+  pub unit_is : form_at types unit ≡ forms.Unit
 
 -- what a call keeps for itself
 pub record Private : Type 0 where

@@ -135,7 +135,7 @@ number_in _ = whole_word
 abbrev pub number_of : List TypeForm → TypeId → Number
 number_of types t = number_in (form_at types t)
 
-abbrev bool_form : TypeForm → Bool
+abbrev pub bool_form : TypeForm → Bool
 bool_form forms.Bool = true
 bool_form _ = false
 
