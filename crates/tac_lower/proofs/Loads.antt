@@ -3,7 +3,7 @@ use Rattle.std.proofs.Common.{◌≡◌, ◌≢◌, ℕ, zero, suc, ◌+◌, ◌
 use Rattle.std.specs.Prelude.{◌^◌, ◌%◌, ◌-◌, ◌&&◌, slice_get, unwrap_or, nat_eq, nat_le, if◌then◌else◌, bit_and}
 use Rattle.std.proofs.lemmas.Option.{slice_get-get_or}
 use Rattle.std.proofs.Math.Seq.{get_or-append_seam}
-use Rattle.std.proofs.lemmas.Bool.{eqb-true, eqb-false}
+use Rattle.std.proofs.lemmas.Bool.{eqb-true, eqb-false, le-leb}
 use Rattle.std.proofs.lemmas.List.{nil_from_length, length-take-le, length-drop, drop_all}
 use Rattle.std.proofs.lemmas.Nat.{and_mask}
 use Rattle.tl_base.specs.declared.place.Place.{Place}
@@ -291,3 +291,109 @@ area-size z size u g =
     ap (λ l. unwrap_or (slice_get l (length u.areas)) 0) e
     ∙ ap (λ o. unwrap_or o 0) (slice_get-get_or (u.areas ++ size ∷ g.areas.0) (length u.areas) size lt)
     ∙ get_or-append_seam u.areas size g.areas.0 size
+
+overwritten-whole : (old bs : List ℕ) → length old ≤ length bs → overwritten old 0 bs ≡ bs
+overwritten-whole old bs le =
+    let n : 0 + length bs ≡ length bs = omega arith in
+    ap (λ m. bs ++ drop m old) n ∙ ap (λ l. bs ++ l) (drop_all (length bs) old le) ∙ append-nil bs
+
+-- nothing is read into an area of no bytes
+empty_sim : {z : Setting} {n : ℕ} {names : List TypedName} {scope : Holders} {facts : List Fact} (u : Used) (place : Place) (of : TypeId) (a size : ℕ) →
+    is_aggregate z.types of ≡ true → bytes_at z.types of ≡ size → size ≡ 0 →
+    Sim z n names scope facts u (known (an_area (length u.areas)) (with_area size u)) (meaning.loaded z.types place of a) names scope (λ v. one_of the_value of (an_area (length u.areas)) v)
+unfolding range_of
+empty_sim {z} {n} {names} {scope} {facts} u place of a size agg bytes_are e = record {
+  grown = record { temps = omega arith; areas = (size ∷ [], refl) };
+  over = λ t lt away. away;
+  run = λ out at k s has whole_ fine knows less.
+      let none : bytes_at z.types of ≡ 0 = bytes_are ∙ e in
+      let same : meaning.loaded z.types place of a s ≡ Gives (bytes []) s =
+          ap (λ m. meaning.read z.types place of s (range_of s.region a m)) none
+          ∙ ap (λ b. Gives (if b then bytes [] else word (wrapped (width_of z.types of) (number_of []))) s) agg in
+      let empty : k.areas (length u.areas) ≡ [] =
+          nil_from_length (k.areas (length u.areas)) (omega (arith, fine.small (length u.areas), area-size z size u whole_, e)) in
+      let zero_long : 0 ≡ bytes_at z.types of = sym none in
+      let ok : Means z the_value of scope (with_area size u) (an_area (length u.areas)) k (bytes []) = record {
+        is = ap bytes empty;
+        own = omega (arith, length-append u.areas (size ∷ []));
+        good = (agg, zero_long);
+      } in
+      subst (λ g. Leaves z at k s (λ v s'. Comes z names scope at u k s at names scope (with_area size u) s' (λ k1. Means z the_value of scope (with_area size u) (an_area (length u.areas)) k1 v)) g) (sym same)
+      (record {
+        private = k;
+        leads = (0, refl);
+        ok = ok;
+        fine = record { holds = fine.holds; small = fine.small; sized = fine.sized };
+        keeps = record { temps = λ t lt away. refl; areas = λ m lt. refl };
+        fewer = omega arith;
+      });
+}
+
+-- bytes are moved into an area
+moved_sim : {z : Setting} {n : ℕ} {names : List TypedName} {scope : Holders} {facts : List Fact} (u : Used) (place : Place) (of : TypeId) (address : Address) (a size : ℕ) →
+    is_aggregate z.types of ≡ true → bytes_at z.types of ≡ size → IsThere z scope u facts address a →
+    Sim z n names scope facts u (doing (an_area (length u.areas)) (Move (spots.Area (length u.areas) 0) (spots.Region place address) size) (with_area size u)) (meaning.loaded z.types place of a) names scope (λ v. one_of the_value of (an_area (length u.areas)) v)
+moved_sim {z} {n} {names} {scope} {facts} u place of address a size agg bytes_are there =
+    fills_sim u the_value of size (Move (spots.Area (length u.areas) 0) (spots.Region place address) size) (meaning.loaded z.types place of a) (λ at k s whole_ fine knows.
+    by at k s (fine.small (length u.areas)) (area-size z size u whole_) (range_of s.region a (bytes_at z.types of)) refl
+    (ap (λ x. fetched place (stands z at k s) (range_of s.region x size) (λ bs. flow.to_spot (spots.Area (length u.areas) 0) bs (stands z at k s))) (there at k s knows)
+    ∙ ap (λ m. fetched place (stands z at k s) (range_of s.region a m) (λ bs. flow.to_spot (spots.Area (length u.areas) 0) bs (stands z at k s))) (sym bytes_are)))
+  where
+    by : (at : Point) (k : Private) (s : State) → length (k.areas (length u.areas)) ≤ area_size z.tac (length u.areas) → area_size z.tac (length u.areas) ≡ size →
+        (o : Option (List ℕ)) → range_of s.region a (bytes_at z.types of) ≡ o →
+        act z.program (Move (spots.Area (length u.areas) 0) (spots.Region place address) size) (stands z at k s)
+        ≡ fetched place (stands z at k s) o (λ bs. flow.to_spot (spots.Area (length u.areas) 0) bs (stands z at k s)) →
+        FillsOr z the_value of at k s (length u.areas) (Move (spots.Area (length u.areas) 0) (spots.Region place address) size) (meaning.read z.types place of s o)
+    by at k s small sized None r e = e
+    by at k s small sized (Some bs) r e =
+        let long : length bs ≡ bytes_at z.types of = range-length s.region a (bytes_at z.types of) bs r in
+        record {
+          bytes_put = bs;
+          moves = e
+              ∙ ap (λ b. if b then Goes (flow.ahead (flow.set_area (length u.areas) (overwritten (k.areas (length u.areas)) 0 bs) (stands z at k s))) else flow.stop (stands z at k s) Stuck) (le-leb 0 (length (k.areas (length u.areas))) (omega arith))
+              ∙ ap (λ l. Goes (flow.ahead (flow.set_area (length u.areas) l (stands z at k s)))) (overwritten-whole (k.areas (length u.areas)) bs (omega (arith, small, sized, long, bytes_are)));
+          is = ap (λ b. if b then bytes bs else word (wrapped (width_of z.types of) (number_of bs))) (sym agg);
+          small = omega (arith, sized, long, bytes_are);
+          good = subst (λ v. Good z the_value of (an_area (length u.areas)) v) (ap (λ b. if b then bytes bs else word (wrapped (width_of z.types of) (number_of bs))) (sym agg)) (agg, long);
+          same = same-self s;
+        }
+
+-- nothing is read of a type of no bytes
+loads-nothing : (z : Setting) (place : Place) (of : TypeId) (a : ℕ) (s : State) → bytes_at z.types of ≡ 0 → is_aggregate z.types of ≡ false → meaning.loaded z.types place of a s ≡ Gives (word 0) s
+unfolding range_of number_of
+loads-nothing z place of a s e plain =
+    ap (λ m. meaning.read z.types place of s (range_of s.region a m)) e
+    ∙ ap (λ b. Gives (if b then bytes [] else word (wrapped (width_of z.types of) (number_of []))) s) plain
+    ∙ ap (λ x. Gives (word x) s) (wrapped-zero (form_at z.types of))
+
+-- the value of a type at an address
+pub loaded_sim : {z : Setting} {n : ℕ} {names : List TypedName} {scope : Holders} {facts : List Fact} (u : Used) (place : Place) (of : TypeId) (address : Address) (a : ℕ) →
+    IsThere z scope u facts address a →
+    Sim z n names scope facts u (loaded z.types of (spots.Region place address) u) (meaning.loaded z.types place of a) names scope (λ v. one_of the_value of (loaded z.types of (spots.Region place address) u).result v)
+loaded_sim {z} {n} {names} {scope} {facts} u place of address a there = by (is_aggregate z.types of) refl (nat_eq (bytes_at z.types of) 0) refl
+  where
+    piece_by : Bool → Bool → Piece Result
+    piece_by agg none =
+        if agg then (if none then known (an_area (length u.areas)) (with_area (bytes_at z.types of) u)
+        else doing (an_area (length u.areas)) (Move (spots.Area (length u.areas) 0) (spots.Region place address) (bytes_at z.types of)) (with_area (bytes_at z.types of) u))
+        else (if none then known no_word u else loaded_word z.types of (spots.Region place address) u)
+
+    by : (agg : Bool) → is_aggregate z.types of ≡ agg → (none : Bool) → nat_eq (bytes_at z.types of) 0 ≡ none →
+        Sim z n names scope facts u (piece_by agg none) (meaning.loaded z.types place of a) names scope (λ v. one_of the_value of (piece_by agg none).result v)
+    by true agg true none = empty_sim u place of a (bytes_at z.types of) agg refl (eqb-true (bytes_at z.types of) 0 none)
+    by true agg false none = moved_sim u place of address a (bytes_at z.types of) agg refl there
+    by false agg true none = nothing_sim (eqb-true (bytes_at z.types of) 0 none) agg
+      where
+        nothing_sim : bytes_at z.types of ≡ 0 → is_aggregate z.types of ≡ false → Sim z n names scope facts u (known no_word u) (meaning.loaded z.types place of a) names scope (λ v. one_of the_value of no_word v)
+        nothing_sim e plain = sim_as (λ s. Gives (word 0) s) (meaning.loaded z.types place of a)
+            (λ s. sym (loads-nothing z place of a s e plain))
+            (known_sim u no_word (word 0) (λ k s fine knows. record { is = refl; own = tt; good = (plain, wrapped-zero (form_at z.types of)) }))
+    by false agg false none = word_piece_sim u place of address a there agg (eqb-false (bytes_at z.types of) 0 none) (form_at z.types of) refl
+
+-- a place that was reached by its address
+pub reached_sim : {z : Setting} {n : ℕ} {names : List TypedName} {scope : Holders} {facts : List Fact} (u : Used) (want : Wanted) (place : Place) (of : TypeId) (r : Result) (a : ℕ) →
+    ((k : Private) → KnowsAll z scope u facts k → Means z the_address of scope u r k (word a)) →
+    Sim z n names scope facts u (reached z.types want place of r u) (meaning.reached z.types want place of a) names scope (λ v. one_of want of (reached z.types want place of r u).result v)
+reached_sim {z} {n} {names} {scope} {facts} u the_value place of r a means =
+    loaded_sim u place of (address_of r) a (λ at k s knows. address-is z of scope u r at k s a (means k knows))
+reached_sim {z} {n} {names} {scope} {facts} u the_address place of r a means = known_sim u r (word a) (λ k s fine knows. means k knows)
