@@ -54,19 +54,31 @@ sim_as {A} {B} {z} {n} {names} {names'} {scope} {scope'} {facts} {u} {r} {post} 
       (x.run out at k s has whole_ fine knows less);
 }
 
+-- the same where it is told so of the states in which the code may stand
+pub sim_from : {A B : Type 0} {z : Setting} {n : ℕ} {names names' : List TypedName} {scope scope' : Holders} {facts : List Fact} {u : Used} {r : Piece A} {post : B → Fact}
+    (go go' : State → Got B) → ((k : Private) (s : State) → Fine z names scope u k s → KnowsAll z scope u facts k → go s ≡ go' s) →
+    Sim z n names scope facts u r go names' scope' post → Sim z n names scope facts u r go' names' scope' post
+sim_from {A} {B} {z} {n} {names} {names'} {scope} {scope'} {facts} {u} {r} {post} go go' e x = record {
+  grown = x.grown;
+  over = x.over;
+  run = λ out at k s has whole_ fine knows less.
+      subst (λ g. Leaves z at k s (λ b s'. Comes z names scope at u k s (after r.code at) names' scope' r.used s' (Knows z scope' r.used (post b))) g) (e k s fine knows)
+      (x.run out at k s has whole_ fine knows less);
+}
+
 -- computing
 
 -- the words of two operands, by what is known
-abbrev pub AreWords : Setting → Holders → Used → List Fact → Operand → Operand → ℕ → ℕ → Type 0
-AreWords z scope u facts a b x y = (k : Private) → KnowsAll z scope u facts k → (word_in k a ≡ x) × (word_in k b ≡ y)
+abbrev pub AreWords : Setting → Holders → List Fact → Operand → Operand → ℕ → ℕ → Type 0
+AreWords z scope facts a b x y = (u : Used) (k : Private) → KnowsAll z scope u facts k → (word_in k a ≡ x) × (word_in k b ≡ y)
 
 pub compute_sim : {z : Setting} {n : ℕ} {names : List TypedName} {scope : Holders} {facts : List Fact} (u : Used) (want : Wanted) (of : TypeId) (op : BinaryOperator) (form : Number) (a b : Operand)
-    (x y : ℕ) (v : Value) → AreWords z scope u facts a b x y → (divides op && nat_eq y 0) ≡ false → word (applied (flow.width_of form) op x y) ≡ v →
+    (x y : ℕ) (v : Value) → AreWords z scope facts a b x y → (divides op && nat_eq y 0) ≡ false → word (applied (flow.width_of form) op x y) ≡ v →
     Good z want of (a_word (Temp u.temps)) v →
     Sim z n names scope facts u (compute op form a b u) (λ s. Gives v s) names scope (λ w. one_of want of (a_word (Temp u.temps)) w)
 compute_sim {z} {n} {names} {scope} {facts} u want of op form a b x y v words safe is good =
     puts_sim u want of (Compute u.temps op form a b) (λ s. Gives v s) (λ at k s fine knows.
-    let w = words k knows in
+    let w = words u k knows in
     let ea = operand-is z at k s a ∙ w.0 in
     let eb = operand-is z at k s b ∙ w.1 in
     record {
@@ -109,7 +121,7 @@ copied_sim {z} {n} {names} {scope} {facts} u want of a go h =
 pub address-is : (z : Setting) (of : TypeId) (scope : Holders) (u : Used) (r : Result) (at : Point) (k : Private) (s : State) (a : ℕ) →
     Means z the_address of scope u r k (word a) → flow.address (stands z at k s) (address_of r) ≡ a
 address-is z of scope u (a_word o) at k s a m = operand-is z at k s o ∙ ap number m.is
-address-is z of scope u (an_area n) at k s a m = ap number m.is
+address-is z of scope u (an_area n) at k s a m = absurd m.good
 address-is z of scope u (an_offset o) at k s a m = ap number m.is
 
 -- the word of a result that is wanted as a value
@@ -118,6 +130,11 @@ pub word-is : (z : Setting) (of : TypeId) (scope : Holders) (u : Used) (r : Resu
 word-is z of scope u (a_word o) k v m = ap number m.is
 word-is z of scope u (an_area n) k v m = ap number m.is
 word-is z of scope u (an_offset o) k v m = absurd m.good
+
+pub is-value : (z : Setting) (of : TypeId) (r : Result) (v : Value) → Good z the_value of r v → IsValue z.types of v
+is-value z of (a_word o) v h = h
+is-value z of (an_area n) v h = h
+is-value z of (an_offset o) v h = absurd h
 
 -- ranges
 
@@ -180,13 +197,13 @@ abbrev word_read : Place → Number → (size : ℕ) → ℕ → State → Got V
 word_read at form size a s = word_from at form s (range_of s.region a size)
 
 word_sim : {z : Setting} {n : ℕ} {names : List TypedName} {scope : Holders} {facts : List Fact} (u : Used) (want : Wanted) (of : TypeId) (place : Place) (form : Number) (address : Address) (a : ℕ) →
-    ((at : Point) (k : Private) (s : State) → KnowsAll z scope u facts k → flow.address (stands z at k s) address ≡ a) →
+    ((at : Point) (k : Private) (s : State) → Fine z names scope u k s → KnowsAll z scope u facts k → flow.address (stands z at k s) address ≡ a) →
     ((m : ℕ) → Good z want of (a_word (Temp u.temps)) (word (wrapped (flow.width_of form) m))) →
     Sim z n names scope facts u (loaded_number form (spots.Region place address) u) (word_read place form (flow.bytes_of form.size) a) names scope (λ w. one_of want of (a_word (Temp u.temps)) w)
 word_sim {z} {n} {names} {scope} {facts} u want of place form address a there good =
     puts_sim u want of (Load u.temps form (spots.Region place address)) (word_read place form (flow.bytes_of form.size) a) (λ at k s fine knows.
     by at k s (range_of s.region a (flow.bytes_of form.size))
-    (ap (λ x. fetched place (stands z at k s) (range_of s.region x (flow.bytes_of form.size)) (λ bs. Goes (flow.ahead (flow.set_temp u.temps (wrapped (flow.width_of form) (number_of bs)) (stands z at k s))))) (there at k s knows)))
+    (ap (λ x. fetched place (stands z at k s) (range_of s.region x (flow.bytes_of form.size)) (λ bs. Goes (flow.ahead (flow.set_temp u.temps (wrapped (flow.width_of form) (number_of bs)) (stands z at k s))))) (there at k s fine knows)))
   where
     by : (at : Point) (k : Private) (s : State) (o : Option (List ℕ)) →
         act z.program (Load u.temps form (spots.Region place address)) (stands z at k s)
@@ -223,11 +240,11 @@ abbrev word_piece : TypeForm → Spot → Used → Piece Result
 word_piece form from u = then_piece (loaded_number (number_in form) from u) (λ r u'. loaded_bit (bool_form form) r u')
 
 -- what code does at an address that it knows
-abbrev pub IsThere : Setting → Holders → Used → List Fact → Address → ℕ → Type 0
-IsThere z scope u facts address a = (at : Point) (k : Private) (s : State) → KnowsAll z scope u facts k → flow.address (stands z at k s) address ≡ a
+abbrev pub IsThere : Setting → List TypedName → Holders → Used → List Fact → Address → ℕ → Type 0
+IsThere z names scope u facts address a = (at : Point) (k : Private) (s : State) → Fine z names scope u k s → KnowsAll z scope u facts k → flow.address (stands z at k s) address ≡ a
 
 number_sim : {z : Setting} {n : ℕ} {names : List TypedName} {scope : Holders} {facts : List Fact} (u : Used) (place : Place) (of : TypeId) (form : TypeForm) (address : Address) (a : ℕ) →
-    form_at z.types of ≡ form → HasNumber form → IsThere z scope u facts address a →
+    form_at z.types of ≡ form → HasNumber form → IsThere z names scope u facts address a →
     Sim z n names scope facts u (then_piece (loaded_number (number_in form) (spots.Region place address) u) (λ r u'. known r u')) (meaning.loaded z.types place of a) names scope (λ v. one_of the_value of (a_word (Temp u.temps)) v)
 number_sim {z} {n} {names} {scope} {facts} u place of form address a e h there =
     let l = load-number z of form e h in
@@ -256,7 +273,7 @@ read-bool types place of s (Some bs) plain w =
     ∙ ap (λ b. Gives (if b then bytes bs else word (wrapped (width_of types of) (number_of bs))) s) (sym plain)
 
 bool_sim : {z : Setting} {n : ℕ} {names : List TypedName} {scope : Holders} {facts : List Fact} (u : Used) (place : Place) (of : TypeId) (address : Address) (a : ℕ) →
-    form_at z.types of ≡ forms.Bool → IsThere z scope u facts address a →
+    form_at z.types of ≡ forms.Bool → IsThere z names scope u facts address a →
     Sim z n names scope facts u (word_piece forms.Bool (spots.Region place address) u) (meaning.loaded z.types place of a) names scope (λ v. one_of the_value of (a_word (Temp (suc u.temps))) v)
 bool_sim {z} {n} {names} {scope} {facts} u place of address a e there =
     let size = subst (λ f. SizedBy f (bytes_at z.types of)) e (z.sizes of) in
@@ -267,11 +284,11 @@ bool_sim {z} {n} {names} {scope} {facts} u place of address a e there =
     (then_sim (λ r u'. loaded_bit true r u') (λ v s'. Gives (word (applied (flow.width_of whole_word) operators.And (number v) 1)) s') (word 0)
     (word_sim u the_address of place (number_in forms.Bool) address a there (λ m. wrapped-small (forms.Integer Uint8) m))
     (λ v. compute_sim (with_temp u) the_value of operators.And whole_word (Temp u.temps) (Constant 1) (number v) 1 (word (applied (flow.width_of whole_word) operators.And (number v) 1))
-    (λ k knows. (ap number knows.0.is, refl)) refl refl
+    (λ u1 k knows. (ap number knows.0.is, refl)) refl refl
     (plain, subst (λ w. wrapped w (applied (flow.width_of whole_word) operators.And (number v) 1) ≡ applied (flow.width_of whole_word) operators.And (number v) 1) (sym width) (and-bit (number v)))))
 
 word_piece_sim : {z : Setting} {n : ℕ} {names : List TypedName} {scope : Holders} {facts : List Fact} (u : Used) (place : Place) (of : TypeId) (address : Address) (a : ℕ) →
-    IsThere z scope u facts address a → is_aggregate z.types of ≡ false → bytes_at z.types of ≢ 0 → (form : TypeForm) → form_at z.types of ≡ form →
+    IsThere z names scope u facts address a → is_aggregate z.types of ≡ false → bytes_at z.types of ≢ 0 → (form : TypeForm) → form_at z.types of ≡ form →
     Sim z n names scope facts u (word_piece form (spots.Region place address) u) (meaning.loaded z.types place of a) names scope (λ v. one_of the_value of (word_piece form (spots.Region place address) u).result v)
 word_piece_sim {z} u place of address a there plain some (forms.Integer i) e = number_sim u place of (forms.Integer i) address a e tt there
 word_piece_sim {z} u place of address a there plain some (forms.Pointer t) e = number_sim u place of (forms.Pointer t) address a e tt there
@@ -331,12 +348,12 @@ empty_sim {z} {n} {names} {scope} {facts} u place of a size agg bytes_are e = re
 
 -- bytes are moved into an area
 moved_sim : {z : Setting} {n : ℕ} {names : List TypedName} {scope : Holders} {facts : List Fact} (u : Used) (place : Place) (of : TypeId) (address : Address) (a size : ℕ) →
-    is_aggregate z.types of ≡ true → bytes_at z.types of ≡ size → IsThere z scope u facts address a →
+    is_aggregate z.types of ≡ true → bytes_at z.types of ≡ size → IsThere z names scope u facts address a →
     Sim z n names scope facts u (doing (an_area (length u.areas)) (Move (spots.Area (length u.areas) 0) (spots.Region place address) size) (with_area size u)) (meaning.loaded z.types place of a) names scope (λ v. one_of the_value of (an_area (length u.areas)) v)
 moved_sim {z} {n} {names} {scope} {facts} u place of address a size agg bytes_are there =
     fills_sim u the_value of size (Move (spots.Area (length u.areas) 0) (spots.Region place address) size) (meaning.loaded z.types place of a) (λ at k s whole_ fine knows.
     by at k s (fine.small (length u.areas)) (area-size z size u whole_) (range_of s.region a (bytes_at z.types of)) refl
-    (ap (λ x. fetched place (stands z at k s) (range_of s.region x size) (λ bs. flow.to_spot (spots.Area (length u.areas) 0) bs (stands z at k s))) (there at k s knows)
+    (ap (λ x. fetched place (stands z at k s) (range_of s.region x size) (λ bs. flow.to_spot (spots.Area (length u.areas) 0) bs (stands z at k s))) (there at k s fine knows)
     ∙ ap (λ m. fetched place (stands z at k s) (range_of s.region a m) (λ bs. flow.to_spot (spots.Area (length u.areas) 0) bs (stands z at k s))) (sym bytes_are)))
   where
     by : (at : Point) (k : Private) (s : State) → length (k.areas (length u.areas)) ≤ area_size z.tac (length u.areas) → area_size z.tac (length u.areas) ≡ size →
@@ -368,7 +385,7 @@ loads-nothing z place of a s e plain =
 
 -- the value of a type at an address
 pub loaded_sim : {z : Setting} {n : ℕ} {names : List TypedName} {scope : Holders} {facts : List Fact} (u : Used) (place : Place) (of : TypeId) (address : Address) (a : ℕ) →
-    IsThere z scope u facts address a →
+    IsThere z names scope u facts address a →
     Sim z n names scope facts u (loaded z.types of (spots.Region place address) u) (meaning.loaded z.types place of a) names scope (λ v. one_of the_value of (loaded z.types of (spots.Region place address) u).result v)
 loaded_sim {z} {n} {names} {scope} {facts} u place of address a there = by (is_aggregate z.types of) refl (nat_eq (bytes_at z.types of) 0) refl
   where
@@ -392,8 +409,8 @@ loaded_sim {z} {n} {names} {scope} {facts} u place of address a there = by (is_a
 
 -- a place that was reached by its address
 pub reached_sim : {z : Setting} {n : ℕ} {names : List TypedName} {scope : Holders} {facts : List Fact} (u : Used) (want : Wanted) (place : Place) (of : TypeId) (r : Result) (a : ℕ) →
-    ((k : Private) → KnowsAll z scope u facts k → Means z the_address of scope u r k (word a)) →
+    ((k : Private) (s : State) → Fine z names scope u k s → KnowsAll z scope u facts k → Means z the_address of scope u r k (word a)) →
     Sim z n names scope facts u (reached z.types want place of r u) (meaning.reached z.types want place of a) names scope (λ v. one_of want of (reached z.types want place of r u).result v)
 reached_sim {z} {n} {names} {scope} {facts} u the_value place of r a means =
-    loaded_sim u place of (address_of r) a (λ at k s knows. address-is z of scope u r at k s a (means k knows))
-reached_sim {z} {n} {names} {scope} {facts} u the_address place of r a means = known_sim u r (word a) (λ k s fine knows. means k knows)
+    loaded_sim u place of (address_of r) a (λ at k s fine knows. address-is z of scope u r at k s a (means k s fine knows))
+reached_sim {z} {n} {names} {scope} {facts} u the_address place of r a means = known_sim u r (word a) (λ k s fine knows. means k s fine knows)

@@ -186,6 +186,7 @@ Own scope u (an_offset o) = Unit {0}
 abbrev pub Good : Setting → Wanted → TypeId → Result → Value → Type 0
 Good z the_value of (an_offset o) v = ⊥
 Good z the_value of r v = IsValue z.types of v
+Good z the_address of (an_area n) v = ⊥
 Good z the_address of (an_offset o) v = o + bytes_at z.types of ≤ z.tac.frame
 Good z the_address of r v = number v < 2 ^ 64
 

@@ -38,14 +38,14 @@ with_bytes n bs k = record k { areas = put k.areas n bs }
 
 -- the variables in temporaries below a number stay where those temporaries do
 
-is-later : (z : Setting) (of : TypeId) (b : Holder) (v : Held) (l l' : ℕ) (k k' : Private) → l ≤ l' →
+pub is-later : (z : Setting) (of : TypeId) (b : Holder) (v : Held) (l l' : ℕ) (k k' : Private) → l ≤ l' →
     ((t : ℕ) → t < l → k'.temps t ≡ k.temps t) → Is z of b v l k → Is z of b v l' k'
 is-later z of (in_temp t) (held w) l l' k k' le same h = (omega (arith, h.0, le), same t h.0 ∙ h.1, h.2)
 is-later z of (at_offset o) (lies a) l l' k k' le same h = h
 is-later z of (in_temp t) (lies a) l l' k k' le same h = absurd h
 is-later z of (at_offset o) (held w) l l' k k' le same h = absurd h
 
-below-le : (z : Setting) (of : TypeId) (b : Holder) (v : Held) (l : ℕ) (k : Private) → Is z of b v l k → below b l ≤ l
+pub below-le : (z : Setting) (of : TypeId) (b : Holder) (v : Held) (l : ℕ) (k : Private) → Is z of b v l k → below b l ≤ l
 below-le z of (in_temp t) (held w) l k h = omega (arith, h.0)
 below-le z of (at_offset o) v l k h = omega arith
 below-le z of (in_temp t) (lies a) l k h = absurd h
