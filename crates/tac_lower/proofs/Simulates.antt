@@ -133,7 +133,7 @@ comes-before z names names1 names2 scope scope1 scope2 at at1 at2 u u1 u2 k k1 s
 }
 
 -- where code ends after two pieces
-comes-at : (z : Setting) (names names' : List TypedName) (scope scope' : Holders) (at to to' : Point) (u u' : Used) (k : Private) (s s' : State)
+pub comes-at : (z : Setting) (names names' : List TypedName) (scope scope' : Holders) (at to to' : Point) (u u' : Used) (k : Private) (s s' : State)
     (Ok : Private → Type 0) → to ≡ to' → Comes z names scope at u k s to names' scope' u' s' Ok → Comes z names scope at u k s to' names' scope' u' s' Ok
 comes-at z names names' scope scope' at to to' u u' k s s' Ok e c =
     subst (λ p. Comes z names scope at u k s p names' scope' u' s' Ok) e c
