@@ -155,13 +155,13 @@ way-before z w names names1 names2 scope scope1 scope2 at at1 to u u1 u2 k k1 s 
 }
 
 -- where code ends after two pieces, and what is used then
-way-at : (z : Setting) (w : Within) (names names' : List TypedName) (scope scope' : Holders) (at to to' : Point) (u u' : Used) (k : Private) (s : State) (out : ℕ) → to ≡ to' →
+pub way-at : (z : Setting) (w : Within) (names names' : List TypedName) (scope scope' : Holders) (at to to' : Point) (u u' : Used) (k : Private) (s : State) (out : ℕ) → to ≡ to' →
     (g : Got Way) → Leaves z at k s (λ way s'. WayOk z w names scope at u k s to names' scope' u' out way s') g →
     Leaves z at k s (λ way s'. WayOk z w names scope at u k s to' names' scope' u' out way s') g
 way-at z w names names' scope scope' at to to' u u' k s out e g h =
     subst (λ p. Leaves z at k s (λ way s'. WayOk z w names scope at u k s p names' scope' u' out way s') g) e h
 
-comes-later : (z : Setting) (names names' : List TypedName) (scope scope' : Holders) (at to : Point) (u u' v : Used) (k : Private) (s s' : State) → u'.temps ≤ v.temps →
+pub comes-later : (z : Setting) (names names' : List TypedName) (scope scope' : Holders) (at to : Point) (u u' v : Used) (k : Private) (s s' : State) → u'.temps ≤ v.temps →
     Comes z names scope at u k s to names' scope' u' s' (λ k1. Unit {0}) → Comes z names scope at u k s to names' scope' v s' (λ k1. Unit {0})
 comes-later z names names' scope scope' at to u u' v k s s' le c = record {
   private = c.private;
@@ -219,7 +219,7 @@ acts_then {z} {n} {w} {names} {names1} {names2} {scope} {u} {r} {go} more go2 x 
     second out at k s has whole_ fine less (Gives (gives_back v) s1) c = c
 
 -- a scope of its own
-scoped-ways : (z : Setting) (w : Within) (names names1 : List TypedName) (scope scope1 : Holders) (at to : Point) (u u1 : Used) (k : Private) (s : State) (out : ℕ) → Fine z names scope u k s →
+pub scoped-ways : (z : Setting) (w : Within) (names names1 : List TypedName) (scope scope1 : Holders) (at to : Point) (u u1 : Used) (k : Private) (s : State) (out : ℕ) → Fine z names scope u k s →
     Under names scope names1 scope1 → (g : Got Way) →
     Leaves z at k s (λ way s'. WayOk z w names scope at u k s to names1 scope1 u1 out way s') g →
     Leaves z at k s (λ way s'. WayOk z w names scope at u k s to names scope u1 out way s') (scoped s g)
