@@ -157,7 +157,7 @@ range-length r a (suc n) bs e = by (is_inside r a (suc n)) refl e
 -- loads
 
 -- which of a type's forms a load of a word is for
-load-number : (z : Setting) (of : TypeId) (form : TypeForm) → form_at z.types of ≡ form → HasNumber form →
+pub load-number : (z : Setting) (of : TypeId) (form : TypeForm) → form_at z.types of ≡ form → HasNumber form →
     (flow.bytes_of (number_in form).size ≡ bytes_at z.types of) × (is_aggregate z.types of ≡ false) × (flow.width_of (number_in form) ≡ width_of z.types of)
 load-number z of form e h =
     let s = subst (λ f. SizedBy f (bytes_at z.types of)) e (z.sizes of) in

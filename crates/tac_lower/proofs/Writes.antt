@@ -108,7 +108,7 @@ abbrev pub PutsOr : Setting → Wanted → TypeId → Point → Private → Stat
 PutsOr z want of at k s d i (Gives v s1) = Puts z want of at k s d i v s1
 PutsOr z want of at k s d i (Ends r) = act z.program i (stands z at k s) ≡ Stops r
 
-grown-temp : (u : Used) → Grown u (with_temp u)
+pub grown-temp : (u : Used) → Grown u (with_temp u)
 grown-temp u = record { temps = omega arith; areas = ([], sym (append-nil u.areas)) }
 
 pub fine-word : (z : Setting) (names : List TypedName) (scope : Holders) (u : Used) (k : Private) (s s1 : State) (x : ℕ) → Same s s1 →
