@@ -218,7 +218,7 @@ word_sim {z} {n} {names} {scope} {facts} u want of place form address a there go
       same = same-self s;
     }
 
-next-same : {A : Type 0} (g : Got A) → next g (λ a s. Gives a s) ≡ g
+pub next-same : {A : Type 0} (g : Got A) → next g (λ a s. Gives a s) ≡ g
 next-same (Gives a s) = refl
 next-same (Ends r) = refl
 

@@ -217,3 +217,15 @@ element_sim {z} {n} {names} {scope} {facts} u of size from index x y words =
     (λ u1 k knows. ((words u1 k knows).1, refl)) refl (ap word (multiplied y size)) (omega arith))
     (λ w. compute_sim (with_temp u) the_address of operators.Add whole_word from (Temp u.temps) x (number w) (word ((x + number w) % 2 ^ 64))
     (λ u1 k knows. ((words u1 k knows.1).0, ap number knows.0.is)) refl (ap word (added x (number w))) (omega arith)))
+
+-- an address is a word
+pub address-word : (z : Setting) (of : TypeId) (scope : Holders) (u : Used) (r : Result) (k : Private) (v : Value) → Means z the_address of scope u r k v →
+    Means z the_address of scope u r k (word (number v))
+address-word z of scope u (a_word o) k v m = record { is = ap word (ap number m.is); own = m.own; good = m.good }
+address-word z of scope u (an_area n) k v m = absurd m.good
+address-word z of scope u (an_offset o) k v m = record { is = ap word (ap number m.is); own = m.own; good = m.good }
+
+pub located-number : (z : Setting) (k : Private) (r : Result) (u : Used) → word_in k (word_of (located r u).result) ≡ number (value_in z k (located r u).result)
+located-number z k (a_word o) u = refl
+located-number z k (an_area n) u = refl
+located-number z k (an_offset o) u = refl

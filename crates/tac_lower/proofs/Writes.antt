@@ -16,7 +16,7 @@ use Rattle.tac_lower.specs.Items.{Item, does}
 use Rattle.tac_lower.specs.Pieces.{Used, with_temp, with_area, Piece, known, doing, following, then_piece, taken, Result, a_word, an_area, an_offset, Holder, in_temp, at_offset, Holders}
 use Rattle.tac_lower.proofs.Places.{Point, step_on, after, HasAt, DoesAt}
 use Rattle.tac_lower.proofs.Standing.{Setting, Private, stands, Leads, Halts, one-step, Elsewhere, Apart, Is, below, Holds, Fine, Keeps, Grown, Own, Good, Means, Comes, Leaves}
-use Rattle.tac_lower.proofs.Simulates.{Fact, nothing, one_of, all_of, Knows, KnowsAll, whole, Over, Sim, grown-none, keeps-none}
+use Rattle.tac_lower.proofs.Simulates.{Fact, nothing, one_of, all_of, Knows, KnowsAll, whole, Over, Sim, grown-none, keeps-none, facts-later}
 
 nat_eq-ne : (a b : ℕ) → a ≢ b → nat_eq a b ≡ false
 nat_eq-ne a b ne = ⊎_elim (λ t. absurd (ne t.1)) (λ f. f.0) (eqb_tells a b)
@@ -275,5 +275,33 @@ taken_sim {A} {B} {C} {D} {z} {n} {names} {names'} {scope} {scope'} {facts} {u} 
   over = x.over;
   run = λ out at k s has whole_ fine knows less.
       taken-leaves z names names' scope scope' at (after r.code at) u r.used k s (λ b. Knows z scope' r.used (mid b)) (λ d. Knows z scope' r.used (post d)) h same (go s)
+      (x.run out at k s has whole_ fine knows less);
+}
+
+-- the same, where what was known before counts too
+taken-with : {B D : Type 0} (z : Setting) (names names' : List TypedName) (scope scope' : Holders) (facts : List Fact) (at to : Point) (u u' : Used) (k : Private) (s : State)
+    (Ok : B → Private → Type 0) (Ok' : D → Private → Type 0) (h : B → D) → Grown u u' → Over scope u scope' → KnowsAll z scope u facts k →
+    ((b : B) (k1 : Private) → KnowsAll z scope' u' facts k1 → Ok b k1 → Ok' (h b) k1) → (g : Got B) →
+    Leaves z at k s (λ b s'. Comes z names scope at u k s to names' scope' u' s' (Ok b)) g →
+    Leaves z at k s (λ d s'. Comes z names scope at u k s to names' scope' u' s' (Ok' d)) (next g (λ b s'. Gives (h b) s'))
+taken-with z names names' scope scope' facts at to u u' k s Ok Ok' h grown over knows same (Gives b s1) c = record {
+  private = c.private;
+  leads = c.leads;
+  ok = same b c.private (facts-later z scope scope' u u' k c.private grown over c.keeps facts knows) c.ok;
+  fine = c.fine;
+  keeps = c.keeps;
+  fewer = c.fewer;
+}
+taken-with z names names' scope scope' facts at to u u' k s Ok Ok' h grown over knows same (Ends r) c = c
+
+pub taken_with_sim : {A B C D : Type 0} {z : Setting} {n : ℕ} {names names' : List TypedName} {scope scope' : Holders} {facts : List Fact} {u : Used} {r : Piece A}
+    {go : State → Got B} {mid : B → Fact} {post : D → Fact} (f : A → C) (h : B → D) → Sim z n names scope facts u r go names' scope' mid →
+    ((b : B) (k : Private) → KnowsAll z scope' r.used facts k → Knows z scope' r.used (mid b) k → Knows z scope' r.used (post (h b)) k) →
+    Sim z n names scope facts u (taken f r) (λ s. next (go s) (λ b s'. Gives (h b) s')) names' scope' post
+taken_with_sim {A} {B} {C} {D} {z} {n} {names} {names'} {scope} {scope'} {facts} {u} {r} {go} {mid} {post} f h x same = record {
+  grown = x.grown;
+  over = x.over;
+  run = λ out at k s has whole_ fine knows less.
+      taken-with z names names' scope scope' facts at (after r.code at) u r.used k s (λ b. Knows z scope' r.used (mid b)) (λ d. Knows z scope' r.used (post d)) h x.grown x.over knows same (go s)
       (x.run out at k s has whole_ fine knows less);
 }

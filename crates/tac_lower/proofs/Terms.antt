@@ -1,0 +1,178 @@
+-- The code of each term does what the term means, by recursion on the term. What isn't proved yet of operations, declarations,
+-- assignments, `and`, `or`, `repeat` and `for` is a premise here.
+use Rattle.std.proofs.Common.{◌≡◌, ℕ, zero, suc, ◌+◌, ◌<◌, ◌≤◌, Bool, true, false, List, [], ◌∷◌, ◌++◌, Option, Some, None, refl, sym, ap, ◌∙◌, subst, arith}
+use Rattle.std.specs.Prelude.{◌^◌, ◌*◌, if◌then◌else◌}
+use Rattle.tl_base.specs.declared.place.Place.{Place}
+use Rattle.tl_base.specs.declared.ids.TypeId.{TypeId}
+use Rattle.tl_base.specs.declared.ids.FnId.{FnId}
+use Rattle.terra_words.specs.Words.{moved}
+use Rattle.terra_words.specs.Runs.{Value, word, number, is_true}
+use Rattle.terra_types.specs.declared.types.TypeForm.{TypeForm}
+use Rattle.terra_term.specs.declared.operators.Operation.{Operation}
+use Rattle.terra_term.specs.declared.lists.TypedName.{TypedName}
+use Rattle.terra_term.specs.TypedTerms.{Expression, typed, Constant', Variable, Global, Operate, Both, Either, Dereference, Select, Follow, Element, Index, Address, Decay, Let, Expressions, no_more, then_one, Statement, statement, Var, Assign, If, IfElse, While, Repeat, For, Do, Break, Finish, Return, Perform, Statements, done, and_then, type_of}
+use Rattle.terra_term.specs.Stores.{Contents}
+use Rattle.terra_term.specs.WellTyped.{Within}
+use Rattle.terra_meaning.specs.Values.{bytes_at}
+use Rattle.terra_meaning.specs.Frames.{Home}
+use Rattle.terra_meaning.specs.Running.{State, Got, Gives, Ends, next, scoped}
+use Rattle.terra_meaning.specs.Meaning as meaning
+use Rattle.terra_meaning.specs.Meaning.{Call, Wanted, the_value, the_address, Way, goes_on, breaks, gives_back, along, rounds, constant, types_of, in_expression, in_list, in_statement, in_block, meant, meant_all, done_one, done_all, operated}
+use Rattle.tac_form.specs.declared.tac.Operand.{Operand}
+use Rattle.tac_form.specs.declared.tac.Operand.TheVariants.{Temp, Constant}
+use Rattle.tac_lower.specs.Pieces.{Used, Piece, known, then_piece, taken, Result, a_word, an_area, an_offset, word_of, located, Holders, Around}
+use Rattle.tac_lower.specs.Lowering.{piece, pieces, one, all, operation, reached, entry, element}
+use Rattle.tac_lower.proofs.Standing.{Setting, Private, Good, Means}
+use Rattle.tac_lower.proofs.Simulates.{Fact, nothing, one_of, all_of, Sim, then_sim}
+use Rattle.tac_lower.proofs.Writes.{known_sim, taken_with_sim}
+use Rattle.tac_lower.proofs.Words.{value-small}
+use Rattle.tac_lower.proofs.Loads.{sim_as, next-same, reached_sim, word-is, is-value}
+use Rattle.tac_lower.proofs.Reaches.{address-word, located-number, InScope, variable_sim, entry_sim, follow_sim, located_sim, element_sim, own-word}
+use Rattle.tac_lower.proofs.Acts.{Acts, Under, under-self, acts_none, acts_then, acts_scoped}
+use Rattle.tac_lower.proofs.Branches.{acts_sim, acts_break, acts_return, acts_if}
+use Rattle.tac_lower.proofs.Choices.{acts_choice, in_let, let_sim}
+use Rattle.tac_lower.proofs.Rounds.{in_loop}
+use Rattle.tac_lower.proofs.Loops.{acts_while}
+
+-- what is asked for is a value
+abbrev IsValueWanted : Wanted → Type 0
+IsValueWanted the_value = Unit {0}
+IsValueWanted the_address = ⊥
+
+-- a word below 2 ^ 64 is what is wanted of a type
+abbrev IsWide : Setting → Wanted → TypeId → Type 0
+IsWide z want of = (o : Operand) (x : ℕ) → x < 2 ^ 64 → Good z want of (a_word o) (word x)
+
+module _ (z : Setting) (n : ℕ) (st : Contents) (entries : List FnId) (homes : List Home) (call : FnId → List Value → Place → State → Got Value) (turns : ℕ) (OperationNeeds : Operation → List TypeId → TypeId → Type 0) where
+  abbrev store : Contents
+  store = record st { types = z.types }
+
+  abbrev c : Call
+  c = record { store = store; entries = entries; call = call; base = z.base; homes = homes; turns = turns }
+
+  abbrev a : Around
+  a = record { store = store; entries = entries; homes = homes }
+
+  -- what lowering needs of a term's types
+  abbrev mutual
+    pub Needs : Wanted → List TypedName → Expression → Type 0
+    Needs want names (typed at of (Constant' k)) = Good z want of (a_word (Constant (constant entries k))) (word (constant entries k))
+    Needs want names (typed at of (Variable x)) = InScope x of names
+    Needs want names (typed at of (Global address)) = address < 2 ^ 64
+    Needs want names (typed at of (Operate op es)) = IsValueWanted want × NeedsAll names es × OperationNeeds op (types_of es) of
+    Needs want names (typed at of (Both x y)) = ⊥
+    Needs want names (typed at of (Either x y)) = ⊥
+    Needs want names (typed at of (Dereference p)) = Needs the_value names p
+    Needs want names (typed at of (Select offset e)) = Needs the_address names e × (offset + bytes_at z.types of ≤ bytes_at z.types (type_of e))
+    Needs want names (typed at of (Follow offset p)) = Needs the_value names p
+    Needs want names (typed at of (Element e i)) = Needs the_address names e × Needs the_value names i
+    Needs want names (typed at of (Index p i)) = Needs the_value names p × Needs the_value names i
+    Needs want names (typed at of (Address e)) = Needs the_address names e × IsWide z want of
+    Needs want names (typed at of (Decay e)) = Needs the_address names e × IsWide z want of
+    Needs want names (typed at of (Let block e)) = ⊥
+
+    pub NeedsAll : List TypedName → Expressions → Type 0
+    NeedsAll names no_more = Unit {0}
+    NeedsAll names (then_one e es) = Needs the_value names e × NeedsAll names es
+
+  module _ (operations : (names : List TypedName) (scope : Holders) (facts : List Fact) (u : Used) (at : Place) (of : TypeId) (op : Operation) (ts : List TypeId) (rs : List Result) (vs : List Value) → OperationNeeds op ts of →
+      Sim z n names scope (all_of ts rs vs ∷ facts) u (operation a at of op ts rs u) (operated c at of op ts vs) names scope (λ v. one_of the_value of (operation a at of op ts rs u).result v)) where
+    mutual
+      pub expression_sim : (want : Wanted) (e : Expression) (from : ℕ) (names : List TypedName) (scope : Holders) (facts : List Fact) (u : Used) → Needs want names e →
+          Sim z n names scope facts u (piece a want e from scope u) (meant c want e from) names scope (λ v. one_of want (type_of e) (piece a want e from scope u).result v)
+      expression_sim want (typed at of (Constant' k)) from names scope facts u needs =
+          known_sim u (a_word (Constant (constant entries k))) (word (constant entries k)) (λ k1 s fine knows. record { is = refl; own = tt; good = needs })
+      expression_sim want (typed at of (Variable x)) from names scope facts u needs = variable_sim u want at of x needs
+      expression_sim want (typed at of (Global address)) from names scope facts u needs =
+          reached_sim u want at of (a_word (Constant address)) address (λ k s fine knows. record { is = refl; own = tt; good = needs })
+      expression_sim the_value (typed at of (Operate op es)) from names scope facts u needs =
+          then_sim (λ vs u'. operation a at of op (types_of es) vs u') (λ vs s'. operated c at of op (types_of es) vs s') []
+          (expressions_sim es from names scope facts u needs.1)
+          (λ vs. operations names scope facts (pieces a es from scope u).used at of op (types_of es) (pieces a es from scope u).result vs needs.2)
+      expression_sim the_address (typed at of (Operate op es)) from names scope facts u needs = absurd needs.0
+      expression_sim want (typed at of (Both x y)) from names scope facts u needs = absurd needs
+      expression_sim want (typed at of (Either x y)) from names scope facts u needs = absurd needs
+      expression_sim want (typed at of (Dereference p)) from names scope facts u needs =
+          let q = piece a the_value p from scope u in
+          then_sim (λ v u'. reached z.types want at of (a_word (word_of v)) u') (λ v s'. meaning.reached z.types want at of (number v) s') (word 0)
+          (expression_sim the_value p from names scope facts u needs)
+          (λ v. reached_sim q.used want at of (a_word (word_of q.result)) (number v) (λ k s fine knows. record {
+            is = ap word (word-is z (type_of p) scope q.used q.result k v knows.0);
+            own = own-word scope q.used q.result knows.0.own;
+            good = value-small z.types (type_of p) v (is-value z (type_of p) q.result v knows.0.good);
+          }))
+      expression_sim want (typed at of (Select offset e)) from names scope facts u needs =
+          let q = piece a the_address e from scope u in
+          then_sim (λ v u'. then_piece (entry offset v u') (λ r u''. reached z.types want at of r u'')) (λ v s'. meaning.reached z.types want at of (moved (number v) offset) s') (word 0)
+          (expression_sim the_address e from names scope facts u needs.0)
+          (λ v. then_sim {mid = λ w. one_of the_address of (entry offset q.result q.used).result w} (λ r u''. reached z.types want at of r u'') (λ w s'. meaning.reached z.types want at of (number w) s') (word 0)
+          (entry_sim q.used (type_of e) of offset q.result v needs.1)
+          (λ w. reached_sim (entry offset q.result q.used).used want at of (entry offset q.result q.used).result (number w)
+          (λ k s fine knows. address-word z of scope (entry offset q.result q.used).used (entry offset q.result q.used).result k w knows.0)))
+      expression_sim want (typed at of (Follow offset p)) from names scope facts u needs =
+          let q = piece a the_value p from scope u in
+          let r = entry offset (a_word (word_of q.result)) q.used in
+          then_sim (λ v u'. then_piece (entry offset (a_word (word_of v)) u') (λ r u''. reached z.types want at of r u'')) (λ v s'. meaning.reached z.types want at of (moved (number v) offset) s') (word 0)
+          (expression_sim the_value p from names scope facts u needs)
+          (λ v. then_sim {mid = λ w. one_of the_address of r.result w} (λ r u''. reached z.types want at of r u'') (λ w s'. meaning.reached z.types want at of (number w) s') (word 0)
+          (follow_sim q.used (type_of p) of offset q.result v)
+          (λ w. reached_sim r.used want at of r.result (number w) (λ k s fine knows. address-word z of scope r.used r.result k w knows.0)))
+      expression_sim want (typed at of (Element e i)) from names scope facts u needs =
+          let size = bytes_at z.types of in
+          let q = piece a the_address e from scope u in
+          let l = located q.result q.used in
+          let j = piece a the_value i (from + in_expression e) scope l.used in
+          let r = element size (word_of l.result) (word_of j.result) j.used in
+          then_sim
+          (λ v u1. then_piece (located v u1) (λ array u2. then_piece (piece a the_value i (from + in_expression e) scope u2) (λ m u3. then_piece (element size (word_of array) (word_of m) u3) (λ r u4. reached z.types want at of r u4))))
+          (λ v s'. next (meant c the_value i (from + in_expression e) s') (λ m s''. meaning.reached z.types want at of (moved (number v) (number m * size)) s'')) (word 0)
+          (expression_sim the_address e from names scope facts u needs.0)
+          (λ v. then_sim {mid = λ x. one_of the_address (type_of e) l.result x}
+          (λ array u2. then_piece (piece a the_value i (from + in_expression e) scope u2) (λ m u3. then_piece (element size (word_of array) (word_of m) u3) (λ r u4. reached z.types want at of r u4)))
+          (λ x s'. next (meant c the_value i (from + in_expression e) s') (λ m s''. meaning.reached z.types want at of (moved (number x) (number m * size)) s'')) (word 0)
+          (located_sim q.used the_address (type_of e) (type_of e) q.result v (λ o x lt. lt))
+          (λ x. then_sim (λ m u3. then_piece (element size (word_of l.result) (word_of m) u3) (λ r u4. reached z.types want at of r u4))
+          (λ m s''. meaning.reached z.types want at of (moved (number x) (number m * size)) s'') (word 0)
+          (expression_sim the_value i (from + in_expression e) names scope (one_of the_address (type_of e) l.result x ∷ one_of the_address (type_of e) q.result v ∷ facts) l.used needs.1)
+          (λ m. then_sim {mid = λ w. one_of the_address of r.result w} (λ r u4. reached z.types want at of r u4) (λ w s''. meaning.reached z.types want at of (number w) s'') (word 0)
+          (element_sim j.used of size (word_of l.result) (word_of j.result) (number x) (number m)
+          (λ u1 k knows. (located-number z k q.result q.used ∙ ap number knows.1.0.is, word-is z (type_of i) scope u1 j.result k m knows.0)))
+          (λ w. reached_sim r.used want at of r.result (number w) (λ k s fine knows. address-word z of scope r.used r.result k w knows.0)))))
+      expression_sim want (typed at of (Index p i)) from names scope facts u needs =
+          let size = bytes_at z.types of in
+          let q = piece a the_value p from scope u in
+          let j = piece a the_value i (from + in_expression p) scope q.used in
+          let r = element size (word_of q.result) (word_of j.result) j.used in
+          then_sim
+          (λ v u1. then_piece (piece a the_value i (from + in_expression p) scope u1) (λ m u2. then_piece (element size (word_of v) (word_of m) u2) (λ r u3. reached z.types want at of r u3)))
+          (λ v s'. next (meant c the_value i (from + in_expression p) s') (λ m s''. meaning.reached z.types want at of (moved (number v) (number m * size)) s'')) (word 0)
+          (expression_sim the_value p from names scope facts u needs.0)
+          (λ v. then_sim (λ m u2. then_piece (element size (word_of q.result) (word_of m) u2) (λ r u3. reached z.types want at of r u3))
+          (λ m s''. meaning.reached z.types want at of (moved (number v) (number m * size)) s'') (word 0)
+          (expression_sim the_value i (from + in_expression p) names scope (one_of the_value (type_of p) q.result v ∷ facts) q.used needs.1)
+          (λ m. then_sim {mid = λ w. one_of the_address of r.result w} (λ r u3. reached z.types want at of r u3) (λ w s''. meaning.reached z.types want at of (number w) s'') (word 0)
+          (element_sim j.used of size (word_of q.result) (word_of j.result) (number v) (number m)
+          (λ u1 k knows. (word-is z (type_of p) scope u1 q.result k v knows.1.0, word-is z (type_of i) scope u1 j.result k m knows.0)))
+          (λ w. reached_sim r.used want at of r.result (number w) (λ k s fine knows. address-word z of scope r.used r.result k w knows.0))))
+      expression_sim want (typed at of (Address e)) from names scope facts u needs =
+          let q = piece a the_address e from scope u in
+          sim_as (λ s. next (meant c the_address e from s) (λ v s'. Gives v s')) (meant c the_address e from) (λ s. next-same (meant c the_address e from s))
+          (then_sim (λ v u'. located v u') (λ v s'. Gives v s') (word 0) (expression_sim the_address e from names scope facts u needs.0)
+          (λ v. located_sim q.used want (type_of e) of q.result v needs.1))
+      expression_sim want (typed at of (Decay e)) from names scope facts u needs =
+          let q = piece a the_address e from scope u in
+          sim_as (λ s. next (meant c the_address e from s) (λ v s'. Gives v s')) (meant c the_address e from) (λ s. next-same (meant c the_address e from s))
+          (then_sim (λ v u'. located v u') (λ v s'. Gives v s') (word 0) (expression_sim the_address e from names scope facts u needs.0)
+          (λ v. located_sim q.used want (type_of e) of q.result v needs.1))
+      expression_sim want (typed at of (Let block e)) from names scope facts u needs = absurd needs
+
+      pub expressions_sim : (es : Expressions) (from : ℕ) (names : List TypedName) (scope : Holders) (facts : List Fact) (u : Used) → NeedsAll names es →
+          Sim z n names scope facts u (pieces a es from scope u) (meant_all c the_value es from) names scope (λ vs. all_of (types_of es) (pieces a es from scope u).result vs)
+      expressions_sim no_more from names scope facts u needs = known_sim u [] [] (λ k s fine knows. tt)
+      expressions_sim (then_one e es) from names scope facts u needs =
+          let q = piece a the_value e from scope u in
+          then_sim (λ v u'. taken (λ vs. v ∷ vs) (pieces a es (from + in_expression e) scope u')) (λ v s'. next (meant_all c the_value es (from + in_expression e) s') (λ vs s''. Gives (v ∷ vs) s'')) (word 0)
+          (expression_sim the_value e from names scope facts u needs.0)
+          (λ v. taken_with_sim (λ vs. q.result ∷ vs) (λ vs. v ∷ vs)
+          (expressions_sim es (from + in_expression e) names scope (one_of the_value (type_of e) q.result v ∷ facts) q.used needs.1)
+          (λ vs k knows h. (knows.0, h)))
