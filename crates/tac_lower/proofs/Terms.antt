@@ -20,15 +20,16 @@ use Rattle.terra_meaning.specs.Meaning as meaning
 use Rattle.terra_meaning.specs.Meaning.{Call, Wanted, the_value, the_address, Way, goes_on, breaks, gives_back, along, rounds, constant, types_of, in_expression, in_list, in_statement, in_block, meant, meant_all, done_one, done_all, operated}
 use Rattle.tac_form.specs.declared.tac.Operand.{Operand}
 use Rattle.tac_form.specs.declared.tac.Operand.TheVariants.{Temp, Constant}
-use Rattle.tac_lower.specs.Pieces.{Used, Piece, known, then_piece, taken, Result, a_word, an_area, an_offset, word_of, located, Holders, Around}
+use Rattle.tac_lower.specs.Pieces.{Used, Piece, known, then_piece, taken, Result, a_word, an_area, an_offset, word_of, located, Holders, Around, declare_all}
 use Rattle.tac_lower.specs.Lowering.{piece, pieces, one, all, operation, reached, entry, element}
-use Rattle.tac_lower.proofs.Standing.{Setting, Private, Good, Means}
+use Rattle.tac_lower.proofs.Places.{after}
+use Rattle.tac_lower.proofs.Standing.{Setting, Private, Good, Means, Leaves}
 use Rattle.tac_lower.proofs.Simulates.{Fact, nothing, one_of, all_of, Sim, then_sim}
 use Rattle.tac_lower.proofs.Writes.{known_sim, taken_with_sim}
 use Rattle.tac_lower.proofs.Words.{value-small}
 use Rattle.tac_lower.proofs.Loads.{sim_as, next-same, reached_sim, word-is, is-value}
 use Rattle.tac_lower.proofs.Reaches.{address-word, located-number, InScope, variable_sim, entry_sim, follow_sim, located_sim, element_sim, own-word}
-use Rattle.tac_lower.proofs.Acts.{Acts, Under, under-self, acts_none, acts_then, acts_scoped}
+use Rattle.tac_lower.proofs.Acts.{Acts, WayOk, Under, under-self, acts_none, acts_then, acts_scoped}
 use Rattle.tac_lower.proofs.Branches.{acts_sim, acts_break, acts_return, acts_if}
 use Rattle.tac_lower.proofs.Choices.{acts_choice, in_let, let_sim}
 use Rattle.tac_lower.proofs.Rounds.{in_loop}
@@ -43,7 +44,40 @@ IsValueWanted the_address = ⊥
 abbrev IsWide : Setting → Wanted → TypeId → Type 0
 IsWide z want of = (o : Operand) (x : ℕ) → x < 2 ^ 64 → Good z want of (a_word o) (word x)
 
-module _ (z : Setting) (n : ℕ) (st : Contents) (entries : List FnId) (homes : List Home) (call : FnId → List Value → Place → State → Got Value) (turns : ℕ) (OperationNeeds : Operation → List TypeId → TypeId → Type 0) where
+-- the names in scope after declarations, a statement and statements
+abbrev pub declared_names : List TypedName → List TypedName → List TypedName
+declared_names [] names = names
+declared_names (x ∷ xs) names = declared_names xs (x ∷ names)
+
+abbrev pub names_after_one : Statement → List TypedName → List TypedName
+names_after_one (statement at (Var xs values)) names = declared_names xs names
+names_after_one _ names = names
+
+abbrev pub names_after : Statements → List TypedName → List TypedName
+names_after done names = names
+names_after (and_then s ss) names = names_after ss (names_after_one s names)
+
+-- statements, told otherwise
+acts_as : {z : Setting} {n : ℕ} {w : Within} {names names' : List TypedName} {scope : Holders} {u : Used} {r : Piece Holders} (go go' : State → Got Way) → ((s : State) → go s ≡ go' s) →
+    Acts z n w names scope u r go names' → Acts z n w names scope u r go' names'
+acts_as {z} {n} {w} {names} {names'} {scope} {u} {r} go go' e x = record {
+  grown = x.grown;
+  over = x.over;
+  under = x.under;
+  run = λ out at k s has whole_ fine less.
+      subst (λ g. Leaves z at k s (λ way s'. WayOk z w names scope at u k s (after r.code at) names' r.result r.used out way s') g) (e s) (x.run out at k s has whole_ fine less);
+}
+
+next-next : {A B D : Type 0} (g : Got A) (f : A → State → Got B) (h : B → State → Got D) → next (next g f) h ≡ next g (λ x s. next (f x s) h)
+next-next (Gives x s) f h = refl
+next-next (Ends r) f h = refl
+
+-- an expression whose value isn't kept
+perform : {B : Type 0} {z : Setting} {n : ℕ} {names : List TypedName} {scope : Holders} {u : Used} {p : Piece Result} {go : State → Got B} {post : B → Fact} →
+    Sim z n names scope [] u p go names scope post → Sim z n names scope [] u (taken (λ v. scope) p) go names scope post
+perform x = record { grown = x.grown; over = x.over; run = x.run }
+
+module _ (z : Setting) (n : ℕ) (st : Contents) (entries : List FnId) (homes : List Home) (call : FnId → List Value → Place → State → Got Value) (turns : ℕ) (outside : Within) (OperationNeeds : Operation → List TypeId → TypeId → Type 0) (DeclareNeeds : ℕ → List TypedName → List TypeId → Type 0) where
   abbrev store : Contents
   store = record st { types = z.types }
 
@@ -55,30 +89,54 @@ module _ (z : Setting) (n : ℕ) (st : Contents) (entries : List FnId) (homes : 
 
   -- what lowering needs of a term's types
   abbrev mutual
-    pub Needs : Wanted → List TypedName → Expression → Type 0
-    Needs want names (typed at of (Constant' k)) = Good z want of (a_word (Constant (constant entries k))) (word (constant entries k))
-    Needs want names (typed at of (Variable x)) = InScope x of names
-    Needs want names (typed at of (Global address)) = address < 2 ^ 64
-    Needs want names (typed at of (Operate op es)) = IsValueWanted want × NeedsAll names es × OperationNeeds op (types_of es) of
-    Needs want names (typed at of (Both x y)) = ⊥
-    Needs want names (typed at of (Either x y)) = ⊥
-    Needs want names (typed at of (Dereference p)) = Needs the_value names p
-    Needs want names (typed at of (Select offset e)) = Needs the_address names e × (offset + bytes_at z.types of ≤ bytes_at z.types (type_of e))
-    Needs want names (typed at of (Follow offset p)) = Needs the_value names p
-    Needs want names (typed at of (Element e i)) = Needs the_address names e × Needs the_value names i
-    Needs want names (typed at of (Index p i)) = Needs the_value names p × Needs the_value names i
-    Needs want names (typed at of (Address e)) = Needs the_address names e × IsWide z want of
-    Needs want names (typed at of (Decay e)) = Needs the_address names e × IsWide z want of
-    Needs want names (typed at of (Let block e)) = ⊥
+    pub Needs : Wanted → List TypedName → ℕ → Expression → Type 0
+    Needs want names from (typed at of (Constant' k)) = Good z want of (a_word (Constant (constant entries k))) (word (constant entries k))
+    Needs want names from (typed at of (Variable x)) = InScope x of names
+    Needs want names from (typed at of (Global address)) = address < 2 ^ 64
+    Needs want names from (typed at of (Operate op es)) = IsValueWanted want × NeedsAll names from es × OperationNeeds op (types_of es) of
+    Needs want names from (typed at of (Both x y)) = ⊥
+    Needs want names from (typed at of (Either x y)) = ⊥
+    Needs want names from (typed at of (Dereference p)) = Needs the_value names from p
+    Needs want names from (typed at of (Select offset e)) = Needs the_address names from e × (offset + bytes_at z.types of ≤ bytes_at z.types (type_of e))
+    Needs want names from (typed at of (Follow offset p)) = Needs the_value names from p
+    Needs want names from (typed at of (Element e i)) = Needs the_address names from e × Needs the_value names (from + in_expression e) i
+    Needs want names from (typed at of (Index p i)) = Needs the_value names from p × Needs the_value names (from + in_expression p) i
+    Needs want names from (typed at of (Address e)) = Needs the_address names from e × IsWide z want of
+    Needs want names from (typed at of (Decay e)) = Needs the_address names from e × IsWide z want of
+    Needs want names from (typed at of (Let block e)) =
+        IsValueWanted want × NeedsBlock (in_let outside) names from block × Needs the_value (names_after block names) (from + in_block block) e × (type_of e ≡ of)
 
-    pub NeedsAll : List TypedName → Expressions → Type 0
-    NeedsAll names no_more = Unit {0}
-    NeedsAll names (then_one e es) = Needs the_value names e × NeedsAll names es
+    pub NeedsAll : List TypedName → ℕ → Expressions → Type 0
+    NeedsAll names from no_more = Unit {0}
+    NeedsAll names from (then_one e es) = Needs the_value names from e × NeedsAll names (from + in_expression e) es
 
-  module _ (operations : (names : List TypedName) (scope : Holders) (facts : List Fact) (u : Used) (at : Place) (of : TypeId) (op : Operation) (ts : List TypeId) (rs : List Result) (vs : List Value) → OperationNeeds op ts of →
+    pub NeedsOne : Within → List TypedName → ℕ → Statement → Type 0
+    NeedsOne w names from (statement at (Var xs values)) = NeedsAll names from values × DeclareNeeds (from + in_list values) xs (types_of values)
+    NeedsOne w names from (statement at (Assign places values)) = ⊥
+    NeedsOne w names from (statement at (If test block)) = Needs the_value names from test × NeedsBlock w names (from + in_expression test) block
+    NeedsOne w names from (statement at (IfElse test block other)) =
+        Needs the_value names from test × NeedsBlock w names (from + in_expression test) block × NeedsBlock w names (from + in_expression test + in_block block) other
+    NeedsOne w names from (statement at (While test body)) = Needs the_value names from test × NeedsBlock (in_loop w) names (from + in_expression test) body
+    NeedsOne w names from (statement at (Repeat body test)) = ⊥
+    NeedsOne w names from (statement at (For x bounds body)) = ⊥
+    NeedsOne w names from (statement at (Do body)) = NeedsBlock w names from body
+    NeedsOne w names from (statement at Break) = w.in_loop ≡ true
+    NeedsOne w names from (statement at Finish) = ⊥
+    NeedsOne w names from (statement at (Return e)) = Needs the_value names from e × (type_of e ≡ w.result) × (w.in_let ≡ false)
+    NeedsOne w names from (statement at (Perform e)) = Needs the_value names from e
+
+    pub NeedsBlock : Within → List TypedName → ℕ → Statements → Type 0
+    NeedsBlock w names from done = Unit {0}
+    NeedsBlock w names from (and_then s ss) = NeedsOne w names from s × NeedsBlock w (names_after_one s names) (from + in_statement s) ss
+
+  module _ (declares : (names : List TypedName) (scope : Holders) (u : Used) (at : Place) (xs : List TypedName) (k : ℕ) (ts : List TypeId) (rs : List Result) (vs : List Value) → DeclareNeeds k xs ts →
+      Sim z n names scope (all_of ts rs vs ∷ []) u (declare_all a at xs rs k scope u) (meaning.declared_all c at xs vs k) (declared_names xs names) (declare_all a at xs rs k scope u).result (λ v. nothing))
+      (declared_under : (names : List TypedName) (scope : Holders) (u : Used) (at : Place) (xs : List TypedName) (k : ℕ) (rs : List Result) → Under names scope (declared_names xs names) (declare_all a at xs rs k scope u).result)
+      (enough : n ≤ turns)
+      (operations : (names : List TypedName) (scope : Holders) (facts : List Fact) (u : Used) (at : Place) (of : TypeId) (op : Operation) (ts : List TypeId) (rs : List Result) (vs : List Value) → OperationNeeds op ts of →
       Sim z n names scope (all_of ts rs vs ∷ facts) u (operation a at of op ts rs u) (operated c at of op ts vs) names scope (λ v. one_of the_value of (operation a at of op ts rs u).result v)) where
     mutual
-      pub expression_sim : (want : Wanted) (e : Expression) (from : ℕ) (names : List TypedName) (scope : Holders) (facts : List Fact) (u : Used) → Needs want names e →
+      pub expression_sim : (want : Wanted) (e : Expression) (from : ℕ) (names : List TypedName) (scope : Holders) (facts : List Fact) (u : Used) → Needs want names from e →
           Sim z n names scope facts u (piece a want e from scope u) (meant c want e from) names scope (λ v. one_of want (type_of e) (piece a want e from scope u).result v)
       expression_sim want (typed at of (Constant' k)) from names scope facts u needs =
           known_sim u (a_word (Constant (constant entries k))) (word (constant entries k)) (λ k1 s fine knows. record { is = refl; own = tt; good = needs })
@@ -164,9 +222,15 @@ module _ (z : Setting) (n : ℕ) (st : Contents) (entries : List FnId) (homes : 
           sim_as (λ s. next (meant c the_address e from s) (λ v s'. Gives v s')) (meant c the_address e from) (λ s. next-same (meant c the_address e from s))
           (then_sim (λ v u'. located v u') (λ v s'. Gives v s') (word 0) (expression_sim the_address e from names scope facts u needs.0)
           (λ v. located_sim q.used want (type_of e) of q.result v needs.1))
-      expression_sim want (typed at of (Let block e)) from names scope facts u needs = absurd needs
+      expression_sim the_address (typed at of (Let block e)) from names scope facts u needs = absurd needs.0
+      expression_sim the_value (typed at of (Let block e)) from names scope facts u needs =
+          let r = all a block from scope u in
+          subst (λ t. Sim z n names scope facts u (piece a the_value (typed at of (Let block e)) from scope u) (meant c the_value (typed at of (Let block e)) from) names scope (λ v. one_of the_value t (piece a the_value (typed at of (Let block e)) from scope u).result v)) needs.3
+          (let_sim outside the_value (type_of e) (λ inner u'. piece a the_value e (from + in_block block) inner u') (λ s'. meant c the_value e (from + in_block block) s')
+          (block_acts block from (in_let outside) names scope u needs.1)
+          (expression_sim the_value e (from + in_block block) (names_after block names) r.result [] r.used needs.2))
 
-      pub expressions_sim : (es : Expressions) (from : ℕ) (names : List TypedName) (scope : Holders) (facts : List Fact) (u : Used) → NeedsAll names es →
+      pub expressions_sim : (es : Expressions) (from : ℕ) (names : List TypedName) (scope : Holders) (facts : List Fact) (u : Used) → NeedsAll names from es →
           Sim z n names scope facts u (pieces a es from scope u) (meant_all c the_value es from) names scope (λ vs. all_of (types_of es) (pieces a es from scope u).result vs)
       expressions_sim no_more from names scope facts u needs = known_sim u [] [] (λ k s fine knows. tt)
       expressions_sim (then_one e es) from names scope facts u needs =
@@ -176,3 +240,46 @@ module _ (z : Setting) (n : ℕ) (st : Contents) (entries : List FnId) (homes : 
           (λ v. taken_with_sim (λ vs. q.result ∷ vs) (λ vs. v ∷ vs)
           (expressions_sim es (from + in_expression e) names scope (one_of the_value (type_of e) q.result v ∷ facts) q.used needs.1)
           (λ vs k knows h. (knows.0, h)))
+
+      pub statement_acts : (s : Statement) (from : ℕ) (w : Within) (names : List TypedName) (scope : Holders) (u : Used) → NeedsOne w names from s →
+          Acts z n w names scope u (one a s from scope u) (done_one c s from) (names_after_one s names)
+      statement_acts (statement at (Var xs values)) from w names scope u needs =
+          let q = pieces a values from scope u in
+          acts_as (λ s. next (next (meant_all c the_value values from s) (λ vs s'. meaning.declared_all c at xs vs (from + in_list values) s')) (λ v s'. Gives goes_on s')) (done_one c (statement at (Var xs values)) from)
+          (λ s. next-next (meant_all c the_value values from s) (λ vs s'. meaning.declared_all c at xs vs (from + in_list values) s') (λ v s'. Gives goes_on s'))
+          (acts_sim
+          (then_sim (λ vs u'. declare_all a at xs vs (from + in_list values) scope u') (λ vs s'. meaning.declared_all c at xs vs (from + in_list values) s') []
+          (expressions_sim values from names scope [] u needs.0)
+          (λ vs. declares names scope q.used at xs (from + in_list values) (types_of values) q.result vs needs.1))
+          (declared_under names scope q.used at xs (from + in_list values) q.result))
+      statement_acts (statement at (Assign places values)) from w names scope u needs = absurd needs
+      statement_acts (statement at (If test block)) from w names scope u needs =
+          acts_if (type_of test) (expression_sim the_value test from names scope [] u needs.0)
+          (block_acts block (from + in_expression test) w names scope (piece a the_value test from scope u).used needs.1)
+      statement_acts (statement at (IfElse test block other)) from w names scope u needs =
+          let v = piece a the_value test from scope u in
+          acts_choice (type_of test) (expression_sim the_value test from names scope [] u needs.0)
+          (block_acts block (from + in_expression test) w names scope v.used needs.1)
+          (block_acts other (from + in_expression test + in_block block) w names scope (all a block (from + in_expression test) scope v.used).used needs.2)
+      statement_acts (statement at (While test body)) from w names scope u needs =
+          acts_while (type_of test) turns enough (expression_sim the_value test from names scope [] u needs.0)
+          (block_acts body (from + in_expression test) (in_loop w) names scope (piece a the_value test from scope u).used needs.1)
+      statement_acts (statement at (Repeat body test)) from w names scope u needs = absurd needs
+      statement_acts (statement at (For x bounds body)) from w names scope u needs = absurd needs
+      statement_acts (statement at (Do body)) from w names scope u needs = acts_scoped (block_acts body from w names scope u needs)
+      statement_acts (statement at Break) from w names scope u needs = acts_break u needs
+      statement_acts (statement at Finish) from w names scope u needs = absurd needs
+      statement_acts (statement at (Return e)) from w names scope u needs =
+          acts_return
+          (subst (λ t. Sim z n names scope [] u (piece a the_value e from scope u) (meant c the_value e from) names scope (λ v. one_of the_value t (piece a the_value e from scope u).result v)) needs.1
+          (expression_sim the_value e from names scope [] u needs.0)) needs.2
+      statement_acts (statement at (Perform e)) from w names scope u needs =
+          acts_sim (perform (expression_sim the_value e from names scope [] u needs)) (under-self names scope)
+
+      pub block_acts : (ss : Statements) (from : ℕ) (w : Within) (names : List TypedName) (scope : Holders) (u : Used) → NeedsBlock w names from ss →
+          Acts z n w names scope u (all a ss from scope u) (done_all c ss from) (names_after ss names)
+      block_acts done from w names scope u needs = acts_none u
+      block_acts (and_then s ss) from w names scope u needs =
+          acts_then (λ scope' u'. all a ss (from + in_statement s) scope' u') (λ s'. done_all c ss (from + in_statement s) s')
+          (statement_acts s from w names scope u needs.0)
+          (block_acts ss (from + in_statement s) w (names_after_one s names) (one a s from scope u).result (one a s from scope u).used needs.1)
