@@ -28,9 +28,9 @@ use Rattle.tac_form.specs.Flow.{Moved, Goes, Stops, act, written}
 use Rattle.tac_lower.specs.Pieces.{Used, Piece, known, doing, Result, a_word, an_area, an_offset, word_of, Holders, number_of, number_in, stored, stored_part}
 use Rattle.tac_lower.proofs.Places.{Point, step_on}
 use Rattle.tac_lower.proofs.Standing.{Setting, SizedBy, Private, stands, word_in, operand-is, Fine, Good, Means}
-use Rattle.tac_lower.proofs.Simulates.{Fact, nothing, one_of, KnowsAll, Sim}
+use Rattle.tac_lower.proofs.Simulates.{Fact, nothing, one_of, KnowsAll, Sim, grown-none}
 use Rattle.tac_lower.proofs.Writes.{Same, Passes, PassesOr, passes_sim, known_sim}
-use Rattle.tac_lower.proofs.Loads.{sim_from, IsThere, load-number, word-is}
+use Rattle.tac_lower.proofs.Loads.{sim_from, IsThere, load-number, word-is, is-value}
 
 put-length : (r : regions.Contents) (a : ℕ) (bs : List ℕ) (r1 : regions.Contents) → put_bytes r a bs ≡ Some r1 → length r1.bytes ≡ length r.bytes
 unfolding put_bytes
@@ -95,3 +95,49 @@ store_word_sim {z} {n} {names} {scope} {facts} u place of address a o v there so
     (λ r e. put-length s.region a (encoded z.types of v) r e)
     (ap (λ x. written place (stands z at k s) (put_bytes s.region x (low_bytes (flow.bytes_of (number_of z.types of).size) (flow.operand (stands z at k s) o)))) (there at k s fine knows)
     ∙ ap (λ bs. written place (stands z at k s) (put_bytes s.region a bs)) same)) (λ w k knows. tt)
+
+-- the bytes of an area
+encoded-bytes : (z : Setting) (of : TypeId) (bs : List ℕ) → is_aggregate z.types of ≡ true → encoded z.types of (bytes bs) ≡ bs
+encoded-bytes z of bs agg = ap (λ b. if b then bs else low_bytes (bytes_at z.types of) 0) agg
+
+store_area_sim : {z : Setting} {n : ℕ} {names : List TypedName} {scope : Holders} {facts : List Fact} (u : Used) (place : Place) (of : TypeId) (address : Address) (a area : ℕ) (v : Value) →
+    IsThere z names scope u facts address a →
+    ((k : Private) → KnowsAll z scope u facts k → (bytes (k.areas area) ≡ v) × IsValue z.types of v) →
+    Sim z n names scope facts u (doing (tt {0}) (Move (spots.Region place address) (spots.Area area 0) (bytes_at z.types of)) u) (meaning.stored z.types place of a v) names scope (λ w. nothing)
+store_area_sim {z} {n} {names} {scope} {facts} u place of address a area v there means =
+    passes_sim u (tt {0}) (Move (spots.Region place address) (spots.Area area 0) (bytes_at z.types of)) (meaning.stored z.types place of a v) (λ at k s fine knows.
+    let m = means k knows in
+    let h = subst (λ w. IsValue z.types of w) (sym m.0) m.1 in
+    let within : 0 + bytes_at z.types of ≤ length (k.areas area) = omega (arith, h.1) in
+    let short : length (k.areas area) ≤ bytes_at z.types of = omega (arith, h.1) in
+    let same : k.areas area ≡ encoded z.types of v = sym (encoded-bytes z of (k.areas area) h.0) ∙ ap (encoded z.types of) m.0 in
+    write-by z place at k s (Move (spots.Region place address) (spots.Area area 0) (bytes_at z.types of)) (put_bytes s.region a (encoded z.types of v))
+    (λ r e. put-length s.region a (encoded z.types of v) r e)
+    (ap (λ b. if b then written place (stands z at k s) (put_bytes s.region (flow.address (stands z at k s) address) (part (k.areas area) 0 (bytes_at z.types of))) else flow.stop (stands z at k s) Stuck) (le-leb (0 + bytes_at z.types of) (length (k.areas area)) within)
+    ∙ ap (λ x. written place (stands z at k s) (put_bytes s.region x (part (k.areas area) 0 (bytes_at z.types of)))) (there at k s fine knows)
+    ∙ ap (λ bs. written place (stands z at k s) (put_bytes s.region a bs)) (take_all (bytes_at z.types of) (k.areas area) short ∙ same))) (λ w k knows. tt)
+
+-- a value of a type goes to an address
+pub stored_sim : {z : Setting} {n : ℕ} {names : List TypedName} {scope : Holders} {facts : List Fact} (u : Used) (place : Place) (of : TypeId) (address : Address) (a : ℕ) (r : Result) (v : Value) →
+    IsThere z names scope u facts address a → ((k : Private) → KnowsAll z scope u facts k → Means z the_value of scope u r k v) →
+    Sim z n names scope facts u (stored z.types of (spots.Region place address) r u) (meaning.stored z.types place of a v) names scope (λ w. nothing)
+stored_sim {z} {n} {names} {scope} {facts} u place of address a r v there means = by r (λ k knows. means k knows) (nat_eq (bytes_at z.types of) 0) refl
+  where
+    none : (r1 : Result) → ((k : Private) → KnowsAll z scope u facts k → Means z the_value of scope u r1 k v) → bytes_at z.types of ≡ 0 →
+        Sim z n names scope facts u (known (tt {0}) u) (meaning.stored z.types place of a v) names scope (λ w. nothing)
+    none r1 m e =
+        sim_from (λ s. Gives (word 0) s) (meaning.stored z.types place of a v) (λ k s fine knows. stores-nothing z place of a v s (is-value z of r1 v (m k knows).good) e)
+        (known_sim u (tt {0}) (word 0) (λ k s fine knows. tt))
+
+    by : (r1 : Result) → ((k : Private) → KnowsAll z scope u facts k → Means z the_value of scope u r1 k v) → (b : Bool) → nat_eq (bytes_at z.types of) 0 ≡ b →
+        Sim z n names scope facts u (if b then known (tt {0}) u else stored_part z.types of (spots.Region place address) r1 u) (meaning.stored z.types place of a v) names scope (λ w. nothing)
+    by r1 m true e = none r1 m (eqb-true (bytes_at z.types of) 0 e)
+    by (a_word o) m false e =
+        store_word_sim u place of address a o v there (eqb-false (bytes_at z.types of) 0 e) (λ k knows. ((m k knows).is, (m k knows).good))
+    by (an_area area) m false e =
+        store_area_sim u place of address a area v there (λ k knows. ((m k knows).is, (m k knows).good))
+    by (an_offset o) m false e = record {
+      grown = grown-none u;
+      over = λ t lt away. away;
+      run = λ out at k s has whole_ fine knows less. absurd (m k knows).good;
+    }
