@@ -74,7 +74,7 @@ unfolding low_bytes
 encoded-none z of (word x) h e = encoded-word z of x h.0 ∙ ap (λ m. low_bytes m x) e
 encoded-none z of (bytes bs) h e = ap (λ b. if b then bs else low_bytes (bytes_at z.types of) 0) h.0 ∙ nil_from_length bs (h.1 ∙ e)
 
-stores-nothing : (z : Setting) (place : Place) (of : TypeId) (a : ℕ) (v : Value) (s : State) → IsValue z.types of v → bytes_at z.types of ≡ 0 → Gives (word 0) s ≡ meaning.stored z.types place of a v s
+pub stores-nothing : (z : Setting) (place : Place) (of : TypeId) (a : ℕ) (v : Value) (s : State) → IsValue z.types of v → bytes_at z.types of ≡ 0 → Gives (word 0) s ≡ meaning.stored z.types place of a v s
 unfolding put_bytes
 stores-nothing z place of a v s h e = sym (ap (λ bs. meaning.written place s (put_bytes s.region a bs)) (encoded-none z of v h e))
 
