@@ -27,6 +27,7 @@ use Rattle.tac_lower.proofs.Simulates.{Fact, nothing, one_of, all_of, AllMean, K
 use Rattle.tac_lower.proofs.Words.{wrapped-zero}
 use Rattle.tac_lower.proofs.Writes.{put-same, put-below, with_word, holds-later, grown-temp, same-self, fine-word, puts_sim, known_sim}
 use Rattle.tac_lower.proofs.Loads.{sim_from, word-is, is-value}
+use Rattle.tac_lower.proofs.Acts.{Under, under-self, under-then}
 use Rattle.tac_lower.proofs.Stores.{stored_sim, stores-nothing}
 
 -- less may be known
@@ -138,3 +139,84 @@ declare_none_sim : {z : Setting} {n : ℕ} {names : List TypedName} {scope : Hol
     Sim z n names scope facts u (declare_at z.types place x None home scope u) (meaning.declared_at (record c { base = z.base; store = record c.store { types = z.types } }) place x None home) (x ∷ names) (declare_at z.types place x None home scope u).result (λ w. nothing)
 declare_none_sim {z} u c place x by_value good = temp_sim u x (Constant 0) 0 (λ k knows. (refl, (good, wrapped-zero (form_at z.types x.of))))
 declare_none_sim u c place x (in_frame offset) good = frame_sim x offset good (known_sim {post = λ w. nothing} u (tt {0}) (word 0) (λ k s fine knows. tt))
+
+-- the names in scope after declarations
+abbrev pub declared_names : List TypedName → List TypedName → List TypedName
+declared_names [] names = names
+declared_names (x ∷ xs) names = declared_names xs (x ∷ names)
+
+-- declarations from the k-th on may be where they are, and have values of their types, or none
+abbrev pub DeclaresWell : Setting → List Home → ℕ → List TypedName → List TypeId → Type 0
+DeclaresWell z homes k [] ts = Unit {0}
+DeclaresWell z homes k (x ∷ xs) [] = GoodHome z x.of (home_at homes k) × DeclaresWell z homes (suc k) xs []
+DeclaresWell z homes k (x ∷ xs) (t ∷ ts) = GoodHome z x.of (home_at homes k) × (t ≡ x.of) × DeclaresWell z homes (suc k) xs ts
+
+abbrev FirstType : List TypeId → TypedName → Type 0
+FirstType [] x = Unit {0}
+FirstType (t ∷ ts) x = t ≡ x.of
+
+abbrev types_behind : List TypeId → List TypeId
+types_behind [] = []
+types_behind (t ∷ ts) = ts
+
+first-of-well : (z : Setting) (homes : List Home) (k : ℕ) (x : TypedName) (xs : List TypedName) (ts : List TypeId) → DeclaresWell z homes k (x ∷ xs) ts →
+    GoodHome z x.of (home_at homes k) × FirstType ts x × DeclaresWell z homes (suc k) xs (types_behind ts)
+first-of-well z homes k x xs [] h = (h.0, tt, h.1)
+first-of-well z homes k x xs (t ∷ ts) h = (h.0, h.1, h.2)
+
+all-behind : (z : Setting) (scope : Holders) (u : Used) (ts : List TypeId) (rs : List Result) (vs : List Value) (k : Private) → AllMean z scope u ts rs vs k → AllMean z scope u (types_behind ts) (rest rs) (behind vs) k
+all-behind z scope u [] [] [] k h = tt
+all-behind z scope u (t ∷ ts) (r ∷ rs) (v ∷ vs) k h = h.1
+all-behind z scope u [] [] (v ∷ vs) k h = absurd h
+all-behind z scope u [] (r ∷ rs) vs k h = absurd h
+all-behind z scope u (t ∷ ts) [] vs k h = absurd h
+all-behind z scope u (t ∷ ts) (r ∷ rs) [] k h = absurd h
+
+module _ (z : Setting) (n : ℕ) (c' : Call) where
+  abbrev c : Call
+  c = record c' { base = z.base; store = record c'.store { types = z.types } }
+
+  first_sim : (names : List TypedName) (scope : Holders) (facts : List Fact) (u : Used) (place : Place) (x : TypedName) (home : Home) (ts : List TypeId) (rs : List Result) (vs : List Value) → GoodHome z x.of home → FirstType ts x →
+      Sim z n names scope (all_of ts rs vs ∷ facts) u (declare_at z.types place x (first_of rs) home scope u) (meaning.declared_at c place x (meaning.first_of vs) home) (x ∷ names) (declare_at z.types place x (first_of rs) home scope u).result (λ w. nothing)
+  first_sim names scope facts u place x home [] [] [] good first = declare_none_sim u c' place x home good
+  first_sim names scope facts u place x home (t ∷ ts) (r ∷ rs) (v ∷ vs) good first =
+      sim_facts (all_of (t ∷ ts) (r ∷ rs) (v ∷ vs) ∷ facts) (λ k knows. (subst (λ y. Means z the_value y scope u r k v) first knows.0.0, knows.1))
+      (declare_some_sim u c' place x home r v good)
+  first_sim names scope facts u place x home [] [] (v ∷ vs) good first =
+      sim_from (meaning.declared_at c place x None home) (meaning.declared_at c place x (Some v) home) (λ k s fine knows. absurd knows.0) (declare_none_sim u c' place x home good)
+  first_sim names scope facts u place x home (t ∷ ts) [] vs good first =
+      sim_from (meaning.declared_at c place x None home) (meaning.declared_at c place x (meaning.first_of vs) home) (λ k s fine knows. absurd knows.0) (declare_none_sim u c' place x home good)
+  first_sim names scope facts u place x home [] (r ∷ rs) vs good first =
+      sim_from (meaning.declared_at c place x (Some (word 0)) home) (meaning.declared_at c place x (meaning.first_of vs) home) (λ k s fine knows. absurd knows.0)
+      (sim_facts (all_of [] (r ∷ rs) vs ∷ facts) (λ k knows. absurd knows.0) (declare_some_sim {facts = facts} u c' place x home r (word 0) good))
+  first_sim names scope facts u place x home (t ∷ ts) (r ∷ rs) [] good first =
+      sim_from (meaning.declared_at c place x (Some (word 0)) home) (meaning.declared_at c place x None home) (λ k s fine knows. absurd knows.0)
+      (sim_facts (all_of (t ∷ ts) (r ∷ rs) [] ∷ facts) (λ k knows. absurd knows.0) (declare_some_sim {facts = facts} u c' place x home r (word 0) good))
+
+  pub declare_all_sim : (a : Around) (names : List TypedName) (scope : Holders) (facts : List Fact) (u : Used) (place : Place) (xs : List TypedName) (k : ℕ) (ts : List TypeId) (rs : List Result) (vs : List Value) →
+      DeclaresWell z c.homes k xs ts →
+      let b : Around = record { store = record a.store { types = z.types }; entries = a.entries; homes = c.homes } in
+      Sim z n names scope (all_of ts rs vs ∷ facts) u (declare_all b place xs rs k scope u) (meaning.declared_all c place xs vs k) (declared_names xs names) (declare_all b place xs rs k scope u).result (λ w. nothing)
+  declare_all_sim a names scope facts u place [] k ts rs vs well = known_sim u scope (word 0) (λ k1 s fine knows. tt)
+  declare_all_sim a names scope facts u place (x ∷ xs) k ts rs vs well =
+      let b : Around = record { store = record a.store { types = z.types }; entries = a.entries; homes = c.homes } in
+      let h = first-of-well z c.homes k x xs ts well in
+      let q = declare b place x (first_of rs) k scope u in
+      then_sim (λ scope' u'. declare_all b place xs (rest rs) (suc k) scope' u') (λ v s'. meaning.declared_all c place xs (behind vs) (suc k) s') (word 0)
+      (first_sim names scope facts u place x (home_at c.homes k) ts rs vs h.0 h.1)
+      (λ v. sim_facts (nothing ∷ all_of ts rs vs ∷ facts) (λ k1 knows. (all-behind z q.result q.used ts rs vs k1 knows.1.0, knows.1.1))
+      (declare_all_sim a (x ∷ names) q.result facts q.used place xs (suc k) (types_behind ts) (rest rs) (behind vs) h.2))
+
+under-one : (types : List TypeForm) (place : Place) (x : TypedName) (v : Option Result) (home : Home) (names : List TypedName) (scope : Holders) (u : Used) → Under names scope (x ∷ names) (declare_at types place x v home scope u).result
+under-one types place x None by_value names scope u = record { ns = x ∷ []; bs = record { symbol = x.symbol; holder = in_temp u.temps } ∷ []; names_are = refl; scope_is = refl; long = refl }
+under-one types place x (Some v) by_value names scope u = record { ns = x ∷ []; bs = record { symbol = x.symbol; holder = in_temp u.temps } ∷ []; names_are = refl; scope_is = refl; long = refl }
+under-one types place x None (in_frame o) names scope u = record { ns = x ∷ []; bs = record { symbol = x.symbol; holder = at_offset o } ∷ []; names_are = refl; scope_is = refl; long = refl }
+under-one types place x (Some v) (in_frame o) names scope u = record { ns = x ∷ []; bs = record { symbol = x.symbol; holder = at_offset o } ∷ []; names_are = refl; scope_is = refl; long = refl }
+
+pub declares-under : (a : Around) (place : Place) (xs : List TypedName) (k : ℕ) (rs : List Result) (names : List TypedName) (scope : Holders) (u : Used) → Under names scope (declared_names xs names) (declare_all a place xs rs k scope u).result
+declares-under a place [] k rs names scope u = under-self names scope
+declares-under a place (x ∷ xs) k rs names scope u =
+    let q = declare a place x (first_of rs) k scope u in
+    under-then names (x ∷ names) (declared_names xs (x ∷ names)) scope q.result (declare_all a place xs (rest rs) (suc k) q.result q.used).result
+    (under-one a.store.types place x (first_of rs) (home_at a.homes k) names scope u)
+    (declares-under a place xs (suc k) (rest rs) (x ∷ names) q.result q.used)

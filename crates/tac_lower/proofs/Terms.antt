@@ -1,5 +1,5 @@
--- The code of each term does what the term means, by recursion on the term. What isn't proved yet of operations, declarations,
--- assignments, `and`, `or`, `repeat` and `for` is a premise here.
+-- The code of each term does what the term means, by recursion on the term. What isn't proved yet: operations are a
+-- premise here, and no term with an assignment, `and`, `or`, `repeat`, `for` or a `return` of nothing has what is needed.
 use Rattle.std.proofs.Common.{◌≡◌, ℕ, zero, suc, ◌+◌, ◌<◌, ◌≤◌, Bool, true, false, List, [], ◌∷◌, ◌++◌, Option, Some, None, refl, sym, ap, ◌∙◌, subst, arith}
 use Rattle.std.specs.Prelude.{◌^◌, ◌*◌, if◌then◌else◌}
 use Rattle.tl_base.specs.declared.place.Place.{Place}
@@ -30,6 +30,7 @@ use Rattle.tac_lower.proofs.Words.{value-small}
 use Rattle.tac_lower.proofs.Loads.{sim_as, next-same, reached_sim, word-is, is-value}
 use Rattle.tac_lower.proofs.Reaches.{address-word, located-number, InScope, variable_sim, entry_sim, follow_sim, located_sim, element_sim, own-word}
 use Rattle.tac_lower.proofs.Acts.{Acts, WayOk, Under, under-self, acts_none, acts_then, acts_scoped}
+use Rattle.tac_lower.proofs.Declares.{declared_names, DeclaresWell, declare_all_sim, declares-under}
 use Rattle.tac_lower.proofs.Branches.{acts_sim, acts_break, acts_return, acts_if}
 use Rattle.tac_lower.proofs.Choices.{acts_choice, in_let, let_sim}
 use Rattle.tac_lower.proofs.Rounds.{in_loop}
@@ -44,11 +45,7 @@ IsValueWanted the_address = ⊥
 abbrev IsWide : Setting → Wanted → TypeId → Type 0
 IsWide z want of = (o : Operand) (x : ℕ) → x < 2 ^ 64 → Good z want of (a_word o) (word x)
 
--- the names in scope after declarations, a statement and statements
-abbrev pub declared_names : List TypedName → List TypedName → List TypedName
-declared_names [] names = names
-declared_names (x ∷ xs) names = declared_names xs (x ∷ names)
-
+-- the names in scope after a statement and statements
 abbrev pub names_after_one : Statement → List TypedName → List TypedName
 names_after_one (statement at (Var xs values)) names = declared_names xs names
 names_after_one _ names = names
@@ -77,7 +74,7 @@ perform : {B : Type 0} {z : Setting} {n : ℕ} {names : List TypedName} {scope :
     Sim z n names scope [] u p go names scope post → Sim z n names scope [] u (taken (λ v. scope) p) go names scope post
 perform x = record { grown = x.grown; over = x.over; run = x.run }
 
-module _ (z : Setting) (n : ℕ) (st : Contents) (entries : List FnId) (homes : List Home) (call : FnId → List Value → Place → State → Got Value) (turns : ℕ) (outside : Within) (OperationNeeds : Operation → List TypeId → TypeId → Type 0) (DeclareNeeds : ℕ → List TypedName → List TypeId → Type 0) where
+module _ (z : Setting) (n : ℕ) (st : Contents) (entries : List FnId) (homes : List Home) (call : FnId → List Value → Place → State → Got Value) (turns : ℕ) (outside : Within) (OperationNeeds : Operation → List TypeId → TypeId → Type 0) where
   abbrev store : Contents
   store = record st { types = z.types }
 
@@ -111,7 +108,7 @@ module _ (z : Setting) (n : ℕ) (st : Contents) (entries : List FnId) (homes : 
     NeedsAll names from (then_one e es) = Needs the_value names from e × NeedsAll names (from + in_expression e) es
 
     pub NeedsOne : Within → List TypedName → ℕ → Statement → Type 0
-    NeedsOne w names from (statement at (Var xs values)) = NeedsAll names from values × DeclareNeeds (from + in_list values) xs (types_of values)
+    NeedsOne w names from (statement at (Var xs values)) = NeedsAll names from values × DeclaresWell z homes (from + in_list values) xs (types_of values)
     NeedsOne w names from (statement at (Assign places values)) = ⊥
     NeedsOne w names from (statement at (If test block)) = Needs the_value names from test × NeedsBlock w names (from + in_expression test) block
     NeedsOne w names from (statement at (IfElse test block other)) =
@@ -129,9 +126,7 @@ module _ (z : Setting) (n : ℕ) (st : Contents) (entries : List FnId) (homes : 
     NeedsBlock w names from done = Unit {0}
     NeedsBlock w names from (and_then s ss) = NeedsOne w names from s × NeedsBlock w (names_after_one s names) (from + in_statement s) ss
 
-  module _ (declares : (names : List TypedName) (scope : Holders) (u : Used) (at : Place) (xs : List TypedName) (k : ℕ) (ts : List TypeId) (rs : List Result) (vs : List Value) → DeclareNeeds k xs ts →
-      Sim z n names scope (all_of ts rs vs ∷ []) u (declare_all a at xs rs k scope u) (meaning.declared_all c at xs vs k) (declared_names xs names) (declare_all a at xs rs k scope u).result (λ v. nothing))
-      (declared_under : (names : List TypedName) (scope : Holders) (u : Used) (at : Place) (xs : List TypedName) (k : ℕ) (rs : List Result) → Under names scope (declared_names xs names) (declare_all a at xs rs k scope u).result)
+  module _
       (enough : n ≤ turns)
       (operations : (names : List TypedName) (scope : Holders) (facts : List Fact) (u : Used) (at : Place) (of : TypeId) (op : Operation) (ts : List TypeId) (rs : List Result) (vs : List Value) → OperationNeeds op ts of →
       Sim z n names scope (all_of ts rs vs ∷ facts) u (operation a at of op ts rs u) (operated c at of op ts vs) names scope (λ v. one_of the_value of (operation a at of op ts rs u).result v)) where
@@ -250,8 +245,8 @@ module _ (z : Setting) (n : ℕ) (st : Contents) (entries : List FnId) (homes : 
           (acts_sim
           (then_sim (λ vs u'. declare_all a at xs vs (from + in_list values) scope u') (λ vs s'. meaning.declared_all c at xs vs (from + in_list values) s') []
           (expressions_sim values from names scope [] u needs.0)
-          (λ vs. declares names scope q.used at xs (from + in_list values) (types_of values) q.result vs needs.1))
-          (declared_under names scope q.used at xs (from + in_list values) q.result))
+          (λ vs. declare_all_sim z n c a names scope [] q.used at xs (from + in_list values) (types_of values) q.result vs needs.1))
+          (declares-under a at xs (from + in_list values) q.result names scope q.used))
       statement_acts (statement at (Assign places values)) from w names scope u needs = absurd needs
       statement_acts (statement at (If test block)) from w names scope u needs =
           acts_if (type_of test) (expression_sim the_value test from names scope [] u needs.0)
