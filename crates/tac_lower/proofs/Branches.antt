@@ -220,3 +220,21 @@ acts_if {z} {n} {w} {names} {names1} {scope} {u} {p} {r} {go} {go2} of x y = rec
       keeps = keeps-none scope p.used k;
       fewer = omega arith;
     }
+
+-- nothing is given back
+pub acts_finish : {z : Setting} {n : ℕ} {w : Within} {names : List TypedName} {scope : Holders} (u : Used) → IsValue z.types w.result (word 0) → w.in_let ≡ false →
+    Acts z n w names scope u (record { result = scope; code = ends (gives (part_of no_word)) ∷ []; used = u }) (λ s. Gives (gives_back (word 0)) s) names
+acts_finish {z} {n} {w} {names} {scope} u is_value lawful = record {
+  grown = grown-none u;
+  over = λ t lt away. away;
+  under = under-self names scope;
+  run = λ out at k s has whole_ fine less. record {
+    to = at;
+    private = k;
+    leads = (1, one-end z at k s (Return (part_of no_word)) has.0);
+    sized = fine.sized;
+    fewer = omega arith;
+    is_value = is_value;
+    lawful = lawful;
+  };
+}

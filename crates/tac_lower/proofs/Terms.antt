@@ -1,5 +1,5 @@
 -- The code of each term does what the term means, by recursion on the term. What isn't proved yet: operations are a
--- premise here, and no term with an assignment, `and`, `or`, `repeat`, `for` or a `return` of nothing has what is needed.
+-- premise here, and no term with an assignment, `and`, `or`, `repeat` or `for` has what is needed.
 use Rattle.std.proofs.Common.{◌≡◌, ℕ, zero, suc, ◌+◌, ◌<◌, ◌≤◌, Bool, true, false, List, [], ◌∷◌, ◌++◌, Option, Some, None, refl, sym, ap, ◌∙◌, subst, arith}
 use Rattle.std.specs.Prelude.{◌^◌, ◌*◌, if◌then◌else◌}
 use Rattle.tl_base.specs.declared.place.Place.{Place}
@@ -13,7 +13,7 @@ use Rattle.terra_term.specs.declared.lists.TypedName.{TypedName}
 use Rattle.terra_term.specs.TypedTerms.{Expression, typed, Constant', Variable, Global, Operate, Both, Either, Dereference, Select, Follow, Element, Index, Address, Decay, Let, Expressions, no_more, then_one, Statement, statement, Var, Assign, If, IfElse, While, Repeat, For, Do, Break, Finish, Return, Perform, Statements, done, and_then, type_of}
 use Rattle.terra_term.specs.Stores.{Contents}
 use Rattle.terra_term.specs.WellTyped.{Within}
-use Rattle.terra_meaning.specs.Values.{bytes_at}
+use Rattle.terra_meaning.specs.Values.{bytes_at, IsValue}
 use Rattle.terra_meaning.specs.Frames.{Home}
 use Rattle.terra_meaning.specs.Running.{State, Got, Gives, Ends, next, scoped}
 use Rattle.terra_meaning.specs.Meaning as meaning
@@ -31,7 +31,7 @@ use Rattle.tac_lower.proofs.Loads.{sim_as, next-same, reached_sim, word-is, is-v
 use Rattle.tac_lower.proofs.Reaches.{address-word, located-number, InScope, variable_sim, entry_sim, follow_sim, located_sim, element_sim, own-word}
 use Rattle.tac_lower.proofs.Acts.{Acts, WayOk, Under, under-self, acts_none, acts_then, acts_scoped}
 use Rattle.tac_lower.proofs.Declares.{declared_names, DeclaresWell, declare_all_sim, declares-under}
-use Rattle.tac_lower.proofs.Branches.{acts_sim, acts_break, acts_return, acts_if}
+use Rattle.tac_lower.proofs.Branches.{acts_sim, acts_break, acts_return, acts_finish, acts_if}
 use Rattle.tac_lower.proofs.Choices.{acts_choice, in_let, let_sim}
 use Rattle.tac_lower.proofs.Rounds.{in_loop}
 use Rattle.tac_lower.proofs.Loops.{acts_while}
@@ -118,7 +118,7 @@ module _ (z : Setting) (n : ℕ) (st : Contents) (entries : List FnId) (homes : 
     NeedsOne w names from (statement at (For x bounds body)) = ⊥
     NeedsOne w names from (statement at (Do body)) = NeedsBlock w names from body
     NeedsOne w names from (statement at Break) = w.in_loop ≡ true
-    NeedsOne w names from (statement at Finish) = ⊥
+    NeedsOne w names from (statement at Finish) = IsValue z.types w.result (word 0) × (w.in_let ≡ false)
     NeedsOne w names from (statement at (Return e)) = Needs the_value names from e × (type_of e ≡ w.result) × (w.in_let ≡ false)
     NeedsOne w names from (statement at (Perform e)) = Needs the_value names from e
 
@@ -263,7 +263,7 @@ module _ (z : Setting) (n : ℕ) (st : Contents) (entries : List FnId) (homes : 
       statement_acts (statement at (For x bounds body)) from w names scope u needs = absurd needs
       statement_acts (statement at (Do body)) from w names scope u needs = acts_scoped (block_acts body from w names scope u needs)
       statement_acts (statement at Break) from w names scope u needs = acts_break u needs
-      statement_acts (statement at Finish) from w names scope u needs = absurd needs
+      statement_acts (statement at Finish) from w names scope u needs = acts_finish u needs.0 needs.1
       statement_acts (statement at (Return e)) from w names scope u needs =
           acts_return
           (subst (λ t. Sim z n names scope [] u (piece a the_value e from scope u) (meant c the_value e from) names scope (λ v. one_of the_value t (piece a the_value e from scope u).result v)) needs.1
