@@ -1,21 +1,19 @@
 -- Code of statements does what the meaning's do: it goes on, leaves the loop around, or gives the function's value.
-use Rattle.std.proofs.Common.{◌≡◌, ◌≢◌, ℕ, zero, suc, ◌+◌, ◌*◌, ◌<◌, ◌≤◌, Bool, true, false, List, [], ◌∷◌, ◌++◌, length, take, drop, Option, Some, None, refl, sym, ap, ◌∙◌, subst, arith, append-nil, append_assoc, length-append}
-use Rattle.std.specs.Prelude.{◌-◌, IsTrue, nat_eq, if◌then◌else◌}
+use Rattle.std.proofs.Common.{◌≡◌, ℕ, suc, ◌+◌, ◌<◌, ◌≤◌, true, false, List, [], ◌∷◌, ◌++◌, length, drop, refl, sym, ap, ◌∙◌, subst, arith, append_assoc, length-append}
+use Rattle.std.specs.Prelude.{◌-◌}
 use Rattle.std.proofs.lemmas.List.{length-drop, drop-drop}
-use Rattle.tl_base.specs.declared.ids.TypeId.{TypeId}
-use Rattle.terra_words.specs.Runs.{Value, word, number, Run}
+use Rattle.terra_words.specs.Runs.{Value}
 use Rattle.terra_term.specs.declared.lists.TypedName.{TypedName}
 use Rattle.terra_term.specs.WellTyped.{Within}
 use Rattle.terra_meaning.specs.Values.{IsValue}
-use Rattle.terra_meaning.specs.Running.{Variable, State, Got, Gives, Ends, next, leaving, scoped}
+use Rattle.terra_meaning.specs.Running.{Variable, State, Got, Gives, Ends, next, scoped}
 use Rattle.terra_meaning.specs.Meaning.{Way, goes_on, breaks, gives_back, along}
 use Rattle.tac_form.specs.Flow as flow
 use Rattle.tac_form.specs.Flow.{Moved, Goes, Stops, steps}
-use Rattle.tac_lower.specs.Items.{Item, does}
-use Rattle.tac_lower.specs.Pieces.{Used, Piece, known, following, then_piece, taken, Bound, Holders}
+use Rattle.tac_lower.specs.Pieces.{Used, Piece, known, then_piece, taken, Holders}
 use Rattle.tac_lower.proofs.Places.{Point, start_of, after, after-append, HasAt, has-front, has-back}
-use Rattle.tac_lower.proofs.Standing.{Setting, Private, stands, Leads, Halts, leads-to, Is, below, Holds, Apart, Fine, Keeps, Grown, Comes, Leaves}
-use Rattle.tac_lower.proofs.Simulates.{Fact, nothing, Knows, KnowsAll, whole, Over, Sim, grown-none, grown-then, keeps-none, keeps-then, comes-before, comes-at}
+use Rattle.tac_lower.proofs.Standing.{Setting, Private, stands, Leads, leads-to, below, Holds, Fine, Keeps, Grown, Comes, Leaves}
+use Rattle.tac_lower.proofs.Simulates.{whole, Over, grown-none, grown-then, keeps-none, keeps-then, comes-before}
 use Rattle.tac_lower.proofs.Writes.{holds-later, below-le}
 
 -- the outermost variables
@@ -134,16 +132,18 @@ way-before z w names names1 names2 scope scope1 scope2 at at1 to u u1 u2 k k1 s 
     let m = holds-length z names1 scope1 s1.variables u1.temps k1 fine1.holds in
     let inner = holds-length z names1 scope1 (drop (length s2.variables - length s1.variables) s2.variables) u2.temps c.private c.fine.holds in
     let le : length s.variables ≤ length s1.variables = omega (arith, n, m, ap length under.scope_is, length-append under.bs scope) in
-    let outer = fine-outer z names names1 scope scope1 u2 c.private (length s.variables) (outermost (length s1.variables) s2) under n c.fine in
-    (d.0, record {
-      private = c.private;
-      leads = leads-to z at k s at1 k1 s1 (Goes (stands z (start_of out) c.private s2)) leads c.leads;
-      ok = tt;
-      fine = subst (λ vs. Fine z names scope u2 c.private (record s2 { variables = vs }))
-          (outer-outer s2.variables (length s.variables) (length s1.variables) le (inner ∙ sym m)) outer;
-      keeps = keeps-then scope scope1 u u1 k k1 c.private g over keeps c.keeps;
-      fewer = omega (arith, fewer, c.fewer);
-    })
+    let outer = fine-outer z names names1 scope scope1 u2 c.private (length s.variables) (outermost (length s1.variables) s2) under n c.fine in (
+      d.0,
+      record {
+        private = c.private;
+        leads = leads-to z at k s at1 k1 s1 (Goes (stands z (start_of out) c.private s2)) leads c.leads;
+        ok = tt;
+        fine = subst (λ vs. Fine z names scope u2 c.private (record s2 { variables = vs }))
+            (outer-outer s2.variables (length s.variables) (length s1.variables) le (inner ∙ sym m)) outer;
+        keeps = keeps-then scope scope1 u u1 k k1 c.private g over keeps c.keeps;
+        fewer = omega (arith, fewer, c.fewer);
+      },
+    )
 way-before z w names names1 names2 scope scope1 scope2 at at1 to u u1 u2 k k1 s s1 out leads g over under keeps fewer fine fine1 (Gives (gives_back v) s2) d = record {
   to = d.to;
   private = d.private;
@@ -235,16 +235,18 @@ scoped-ways z w names names1 scope scope1 at to u u1 k s out fine under (Gives g
 scoped-ways z w names names1 scope scope1 at to u u1 k s out fine under (Gives breaks s1) d =
     let c = d.1 in
     let n = holds-length z names scope s.variables u.temps k fine.holds in
-    let inner = holds-length z names scope (drop (length s1.variables - length s.variables) s1.variables) u1.temps c.private c.fine.holds in
-    (d.0, record {
-      private = c.private;
-      leads = c.leads;
-      ok = tt;
-      fine = subst (λ vs. Fine z names scope u1 c.private (record s1 { variables = vs }))
-          (sym (outer-outer s1.variables (length s.variables) (length s.variables) (omega arith) (inner ∙ sym n))) c.fine;
-      keeps = c.keeps;
-      fewer = c.fewer;
-    })
+    let inner = holds-length z names scope (drop (length s1.variables - length s.variables) s1.variables) u1.temps c.private c.fine.holds in (
+      d.0,
+      record {
+        private = c.private;
+        leads = c.leads;
+        ok = tt;
+        fine = subst (λ vs. Fine z names scope u1 c.private (record s1 { variables = vs }))
+            (sym (outer-outer s1.variables (length s.variables) (length s.variables) (omega arith) (inner ∙ sym n))) c.fine;
+        keeps = c.keeps;
+        fewer = c.fewer;
+      },
+    )
 scoped-ways z w names names1 scope scope1 at to u u1 k s out fine under (Gives (gives_back v) s1) d = record {
   to = d.to;
   private = d.private;

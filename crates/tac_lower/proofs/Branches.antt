@@ -1,27 +1,25 @@
 -- Statements that end blocks: what is given back, breaks, and choices.
-use Rattle.std.proofs.Common.{◌≡◌, ◌≢◌, ℕ, zero, suc, ◌+◌, ◌*◌, ◌<◌, ◌≤◌, Bool, true, false, List, [], ◌∷◌, ◌++◌, length, drop, Option, Some, None, refl, sym, ap, ◌∙◌, subst, arith, append-nil, append_assoc, length-append}
-use Rattle.std.specs.Prelude.{◌-◌, not, nat_eq, if◌then◌else◌}
+use Rattle.std.proofs.Common.{◌≡◌, ℕ, suc, ◌+◌, ◌<◌, ◌≤◌, Bool, true, false, List, [], ◌∷◌, ◌++◌, length, refl, sym, ap, ◌∙◌, subst, arith}
+use Rattle.std.specs.Prelude.{not, nat_eq, if◌then◌else◌}
 use Rattle.tl_base.specs.declared.ids.TypeId.{TypeId}
-use Rattle.terra_words.specs.Runs.{Value, word, bytes, number, is_true, Run}
+use Rattle.terra_words.specs.Runs.{Value, word, number, is_true}
 use Rattle.terra_term.specs.declared.lists.TypedName.{TypedName}
 use Rattle.terra_term.specs.WellTyped.{Within}
 use Rattle.terra_meaning.specs.Values.{IsValue}
-use Rattle.terra_meaning.specs.Running.{Variable, State, Got, Gives, Ends, next, leaving, scoped}
-use Rattle.terra_meaning.specs.Meaning.{Wanted, the_value, the_address, Way, goes_on, breaks, gives_back, along}
+use Rattle.terra_meaning.specs.Running.{State, Got, Gives, Ends, next, scoped}
+use Rattle.terra_meaning.specs.Meaning.{the_value, Way, goes_on, breaks, gives_back}
 use Rattle.tac_form.specs.declared.tac.Operand.{Operand}
-use Rattle.tac_form.specs.declared.tac.Operand.TheVariants.{Temp, Constant}
-use Rattle.tac_form.specs.declared.tac.Exit.{Exit}
-use Rattle.tac_form.specs.declared.tac.Exit.TheVariants.{Jump, Branch, Return, Fail}
+use Rattle.tac_form.specs.declared.tac.Exit.TheVariants.{Jump, Branch, Return}
 use Rattle.tac_form.specs.Flow as flow
 use Rattle.tac_form.specs.Flow.{Moved, Goes, Stops, steps}
-use Rattle.tac_lower.specs.Items.{Item, does, ends, Ending, skips, tests, repeats, repeats_unless, leaves, gives, fails, count_ends, loop_of, onward, exit_of}
-use Rattle.tac_lower.specs.Pieces.{Used, Piece, known, following, then_piece, taken, Result, a_word, an_area, an_offset, no_word, word_of, part_of, Bound, Holders}
-use Rattle.tac_lower.specs.Lowering.{passed_over, choice}
+use Rattle.tac_lower.specs.Items.{Item, ends, skips, leaves, gives, count_ends, onward}
+use Rattle.tac_lower.specs.Pieces.{Used, Piece, Result, a_word, an_area, an_offset, no_word, word_of, part_of, Holders}
+use Rattle.tac_lower.specs.Lowering.{passed_over}
 use Rattle.tac_lower.proofs.Places.{Point, start_of, after, after-append, after-block, EndsAt, HasAt, has-front, has-back}
-use Rattle.tac_lower.proofs.Standing.{Setting, Private, stands, Leads, Halts, leads-to, one-end, word_in, value_in, operand-is, Fine, Keeps, Grown, Good, Means, Comes, Leaves}
-use Rattle.tac_lower.proofs.Simulates.{Fact, nothing, one_of, Knows, KnowsAll, whole, Over, Sim, grown-none, grown-then, keeps-none, keeps-then, comes-before, comes-at}
+use Rattle.tac_lower.proofs.Standing.{Setting, Private, stands, Leads, leads-to, one-end, word_in, operand-is, Fine, Grown, Means, Comes, Leaves}
+use Rattle.tac_lower.proofs.Simulates.{Fact, one_of, Knows, whole, Sim, grown-none, grown-then, keeps-none}
 use Rattle.tac_lower.proofs.Loads.{word-is, is-value}
-use Rattle.tac_lower.proofs.Acts.{outermost, Under, under-self, under-then, holds-length, fine-outer, fine-later, Returns, WayOk, Acts, way-before, way-at, scoped-ways, comes-later}
+use Rattle.tac_lower.proofs.Acts.{Under, under-self, holds-length, fine-outer, fine-later, WayOk, Acts, way-before, way-at, scoped-ways}
 
 -- a value, and what statements do with it
 pub value_ways : {A B : Type 0} (w : Within) {z : Setting} {n : ℕ} {names : List TypedName} {scope : Holders} {u : Used} {p : Piece A} {go : State → Got B} {mid : B → Fact}
@@ -53,10 +51,12 @@ branch-by z k s at x one other false e = ap (λ b. if b then flow.follow (onward
 -- a test goes to one block or the other
 pub branches : (z : Setting) (at : Point) (k : Private) (s : State) (a : Operand) (one other : ℕ) (b : Bool) → EndsAt z.tac.blocks at (Branch a (onward one) (onward other)) →
     nat_eq (word_in k a) 0 ≡ b → Leads z at k s (start_of (if b then other else one)) k s
-branches z at k s a one other b h e =
-    (1, one-end z at k s (Branch a (onward one) (onward other)) h
-    ∙ ap (λ x. if nat_eq x 0 then flow.follow (onward other) (stands z at k s) else flow.follow (onward one) (stands z at k s)) (operand-is z at k s a)
-    ∙ branch-by z k s at (word_in k a) one other b e)
+branches z at k s a one other b h e = (
+  1,
+  one-end z at k s (Branch a (onward one) (onward other)) h
+      ∙ ap (λ x. if nat_eq x 0 then flow.follow (onward other) (stands z at k s) else flow.follow (onward one) (stands z at k s)) (operand-is z at k s a)
+      ∙ branch-by z k s at (word_in k a) one other b e,
+)
 
 -- code goes on where it ends
 pub way-on : (z : Setting) (w : Within) (names names' : List TypedName) (scope scope' : Holders) (at to to' : Point) (u u' : Used) (k : Private) (s : State) (out : ℕ) →
@@ -107,14 +107,17 @@ acts_break {z} {n} {w} {names} {scope} u loop = record {
   grown = grown-none u;
   over = λ t lt away. away;
   under = under-self names scope;
-  run = λ out at k s has whole_ fine less. (loop, record {
-    private = k;
-    leads = jumps z at k s out has.0;
-    ok = tt;
-    fine = fine-outer z names names scope scope u k (length s.variables) s (under-self names scope) (holds-length z names scope s.variables u.temps k fine.holds) fine;
-    keeps = keeps-none scope u k;
-    fewer = omega arith;
-  });
+  run = λ out at k s has whole_ fine less. (
+    loop,
+    record {
+      private = k;
+      leads = jumps z at k s out has.0;
+      ok = tt;
+      fine = fine-outer z names names scope scope u k (length s.variables) s (under-self names scope) (holds-length z names scope s.variables u.temps k fine.holds) fine;
+      keeps = keeps-none scope u k;
+      fewer = omega arith;
+    },
+  );
 }
 
 part-value : (z : Setting) (of : TypeId) (scope : Holders) (u : Used) (r : Result) (at : Point) (k : Private) (s : State) (v : Value) →
@@ -135,8 +138,11 @@ acts_return {z} {n} {w} {names} {scope} {u} {p} {go} x lawful = record {
       (λ v s'. Gives (gives_back v) s') (λ v k1 s1 fine1 knows fewer. record {
         to = after p.code at;
         private = k1;
-        leads = (1, one-end z (after p.code at) k1 s1 (Return (part_of p.result)) (has-back z.tac.blocks out at p.code (ends (gives (part_of p.result)) ∷ []) has).0
-            ∙ ap (λ y. flow.give z.program y z.callers (stands z (after p.code at) k1 s1)) (part-value z w.result scope p.used p.result (after p.code at) k1 s1 v knows));
+        leads = (
+          1,
+          one-end z (after p.code at) k1 s1 (Return (part_of p.result)) (has-back z.tac.blocks out at p.code (ends (gives (part_of p.result)) ∷ []) has).0
+              ∙ ap (λ y. flow.give z.program y z.callers (stands z (after p.code at) k1 s1)) (part-value z w.result scope p.used p.result (after p.code at) k1 s1 v knows),
+        );
         sized = fine1.sized;
         fewer = omega arith;
         is_value = is-value z w.result p.result v knows.good;

@@ -1,22 +1,22 @@
 -- `if` with `else`, `repeat`, and the statements of a `let`.
-use Rattle.std.proofs.Common.{◌≡◌, ◌≢◌, ℕ, zero, suc, ◌+◌, ◌*◌, ◌<◌, ◌≤◌, Bool, true, false, List, [], ◌∷◌, ◌++◌, length, drop, Option, Some, None, refl, sym, ap, ◌∙◌, subst, arith, append-nil, append_assoc, length-append}
-use Rattle.std.specs.Prelude.{◌-◌, not, nat_eq, if◌then◌else◌}
+use Rattle.std.proofs.Common.{◌≡◌, ℕ, suc, ◌+◌, ◌<◌, ◌≤◌, Bool, true, false, List, [], ◌∷◌, ◌++◌, length, refl, sym, ap, ◌∙◌, subst, arith}
+use Rattle.std.specs.Prelude.{not, nat_eq, if◌then◌else◌}
 use Rattle.tl_base.specs.declared.ids.TypeId.{TypeId}
-use Rattle.terra_words.specs.Runs.{Value, word, bytes, number, is_true, Run, More}
+use Rattle.terra_words.specs.Runs.{Value, is_true}
 use Rattle.terra_term.specs.declared.lists.TypedName.{TypedName}
 use Rattle.terra_term.specs.WellTyped.{Within}
-use Rattle.terra_meaning.specs.Running.{State, Got, Gives, Ends, next, leaving, scoped}
-use Rattle.terra_meaning.specs.Meaning.{Wanted, the_value, the_address, Way, goes_on, breaks, gives_back, along}
+use Rattle.terra_meaning.specs.Running.{State, Got, Gives, Ends, next, scoped}
+use Rattle.terra_meaning.specs.Meaning.{Wanted, the_value, Way, goes_on, breaks, gives_back}
 use Rattle.tac_form.specs.declared.tac.Operand.{Operand}
 use Rattle.tac_form.specs.declared.tac.Operand.TheVariants.{Temp, Constant}
-use Rattle.tac_form.specs.Flow.{Moved, Goes, Stops, steps}
-use Rattle.tac_lower.specs.Items.{Item, does, ends, Ending, skips, tests, count_ends, exit_of}
-use Rattle.tac_lower.specs.Pieces.{Used, Piece, then_piece, Result, a_word, an_area, an_offset, word_of, Bound, Holders}
+use Rattle.tac_form.specs.Flow.{Goes, Stops}
+use Rattle.tac_lower.specs.Items.{Item, ends, skips, count_ends}
+use Rattle.tac_lower.specs.Pieces.{Used, Piece, then_piece, Result, a_word, an_area, an_offset, word_of, Holders}
 use Rattle.tac_lower.specs.Lowering.{choice}
 use Rattle.tac_lower.proofs.Places.{Point, start_of, after, after-append, after-block, HasAt, has-front, has-back}
-use Rattle.tac_lower.proofs.Standing.{Setting, Private, stands, Leads, Halts, leads-to, word_in, Apart, Fine, Keeps, Grown, Own, Good, Means, Comes, Leaves}
-use Rattle.tac_lower.proofs.Simulates.{Fact, nothing, one_of, Knows, KnowsAll, whole, Over, Sim, grown-none, grown-then, keeps-none, keeps-then}
-use Rattle.tac_lower.proofs.Acts.{outermost, Under, under-self, holds-length, fine-outer, fine-later, Returns, WayOk, Acts, way-before, way-at, scoped-ways, comes-later}
+use Rattle.tac_lower.proofs.Standing.{Setting, Private, stands, Leads, leads-to, word_in, Apart, Fine, Grown, Own, Means, Comes, Leaves}
+use Rattle.tac_lower.proofs.Simulates.{Fact, one_of, whole, Sim, grown-none, grown-then, keeps-then}
+use Rattle.tac_lower.proofs.Acts.{outermost, Under, under-self, holds-length, fine-outer, fine-later, WayOk, Acts, way-at, scoped-ways, comes-later}
 use Rattle.tac_lower.proofs.Branches.{value_ways, jumps, branches, way-on, way-from, tested}
 
 -- more is used behind

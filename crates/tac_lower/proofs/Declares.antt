@@ -1,5 +1,5 @@
 -- Declarations: a variable goes to a temporary of its own, or to its place in the frame.
-use Rattle.std.proofs.Common.{◌≡◌, ◌≢◌, ℕ, zero, suc, ◌+◌, ◌*◌, ◌<◌, ◌≤◌, Bool, true, false, List, [], ◌∷◌, ◌++◌, length, Option, Some, None, refl, sym, ap, ◌∙◌, subst, arith}
+use Rattle.std.proofs.Common.{◌≡◌, ℕ, suc, ◌+◌, ◌≤◌, Bool, true, false, List, [], ◌∷◌, Option, Some, None, refl, sym, ap, ◌∙◌, subst, arith}
 use Rattle.std.specs.Prelude.{nat_eq, if◌then◌else◌}
 use Rattle.std.proofs.lemmas.Bool.{eqb-true}
 use Rattle.tl_base.specs.declared.place.Place.{Place}
@@ -13,19 +13,18 @@ use Rattle.terra_meaning.specs.Running.{held, lies, State, Got, Gives, Ends, nex
 use Rattle.terra_meaning.specs.Meaning as meaning
 use Rattle.terra_meaning.specs.Meaning.{Call, Wanted, the_value, the_address, behind}
 use Rattle.tac_form.specs.declared.tac.Operand.{Operand}
-use Rattle.tac_form.specs.declared.tac.Operand.TheVariants.{Temp, Constant}
+use Rattle.tac_form.specs.declared.tac.Operand.TheVariants.{Constant}
 use Rattle.tac_form.specs.declared.tac.Address.TheVariants as addresses
 use Rattle.tac_form.specs.declared.tac.Spot.TheVariants as spots
 use Rattle.tac_form.specs.declared.tac.Instruction.TheVariants.{Copy}
 use Rattle.tac_form.specs.Flow as flow
 use Rattle.tac_form.specs.Flow.{Goes, Stops, put}
-use Rattle.tac_lower.specs.Items.{Item, does}
-use Rattle.tac_lower.specs.Pieces.{Used, with_temp, Piece, known, doing, then_piece, taken, Result, a_word, an_area, an_offset, word_of, rest, Holder, in_temp, at_offset, Bound, Holders, bound, copied, stored, placed, Around, declare_at, declare, declare_all, first_of}
-use Rattle.tac_lower.proofs.Places.{Point, step_on, after, DoesAt}
-use Rattle.tac_lower.proofs.Standing.{Setting, Private, stands, one-step, word_in, operand-is, Holds, Fine, Keeps, Grown, Good, Means, Comes, Leaves}
-use Rattle.tac_lower.proofs.Simulates.{Fact, nothing, one_of, all_of, AllMean, Knows, KnowsAll, whole, Over, Sim, then_sim, grown-none, keeps-none}
+use Rattle.tac_lower.specs.Pieces.{Used, Piece, taken, Result, a_word, an_area, an_offset, word_of, rest, in_temp, at_offset, Holders, bound, copied, stored, placed, Around, declare_at, declare, declare_all, first_of}
+use Rattle.tac_lower.proofs.Places.{Point, after}
+use Rattle.tac_lower.proofs.Standing.{Setting, Private, stands, one-step, word_in, operand-is, Fine, Means, Comes, Leaves}
+use Rattle.tac_lower.proofs.Simulates.{Fact, nothing, one_of, all_of, AllMean, Knows, KnowsAll, Sim, then_sim}
 use Rattle.tac_lower.proofs.Words.{wrapped-zero}
-use Rattle.tac_lower.proofs.Writes.{put-same, put-below, with_word, holds-later, grown-temp, same-self, fine-word, puts_sim, known_sim}
+use Rattle.tac_lower.proofs.Writes.{put-same, put-below, with_word, holds-later, grown-temp, same-self, fine-word, known_sim}
 use Rattle.tac_lower.proofs.Loads.{sim_from, word-is, is-value}
 use Rattle.tac_lower.proofs.Acts.{Under, under-self, under-then}
 use Rattle.tac_lower.proofs.Stores.{stored_sim, stores-nothing}

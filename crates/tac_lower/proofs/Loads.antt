@@ -1,6 +1,6 @@
 -- Loads: the value of a type at an address, in code and in the meaning.
-use Rattle.std.proofs.Common.{◌≡◌, ◌≢◌, ℕ, zero, suc, ◌+◌, ◌*◌, ◌<◌, ◌≤◌, Bool, true, false, List, [], ◌∷◌, ◌++◌, length, take, drop, Option, Some, None, refl, sym, ap, ◌∙◌, subst, arith, append-nil, append_assoc, length-append}
-use Rattle.std.specs.Prelude.{◌^◌, ◌%◌, ◌-◌, ◌&&◌, slice_get, unwrap_or, nat_eq, nat_le, if◌then◌else◌, bit_and}
+use Rattle.std.proofs.Common.{◌≡◌, ◌≢◌, ℕ, zero, suc, ◌+◌, ◌<◌, ◌≤◌, Bool, true, false, List, [], ◌∷◌, ◌++◌, length, drop, Option, Some, None, refl, sym, ap, ◌∙◌, subst, arith, append-nil, append_assoc, length-append}
+use Rattle.std.specs.Prelude.{◌^◌, ◌%◌, ◌-◌, ◌&&◌, slice_get, unwrap_or, nat_eq, if◌then◌else◌, bit_and}
 use Rattle.std.proofs.lemmas.Option.{slice_get-get_or}
 use Rattle.std.proofs.Math.Seq.{get_or-append_seam}
 use Rattle.std.proofs.lemmas.Bool.{eqb-true, eqb-false, le-leb}
@@ -9,18 +9,18 @@ use Rattle.std.proofs.lemmas.Nat.{and_mask}
 use Rattle.tl_base.specs.declared.place.Place.{Place}
 use Rattle.tl_base.specs.declared.ids.TypeId.{TypeId}
 use Rattle.terra_memory.specs.Numbers.{number_of, part, overwritten}
-use Rattle.terra_memory.specs.Region.{Contents, range_of, is_inside, first_address, end_address}
+use Rattle.terra_memory.specs.Region.{Contents, range_of, is_inside, first_address}
 use Rattle.terra_memory.proofs.RegionLaws.{inside_parts}
 use Rattle.terra_words.specs.declared.words.FaultKind.TheVariants.{BadAddress}
 use Rattle.terra_words.specs.declared.words.BinaryOperator.{BinaryOperator}
 use Rattle.terra_words.specs.declared.words.BinaryOperator.TheVariants as operators
-use Rattle.terra_words.specs.Words.{wrapped, applied, divides, flag}
-use Rattle.terra_words.specs.Runs.{Value, word, bytes, number, Run, Over, Fault, Stuck}
+use Rattle.terra_words.specs.Words.{wrapped, applied, divides}
+use Rattle.terra_words.specs.Runs.{Value, word, bytes, number, Stuck}
 use Rattle.terra_types.specs.declared.types.Integer.TheVariants.{Int8, Int16, Int32, Int64, Uint8, Uint16, Uint32, Uint64}
 use Rattle.terra_types.specs.declared.types.TypeForm.{TypeForm}
 use Rattle.terra_types.specs.declared.types.TypeForm.TheVariants as forms
 use Rattle.terra_term.specs.declared.lists.TypedName.{TypedName}
-use Rattle.terra_meaning.specs.Values.{form_at, bytes_at, is_aggregate, width_of, decoded, IsValue}
+use Rattle.terra_meaning.specs.Values.{form_at, bytes_at, is_aggregate, width_of, IsValue}
 use Rattle.terra_meaning.specs.Running.{State, Got, Gives, Ends, next, fault}
 use Rattle.terra_meaning.specs.Meaning as meaning
 use Rattle.terra_meaning.specs.Meaning.{Wanted, the_value, the_address}
@@ -30,18 +30,16 @@ use Rattle.tac_form.specs.declared.tac.Operand.TheVariants.{Temp, Constant}
 use Rattle.tac_form.specs.declared.tac.Address.{Address}
 use Rattle.tac_form.specs.declared.tac.Spot.{Spot}
 use Rattle.tac_form.specs.declared.tac.Spot.TheVariants as spots
-use Rattle.tac_form.specs.declared.tac.Instruction.{Instruction}
-use Rattle.tac_form.specs.declared.tac.Instruction.TheVariants.{Compute, Copy, Locate, Load, Store, Move}
+use Rattle.tac_form.specs.declared.tac.Instruction.TheVariants.{Compute, Copy, Load, Move}
 use Rattle.tac_form.specs.Flow as flow
 use Rattle.tac_form.specs.Flow.{Moved, Goes, Stops, act, area_size, fetched}
-use Rattle.tac_lower.specs.Items.{Item, does}
-use Rattle.tac_lower.specs.Pieces.{Used, with_temp, with_area, Piece, known, doing, following, then_piece, taken, Result, a_word, an_area, an_offset, word_of, address_of, no_word, Holders, number_in, bool_form, whole_word, compute, copied, loaded_bit, loaded_number, loaded_word, loaded_area, loaded}
+use Rattle.tac_lower.specs.Pieces.{Used, with_temp, with_area, Piece, known, doing, then_piece, Result, a_word, an_area, an_offset, word_of, address_of, no_word, Holders, number_in, bool_form, whole_word, compute, copied, loaded_bit, loaded_number, loaded_word, loaded}
 use Rattle.tac_lower.specs.Lowering.{reached}
-use Rattle.tac_lower.proofs.Places.{Point, step_on, after, HasAt, DoesAt}
-use Rattle.tac_lower.proofs.Standing.{Setting, SizedBy, Private, stands, Halts, word_in, value_in, operand-is, Fine, Keeps, Grown, Good, Means, Comes, Leaves}
-use Rattle.tac_lower.proofs.Simulates.{Fact, nothing, one_of, all_of, Knows, KnowsAll, whole, Sim, then_sim}
-use Rattle.tac_lower.proofs.Words.{width_by, wrapped-again, wrapped-small, wrapped-zero, value-small, HasNumber, number-width}
-use Rattle.tac_lower.proofs.Writes.{Same, same-self, Puts, PutsOr, puts_sim, Fills, FillsOr, fills_sim, known_sim, taken_sim}
+use Rattle.tac_lower.proofs.Places.{Point, after}
+use Rattle.tac_lower.proofs.Standing.{Setting, SizedBy, Private, stands, word_in, operand-is, Fine, Grown, Good, Means, Comes, Leaves}
+use Rattle.tac_lower.proofs.Simulates.{Fact, one_of, Knows, KnowsAll, whole, Sim, then_sim}
+use Rattle.tac_lower.proofs.Words.{width_by, wrapped-again, wrapped-small, wrapped-zero, HasNumber, number-width}
+use Rattle.tac_lower.proofs.Writes.{same-self, Puts, PutsOr, puts_sim, FillsOr, fills_sim, known_sim}
 
 -- a part of the meaning, told otherwise
 pub sim_as : {A B : Type 0} {z : Setting} {n : ℕ} {names names' : List TypedName} {scope scope' : Holders} {facts : List Fact} {u : Used} {r : Piece A} {post : B → Fact}
@@ -325,10 +323,10 @@ empty_sim {z} {n} {names} {scope} {facts} u place of a size agg bytes_are e = re
   run = λ out at k s has whole_ fine knows less.
       let none : bytes_at z.types of ≡ 0 = bytes_are ∙ e in
       let same : meaning.loaded z.types place of a s ≡ Gives (bytes []) s =
-          ap (λ m. meaning.read z.types place of s (range_of s.region a m)) none
-          ∙ ap (λ b. Gives (if b then bytes [] else word (wrapped (width_of z.types of) (number_of []))) s) agg in
+      ap (λ m. meaning.read z.types place of s (range_of s.region a m)) none
+      ∙ ap (λ b. Gives (if b then bytes [] else word (wrapped (width_of z.types of) (number_of []))) s) agg in
       let empty : k.areas (length u.areas) ≡ [] =
-          nil_from_length (k.areas (length u.areas)) (omega (arith, fine.small (length u.areas), area-size z size u whole_, e)) in
+      nil_from_length (k.areas (length u.areas)) (omega (arith, fine.small (length u.areas), area-size z size u whole_, e)) in
       let zero_long : 0 ≡ bytes_at z.types of = sym none in
       let ok : Means z the_value of scope (with_area size u) (an_area (length u.areas)) k (bytes []) = record {
         is = ap bytes empty;

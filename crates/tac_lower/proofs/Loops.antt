@@ -1,23 +1,21 @@
 -- `while` and `repeat`.
-use Rattle.std.proofs.Common.{◌≡◌, ◌≢◌, ℕ, zero, suc, ◌+◌, ◌*◌, ◌<◌, ◌≤◌, Bool, true, false, List, [], ◌∷◌, ◌++◌, length, drop, Option, Some, None, refl, sym, ap, ◌∙◌, subst, arith, append-nil, append_assoc, length-append}
+use Rattle.std.proofs.Common.{◌≡◌, ℕ, suc, ◌+◌, ◌<◌, ◌≤◌, Bool, true, false, List, [], ◌∷◌, ◌++◌, refl, sym, ap, ◌∙◌, subst, arith}
 use Rattle.std.specs.Prelude.{◌-◌, not, nat_eq, if◌then◌else◌}
 use Rattle.tl_base.specs.declared.ids.TypeId.{TypeId}
-use Rattle.terra_words.specs.Runs.{Value, word, bytes, number, is_true, Run, More}
+use Rattle.terra_words.specs.Runs.{Value, is_true}
 use Rattle.terra_term.specs.declared.lists.TypedName.{TypedName}
 use Rattle.terra_term.specs.WellTyped.{Within}
-use Rattle.terra_meaning.specs.Running.{State, Got, Gives, Ends, next, leaving, scoped}
-use Rattle.terra_meaning.specs.Meaning.{Wanted, the_value, the_address, Way, goes_on, breaks, gives_back, along, turned, rounds}
+use Rattle.terra_meaning.specs.Running.{State, Got, Gives, Ends, next, scoped}
+use Rattle.terra_meaning.specs.Meaning.{the_value, Way, breaks, rounds}
 use Rattle.tac_form.specs.declared.tac.Operand.{Operand}
-use Rattle.tac_form.specs.declared.tac.Exit.{Exit}
-use Rattle.tac_form.specs.declared.tac.Exit.TheVariants.{Jump, Branch}
-use Rattle.tac_form.specs.Flow.{Moved, Goes, Stops, steps}
-use Rattle.tac_lower.specs.Items.{Item, does, ends, Ending, skips, tests, repeats, repeats_unless, leaves, gives, fails, count_ends, loop_of, onward, backward, exit_of}
+use Rattle.tac_form.specs.declared.tac.Exit.TheVariants.{Jump}
+use Rattle.tac_lower.specs.Items.{Item, does, ends, tests, repeats, count_ends, loop_of, backward}
 use Rattle.tac_lower.specs.Pieces.{Used, Piece, Result, word_of, Holders}
-use Rattle.tac_lower.specs.Lowering.{while_loop, repeat_loop}
+use Rattle.tac_lower.specs.Lowering.{while_loop}
 use Rattle.tac_lower.proofs.Places.{Point, step_on, start_of, after, after-append, after-block, EndsAt, HasAt, has-front, has-back, has-loop, ends-append}
-use Rattle.tac_lower.proofs.Standing.{Setting, Private, stands, Leads, Halts, leads-to, word_in, Fine, Keeps, Grown, Good, Means, Comes, Leaves}
-use Rattle.tac_lower.proofs.Simulates.{Fact, nothing, one_of, Knows, KnowsAll, whole, Over, Sim, grown-none, grown-then, keeps-none}
-use Rattle.tac_lower.proofs.Acts.{under-self, fine-later, WayOk, Acts, way-before, way-at}
+use Rattle.tac_lower.proofs.Standing.{Setting, Private, Leads, word_in, Fine, Grown, Comes, Leaves}
+use Rattle.tac_lower.proofs.Simulates.{Fact, one_of, Knows, whole, Sim, grown-none, grown-then, keeps-none}
+use Rattle.tac_lower.proofs.Acts.{under-self, fine-later, Acts, way-before, way-at}
 use Rattle.tac_lower.proofs.Branches.{jumps, branches, tested}
 use Rattle.tac_lower.proofs.Rounds.{in_loop, RoundOk, round-before, scoped-round, rounds_ways}
 
@@ -59,7 +57,7 @@ while-after code body test b0 =
     let q = after code start in
     let back = after body (start_of (suc q.block)) in
     let n : suc back.block ≡ b0 + count_ends (while_code code test body) =
-        omega (arith, after-block code start, after-block body (start_of (suc q.block)), while-count code body test) in
+    omega (arith, after-block code start, after-block body (start_of (suc q.block)), while-count code body test) in
     after-append code (ends (tests test (suc (count_ends body))) ∷ (body ++ ends (repeats (count_ends code + suc (count_ends body))) ∷ [])) start
     ∙ after-append body (ends (repeats (count_ends code + suc (count_ends body))) ∷ []) (start_of (suc q.block))
     ∙ ap start_of n

@@ -1,20 +1,17 @@
 -- Operations on words.
-use Rattle.std.proofs.Common.{◌≡◌, ◌≢◌, ℕ, zero, suc, ◌+◌, ◌*◌, ◌<◌, ◌≤◌, Bool, true, false, List, [], ◌∷◌, ◌++◌, length, Option, Some, None, refl, sym, ap, ◌∙◌, subst, arith}
-use Rattle.std.specs.Prelude.{◌^◌, ◌%◌, ◌-◌, ◌&&◌, not, nat_eq, nat_lt, if◌then◌else◌, bit_xor, bit_and}
-use Rattle.std.proofs.lemmas.Nat.{and_mask}
+use Rattle.std.proofs.Common.{◌≡◌, ℕ, ◌+◌, Bool, true, false, List, [], ◌∷◌, refl, ap, ◌∙◌, arith}
+use Rattle.std.specs.Prelude.{◌^◌, ◌-◌, ◌&&◌, nat_eq, if◌then◌else◌}
 use Rattle.tl_base.specs.declared.place.Place.{Place}
 use Rattle.tl_base.specs.declared.ids.TypeId.{TypeId}
 use Rattle.terra_words.specs.declared.words.BinaryOperator.{BinaryOperator}
 use Rattle.terra_words.specs.declared.words.BinaryOperator.TheVariants as operators
 use Rattle.terra_words.specs.declared.words.FaultKind.TheVariants.{DivZero}
 use Rattle.terra_words.specs.declared.words.Width.{Width}
-use Rattle.terra_words.specs.Words.{wrapped, applied, negated, complemented, divides, flag, moved, address_width, long_width}
-use Rattle.terra_words.specs.Runs.{Value, word, bytes, number, value_at}
-use Rattle.terra_types.specs.declared.types.TypeForm.{TypeForm}
-use Rattle.terra_types.specs.declared.types.TypeForm.TheVariants as forms
+use Rattle.terra_words.specs.Words.{wrapped, applied, negated, divides}
+use Rattle.terra_words.specs.Runs.{Value, word, number, value_at}
 use Rattle.terra_term.specs.declared.lists.TypedName.{TypedName}
-use Rattle.terra_meaning.specs.Values.{form_at, bytes_at, is_aggregate, width_of, IsValue}
-use Rattle.terra_meaning.specs.Running.{State, Got, Gives, Ends, next, fault}
+use Rattle.terra_meaning.specs.Values.{form_at, width_of}
+use Rattle.terra_meaning.specs.Running.{State, Got, Gives, fault}
 use Rattle.terra_meaning.specs.Meaning as meaning
 use Rattle.terra_meaning.specs.Meaning.{Wanted, the_value, the_address}
 use Rattle.tac_form.specs.declared.tac.Number.{Number}
@@ -23,14 +20,13 @@ use Rattle.tac_form.specs.declared.tac.Operand.TheVariants.{Temp, Constant}
 use Rattle.tac_form.specs.declared.tac.Instruction.TheVariants.{TestDivisor}
 use Rattle.tac_form.specs.Flow as flow
 use Rattle.tac_form.specs.Flow.{Goes, Stops, act}
-use Rattle.tac_lower.specs.Pieces.{Used, with_temp, Piece, known, doing, then_piece, Result, a_word, an_area, an_offset, word_of, word_at, Holders, number_of, number_in, whole_word, long, compute}
-use Rattle.tac_lower.specs.Lowering.{binary, step, difference}
-use Rattle.tac_lower.proofs.Places.{Point, step_on}
-use Rattle.tac_lower.proofs.Standing.{Setting, Private, stands, one-step, word_in, operand-is, Fine, Good, Means}
-use Rattle.tac_lower.proofs.Simulates.{Fact, nothing, one_of, all_of, AllMean, KnowsAll, Sim, then_sim}
-use Rattle.tac_lower.proofs.Words.{width_by, wrapped-again, wrapped-small, HasNumber, number-width}
-use Rattle.tac_lower.proofs.Writes.{grown-temp, same-self, Passes, PassesOr, passes_sim, known_sim}
-use Rattle.tac_lower.proofs.Loads.{sim_as, compute_sim, word-is, load-number, AreWords}
+use Rattle.tac_lower.specs.Pieces.{Used, Piece, known, doing, then_piece, Result, a_word, word_at, Holders, number_of, compute}
+use Rattle.tac_lower.specs.Lowering.{binary}
+use Rattle.tac_lower.proofs.Standing.{Setting, Private, stands, one-step, word_in, operand-is, Good}
+use Rattle.tac_lower.proofs.Simulates.{Fact, nothing, one_of, all_of, AllMean, Sim, then_sim}
+use Rattle.tac_lower.proofs.Words.{wrapped-again, HasNumber, number-width}
+use Rattle.tac_lower.proofs.Writes.{grown-temp, same-self, passes_sim}
+use Rattle.tac_lower.proofs.Loads.{compute_sim, word-is, load-number, AreWords}
 
 -- the words of operands by their positions
 pub first-word : (z : Setting) (scope : Holders) (u : Used) (ts : List TypeId) (rs : List Result) (vs : List Value) (k : Private) → AllMean z scope u ts rs vs k →
@@ -122,10 +118,12 @@ binary_sim {z} {n} {names} {scope} {facts} u place of first op ts rs vs told goo
     by true ed true eb = record {
       grown = grown-temp u;
       over = λ t lt away. away;
-      run = λ out at k s has whole_ fine knows less.
-          (1, one-step z at k s (TestDivisor place (word_at rs 1)) has.0
-          ∙ ap (λ m. if nat_eq m 0 then flow.fault DivZero place (stands z at k s) else Goes (flow.ahead (stands z at k s))) (operand-is z at k s (word_at rs 1) ∙ second-word z scope u ts rs vs k knows.0)
-          ∙ ap (λ b. if b then flow.fault DivZero place (stands z at k s) else Goes (flow.ahead (stands z at k s))) eb);
+      run = λ out at k s has whole_ fine knows less. (
+        1,
+        one-step z at k s (TestDivisor place (word_at rs 1)) has.0
+            ∙ ap (λ m. if nat_eq m 0 then flow.fault DivZero place (stands z at k s) else Goes (flow.ahead (stands z at k s))) (operand-is z at k s (word_at rs 1) ∙ second-word z scope u ts rs vs k knows.0)
+            ∙ ap (λ b. if b then flow.fault DivZero place (stands z at k s) else Goes (flow.ahead (stands z at k s))) eb,
+      );
     }
     by true ed false eb =
         then_sim (λ t u'. compute op form (word_at rs 0) (word_at rs 1) u') (λ t s. Gives (word (applied w op x y)) s) (tt {0})

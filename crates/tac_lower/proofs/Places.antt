@@ -1,11 +1,11 @@
 -- Code at a place of a function's blocks.
-use Rattle.std.proofs.Common.{◌≡◌, ℕ, zero, suc, ◌+◌, List, [], ◌∷◌, ◌++◌, length, Option, Some, None, refl, sym, ap, ◌∙◌, subst, arith}
+use Rattle.std.proofs.Common.{◌≡◌, ℕ, suc, ◌+◌, List, [], ◌∷◌, ◌++◌, Some, None, refl, ap, subst, arith}
 use Rattle.std.specs.Prelude.{slice_get}
 use Rattle.tac_form.specs.declared.tac.Instruction.{Instruction}
 use Rattle.tac_form.specs.declared.tac.Exit.{Exit}
 use Rattle.tac_form.specs.declared.tac.Exit.TheVariants.{Jump}
 use Rattle.tac_form.specs.declared.tac.Block.{Block}
-use Rattle.tac_lower.specs.Items.{Item, does, ends, Ending, skips, tests, repeats, repeats_unless, leaves, gives, fails, count_ends, loop_of, onward, exit_of}
+use Rattle.tac_lower.specs.Items.{Item, does, ends, skips, tests, repeats, repeats_unless, leaves, gives, fails, count_ends, loop_of, onward, exit_of}
 
 -- A place: a block, and how many of its instructions are behind.
 pub record Point : Type 0 where
@@ -70,9 +70,10 @@ pub has-loop : (blocks : List Block) (out n : ℕ) (is : List Item) (at : Point)
 has-loop blocks out n [] at h e = tt
 has-loop blocks out n (does i ∷ is) at h e = (h.0, has-loop blocks out n is (step_on at) h.1 e)
 has-loop blocks out n (ends leaves ∷ is) at h e =
-    let to : suc at.block + count_ends is ≡ n = omega (arith, e) in
-    (subst (λ m. EndsAt blocks at (Jump (onward m))) to h.0,
-    has-loop blocks out n is (start_of (suc at.block)) h.1 (omega (arith, e)))
+    let to : suc at.block + count_ends is ≡ n = omega (arith, e) in (
+      subst (λ m. EndsAt blocks at (Jump (onward m))) to h.0,
+      has-loop blocks out n is (start_of (suc at.block)) h.1 (omega (arith, e)),
+    )
 has-loop blocks out n (ends (skips k) ∷ is) at h e = (h.0, has-loop blocks out n is (start_of (suc at.block)) h.1 (omega (arith, e)))
 has-loop blocks out n (ends (tests a k) ∷ is) at h e = (h.0, has-loop blocks out n is (start_of (suc at.block)) h.1 (omega (arith, e)))
 has-loop blocks out n (ends (repeats k) ∷ is) at h e = (h.0, has-loop blocks out n is (start_of (suc at.block)) h.1 (omega (arith, e)))

@@ -1,5 +1,5 @@
 -- Variables, and places within places.
-use Rattle.std.proofs.Common.{◌≡◌, ◌≢◌, ℕ, zero, suc, ◌+◌, ◌*◌, ◌<◌, ◌≤◌, Bool, true, false, List, [], ◌∷◌, Option, Some, None, refl, sym, ap, ◌∙◌, subst, arith}
+use Rattle.std.proofs.Common.{◌≡◌, ℕ, ◌+◌, ◌*◌, ◌<◌, ◌≤◌, Bool, true, false, List, [], ◌∷◌, Option, Some, None, refl, sym, ap, ◌∙◌, subst, arith}
 use Rattle.std.specs.Prelude.{◌^◌, ◌%◌, nat_eq, if◌then◌else◌}
 use Rattle.std.proofs.lemmas.Bool.{eqb-true}
 use Rattle.tl_base.specs.declared.place.Place.{Place}
@@ -7,25 +7,23 @@ use Rattle.tl_base.specs.declared.ids.SymId.{SymId}
 use Rattle.tl_base.specs.declared.ids.TypeId.{TypeId}
 use Rattle.terra_words.specs.declared.words.BinaryOperator.TheVariants as operators
 use Rattle.terra_words.specs.Words.{wrapped, applied, moved}
-use Rattle.terra_words.specs.Runs.{Value, word, bytes, number}
-use Rattle.terra_types.specs.declared.types.TypeForm.TheVariants as forms
+use Rattle.terra_words.specs.Runs.{Value, word, number}
 use Rattle.terra_term.specs.declared.lists.TypedName.{TypedName}
 use Rattle.terra_meaning.specs.Values.{bytes_at, IsValue}
-use Rattle.terra_meaning.specs.Running.{Held, held, lies, Variable, State, Got, Gives, Ends, next, find, found, stuck}
+use Rattle.terra_meaning.specs.Running.{Held, held, lies, Variable, State, Gives, find, found}
 use Rattle.terra_meaning.specs.Meaning as meaning
 use Rattle.terra_meaning.specs.Meaning.{Wanted, the_value, the_address}
 use Rattle.tac_form.specs.declared.tac.Operand.{Operand}
 use Rattle.tac_form.specs.declared.tac.Operand.TheVariants.{Temp, Constant}
-use Rattle.tac_form.specs.declared.tac.Instruction.TheVariants.{Compute, Copy, Locate}
+use Rattle.tac_form.specs.declared.tac.Instruction.TheVariants.{Locate}
 use Rattle.tac_form.specs.Flow as flow
 use Rattle.tac_form.specs.Flow.{Goes}
-use Rattle.tac_lower.specs.Pieces.{Used, with_temp, Piece, known, doing, then_piece, Result, a_word, an_area, an_offset, word_of, address_of, no_word, Holder, in_temp, at_offset, Bound, Holders, holder_of, whole_word, compute, copied, located}
-use Rattle.tac_lower.specs.Lowering.{reached, variable, entry, element}
-use Rattle.tac_lower.proofs.Places.{Point}
-use Rattle.tac_lower.proofs.Standing.{Setting, Private, stands, word_in, value_in, Is, below, Holds, Fine, Own, Good, Means}
-use Rattle.tac_lower.proofs.Simulates.{Fact, one_of, KnowsAll, Sim, then_sim, grown-none, means-later}
-use Rattle.tac_lower.proofs.Words.{value-small, wrapped-small}
-use Rattle.tac_lower.proofs.Writes.{same-self, Puts, puts_sim, is-later, below-le, known_sim}
+use Rattle.tac_lower.specs.Pieces.{Used, with_temp, known, Result, a_word, an_area, an_offset, word_of, no_word, Holder, in_temp, at_offset, Holders, holder_of, whole_word, compute, located}
+use Rattle.tac_lower.specs.Lowering.{variable, entry, element}
+use Rattle.tac_lower.proofs.Standing.{Setting, Private, word_in, value_in, Is, below, Holds, Fine, Own, Good, Means}
+use Rattle.tac_lower.proofs.Simulates.{Fact, one_of, KnowsAll, Sim, then_sim}
+use Rattle.tac_lower.proofs.Words.{value-small}
+use Rattle.tac_lower.proofs.Writes.{same-self, puts_sim, is-later, below-le, known_sim}
 use Rattle.tac_lower.proofs.Loads.{sim_as, sim_from, AreWords, compute_sim, copied_sim, reached_sim, word-is, is-value}
 
 -- the nearest variable of a symbol has this type

@@ -1,25 +1,20 @@
 -- Loops: rounds of code do what the rounds of the meaning do, and each that goes on counts once.
-use Rattle.std.proofs.Common.{◌≡◌, ◌≢◌, ℕ, zero, suc, ◌+◌, ◌*◌, ◌<◌, ◌≤◌, Bool, true, false, List, [], ◌∷◌, ◌++◌, length, drop, Option, Some, None, refl, sym, ap, ◌∙◌, subst, arith, append-nil, append_assoc, length-append}
-use Rattle.std.specs.Prelude.{◌-◌, not, nat_eq, if◌then◌else◌}
+use Rattle.std.proofs.Common.{◌≡◌, ℕ, zero, suc, ◌<◌, ◌≤◌, true, List, [], ◌∷◌, length, refl, ap, ◌∙◌, subst, arith}
 use Rattle.tl_base.specs.declared.ids.TypeId.{TypeId}
-use Rattle.terra_words.specs.Runs.{Value, word, bytes, number, is_true, Run, More}
+use Rattle.terra_words.specs.Runs.{More}
 use Rattle.terra_term.specs.declared.lists.TypedName.{TypedName}
 use Rattle.terra_term.specs.WellTyped.{Within}
-use Rattle.terra_meaning.specs.Running.{Held, held, lies, Variable, State, Got, Gives, Ends, next, leaving, scoped, counted_from, counted}
-use Rattle.terra_meaning.specs.Meaning.{Wanted, the_value, the_address, Way, goes_on, breaks, gives_back, along, turned, rounds}
-use Rattle.tac_form.specs.declared.tac.Operand.{Operand}
-use Rattle.tac_form.specs.declared.tac.Exit.{Exit}
-use Rattle.tac_form.specs.declared.tac.Exit.TheVariants.{Jump, Branch, Return, Fail}
+use Rattle.terra_meaning.specs.Running.{Held, held, lies, Variable, State, Got, Gives, Ends, next, scoped, counted_from}
+use Rattle.terra_meaning.specs.Meaning.{Way, goes_on, breaks, gives_back, turned, rounds}
+use Rattle.tac_form.specs.declared.tac.Exit.TheVariants.{Jump}
 use Rattle.tac_form.specs.Flow as flow
 use Rattle.tac_form.specs.Flow.{Moved, Goes, Stops, steps}
-use Rattle.tac_lower.specs.Items.{Item, does, ends, Ending, skips, tests, repeats, repeats_unless, leaves, gives, fails, count_ends, loop_of, onward, backward, exit_of}
-use Rattle.tac_lower.specs.Pieces.{Used, Piece, known, following, then_piece, taken, Result, a_word, an_area, an_offset, word_of, Holder, in_temp, at_offset, Bound, Holders}
-use Rattle.tac_lower.specs.Lowering.{while_loop, repeat_loop}
-use Rattle.tac_lower.proofs.Places.{Point, step_on, start_of, after, after-append, after-block, EndsAt, HasAt, has-front, has-back, has-loop, ends-append}
-use Rattle.tac_lower.proofs.Standing.{Setting, Private, stands, Leads, Halts, leads-to, one-end, word_in, Is, below, Holds, Fine, Keeps, Grown, Good, Means, Comes, Leaves}
-use Rattle.tac_lower.proofs.Simulates.{Fact, nothing, one_of, Knows, KnowsAll, whole, Over, Sim, grown-none, grown-then, keeps-none, keeps-then, comes-before, comes-at}
-use Rattle.tac_lower.proofs.Acts.{outermost, Under, under-self, under-then, holds-length, fine-outer, fine-later, Returns, WayOk, Acts, way-before, way-at, comes-later}
-use Rattle.tac_lower.proofs.Branches.{jumps, branches, tested}
+use Rattle.tac_lower.specs.Items.{backward}
+use Rattle.tac_lower.specs.Pieces.{Used, Holder, in_temp, at_offset, Holders}
+use Rattle.tac_lower.proofs.Places.{Point, start_of, EndsAt}
+use Rattle.tac_lower.proofs.Standing.{Setting, Private, stands, Leads, Halts, leads-to, one-end, Is, below, Holds, Fine, Keeps, Grown, Comes, Leaves}
+use Rattle.tac_lower.proofs.Simulates.{grown-none, comes-before}
+use Rattle.tac_lower.proofs.Acts.{Under, under-self, holds-length, fine-outer, Returns, WayOk, way-before}
 
 -- a loop is left by breaks, and statements in it may break
 abbrev pub in_loop : Within → Within
@@ -111,15 +106,19 @@ fine-again z names scope u u' k k' s s' a b = record {
 
 -- the way back, which counts
 back-none : (z : Setting) (back : Point) (to : ℕ) (k : Private) (s : State) → EndsAt z.tac.blocks back (Jump (backward to)) → s.left ≡ zero → Halts z back k s (More s.out)
-back-none z back to k s h e =
-    (1, one-end z back k s (Jump (backward to)) h
-    ∙ ap (λ l. flow.counted l (stands z back k s) (λ s'. Goes (record s' { here = record s'.here { block = to; at = 0 } }))) e)
+back-none z back to k s h e = (
+  1,
+  one-end z back k s (Jump (backward to)) h
+      ∙ ap (λ l. flow.counted l (stands z back k s) (λ s'. Goes (record s' { here = record s'.here { block = to; at = 0 } }))) e,
+)
 
 back-one : (z : Setting) (back : Point) (to : ℕ) (k : Private) (s : State) (l : ℕ) → EndsAt z.tac.blocks back (Jump (backward to)) → s.left ≡ suc l →
     Leads z back k s (start_of to) k (record s { left = l })
-back-one z back to k s l h e =
-    (1, one-end z back k s (Jump (backward to)) h
-    ∙ ap (λ m. flow.counted m (stands z back k s) (λ s'. Goes (record s' { here = record s'.here { block = to; at = 0 } }))) e)
+back-one z back to k s l h e = (
+  1,
+  one-end z back k s (Jump (backward to)) h
+      ∙ ap (λ m. flow.counted m (stands z back k s) (λ s'. Goes (record s' { here = record s'.here { block = to; at = 0 } }))) e,
+)
 
 -- rounds of code that stands at the begin of a block
 pub rounds_ways : (z : Setting) (w : Within) (names : List TypedName) (scope : Holders) (n b0 e out : ℕ) (back : Point) (u u' : Used) (round : State → Got Way) → Grown u u' →

@@ -1,16 +1,15 @@
 -- A piece of code does what a part of the meaning does; and one such after the other.
-use Rattle.std.proofs.Common.{◌≡◌, ℕ, zero, suc, ◌+◌, ◌*◌, ◌<◌, ◌≤◌, Bool, true, false, List, [], ◌∷◌, ◌++◌, length, Option, Some, None, refl, sym, ap, ◌∙◌, subst, arith, append_assoc, append-nil, length-append}
+use Rattle.std.proofs.Common.{◌≡◌, ℕ, ◌<◌, ◌≤◌, List, [], ◌∷◌, ◌++◌, length, refl, sym, ap, ◌∙◌, subst, arith, append_assoc, append-nil, length-append}
 use Rattle.tl_base.specs.declared.ids.TypeId.{TypeId}
-use Rattle.terra_words.specs.Runs.{Value, word, bytes, number, Run}
+use Rattle.terra_words.specs.Runs.{Value, word, bytes}
 use Rattle.terra_term.specs.declared.lists.TypedName.{TypedName}
 use Rattle.terra_meaning.specs.Running.{State, Got, Gives, Ends, next}
-use Rattle.terra_meaning.specs.Meaning.{Wanted, the_value, the_address}
+use Rattle.terra_meaning.specs.Meaning.{Wanted, the_value}
 use Rattle.tac_form.specs.declared.tac.Operand.TheVariants.{Temp, Constant}
-use Rattle.tac_form.specs.Flow.{Moved, Goes, Stops, steps}
-use Rattle.tac_lower.specs.Items.{Item, does}
-use Rattle.tac_lower.specs.Pieces.{Used, Piece, known, following, then_piece, taken, Result, a_word, an_area, an_offset, Holders}
+use Rattle.tac_form.specs.Flow.{Goes, Stops}
+use Rattle.tac_lower.specs.Pieces.{Used, Piece, then_piece, Result, a_word, an_area, an_offset, Holders}
 use Rattle.tac_lower.proofs.Places.{Point, after, after-append, HasAt, has-front, has-back}
-use Rattle.tac_lower.proofs.Standing.{Setting, Private, stands, Leads, Halts, leads-to, leads-none, value_in, Apart, Fine, Keeps, Grown, Own, Good, Means, Comes, Leaves}
+use Rattle.tac_lower.proofs.Standing.{Setting, Private, stands, Leads, leads-to, value_in, Apart, Fine, Keeps, Grown, Own, Means, Comes, Leaves}
 
 -- what is known of results, and kept by later code
 pub data Fact : Type 0 where

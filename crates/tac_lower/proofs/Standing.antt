@@ -1,7 +1,6 @@
 -- A call of lowered code in progress, beside the state of the terms' meaning: where it stands, and what it leads to.
-use Rattle.std.proofs.Common.{◌≡◌, ℕ, zero, suc, ◌+◌, ◌*◌, ◌<◌, ◌≤◌, Bool, true, false, List, [], ◌∷◌, ◌++◌, length, Option, Some, None, refl, sym, ap, ◌∙◌, subst, arith}
-use Rattle.std.specs.Prelude.{◌^◌, ◌≢◌, slice_get, nat_eq, if◌then◌else◌}
-use Rattle.tl_base.specs.declared.ids.SymId.{SymId}
+use Rattle.std.proofs.Common.{◌≡◌, ℕ, zero, suc, ◌+◌, ◌<◌, ◌≤◌, List, [], ◌∷◌, ◌++◌, length, Some, refl, sym, ap, ◌∙◌, arith}
+use Rattle.std.specs.Prelude.{◌^◌, ◌≢◌}
 use Rattle.tl_base.specs.declared.ids.TypeId.{TypeId}
 use Rattle.tl_base.specs.declared.ids.FnId.{FnId}
 use Rattle.terra_words.specs.Runs.{Value, word, bytes, number, Run}
@@ -11,7 +10,7 @@ use Rattle.terra_types.specs.Opening.{boolean, unit}
 use Rattle.terra_types.specs.Sizes.{bytes_of}
 use Rattle.terra_term.specs.declared.lists.TypedName.{TypedName}
 use Rattle.terra_meaning.specs.Values.{form_at, bytes_at, IsValue}
-use Rattle.terra_meaning.specs.Running.{Held, held, lies, Variable, State, Got, Gives, Ends, next}
+use Rattle.terra_meaning.specs.Running.{Held, held, lies, Variable, State, Got, Gives, Ends}
 use Rattle.terra_meaning.specs.Meaning.{Wanted, the_value, the_address}
 use Rattle.tac_form.specs.declared.tac.Operand.{Operand}
 use Rattle.tac_form.specs.declared.tac.Operand.TheVariants.{Temp, Constant}
@@ -20,9 +19,8 @@ use Rattle.tac_form.specs.declared.tac.Exit.{Exit}
 use Rattle.tac_form.specs.declared.tac.Tac.{Tac}
 use Rattle.tac_form.specs.Flow as flow
 use Rattle.tac_form.specs.Flow.{Program, Temps, Areas, Caller, Moved, Goes, Stops, put, steps, step, act, leave, in_function, in_block, step_in, area_size}
-use Rattle.tac_lower.specs.Items.{Item, does}
-use Rattle.tac_lower.specs.Pieces.{Used, with_temp, Piece, following, then_piece, taken, Result, a_word, an_area, an_offset, Holder, in_temp, at_offset, Bound, Holders}
-use Rattle.tac_lower.proofs.Places.{Point, step_on, after, after-append, DoesAt, EndsAt, HasAt, has-front, has-back}
+use Rattle.tac_lower.specs.Pieces.{Used, Result, a_word, an_area, an_offset, Holder, in_temp, at_offset, Holders}
+use Rattle.tac_lower.proofs.Places.{Point, DoesAt, EndsAt}
 
 -- how many bytes the values of a form have that are no aggregates
 abbrev pub SizedBy : TypeForm → ℕ → Type 0

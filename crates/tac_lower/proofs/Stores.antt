@@ -1,6 +1,6 @@
 -- Stores: a value of a type goes to an address, in code and in the meaning.
-use Rattle.std.proofs.Common.{◌≡◌, ◌≢◌, ℕ, zero, suc, ◌+◌, ◌*◌, ◌<◌, ◌≤◌, Bool, true, false, List, [], ◌∷◌, ◌++◌, length, take, drop, Option, Some, None, refl, sym, ap, ◌∙◌, subst, arith}
-use Rattle.std.specs.Prelude.{◌-◌, nat_eq, nat_le, if◌then◌else◌}
+use Rattle.std.proofs.Common.{◌≡◌, ◌≢◌, ℕ, ◌+◌, ◌≤◌, Bool, true, false, List, [], ◌∷◌, length, Option, Some, None, refl, sym, ap, ◌∙◌, subst, arith}
+use Rattle.std.specs.Prelude.{◌-◌, nat_eq, if◌then◌else◌}
 use Rattle.std.proofs.lemmas.Bool.{eqb-true, eqb-false, le-leb}
 use Rattle.std.proofs.lemmas.List.{take_all, nil_from_length}
 use Rattle.tl_base.specs.declared.place.Place.{Place}
@@ -10,12 +10,12 @@ use Rattle.terra_memory.specs.Region as regions
 use Rattle.terra_memory.specs.Region.{is_inside, first_address, end_address}
 use Rattle.terra_memory.proofs.RegionLaws.{inside_parts}
 use Rattle.terra_memory.proofs.Overwriting.{length-overwritten}
-use Rattle.terra_words.specs.Runs.{Value, word, bytes, number, bytes_in, put_bytes, Stuck}
+use Rattle.terra_words.specs.Runs.{Value, word, bytes, number, put_bytes, Stuck}
 use Rattle.terra_types.specs.declared.types.TypeForm.{TypeForm}
 use Rattle.terra_types.specs.declared.types.TypeForm.TheVariants as forms
 use Rattle.terra_term.specs.declared.lists.TypedName.{TypedName}
 use Rattle.terra_meaning.specs.Values.{form_at, bytes_at, is_aggregate, encoded, IsValue}
-use Rattle.terra_meaning.specs.Running.{State, Got, Gives, Ends}
+use Rattle.terra_meaning.specs.Running.{State, Gives}
 use Rattle.terra_meaning.specs.Meaning as meaning
 use Rattle.terra_meaning.specs.Meaning.{Wanted, the_value, the_address}
 use Rattle.tac_form.specs.declared.tac.Operand.{Operand}
@@ -25,12 +25,12 @@ use Rattle.tac_form.specs.declared.tac.Instruction.{Instruction}
 use Rattle.tac_form.specs.declared.tac.Instruction.TheVariants.{Store, Move}
 use Rattle.tac_form.specs.Flow as flow
 use Rattle.tac_form.specs.Flow.{Moved, Goes, Stops, act, written}
-use Rattle.tac_lower.specs.Pieces.{Used, Piece, known, doing, Result, a_word, an_area, an_offset, word_of, Holders, number_of, number_in, stored, stored_part}
-use Rattle.tac_lower.proofs.Places.{Point, step_on}
-use Rattle.tac_lower.proofs.Standing.{Setting, SizedBy, Private, stands, word_in, operand-is, Fine, Good, Means}
-use Rattle.tac_lower.proofs.Simulates.{Fact, nothing, one_of, KnowsAll, Sim, grown-none}
-use Rattle.tac_lower.proofs.Writes.{Same, Passes, PassesOr, passes_sim, known_sim}
-use Rattle.tac_lower.proofs.Loads.{sim_from, IsThere, load-number, word-is, is-value}
+use Rattle.tac_lower.specs.Pieces.{Used, known, doing, Result, a_word, an_area, an_offset, Holders, number_of, number_in, stored, stored_part}
+use Rattle.tac_lower.proofs.Places.{Point}
+use Rattle.tac_lower.proofs.Standing.{Setting, SizedBy, Private, stands, word_in, operand-is, Means}
+use Rattle.tac_lower.proofs.Simulates.{Fact, nothing, KnowsAll, Sim, grown-none}
+use Rattle.tac_lower.proofs.Writes.{PassesOr, passes_sim, known_sim}
+use Rattle.tac_lower.proofs.Loads.{sim_from, IsThere, load-number, is-value}
 
 put-length : (r : regions.Contents) (a : ℕ) (bs : List ℕ) (r1 : regions.Contents) → put_bytes r a bs ≡ Some r1 → length r1.bytes ≡ length r.bytes
 unfolding put_bytes
@@ -89,8 +89,8 @@ store_word_sim {z} {n} {names} {scope} {facts} u place of address a o v there so
     let plain = (subst (λ w. IsValue z.types of w) (sym m.0) m.1).0 in
     let size = store-size z of (form_at z.types of) refl plain some in
     let same : low_bytes (flow.bytes_of (number_of z.types of).size) (flow.operand (stands z at k s) o) ≡ encoded z.types of v =
-        ap (low_bytes (flow.bytes_of (number_of z.types of).size)) (operand-is z at k s o) ∙ ap (λ i. low_bytes i (word_in k o)) size
-        ∙ sym (encoded-word z of (word_in k o) plain) ∙ ap (encoded z.types of) m.0 in
+    ap (low_bytes (flow.bytes_of (number_of z.types of).size)) (operand-is z at k s o) ∙ ap (λ i. low_bytes i (word_in k o)) size
+    ∙ sym (encoded-word z of (word_in k o) plain) ∙ ap (encoded z.types of) m.0 in
     write-by z place at k s (Store (spots.Region place address) (number_of z.types of).size o) (put_bytes s.region a (encoded z.types of v))
     (λ r e. put-length s.region a (encoded z.types of v) r e)
     (ap (λ x. written place (stands z at k s) (put_bytes s.region x (low_bytes (flow.bytes_of (number_of z.types of).size) (flow.operand (stands z at k s) o)))) (there at k s fine knows)

@@ -1,13 +1,12 @@
 -- The code of each term does what the term means, by recursion on the term. What isn't proved yet: operations are a
 -- premise here, and no term with an assignment, `and`, `or`, `repeat` or `for` has what is needed.
-use Rattle.std.proofs.Common.{◌≡◌, ℕ, zero, suc, ◌+◌, ◌<◌, ◌≤◌, Bool, true, false, List, [], ◌∷◌, ◌++◌, Option, Some, None, refl, sym, ap, ◌∙◌, subst, arith}
-use Rattle.std.specs.Prelude.{◌^◌, ◌*◌, if◌then◌else◌}
+use Rattle.std.proofs.Common.{◌≡◌, ℕ, ◌+◌, ◌<◌, ◌≤◌, true, false, List, [], ◌∷◌, refl, ap, ◌∙◌, subst}
+use Rattle.std.specs.Prelude.{◌^◌, ◌*◌}
 use Rattle.tl_base.specs.declared.place.Place.{Place}
 use Rattle.tl_base.specs.declared.ids.TypeId.{TypeId}
 use Rattle.tl_base.specs.declared.ids.FnId.{FnId}
 use Rattle.terra_words.specs.Words.{moved}
-use Rattle.terra_words.specs.Runs.{Value, word, number, is_true}
-use Rattle.terra_types.specs.declared.types.TypeForm.{TypeForm}
+use Rattle.terra_words.specs.Runs.{Value, word, number}
 use Rattle.terra_term.specs.declared.operators.Operation.{Operation}
 use Rattle.terra_term.specs.declared.lists.TypedName.{TypedName}
 use Rattle.terra_term.specs.TypedTerms.{Expression, typed, Constant', Variable, Global, Operate, Both, Either, Dereference, Select, Follow, Element, Index, Address, Decay, Let, Expressions, no_more, then_one, Statement, statement, Var, Assign, If, IfElse, While, Repeat, For, Do, Break, Finish, Return, Perform, Statements, done, and_then, type_of}
@@ -15,21 +14,21 @@ use Rattle.terra_term.specs.Stores.{Contents}
 use Rattle.terra_term.specs.WellTyped.{Within}
 use Rattle.terra_meaning.specs.Values.{bytes_at, IsValue}
 use Rattle.terra_meaning.specs.Frames.{Home}
-use Rattle.terra_meaning.specs.Running.{State, Got, Gives, Ends, next, scoped}
+use Rattle.terra_meaning.specs.Running.{State, Got, Gives, Ends, next}
 use Rattle.terra_meaning.specs.Meaning as meaning
 use Rattle.terra_meaning.specs.Meaning.{Call, Wanted, the_value, the_address, Way, goes_on, breaks, gives_back, along, rounds, constant, types_of, in_expression, in_list, in_statement, in_block, meant, meant_all, done_one, done_all, operated}
 use Rattle.tac_form.specs.declared.tac.Operand.{Operand}
-use Rattle.tac_form.specs.declared.tac.Operand.TheVariants.{Temp, Constant}
-use Rattle.tac_lower.specs.Pieces.{Used, Piece, known, then_piece, taken, Result, a_word, an_area, an_offset, word_of, located, Holders, Around, declare_all}
+use Rattle.tac_form.specs.declared.tac.Operand.TheVariants.{Constant}
+use Rattle.tac_lower.specs.Pieces.{Used, Piece, then_piece, taken, Result, a_word, word_of, located, Holders, Around, declare_all}
 use Rattle.tac_lower.specs.Lowering.{piece, pieces, one, all, operation, reached, entry, element}
 use Rattle.tac_lower.proofs.Places.{after}
-use Rattle.tac_lower.proofs.Standing.{Setting, Private, Good, Means, Leaves}
-use Rattle.tac_lower.proofs.Simulates.{Fact, nothing, one_of, all_of, Sim, then_sim}
+use Rattle.tac_lower.proofs.Standing.{Setting, Good, Leaves}
+use Rattle.tac_lower.proofs.Simulates.{Fact, one_of, all_of, Sim, then_sim}
 use Rattle.tac_lower.proofs.Writes.{known_sim, taken_with_sim}
 use Rattle.tac_lower.proofs.Words.{value-small}
 use Rattle.tac_lower.proofs.Loads.{sim_as, next-same, reached_sim, word-is, is-value}
 use Rattle.tac_lower.proofs.Reaches.{address-word, located-number, InScope, variable_sim, entry_sim, follow_sim, located_sim, element_sim, own-word}
-use Rattle.tac_lower.proofs.Acts.{Acts, WayOk, Under, under-self, acts_none, acts_then, acts_scoped}
+use Rattle.tac_lower.proofs.Acts.{Acts, WayOk, under-self, acts_none, acts_then, acts_scoped}
 use Rattle.tac_lower.proofs.Declares.{declared_names, DeclaresWell, declare_all_sim, declares-under}
 use Rattle.tac_lower.proofs.Branches.{acts_sim, acts_break, acts_return, acts_finish, acts_if}
 use Rattle.tac_lower.proofs.Choices.{acts_choice, in_let, let_sim}

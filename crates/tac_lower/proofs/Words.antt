@@ -1,18 +1,16 @@
 -- Words of types: wrapping again changes nothing, and numbers of three-address code have their types' widths.
-use Rattle.std.proofs.Common.{◌≡◌, ℕ, zero, suc, ◌+◌, ◌*◌, ◌<◌, ◌≤◌, Bool, true, false, List, [], ◌∷◌, refl, sym, ap, ◌∙◌, subst, arith}
-use Rattle.std.specs.Prelude.{◌^◌, ◌%◌, ◌-◌, nat_le, if◌then◌else◌, bit_and}
+use Rattle.std.proofs.Common.{◌≡◌, ℕ, ◌+◌, ◌<◌, Bool, true, false, List, [], ◌∷◌, refl, ap, subst, arith}
+use Rattle.std.specs.Prelude.{◌^◌, ◌%◌, ◌-◌, nat_le, if◌then◌else◌}
 use Rattle.tl_base.specs.declared.ids.TypeId.{TypeId}
 use Rattle.terra_words.specs.declared.words.Width.{Width}
-use Rattle.terra_words.specs.declared.words.BinaryOperator.TheVariants as operators
-use Rattle.terra_words.specs.Words.{wrapped, applied, flag, address_width}
+use Rattle.terra_words.specs.Words.{wrapped}
 use Rattle.terra_words.specs.Runs.{Value, word, bytes, number}
-use Rattle.terra_types.specs.declared.types.Integer.{Integer}
 use Rattle.terra_types.specs.declared.types.Integer.TheVariants.{Int8, Int16, Int32, Int64, Uint8, Uint16, Uint32, Uint64}
 use Rattle.terra_types.specs.declared.types.TypeForm.{TypeForm}
 use Rattle.terra_types.specs.declared.types.TypeForm.TheVariants as forms
 use Rattle.terra_meaning.specs.Values.{form_at, width_of, IsValue}
 use Rattle.tac_form.specs.Flow as flow
-use Rattle.tac_lower.specs.Pieces.{number_in, integer_number}
+use Rattle.tac_lower.specs.Pieces.{number_in}
 
 -- the width of a type's words
 abbrev pub width_by : TypeForm → Width

@@ -1,22 +1,20 @@
 -- What a write to a fresh temporary or area keeps, and pieces of one instruction.
-use Rattle.std.proofs.Common.{◌≡◌, ◌≢◌, ℕ, zero, suc, ◌+◌, ◌*◌, ◌<◌, ◌≤◌, Bool, true, false, List, [], ◌∷◌, ◌++◌, length, Option, Some, None, refl, sym, ap, ◌∙◌, subst, arith, append_assoc, append-nil, length-append, ⊎_elim}
+use Rattle.std.proofs.Common.{◌≡◌, ◌≢◌, ℕ, suc, ◌<◌, ◌≤◌, false, List, [], ◌∷◌, ◌++◌, length, refl, sym, ap, ◌∙◌, subst, arith, append-nil, length-append, ⊎_elim}
 use Rattle.std.proofs.lemmas.Bool.{eq-eqb}
 use Rattle.std.proofs.lemmas.Bool.Decides.{eqb_tells}
 use Rattle.std.specs.Prelude.{nat_eq, if◌then◌else◌}
 use Rattle.tl_base.specs.declared.ids.TypeId.{TypeId}
-use Rattle.terra_words.specs.Runs.{Value, word, bytes, number, Run}
+use Rattle.terra_words.specs.Runs.{Value, word, bytes}
 use Rattle.terra_term.specs.declared.lists.TypedName.{TypedName}
-use Rattle.terra_meaning.specs.Values.{IsValue}
 use Rattle.terra_meaning.specs.Running.{Held, held, lies, Variable, State, Got, Gives, Ends, next}
-use Rattle.terra_meaning.specs.Meaning.{Wanted, the_value, the_address}
-use Rattle.tac_form.specs.declared.tac.Operand.TheVariants.{Temp, Constant}
+use Rattle.terra_meaning.specs.Meaning.{Wanted}
+use Rattle.tac_form.specs.declared.tac.Operand.TheVariants.{Temp}
 use Rattle.tac_form.specs.declared.tac.Instruction.{Instruction}
-use Rattle.tac_form.specs.Flow.{Moved, Goes, Stops, put, steps, act, area_size}
-use Rattle.tac_lower.specs.Items.{Item, does}
-use Rattle.tac_lower.specs.Pieces.{Used, with_temp, with_area, Piece, known, doing, following, then_piece, taken, Result, a_word, an_area, an_offset, Holder, in_temp, at_offset, Holders}
-use Rattle.tac_lower.proofs.Places.{Point, step_on, after, HasAt, DoesAt}
-use Rattle.tac_lower.proofs.Standing.{Setting, Private, stands, Leads, Halts, one-step, Elsewhere, Apart, Is, below, Holds, Fine, Keeps, Grown, Own, Good, Means, Comes, Leaves}
-use Rattle.tac_lower.proofs.Simulates.{Fact, nothing, one_of, all_of, Knows, KnowsAll, whole, Over, Sim, grown-none, keeps-none, facts-later}
+use Rattle.tac_form.specs.Flow.{Goes, Stops, put, act, area_size}
+use Rattle.tac_lower.specs.Pieces.{Used, with_temp, with_area, Piece, known, doing, taken, a_word, an_area, Holder, in_temp, at_offset, Holders}
+use Rattle.tac_lower.proofs.Places.{Point, step_on, after, DoesAt}
+use Rattle.tac_lower.proofs.Standing.{Setting, Private, stands, one-step, Elsewhere, Apart, Is, below, Holds, Fine, Grown, Good, Means, Comes, Leaves}
+use Rattle.tac_lower.proofs.Simulates.{Fact, one_of, Knows, KnowsAll, whole, Over, Sim, grown-none, keeps-none, facts-later}
 
 nat_eq-ne : (a b : ℕ) → a ≢ b → nat_eq a b ≡ false
 nat_eq-ne a b ne = ⊎_elim (λ t. absurd (ne t.1)) (λ f. f.0) (eqb_tells a b)
@@ -62,7 +60,7 @@ holds-later z (x ∷ xs) (b ∷ bs) (v ∷ vs) l l' k k' le same h = (
   h.1,
   is-later z x.of b.holder v.is l l' k k' le same h.2,
   holds-later z xs bs vs (below b.holder l) (below b.holder l') k k' (below-mono b.holder l l' le)
-  (λ t lt. same t (omega (arith, lt, below-le z x.of b.holder v.is l k h.2))) h.3,
+      (λ t lt. same t (omega (arith, lt, below-le z x.of b.holder v.is l k h.2))) h.3,
 )
 holds-later z [] [] (v ∷ vs) l l' k k' le same h = absurd h
 holds-later z [] (b ∷ bs) vs l l' k k' le same h = absurd h

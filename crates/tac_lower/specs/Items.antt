@@ -1,6 +1,6 @@
 -- Code in a line: instructions, and the ends of blocks, of which the forward ones skip so many of the blocks that follow. So a
 -- piece of code is the same wherever it stands, and pieces are put one after the other.
-use Rattle.std.specs.Prelude.{ℕ, zero, suc, ◌+◌, ◌-◌, false, true, List, [], ◌∷◌, ◌++◌, length}
+use Rattle.std.specs.Prelude.{ℕ, suc, ◌+◌, ◌-◌, false, true, List, [], ◌∷◌, ◌++◌, length}
 use Rattle.tl_base.specs.declared.place.Place.{Place}
 use Rattle.terra_words.specs.declared.words.FaultKind.{FaultKind}
 use Rattle.tac_form.specs.declared.tac.Operand.{Operand}

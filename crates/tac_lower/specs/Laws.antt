@@ -1,5 +1,5 @@
 -- What is promised of lowered code: that it runs as its terms do, at every count, and that machine code can be made of it.
-use Rattle.std.specs.Prelude.{◌≡◌, ℕ, ◌≤◌, ◌/◌, Bool, true, List, length, Option, Some, option_map}
+use Rattle.std.specs.Prelude.{◌≡◌, ℕ, ◌≤◌, ◌/◌, true, List, length, Some, option_map}
 use Rattle.tl_base.specs.declared.ids.FnId.{FnId}
 use Rattle.terra_memory.specs.Region.{IsMemorySize}
 use Rattle.terra_words.specs.Runs.{Value, Run}

@@ -30,7 +30,7 @@ use Rattle.tac_form.specs.declared.tac.Instruction.TheVariants.{Compute, TestDiv
 use Rattle.tac_form.specs.declared.tac.Signature.{Signature}
 use Rattle.tac_form.specs.declared.tac.Tac.{Tac}
 use Rattle.tac_lower.specs.Items.{Item, does, ends, skips, tests, repeats, repeats_unless, leaves, gives, fails, count_ends, loop_of, blocks_of}
-use Rattle.tac_lower.specs.Pieces.{Used, nothing_used, with_temp, with_area, Piece, known, doing, following, then_piece, taken, Result, a_word, an_area, an_offset, no_word, word_of, part_of, parts_of, address_of, result_at, word_at, rest, long, whole_word, number_of, given, destination, compute, copied, located, loaded, stored, Holder, in_temp, at_offset, Holders, holder_of, Around, declare, declare_all}
+use Rattle.tac_lower.specs.Pieces.{Used, nothing_used, with_temp, with_area, Piece, known, doing, then_piece, taken, Result, a_word, an_area, an_offset, no_word, word_of, part_of, parts_of, address_of, result_at, word_at, rest, long, whole_word, number_of, given, destination, compute, copied, located, loaded, stored, Holder, in_temp, at_offset, Holders, holder_of, Around, declare, declare_all}
 
 -- places
 
