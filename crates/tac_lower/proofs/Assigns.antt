@@ -13,15 +13,18 @@ use Rattle.terra_meaning.specs.Running.{Held, held, lies, State, Got, Gives, End
 use Rattle.terra_meaning.specs.Meaning as meaning
 use Rattle.terra_meaning.specs.Meaning.{Wanted, the_value, the_address, held_symbol}
 use Rattle.tac_form.specs.declared.tac.Instruction.TheVariants.{Copy}
+use Rattle.tac_form.specs.declared.tac.Spot.TheVariants as spots
 use Rattle.tac_form.specs.Flow as flow
 use Rattle.tac_form.specs.Flow.{Goes, put}
-use Rattle.tac_lower.specs.Pieces.{Used, Piece, doing, Result, word_of, Holder, in_temp, at_offset, Bound, Holders, holder_of}
+use Rattle.tac_lower.specs.Pieces.{Used, Piece, doing, Result, stored, address_of, word_of, Holder, in_temp, at_offset, Bound, Holders, holder_of}
 use Rattle.tac_lower.proofs.Places.{step_on}
-use Rattle.tac_lower.proofs.Standing.{Setting, Private, stands, one-step, word_in, operand-is, Elsewhere, Apart, Is, below, Holds, Fine, Keeps, Means}
+use Rattle.tac_lower.proofs.Standing.{Setting, Private, stands, one-step, word_in, operand-is, Elsewhere, Apart, Is, below, Holds, Fine, Keeps, Means, Comes, Leaves}
 use Rattle.tac_lower.proofs.Simulates.{Fact, nothing, one_of, KnowsAll, Sim, grown-none}
 use Rattle.tac_lower.proofs.Writes.{put-same, put-other, put-below, with_word, holds-later, below-le}
-use Rattle.tac_lower.proofs.Reaches.{by_test, InScope, lies-in, Lies}
-use Rattle.tac_lower.proofs.Loads.{word-is, is-value}
+use Rattle.tac_lower.proofs.Reaches.{by_test, InScope, told_in, Told, address-word}
+use Rattle.tac_lower.proofs.Loads.{sim_from, address-is, word-is, is-value}
+use Rattle.tac_lower.proofs.Stores.{stored_sim}
+use Rattle.tac_lower.proofs.Declares.{word-of-value}
 
 -- a temporary that is a variable's is below the number of its scope
 holder-below : (z : Setting) (x : SymId) (names : List TypedName) (scope : Holders) (vs : List running.Variable) (l t : ℕ) (k : Private) → Holds z names scope vs l k →
@@ -87,3 +90,38 @@ set-holds z x of [] [] (v ∷ vs) l t w k h i e good = absurd h
 set-holds z x of [] (b ∷ bs) vs l t w k h i e good = absurd h
 set-holds z x of (y ∷ ys) [] vs l t w k h i e good = absurd h
 set-holds z x of (y ∷ ys) (b ∷ bs) [] l t w k h i e good = absurd h
+
+-- a value goes to a variable that is a value alone
+pub assign_temp_sim : {z : Setting} {n : ℕ} {names : List TypedName} {scope : Holders} {facts : List Fact} (u : Used) (place : Place) (of : TypeId) (x : SymId) (t : ℕ) (r : Result) (target v : Value) →
+    InScope x of names → holder_of x scope ≡ Some (in_temp t) → ((k : Private) → KnowsAll z scope u facts k → Means z the_value of scope u r k v) →
+    Sim z n names scope facts u (doing (tt {0}) (Copy t (word_of r)) u) (meaning.assigned z.types (typed place of (Variable x)) target v) names scope (λ w. nothing)
+assign_temp_sim {z} {n} {names} {scope} {facts} u place of x t r target v i e means = record {
+  grown = grown-none u;
+  over = λ m lt away. away;
+  run = λ out at k s has whole_ fine knows less.
+      let m = means k knows in
+      let l = told_in z x of names scope u k s (in_temp t) fine i e in
+      let good = word-of-value z of v l.2.1.0 (is-value z of r v m.good) in
+      let same : meaning.assigned z.types (typed place of (Variable x)) target v s ≡ Gives (word 0) (with_value x (number v) s) =
+          ap (λ o. if held_symbol o then Gives (word 0) (with_value x (number v) s) else meaning.stored z.types place of (number target) v s) (l.1 ∙ ap Some l.2.0) in
+      subst (λ g. Leaves z at k s (λ b s'. Comes z names scope at u k s (step_on at) names scope u s' (λ k1. Unit {0})) g) (sym same)
+      (record {
+        private = with_word t (number v) k;
+        leads = (1, one-step z at k s (Copy t (word_of r)) has.0 ∙ ap (λ y. Goes (flow.ahead (flow.set_temp t y (stands z at k s)))) (operand-is z at k s (word_of r) ∙ word-is z of scope u r k v m));
+        ok = tt;
+        fine = record { holds = set-holds z x of names scope s.variables u.temps t (number v) k fine.holds i e good; small = fine.small; sized = fine.sized };
+        keeps = record { temps = λ j lt away. put-other k.temps t (number v) j (apart-ne x scope t j e away); areas = λ j lt. refl };
+        fewer = omega arith;
+      });
+}
+
+-- a value goes to a variable in the frame
+pub assign_frame_sim : {z : Setting} {n : ℕ} {names : List TypedName} {scope : Holders} {facts : List Fact} (u : Used) (place : Place) (of : TypeId) (x : SymId) (o : ℕ) (p r : Result) (target v : Value) →
+    InScope x of names → holder_of x scope ≡ Some (at_offset o) → ((k : Private) → KnowsAll z scope u facts k → Means z the_address of scope u p k target × Means z the_value of scope u r k v) →
+    Sim z n names scope facts u (stored z.types of (spots.Region place (address_of p)) r u) (meaning.assigned z.types (typed place of (Variable x)) target v) names scope (λ w. nothing)
+assign_frame_sim {z} {n} {names} {scope} {facts} u place of x o p r target v i e means =
+    sim_from (meaning.stored z.types place of (number target) v) (meaning.assigned z.types (typed place of (Variable x)) target v) (λ k s fine knows.
+    let l = told_in z x of names scope u k s (at_offset o) fine i e in
+    sym (ap (λ h. if held_symbol h then Gives (word 0) (with_value x (number v) s) else meaning.stored z.types place of (number target) v s) (l.1 ∙ ap Some l.2.0)))
+    (stored_sim u place of (address_of p) (number target) r v
+    (λ at k s fine knows. address-is z of scope u p at k s (number target) (address-word z of scope u p k target (means k knows).0)) (λ k knows. (means k knows).1))

@@ -123,7 +123,7 @@ abbrev pub GoodHome : Setting → TypeId → Home → Type 0
 GoodHome z of by_value = is_aggregate z.types of ≡ false
 GoodHome z of (in_frame offset) = offset + bytes_at z.types of ≤ z.tac.frame
 
-word-of-value : (z : Setting) (of : TypeId) (v : Value) → is_aggregate z.types of ≡ false → IsValue z.types of v → IsValue z.types of (word (number v))
+pub word-of-value : (z : Setting) (of : TypeId) (v : Value) → is_aggregate z.types of ≡ false → IsValue z.types of v → IsValue z.types of (word (number v))
 word-of-value z of (word x) plain h = h
 word-of-value z of (bytes bs) plain h = let bad : true ≡ false = sym h.0 ∙ plain in absurd (grind (arith, bad))
 

@@ -75,7 +75,7 @@ good-word z the_value of o x h = h
 good-word z the_address of o x h = value-small z.types of (word x) h
 
 -- what holds of a variable, by its holder
-abbrev Told : Setting → TypeId → Holder → Held → Private → Type 0
+abbrev pub Told : Setting → TypeId → Holder → Held → Private → Type 0
 Told z of (in_temp t) value k = (value ≡ held (k.temps t)) × IsValue z.types of (word (k.temps t))
 Told z of (at_offset o) value k = (value ≡ lies (z.base + o)) × (o + bytes_at z.types of ≤ z.tac.frame)
 
@@ -86,7 +86,7 @@ told z of (in_temp t) (lies a) limit k h = absurd h
 told z of (at_offset o) (held w) limit k h = absurd h
 
 -- what is told of a variable in scope whose holder is known
-told_in : (z : Setting) (x : SymId) (of : TypeId) (names : List TypedName) (scope : Holders) (u : Used) (k : Private) (s : State) (holder : Holder) →
+pub told_in : (z : Setting) (x : SymId) (of : TypeId) (names : List TypedName) (scope : Holders) (u : Used) (k : Private) (s : State) (holder : Holder) →
     Fine z names scope u k s → InScope x of names → holder_of x scope ≡ Some holder → (value : Held) × (found x s ≡ Some value) × Told z of holder value k
 told_in z x of names scope u k s holder fine i e =
     let l = lies-in z x of names scope s.variables u.temps k fine.holds i in
