@@ -141,7 +141,7 @@ opposite a u = taken word_of (compute operators.Xor whole_word a (Constant 1) u)
 abbrev pub passed_over : (test : Operand) → List Item → List Item
 passed_over test code = ends (tests test (suc (count_ends code))) ∷ (code ++ ends (skips 0) ∷ [])
 
-abbrev into : ℕ → Piece Result → Piece (Unit {0})
+abbrev pub into : ℕ → Piece Result → Piece (Unit {0})
 into d p = record { result = tt; code = p.code ++ does (Copy d (word_of p.result)) ∷ []; used = p.used }
 
 -- the first operand in a temporary, the test of it, and the second operand in the same one
