@@ -1,10 +1,10 @@
 -- One assignment: to a variable that is a value alone, or to what lies at an address.
-use Rattle.std.proofs.Common.{◌≡◌, ◌≢◌, ℕ, zero, suc, ◌+◌, ◌*◌, ◌<◌, ◌≤◌, Bool, true, false, List, [], ◌∷◌, length, Option, Some, None, refl, sym, ap, ◌∙◌, subst, arith}
+use Rattle.std.proofs.Common.{◌≡◌, ◌≢◌, ℕ, ◌<◌, ◌≤◌, Bool, true, false, List, [], ◌∷◌, Some, refl, sym, ap, ◌∙◌, subst, arith}
 use Rattle.std.specs.Prelude.{nat_eq, if◌then◌else◌}
 use Rattle.tl_base.specs.declared.place.Place.{Place}
 use Rattle.tl_base.specs.declared.ids.SymId.{SymId}
 use Rattle.tl_base.specs.declared.ids.TypeId.{TypeId}
-use Rattle.terra_words.specs.Runs.{Value, word, bytes, number}
+use Rattle.terra_words.specs.Runs.{Value, word, number}
 use Rattle.terra_term.specs.declared.lists.TypedName.{TypedName}
 use Rattle.terra_term.specs.TypedTerms.{Variable, typed}
 use Rattle.terra_meaning.specs.Values.{IsValue}
@@ -16,12 +16,12 @@ use Rattle.tac_form.specs.declared.tac.Instruction.TheVariants.{Copy}
 use Rattle.tac_form.specs.declared.tac.Spot.TheVariants as spots
 use Rattle.tac_form.specs.Flow as flow
 use Rattle.tac_form.specs.Flow.{Goes, put}
-use Rattle.tac_lower.specs.Pieces.{Used, Piece, doing, Result, stored, address_of, word_of, Holder, in_temp, at_offset, Bound, Holders, holder_of}
+use Rattle.tac_lower.specs.Pieces.{Used, doing, Result, stored, address_of, word_of, Holder, in_temp, at_offset, Holders, holder_of}
 use Rattle.tac_lower.proofs.Places.{step_on}
-use Rattle.tac_lower.proofs.Standing.{Setting, Private, stands, one-step, word_in, operand-is, Elsewhere, Apart, Is, below, Holds, Fine, Keeps, Means, Comes, Leaves}
-use Rattle.tac_lower.proofs.Simulates.{Fact, nothing, one_of, KnowsAll, Sim, grown-none}
+use Rattle.tac_lower.proofs.Standing.{Setting, Private, stands, one-step, operand-is, Elsewhere, Apart, Is, below, Holds, Means, Comes, Leaves}
+use Rattle.tac_lower.proofs.Simulates.{Fact, nothing, KnowsAll, Sim, grown-none}
 use Rattle.tac_lower.proofs.Writes.{put-same, put-other, put-below, with_word, holds-later, below-le}
-use Rattle.tac_lower.proofs.Reaches.{by_test, InScope, told_in, Told, address-word}
+use Rattle.tac_lower.proofs.Reaches.{by_test, InScope, told_in, address-word}
 use Rattle.tac_lower.proofs.Loads.{sim_from, address-is, word-is, is-value}
 use Rattle.tac_lower.proofs.Stores.{stored_sim}
 use Rattle.tac_lower.proofs.Declares.{word-of-value}
@@ -63,9 +63,10 @@ set-holds z x of (y ∷ ys) (b ∷ bs) (v ∷ vs) l t w k h i e good =
     here : (holder : Holder) (is : Held) → Is z y.of holder is l k → Holds z ys bs vs (below holder l) k → of ≡ y.of → Some holder ≡ Some (in_temp t) →
         Is z y.of holder (held w) l (with_word t w k) × Holds z ys bs vs (below holder l) (with_word t w k)
     here (in_temp u) (held o) is1 rest1 j f =
-        let same : u ≡ t = grind (arith, f) in
-        ((is1.0, ap (λ m. put k.temps t w m) same ∙ put-same k.temps t w, subst (λ m. IsValue z.types m (word w)) j good),
-        holds-later z ys bs vs u u k (with_word t w k) (omega arith) (λ m lt. put-below k.temps t w m (omega (arith, lt, same))) rest1)
+        let same : u ≡ t = grind (arith, f) in (
+          (is1.0, ap (λ m. put k.temps t w m) same ∙ put-same k.temps t w, subst (λ m. IsValue z.types m (word w)) j good),
+          holds-later z ys bs vs u u k (with_word t w k) (omega arith) (λ m lt. put-below k.temps t w m (omega (arith, lt, same))) rest1,
+        )
     here (at_offset o) is is1 rest1 j f = absurd (grind (arith, f))
     here (in_temp u) (lies o) is1 rest1 j f = absurd is1
 
@@ -103,7 +104,7 @@ assign_temp_sim {z} {n} {names} {scope} {facts} u place of x t r target v i e me
       let l = told_in z x of names scope u k s (in_temp t) fine i e in
       let good = word-of-value z of v l.2.1.0 (is-value z of r v m.good) in
       let same : meaning.assigned z.types (typed place of (Variable x)) target v s ≡ Gives (word 0) (with_value x (number v) s) =
-          ap (λ o. if held_symbol o then Gives (word 0) (with_value x (number v) s) else meaning.stored z.types place of (number target) v s) (l.1 ∙ ap Some l.2.0) in
+      ap (λ o. if held_symbol o then Gives (word 0) (with_value x (number v) s) else meaning.stored z.types place of (number target) v s) (l.1 ∙ ap Some l.2.0) in
       subst (λ g. Leaves z at k s (λ b s'. Comes z names scope at u k s (step_on at) names scope u s' (λ k1. Unit {0})) g) (sym same)
       (record {
         private = with_word t (number v) k;

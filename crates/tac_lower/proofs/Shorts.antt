@@ -1,14 +1,14 @@
 -- `and` and `or`: the first operand in a temporary, a test of it, and the second operand in the same one.
-use Rattle.std.proofs.Common.{◌≡◌, ◌≢◌, ℕ, zero, suc, ◌+◌, ◌<◌, ◌≤◌, Bool, true, false, List, [], ◌∷◌, ◌++◌, length, Option, Some, None, refl, sym, ap, ◌∙◌, subst, arith}
+use Rattle.std.proofs.Common.{◌≡◌, ℕ, suc, ◌<◌, ◌≤◌, Bool, true, false, List, [], ◌∷◌, ◌++◌, refl, sym, ap, ◌∙◌, subst, arith}
 use Rattle.std.specs.Prelude.{not, nat_eq, if◌then◌else◌}
 use Rattle.tl_base.specs.declared.ids.TypeId.{TypeId}
 use Rattle.terra_words.specs.Runs.{Value, word, bytes, number, is_true}
 use Rattle.terra_term.specs.declared.lists.TypedName.{TypedName}
 use Rattle.terra_meaning.specs.Values.{is_aggregate, IsValue}
 use Rattle.terra_meaning.specs.Running.{State, Got, Gives, Ends, next}
-use Rattle.terra_meaning.specs.Meaning.{Wanted, the_value, the_address}
+use Rattle.terra_meaning.specs.Meaning.{the_value}
 use Rattle.tac_form.specs.declared.tac.Operand.{Operand}
-use Rattle.tac_form.specs.declared.tac.Operand.TheVariants.{Temp, Constant}
+use Rattle.tac_form.specs.declared.tac.Operand.TheVariants.{Temp}
 use Rattle.tac_form.specs.declared.tac.Instruction.TheVariants.{Copy}
 use Rattle.tac_form.specs.Flow as flow
 use Rattle.tac_form.specs.Flow.{Moved, Goes, Stops}
@@ -16,8 +16,8 @@ use Rattle.tac_lower.specs.Items.{Item, does, ends, skips}
 use Rattle.tac_lower.specs.Pieces.{Used, with_temp, Piece, Result, a_word, word_of, Holders}
 use Rattle.tac_lower.specs.Lowering.{into, short_circuit, passed_over}
 use Rattle.tac_lower.proofs.Places.{Point, step_on, start_of, after, after-append, HasAt, DoesAt, has-front, has-back}
-use Rattle.tac_lower.proofs.Standing.{Setting, Private, stands, Leads, Halts, leads-to, one-step, word_in, operand-is, Apart, Holds, Fine, Keeps, Grown, Good, Means, Comes, Leaves}
-use Rattle.tac_lower.proofs.Simulates.{Fact, one_of, KnowsAll, whole, Sim, grown-none, grown-then, keeps-none, keeps-then, facts-later, comes-at}
+use Rattle.tac_lower.proofs.Standing.{Setting, Private, stands, Leads, leads-to, one-step, word_in, operand-is, Apart, Fine, Keeps, Grown, Means, Comes, Leaves}
+use Rattle.tac_lower.proofs.Simulates.{Fact, one_of, whole, Sim, grown-then, keeps-none, keeps-then, facts-later}
 use Rattle.tac_lower.proofs.Writes.{put-same, put-below, with_word, holds-later, fresh-apart, grown-temp}
 use Rattle.tac_lower.proofs.Loads.{word-is, is-value}
 use Rattle.tac_lower.proofs.Acts.{fine-later}
@@ -116,7 +116,7 @@ short_sim {z} {n} {names} {scope} {facts} u of pa goa gob test more goes plain x
         let stood = (has-back z.tac.blocks out start pb.code (does (Copy d (word_of pb.result)) ∷ []) inside).0 in
         let k6 = with_word d (number v) c.private in
         let on : Leads z q5 c.private s2 (after second start) k6 s2 = subst (λ p. Leads z q5 c.private s2 p k6 s2) (sym (after-append pb.code (does (Copy d (word_of pb.result)) ∷ []) start))
-            (copies q5 c.private s2 pb.result pb.used v stood c.ok) in
+        (copies q5 c.private s2 pb.result pb.used v stood c.ok) in
         let off : Leads z (after second start) k6 s2 (after (first ++ (t.code ++ over_code)) at) k6 s2 = subst (λ p. Leads z (after second start) k6 s2 p k6 s2) done (passes-on z out t.result second q3 k6 s2 has3) in
         let end = Goes (stands z (after (first ++ (t.code ++ over_code)) at) k6 s2) in
         record {
@@ -174,3 +174,18 @@ short_sim {z} {n} {names} {scope} {facts} u of pa goa gob test more goes plain x
         c.fewer (r.keeps.temps d own away ∙ same2) away value (has-back z.tac.blocks out q2 t.code over_code has1) whole_ fine (omega (arith, less, c.fewer))
         (sym (after-append first (t.code ++ over_code) at ∙ ap (after (t.code ++ over_code)) here ∙ after-append t.code over_code q2))
         (goes v) r.is
+
+-- `and` tests the word as it is
+pub both_tests : (z : Setting) (names : List TypedName) (scope : Holders) (u1 : Used) (d : ℕ) (at : Point) (k : Private) (s : State) (v : Value) → Fine z names scope u1 k s → k.temps d ≡ number v →
+    Tested z names scope u1 u1 at at k s (Temp d) (is_true v)
+both_tests z names scope u1 d at k s v fine e = record {
+  private = k;
+  leads = (0, refl);
+  fine = fine;
+  keeps = keeps-none scope u1 k;
+  is = ap (λ m. nat_eq m 0) e ∙ twice (nat_eq (number v) 0);
+}
+  where
+    twice : (b : Bool) → b ≡ not (not b)
+    twice true = refl
+    twice false = refl

@@ -1,29 +1,29 @@
 -- The code of each term does what the term means, by recursion on the term. What isn't proved yet: operations are a
--- premise here, and no term with an assignment, `and`, `or`, `repeat` or `for` has what is needed.
+-- premise here, and no term with an assignment, `or`, `repeat` or `for` has what is needed.
 use Rattle.std.proofs.Common.{◌≡◌, ℕ, ◌+◌, ◌<◌, ◌≤◌, true, false, List, [], ◌∷◌, refl, ap, ◌∙◌, subst}
 use Rattle.std.specs.Prelude.{◌^◌, ◌*◌}
 use Rattle.tl_base.specs.declared.place.Place.{Place}
 use Rattle.tl_base.specs.declared.ids.TypeId.{TypeId}
 use Rattle.tl_base.specs.declared.ids.FnId.{FnId}
 use Rattle.terra_words.specs.Words.{moved}
-use Rattle.terra_words.specs.Runs.{Value, word, number}
+use Rattle.terra_words.specs.Runs.{Value, word, number, is_true}
 use Rattle.terra_term.specs.declared.operators.Operation.{Operation}
 use Rattle.terra_term.specs.declared.lists.TypedName.{TypedName}
 use Rattle.terra_term.specs.TypedTerms.{Expression, typed, Constant', Variable, Global, Operate, Both, Either, Dereference, Select, Follow, Element, Index, Address, Decay, Let, Expressions, no_more, then_one, Statement, statement, Var, Assign, If, IfElse, While, Repeat, For, Do, Break, Finish, Return, Perform, Statements, done, and_then, type_of}
 use Rattle.terra_term.specs.Stores.{Contents}
 use Rattle.terra_term.specs.WellTyped.{Within}
-use Rattle.terra_meaning.specs.Values.{bytes_at, IsValue}
+use Rattle.terra_meaning.specs.Values.{bytes_at, is_aggregate, IsValue}
 use Rattle.terra_meaning.specs.Frames.{Home}
 use Rattle.terra_meaning.specs.Running.{State, Got, Gives, Ends, next}
 use Rattle.terra_meaning.specs.Meaning as meaning
 use Rattle.terra_meaning.specs.Meaning.{Call, Wanted, the_value, the_address, Way, goes_on, breaks, gives_back, along, rounds, constant, types_of, in_expression, in_list, in_statement, in_block, meant, meant_all, done_one, done_all, operated}
 use Rattle.tac_form.specs.declared.tac.Operand.{Operand}
-use Rattle.tac_form.specs.declared.tac.Operand.TheVariants.{Constant}
-use Rattle.tac_lower.specs.Pieces.{Used, Piece, then_piece, taken, Result, a_word, word_of, located, Holders, Around, declare_all}
+use Rattle.tac_form.specs.declared.tac.Operand.TheVariants.{Temp, Constant}
+use Rattle.tac_lower.specs.Pieces.{Used, known, with_temp, Piece, then_piece, taken, Result, a_word, word_of, located, Holders, Around, declare_all}
 use Rattle.tac_lower.specs.Lowering.{piece, pieces, one, all, operation, reached, entry, element}
 use Rattle.tac_lower.proofs.Places.{after}
 use Rattle.tac_lower.proofs.Standing.{Setting, Good, Leaves}
-use Rattle.tac_lower.proofs.Simulates.{Fact, one_of, all_of, Sim, then_sim}
+use Rattle.tac_lower.proofs.Simulates.{Fact, one_of, all_of, Sim, then_sim, grown-none}
 use Rattle.tac_lower.proofs.Writes.{known_sim, taken_with_sim}
 use Rattle.tac_lower.proofs.Words.{value-small}
 use Rattle.tac_lower.proofs.Loads.{sim_as, next-same, reached_sim, word-is, is-value}
@@ -32,6 +32,7 @@ use Rattle.tac_lower.proofs.Acts.{Acts, WayOk, under-self, acts_none, acts_then,
 use Rattle.tac_lower.proofs.Declares.{declared_names, DeclaresWell, declare_all_sim, declares-under}
 use Rattle.tac_lower.proofs.Branches.{acts_sim, acts_break, acts_return, acts_finish, acts_if}
 use Rattle.tac_lower.proofs.Choices.{acts_choice, in_let, let_sim}
+use Rattle.tac_lower.proofs.Shorts.{short_sim, both_tests}
 use Rattle.tac_lower.proofs.Rounds.{in_loop}
 use Rattle.tac_lower.proofs.Loops.{acts_while}
 
@@ -90,7 +91,8 @@ module _ (z : Setting) (n : ℕ) (st : Contents) (entries : List FnId) (homes : 
     Needs want names from (typed at of (Variable x)) = InScope x of names
     Needs want names from (typed at of (Global address)) = address < 2 ^ 64
     Needs want names from (typed at of (Operate op es)) = IsValueWanted want × NeedsAll names from es × OperationNeeds op (types_of es) of
-    Needs want names from (typed at of (Both x y)) = ⊥
+    Needs want names from (typed at of (Both x y)) =
+        IsValueWanted want × Needs the_value names from x × Needs the_value names (from + in_expression x) y × (type_of x ≡ of) × (type_of y ≡ of) × (is_aggregate z.types of ≡ false)
     Needs want names from (typed at of (Either x y)) = ⊥
     Needs want names from (typed at of (Dereference p)) = Needs the_value names from p
     Needs want names from (typed at of (Select offset e)) = Needs the_address names from e × (offset + bytes_at z.types of ≤ bytes_at z.types (type_of e))
@@ -142,7 +144,15 @@ module _ (z : Setting) (n : ℕ) (st : Contents) (entries : List FnId) (homes : 
           (expressions_sim es from names scope facts u needs.1)
           (λ vs. operations names scope facts (pieces a es from scope u).used at of op (types_of es) (pieces a es from scope u).result vs needs.2)
       expression_sim the_address (typed at of (Operate op es)) from names scope facts u needs = absurd needs.0
-      expression_sim want (typed at of (Both x y)) from names scope facts u needs = absurd needs
+      expression_sim the_address (typed at of (Both x y)) from names scope facts u needs = absurd needs.0
+      expression_sim the_value (typed at of (Both x y)) from names scope facts u needs =
+          let p = piece a the_value x from scope (with_temp u) in
+          let q = piece a the_value y (from + in_expression x) scope p.used in
+          short_sim u of p (meant c the_value x from) (meant c the_value y (from + in_expression x)) (λ u'. known (Temp u.temps) u') (λ u'. piece a the_value y (from + in_expression x) scope u') is_true needs.5
+          (subst (λ t. Sim z n names scope facts (with_temp u) p (meant c the_value x from) names scope (λ v. one_of the_value t p.result v)) needs.3 (expression_sim the_value x from names scope facts (with_temp u) needs.1))
+          (grown-none p.used)
+          (λ out at1 k s v has fine e h. both_tests z names scope p.used u.temps at1 k s v fine e)
+          (subst (λ t. Sim z n names scope [] p.used q (meant c the_value y (from + in_expression x)) names scope (λ v. one_of the_value t q.result v)) needs.4 (expression_sim the_value y (from + in_expression x) names scope [] p.used needs.2))
       expression_sim want (typed at of (Either x y)) from names scope facts u needs = absurd needs
       expression_sim want (typed at of (Dereference p)) from names scope facts u needs =
           let q = piece a the_value p from scope u in

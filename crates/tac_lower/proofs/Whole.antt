@@ -1,12 +1,12 @@
 -- The blocks of a function's code have the code at its begin.
-use Rattle.std.proofs.Common.{◌≡◌, ℕ, zero, suc, ◌+◌, ◌<◌, ◌⊎◌, inl, inr, List, [], ◌∷◌, ◌++◌, length, Option, Some, None, refl, sym, ap, ◌∙◌, subst, arith, append_assoc, append-nil, length-append}
+use Rattle.std.proofs.Common.{◌≡◌, suc, ◌<◌, ◌⊎◌, inl, inr, List, [], ◌∷◌, ◌++◌, length, Some, None, refl, sym, ap, ◌∙◌, subst, arith, append_assoc, append-nil, length-append}
 use Rattle.std.specs.Prelude.{slice_get}
 use Rattle.std.proofs.lemmas.Option.{slice_get-get_or}
 use Rattle.std.proofs.Math.Seq.{get_or-append_seam}
 use Rattle.tac_form.specs.declared.tac.Instruction.{Instruction}
 use Rattle.tac_form.specs.declared.tac.Block.{Block}
 use Rattle.tac_lower.specs.Items.{Item, does, ends, Ending, exit_of, Draft, empty_draft, with_item, with_items, blocks_of}
-use Rattle.tac_lower.proofs.Places.{Point, step_on, start_of, DoesAt, EndsAt, HasAt}
+use Rattle.tac_lower.proofs.Places.{Point, start_of, HasAt}
 
 seam : {A : Type 0} → (xs : List A) (y : A) (ys : List A) → slice_get (xs ++ y ∷ ys) (length xs) ≡ Some y
 seam xs y ys =
@@ -49,35 +49,41 @@ has-all blocks (does i ∷ is) d h =
     let o = opened i d.code r.1.later r.1.goes in
     let all = r.1.are ∙ ap (λ l. d.blocks ++ l) o.first in
     let instructions = o.begins ∙ append_assoc d.code (i ∷ []) o.rest in
-    let n : length (d.code ++ i ∷ []) ≡ suc (length d.code) = omega (arith, length-append d.code (i ∷ [])) in
-    ((record {
-        block = o.block;
-        there = ap (λ l. slice_get l (length d.blocks)) all ∙ seam d.blocks o.block o.more;
-        does = ap (λ l. slice_get l (length d.code)) instructions ∙ seam d.code i o.rest;
+    let n : length (d.code ++ i ∷ []) ≡ suc (length d.code) = omega (arith, length-append d.code (i ∷ [])) in (
+      (
+        record {
+          block = o.block;
+          there = ap (λ l. slice_get l (length d.blocks)) all ∙ seam d.blocks o.block o.more;
+          does = ap (λ l. slice_get l (length d.code)) instructions ∙ seam d.code i o.rest;
+        },
+        subst (λ m. HasAt blocks 0 (record { block = length d.blocks; at = m }) is) n r.0,
+      ),
+      record {
+        later = r.1.later;
+        are = r.1.are;
+        goes = inl (record { block = o.block; more = o.more; rest = i ∷ o.rest; first = o.first; begins = instructions });
       },
-      subst (λ m. HasAt blocks 0 (record { block = length d.blocks; at = m }) is) n r.0),
-    record {
-      later = r.1.later;
-      are = r.1.are;
-      goes = inl (record { block = o.block; more = o.more; rest = i ∷ o.rest; first = o.first; begins = instructions });
-    })
+    )
 has-all blocks (ends e ∷ is) d h =
     let r = has-all blocks is (with_item d (ends e)) h in
     let b : Block = ended d e in
     let all : blocks ≡ d.blocks ++ b ∷ r.1.later = r.1.are ∙ append_assoc d.blocks (b ∷ []) r.1.later in
-    let n : length (d.blocks ++ b ∷ []) ≡ suc (length d.blocks) = omega (arith, length-append d.blocks (b ∷ [])) in
-    ((record {
-        block = b;
-        there = ap (λ l. slice_get l (length d.blocks)) all ∙ seam d.blocks b r.1.later;
-        does = past d.code;
-        ends = refl;
+    let n : length (d.blocks ++ b ∷ []) ≡ suc (length d.blocks) = omega (arith, length-append d.blocks (b ∷ [])) in (
+      (
+        record {
+          block = b;
+          there = ap (λ l. slice_get l (length d.blocks)) all ∙ seam d.blocks b r.1.later;
+          does = past d.code;
+          ends = refl;
+        },
+        subst (λ m. HasAt blocks 0 (start_of m) is) n r.0,
+      ),
+      record {
+        later = b ∷ r.1.later;
+        are = all;
+        goes = inl (record { block = b; more = r.1.later; rest = []; first = refl; begins = sym (append-nil d.code) });
       },
-      subst (λ m. HasAt blocks 0 (start_of m) is) n r.0),
-    record {
-      later = b ∷ r.1.later;
-      are = all;
-      goes = inl (record { block = b; more = r.1.later; rest = []; first = refl; begins = sym (append-nil d.code) });
-    })
+    )
 
 -- a function's code stands at the begin of its blocks, where it ends with the end of a block
 pub has-whole : (is : List Item) → (with_items empty_draft is).code ≡ [] → HasAt (blocks_of is) 0 (start_of 0) is
