@@ -17,7 +17,7 @@ use Rattle.tac_lower.proofs.Standing.{Setting, Private, Leads, word_in, Fine, Gr
 use Rattle.tac_lower.proofs.Simulates.{Fact, one_of, Knows, whole, Sim, grown-none, grown-then, keeps-none}
 use Rattle.tac_lower.proofs.Acts.{under-self, fine-later, Acts, way-before, way-at}
 use Rattle.tac_lower.proofs.Branches.{jumps, branches, tested}
-use Rattle.tac_lower.proofs.Rounds.{in_loop, RoundOk, round-before, scoped-round, rounds_ways}
+use Rattle.tac_lower.proofs.Rounds.{in_loop, RoundOk, round-before, scoped-round, turn-of-round, rounds_ways}
 
 -- a value, and what a round does with it
 pub value_rounds : {B : Type 0} (w : Within) {A : Type 0} {z : Setting} {n : ℕ} {names : List TypedName} {scope : Holders} {u : Used} {p : Piece A} {go : State → Got B} {mid : B → Fact}
@@ -79,8 +79,10 @@ acts_while {z} {n} {w} {names} {names1} {scope} {u} {p} {r} {go} {go2} of turns 
       let done : start_of e ≡ after (while_loop p.code a r.code) at = sym (after-loop (while_code p.code a r.code) (start_of b0) ∙ while-after p.code r.code a b0) in
       way-at z w names names scope scope at (start_of e) (after (while_loop p.code a r.code) at) u r.used k s out done (rounds turns round s)
       (way-before z w names names names scope scope scope at (start_of b0) (start_of e) u u r.used k k s s out begins (grown-none u) (λ t lt away. away) (under-self names scope) (keeps-none scope u k) (omega arith) fine fine (rounds turns round s)
-      (rounds_ways z w names scope n b0 e out (after r.code (start_of (suc (after p.code (start_of b0)).block))) u r.used round
-      (grown-then u p.used r.used x.grown y.grown) (goes_back b0 e inside) (λ k1 s1 fine1 less1. round_ok b0 e inside refl whole_ k1 s1 fine1 less1) turns k s fine less (omega (arith, less, enough))));
+      (rounds_ways z w names scope n b0 e out u r.used round (grown-then u p.used r.used x.grown y.grown) (λ k1 s1 fine1 less1.
+      turn-of-round z w names scope (start_of b0) (after r.code (start_of (suc (after p.code (start_of b0)).block))) u r.used k1 s1 b0 e
+      (goes_back b0 e inside) (round s1) (round_ok b0 e inside refl whole_ k1 s1 fine1 less1)) turns k s fine less
+      (omega (arith, less, enough))));
 }
   where
     a : Operand

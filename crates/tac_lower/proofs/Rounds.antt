@@ -4,7 +4,7 @@ use Rattle.tl_base.specs.declared.ids.TypeId.{TypeId}
 use Rattle.terra_words.specs.Runs.{More}
 use Rattle.terra_term.specs.declared.lists.TypedName.{TypedName}
 use Rattle.terra_term.specs.WellTyped.{Within}
-use Rattle.terra_meaning.specs.Running.{Held, held, lies, Variable, State, Got, Gives, Ends, next, scoped, counted_from}
+use Rattle.terra_meaning.specs.Running.{Held, held, lies, Variable, State, Got, Gives, Ends, next, scoped, need_more, counted_from}
 use Rattle.terra_meaning.specs.Meaning.{Way, goes_on, breaks, gives_back, turned, rounds}
 use Rattle.tac_form.specs.declared.tac.Exit.TheVariants.{Jump}
 use Rattle.tac_form.specs.Flow as flow
@@ -105,14 +105,14 @@ fine-again z names scope u u' k k' s s' a b = record {
 }
 
 -- the way back, which counts
-back-none : (z : Setting) (back : Point) (to : ℕ) (k : Private) (s : State) → EndsAt z.tac.blocks back (Jump (backward to)) → s.left ≡ zero → Halts z back k s (More s.out)
+pub back-none : (z : Setting) (back : Point) (to : ℕ) (k : Private) (s : State) → EndsAt z.tac.blocks back (Jump (backward to)) → s.left ≡ zero → Halts z back k s (More s.out)
 back-none z back to k s h e = (
   1,
   one-end z back k s (Jump (backward to)) h
       ∙ ap (λ l. flow.counted l (stands z back k s) (λ s'. Goes (record s' { here = record s'.here { block = to; at = 0 } }))) e,
 )
 
-back-one : (z : Setting) (back : Point) (to : ℕ) (k : Private) (s : State) (l : ℕ) → EndsAt z.tac.blocks back (Jump (backward to)) → s.left ≡ suc l →
+pub back-one : (z : Setting) (back : Point) (to : ℕ) (k : Private) (s : State) (l : ℕ) → EndsAt z.tac.blocks back (Jump (backward to)) → s.left ≡ suc l →
     Leads z back k s (start_of to) k (record s { left = l })
 back-one z back to k s l h e = (
   1,
@@ -120,37 +120,123 @@ back-one z back to k s l h e = (
       ∙ ap (λ m. flow.counted m (stands z back k s) (λ s'. Goes (record s' { here = record s'.here { block = to; at = 0 } }))) e,
 )
 
+-- Where a round goes on: the run ends where nothing is left of the count, and else the loop begins again.
+pub record Turns (z : Setting) (names : List TypedName) (scope : Holders) (at : Point) (u : Used) (k : Private) (s : State)
+    (b0 : ℕ) (u' : Used) (s' : State) (Then : Private → Type 0) : Type 0 where
+  pub private : Private
+  pub none : s'.left ≡ zero → Halts z at k s (More s'.out)
+  pub some : (l : ℕ) → s'.left ≡ suc l → Leads z at k s (start_of b0) private (record s' { left = l })
+  pub ok : Then private
+  pub fine : Fine z names scope u' private s'
+  pub keeps : Keeps scope u k private
+  pub fewer : s'.left ≤ s.left
+
+-- what a round's code leads to: the loop's begin, behind the loop, or the caller
+abbrev pub TurnOk : Setting → Within → List TypedName → Holders → Point → Used → Private → State → (b0 : ℕ) → Used → (out : ℕ) →
+    (Private → Type 0) → Way → State → Type 0
+TurnOk z w names scope at u k s b0 u' out Then goes_on s' = Turns z names scope at u k s b0 u' s' Then
+TurnOk z w names scope at u k s b0 u' out Then breaks s' =
+    Comes z names scope at u k s (start_of out) names scope u' s' (λ k1. Unit {0})
+TurnOk z w names scope at u k s b0 u' out Then (gives_back v) s' = Returns z w at k s v s'
+
+-- a round whose code comes to the way back
+pub turn-of-round : (z : Setting) (w : Within) (names : List TypedName) (scope : Holders) (at back : Point) (u u' : Used)
+    (k : Private) (s : State) (b0 out : ℕ) → EndsAt z.tac.blocks back (Jump (backward b0)) → (g : Got Way) →
+    Leaves z at k s (λ way s'. RoundOk z w names scope at u k s back u' out way s') g →
+    Leaves z at k s (λ way s'. TurnOk z w names scope at u k s b0 u' out (λ k1. Unit {0}) way s') g
+turn-of-round z w names scope at back u u' k s b0 out stood (Ends e) h = h
+turn-of-round z w names scope at back u u' k s b0 out stood (Gives goes_on s1) c = record {
+  private = c.private;
+  none = λ e. leads-to z at k s back c.private s1 (Stops (More s1.out)) c.leads (back-none z back b0 c.private s1 stood e);
+  some = λ l e. leads-to z at k s back c.private s1 (Goes (stands z (start_of b0) c.private (record s1 { left = l }))) c.leads
+      (back-one z back b0 c.private s1 l stood e);
+  ok = tt;
+  fine = c.fine;
+  keeps = c.keeps;
+  fewer = c.fewer;
+}
+turn-of-round z w names scope at back u u' k s b0 out stood (Gives breaks s1) c = c
+turn-of-round z w names scope at back u u' k s b0 out stood (Gives (gives_back v) s1) d = d
+
+-- rounds of a number, which goes on from one to the next
+abbrev pub numbered : ℕ → (ℕ → State → Got Way) → (ℕ → ℕ) → ℕ → State → Got Way
+numbered zero round on i s = need_more s
+numbered (suc n) round on i s = next (round i s) (λ way s'. turned way s' (numbered n round on (on i)))
+
 -- rounds of code that stands at the begin of a block
-pub rounds_ways : (z : Setting) (w : Within) (names : List TypedName) (scope : Holders) (n b0 e out : ℕ) (back : Point) (u u' : Used) (round : State → Got Way) → Grown u u' →
-    EndsAt z.tac.blocks back (Jump (backward b0)) →
-    ((k : Private) (s : State) → Fine z names scope u k s → s.left < n → Leaves z (start_of b0) k s (λ way s'. RoundOk z w names scope (start_of b0) u k s back u' e way s') (round s)) →
-    (m : ℕ) (k : Private) (s : State) → Fine z names scope u k s → s.left < n → s.left < m →
-    Leaves z (start_of b0) k s (λ way s'. WayOk z w names scope (start_of b0) u k s (start_of e) names scope u' out way s') (rounds m round s)
-rounds_ways z w names scope n b0 e out back u u' round g goes_back ok zero k s fine less lt = absurd (omega (arith, lt))
-rounds_ways z w names scope n b0 e out back u u' round g goes_back ok (suc m) k s fine less lt =
-    by (round s) (ok k s fine less) (λ k1 s1 fine1 less1 lt1. rounds_ways z w names scope n b0 e out back u u' round g goes_back ok m k1 s1 fine1 less1 lt1)
+pub numbered_ways : (z : Setting) (w : Within) (names : List TypedName) (scope : Holders) (n b0 e out : ℕ) (u u' : Used)
+    (round : ℕ → State → Got Way) (on : ℕ → ℕ) (Before : ℕ → Private → Type 0) → Grown u u' →
+    ((i : ℕ) (k : Private) (s : State) → Fine z names scope u k s → Before i k → s.left < n →
+    Leaves z (start_of b0) k s (λ way s'. TurnOk z w names scope (start_of b0) u k s b0 u' e (Before (on i)) way s') (round i s)) →
+    (m i : ℕ) (k : Private) (s : State) → Fine z names scope u k s → Before i k → s.left < n → s.left < m →
+    Leaves z (start_of b0) k s (λ way s'. WayOk z w names scope (start_of b0) u k s (start_of e) names scope u' out way s')
+    (numbered m round on i s)
+numbered_ways z w names scope n b0 e out u u' round on Before g ok zero i k s fine before less lt = absurd (omega (arith, lt))
+numbered_ways z w names scope n b0 e out u u' round on Before g ok (suc m) i k s fine before less lt =
+    by (round i s) (ok i k s fine before less) (λ k1 s1 fine1 before1 less1 lt1.
+    numbered_ways z w names scope n b0 e out u u' round on Before g ok m (on i) k1 s1 fine1 before1 less1 lt1)
   where
     start : Point
     start = start_of b0
 
-    turn : (s1 : State) (c : Comes z names scope start u k s back names scope u' s1 (λ k1. Unit {0})) →
-        ((k1 : Private) (s2 : State) → Fine z names scope u k1 s2 → s2.left < n → s2.left < m → Leaves z start k1 s2 (λ way s'. WayOk z w names scope start u k1 s2 (start_of e) names scope u' out way s') (rounds m round s2)) →
-        (l : ℕ) → s1.left ≡ l →
-        Leaves z start k s (λ way s'. WayOk z w names scope start u k s (start_of e) names scope u' out way s') (counted_from l s1 (rounds m round))
-    turn s1 c more zero same = leads-to z start k s back c.private s1 (Stops (More s1.out)) c.leads (back-none z back b0 c.private s1 goes_back same)
+    End : (k1 : Private) (s1 : State) → Got Way → Type 0
+    End k1 s1 got = Leaves z start k1 s1 (λ way s'. WayOk z w names scope start u k1 s1 (start_of e) names scope u' out way s') got
+
+    More' : Type 0
+    More' = (k1 : Private) (s1 : State) → Fine z names scope u k1 s1 → Before (on i) k1 → s1.left < n → s1.left < m →
+        End k1 s1 (numbered m round on (on i) s1)
+
+    turn : (s1 : State) → Turns z names scope start u k s b0 u' s1 (Before (on i)) → More' → (l : ℕ) → s1.left ≡ l →
+        End k s (counted_from l s1 (numbered m round on (on i)))
+    turn s1 c more zero same = c.none same
     turn s1 c more (suc l) same =
         let s2 : State = record s1 { left = l } in
-        let fine2 : Fine z names scope u c.private s2 = fine-again z names scope u u' k c.private s s2 fine (record { holds = c.fine.holds; small = c.fine.small; sized = c.fine.sized }) in
+        let fine1 : Fine z names scope u' c.private s2 = record { holds = c.fine.holds; small = c.fine.small; sized = c.fine.sized } in
+        let fine2 : Fine z names scope u c.private s2 = fine-again z names scope u u' k c.private s s2 fine fine1 in
         let fewer : suc l ≤ s.left = subst (λ m. m ≤ s.left) same c.fewer in
-        way-before z w names names names scope scope scope start start (start_of e) u u u' k c.private s s2 out
-        (leads-to z start k s back c.private s1 (Goes (stands z start c.private s2)) c.leads (back-one z back b0 c.private s1 l goes_back same))
-        (grown-none u) (λ t away lt1. lt1) (under-self names scope) c.keeps (omega (arith, fewer)) fine fine2 (rounds m round s2)
-        (more c.private s2 fine2 (omega (arith, fewer, less)) (omega (arith, fewer, lt)))
+        way-before z w names names names scope scope scope start start (start_of e) u u u' k c.private s s2 out (c.some l same)
+        (grown-none u) (λ t away lt1. lt1) (under-self names scope) c.keeps (omega (arith, fewer)) fine fine2
+        (numbered m round on (on i) s2)
+        (more c.private s2 fine2 c.ok (omega (arith, fewer, less)) (omega (arith, fewer, lt)))
 
-    by : (got : Got Way) → Leaves z start k s (λ way s'. RoundOk z w names scope start u k s back u' e way s') got →
-        ((k1 : Private) (s2 : State) → Fine z names scope u k1 s2 → s2.left < n → s2.left < m → Leaves z start k1 s2 (λ way s'. WayOk z w names scope start u k1 s2 (start_of e) names scope u' out way s') (rounds m round s2)) →
-        Leaves z start k s (λ way s'. WayOk z w names scope start u k s (start_of e) names scope u' out way s') (next got (λ way s'. turned way s' (rounds m round)))
+    by : (got : Got Way) →
+        Leaves z start k s (λ way s'. TurnOk z w names scope start u k s b0 u' e (Before (on i)) way s') got → More' →
+        End k s (next got (λ way s'. turned way s' (numbered m round on (on i))))
     by (Ends r) h more = h
     by (Gives goes_on s1) c more = turn s1 c more s1.left refl
     by (Gives breaks s1) c more = c
     by (Gives (gives_back v) s1) d more = d
+
+-- what follows a round is told otherwise
+turned-same : (way : Way) (s : State) (go go' : State → Got Way) → ((s1 : State) → go s1 ≡ go' s1) → turned way s go ≡ turned way s go'
+turned-same goes_on s go go' e = by s.left
+  where
+    by : (l : ℕ) → counted_from l s go ≡ counted_from l s go'
+    by zero = refl
+    by (suc l) = e (record s { left = l })
+turned-same breaks s go go' e = refl
+turned-same (gives_back v) s go go' e = refl
+
+pub next-turned : (got : Got Way) (go go' : State → Got Way) → ((s1 : State) → go s1 ≡ go' s1) →
+    next got (λ way s'. turned way s' go) ≡ next got (λ way s'. turned way s' go')
+next-turned (Gives way s1) go go' e = turned-same way s1 go go' e
+next-turned (Ends r) go go' e = refl
+
+numbered-rounds : (m i : ℕ) (round : State → Got Way) (s : State) → numbered m (λ j. round) (λ j. j) i s ≡ rounds m round s
+numbered-rounds zero i round s = refl
+numbered-rounds (suc m) i round s =
+    next-turned (round s) (numbered m (λ j. round) (λ j. j) i) (rounds m round) (λ s1. numbered-rounds m i round s1)
+
+pub rounds_ways : (z : Setting) (w : Within) (names : List TypedName) (scope : Holders) (n b0 e out : ℕ) (u u' : Used)
+    (round : State → Got Way) → Grown u u' →
+    ((k : Private) (s : State) → Fine z names scope u k s → s.left < n →
+    Leaves z (start_of b0) k s (λ way s'. TurnOk z w names scope (start_of b0) u k s b0 u' e (λ k1. Unit {0}) way s') (round s)) →
+    (m : ℕ) (k : Private) (s : State) → Fine z names scope u k s → s.left < n → s.left < m →
+    Leaves z (start_of b0) k s (λ way s'. WayOk z w names scope (start_of b0) u k s (start_of e) names scope u' out way s')
+    (rounds m round s)
+rounds_ways z w names scope n b0 e out u u' round g ok m k s fine less lt =
+    subst
+    (λ got. Leaves z (start_of b0) k s (λ way s'. WayOk z w names scope (start_of b0) u k s (start_of e) names scope u' out way s') got)
+    (numbered-rounds m 0 round s)
+    (numbered_ways z w names scope n b0 e out u u' (λ j. round) (λ j. j) (λ j k1. Unit {0}) g
+    (λ j k1 s1 fine1 before less1. ok k1 s1 fine1 less1) m 0 k s fine tt less lt)

@@ -1,24 +1,29 @@
 -- `and` and `or`: the first operand in a temporary, a test of it, and the second operand in the same one.
-use Rattle.std.proofs.Common.{◌≡◌, ℕ, suc, ◌<◌, ◌≤◌, Bool, true, false, List, [], ◌∷◌, ◌++◌, refl, sym, ap, ◌∙◌, subst, arith}
-use Rattle.std.specs.Prelude.{not, nat_eq, if◌then◌else◌}
+use Rattle.std.proofs.Common.{◌≡◌, ℕ, zero, suc, ◌<◌, ◌≤◌, Bool, true, false, List, [], ◌∷◌, ◌++◌, refl, sym, ap, ◌∙◌, subst, arith}
+use Rattle.std.specs.Prelude.{◌%◌, not, nat_eq, if◌then◌else◌}
 use Rattle.tl_base.specs.declared.ids.TypeId.{TypeId}
+use Rattle.terra_words.specs.declared.words.BinaryOperator.TheVariants as operators
+use Rattle.terra_words.specs.Words.{wrapped, applied}
 use Rattle.terra_words.specs.Runs.{Value, word, bytes, number, is_true}
+use Rattle.terra_types.specs.declared.types.TypeForm.{TypeForm}
+use Rattle.terra_types.specs.declared.types.TypeForm.TheVariants as forms
 use Rattle.terra_term.specs.declared.lists.TypedName.{TypedName}
-use Rattle.terra_meaning.specs.Values.{is_aggregate, IsValue}
+use Rattle.terra_meaning.specs.Values.{form_at, is_aggregate, IsValue}
 use Rattle.terra_meaning.specs.Running.{State, Got, Gives, Ends, next}
 use Rattle.terra_meaning.specs.Meaning.{the_value}
 use Rattle.tac_form.specs.declared.tac.Operand.{Operand}
-use Rattle.tac_form.specs.declared.tac.Operand.TheVariants.{Temp}
-use Rattle.tac_form.specs.declared.tac.Instruction.TheVariants.{Copy}
+use Rattle.tac_form.specs.declared.tac.Operand.TheVariants.{Temp, Constant}
+use Rattle.tac_form.specs.declared.tac.Instruction.TheVariants.{Compute, Copy}
 use Rattle.tac_form.specs.Flow as flow
 use Rattle.tac_form.specs.Flow.{Moved, Goes, Stops}
 use Rattle.tac_lower.specs.Items.{Item, does, ends, skips}
-use Rattle.tac_lower.specs.Pieces.{Used, with_temp, Piece, Result, a_word, word_of, Holders}
-use Rattle.tac_lower.specs.Lowering.{into, short_circuit, passed_over}
+use Rattle.tac_lower.specs.Pieces.{Used, with_temp, Piece, Result, a_word, word_of, Holders, whole_word}
+use Rattle.tac_lower.specs.Lowering.{into, short_circuit, passed_over, opposite}
 use Rattle.tac_lower.proofs.Places.{Point, step_on, start_of, after, after-append, HasAt, DoesAt, has-front, has-back}
 use Rattle.tac_lower.proofs.Standing.{Setting, Private, stands, Leads, leads-to, one-step, word_in, operand-is, Apart, Fine, Keeps, Grown, Means, Comes, Leaves}
 use Rattle.tac_lower.proofs.Simulates.{Fact, one_of, whole, Sim, grown-then, keeps-none, keeps-then, facts-later}
-use Rattle.tac_lower.proofs.Writes.{put-same, put-below, with_word, holds-later, fresh-apart, grown-temp}
+use Rattle.tac_lower.proofs.Words.{width_by}
+use Rattle.tac_lower.proofs.Writes.{put-same, put-below, with_word, holds-later, fresh-apart, grown-temp, same-self, fine-word}
 use Rattle.tac_lower.proofs.Loads.{word-is, is-value}
 use Rattle.tac_lower.proofs.Acts.{fine-later}
 use Rattle.tac_lower.proofs.Branches.{passes-by, passes-in, passes-on}
@@ -189,3 +194,48 @@ both_tests z names scope u1 d at k s v fine e = record {
     twice : (b : Bool) → b ≡ not (not b)
     twice true = refl
     twice false = refl
+
+-- `or` tests the opposite of the word, which is 0 or 1
+opposite-is : (x : ℕ) → x < 2 → nat_eq (applied (flow.width_of whole_word) operators.Xor x 1) 0 ≡ not (not (not (nat_eq x 0)))
+unfolding applied wrapped
+opposite-is zero lt = refl
+opposite-is (suc zero) lt = refl
+opposite-is (suc (suc n)) lt = absurd (omega (arith, lt))
+
+pub bit-of-bool : (types : List TypeForm) (of : TypeId) (v : Value) → form_at types of ≡ forms.Bool → IsValue types of v → number v < 2
+unfolding wrapped
+bit-of-bool types of (word x) e h =
+    let low : x % 2 ≡ x = subst (λ f. wrapped (width_by f) x ≡ x) e h.1 in
+    omega (arith, low)
+bit-of-bool types of (bytes bs) e h = omega arith
+
+pub either_tests : (z : Setting) (names : List TypedName) (scope : Holders) (of : TypeId) (u1 : Used) (d out : ℕ) (at : Point) (k : Private)
+    (s : State) (v : Value) → form_at z.types of ≡ forms.Bool → HasAt z.tac.blocks out at (opposite (Temp d) u1).code →
+    Fine z names scope u1 k s → k.temps d ≡ number v → IsValue z.types of v →
+    Tested z names scope u1 (with_temp u1) at (step_on at) k s (Temp u1.temps) (not (is_true v))
+either_tests z names scope of u1 d out at k s v form has fine e value =
+    let x = applied (flow.width_of whole_word) operators.Xor (number v) 1 in
+    record {
+      private = with_word u1.temps x k;
+      leads = (
+        1,
+        one-step z at k s (Compute u1.temps operators.Xor whole_word (Temp d) (Constant 1)) has.0
+            ∙ ap (λ y. Goes (flow.ahead (flow.set_temp u1.temps (applied (flow.width_of whole_word) operators.Xor y 1) (stands z at k s)))) e,
+      );
+      fine = fine-word z names scope u1 k s s x (same-self s) fine;
+      keeps = record { temps = λ t lt away. put-below k.temps u1.temps x t lt; areas = λ m lt. refl };
+      is = ap (λ m. nat_eq m 0) (put-same k.temps u1.temps x) ∙ opposite-is (number v) (bit-of-bool z.types of v form value);
+    }
+
+-- a choice told the other way about
+pub next-not : (g : Got Value) (go : State → Got Value) →
+    next g (λ v s. if not (is_true v) then go s else Gives v s) ≡ next g (λ v s. if is_true v then Gives v s else go s)
+next-not (Ends r) go = refl
+next-not (Gives v s) go = by (is_true v)
+  where
+    by : (b : Bool) → (if not b then go s else Gives v s) ≡ (if b then Gives v s else go s)
+    by true = refl
+    by false = refl
+
+pub plain-bool : (types : List TypeForm) (of : TypeId) → form_at types of ≡ forms.Bool → is_aggregate types of ≡ false
+plain-bool types of e = subst (λ f. is_aggregate (f ∷ []) (record { 0 = 0 }) ≡ false) (sym e) refl

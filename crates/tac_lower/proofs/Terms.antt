@@ -1,18 +1,19 @@
 -- The code of each term does what the term means, by recursion on the term. What isn't proved yet: operations are a
 -- premise here, and no term with an assignment, `or`, `repeat` or `for` has what is needed.
 use Rattle.std.proofs.Common.{◌≡◌, ℕ, ◌+◌, ◌<◌, ◌≤◌, true, false, List, [], ◌∷◌, refl, ap, ◌∙◌, subst}
-use Rattle.std.specs.Prelude.{◌^◌, ◌*◌}
+use Rattle.std.specs.Prelude.{◌^◌, ◌*◌, not, if◌then◌else◌}
 use Rattle.tl_base.specs.declared.place.Place.{Place}
 use Rattle.tl_base.specs.declared.ids.TypeId.{TypeId}
 use Rattle.tl_base.specs.declared.ids.FnId.{FnId}
 use Rattle.terra_words.specs.Words.{moved}
 use Rattle.terra_words.specs.Runs.{Value, word, number, is_true}
+use Rattle.terra_types.specs.declared.types.TypeForm.TheVariants as forms
 use Rattle.terra_term.specs.declared.operators.Operation.{Operation}
 use Rattle.terra_term.specs.declared.lists.TypedName.{TypedName}
 use Rattle.terra_term.specs.TypedTerms.{Expression, typed, Constant', Variable, Global, Operate, Both, Either, Dereference, Select, Follow, Element, Index, Address, Decay, Let, Expressions, no_more, then_one, Statement, statement, Var, Assign, If, IfElse, While, Repeat, For, Do, Break, Finish, Return, Perform, Statements, done, and_then, type_of}
 use Rattle.terra_term.specs.Stores.{Contents}
 use Rattle.terra_term.specs.WellTyped.{Within}
-use Rattle.terra_meaning.specs.Values.{bytes_at, is_aggregate, IsValue}
+use Rattle.terra_meaning.specs.Values.{form_at, bytes_at, is_aggregate, IsValue}
 use Rattle.terra_meaning.specs.Frames.{Home}
 use Rattle.terra_meaning.specs.Running.{State, Got, Gives, Ends, next}
 use Rattle.terra_meaning.specs.Meaning as meaning
@@ -20,11 +21,11 @@ use Rattle.terra_meaning.specs.Meaning.{Call, Wanted, the_value, the_address, Wa
 use Rattle.tac_form.specs.declared.tac.Operand.{Operand}
 use Rattle.tac_form.specs.declared.tac.Operand.TheVariants.{Temp, Constant}
 use Rattle.tac_lower.specs.Pieces.{Used, known, with_temp, Piece, then_piece, taken, Result, a_word, word_of, located, Holders, Around, declare_all}
-use Rattle.tac_lower.specs.Lowering.{piece, pieces, one, all, operation, reached, entry, element}
+use Rattle.tac_lower.specs.Lowering.{piece, pieces, one, all, operation, reached, entry, element, opposite}
 use Rattle.tac_lower.proofs.Places.{after}
 use Rattle.tac_lower.proofs.Standing.{Setting, Good, Leaves}
 use Rattle.tac_lower.proofs.Simulates.{Fact, one_of, all_of, Sim, then_sim, grown-none}
-use Rattle.tac_lower.proofs.Writes.{known_sim, taken_with_sim}
+use Rattle.tac_lower.proofs.Writes.{grown-temp, known_sim, taken_with_sim}
 use Rattle.tac_lower.proofs.Words.{value-small}
 use Rattle.tac_lower.proofs.Loads.{sim_as, next-same, reached_sim, word-is, is-value}
 use Rattle.tac_lower.proofs.Reaches.{address-word, located-number, InScope, variable_sim, entry_sim, follow_sim, located_sim, element_sim, own-word}
@@ -32,9 +33,10 @@ use Rattle.tac_lower.proofs.Acts.{Acts, WayOk, under-self, acts_none, acts_then,
 use Rattle.tac_lower.proofs.Declares.{declared_names, DeclaresWell, declare_all_sim, declares-under}
 use Rattle.tac_lower.proofs.Branches.{acts_sim, acts_break, acts_return, acts_finish, acts_if}
 use Rattle.tac_lower.proofs.Choices.{acts_choice, in_let, let_sim}
-use Rattle.tac_lower.proofs.Shorts.{short_sim, both_tests}
+use Rattle.tac_lower.proofs.Shorts.{short_sim, both_tests, either_tests, plain-bool, next-not}
 use Rattle.tac_lower.proofs.Rounds.{in_loop}
 use Rattle.tac_lower.proofs.Loops.{acts_while}
+use Rattle.tac_lower.proofs.Repeats.{acts_repeat}
 
 -- what is asked for is a value
 abbrev IsValueWanted : Wanted → Type 0
@@ -93,7 +95,9 @@ module _ (z : Setting) (n : ℕ) (st : Contents) (entries : List FnId) (homes : 
     Needs want names from (typed at of (Operate op es)) = IsValueWanted want × NeedsAll names from es × OperationNeeds op (types_of es) of
     Needs want names from (typed at of (Both x y)) =
         IsValueWanted want × Needs the_value names from x × Needs the_value names (from + in_expression x) y × (type_of x ≡ of) × (type_of y ≡ of) × (is_aggregate z.types of ≡ false)
-    Needs want names from (typed at of (Either x y)) = ⊥
+    Needs want names from (typed at of (Either x y)) =
+        IsValueWanted want × Needs the_value names from x × Needs the_value names (from + in_expression x) y × (type_of x ≡ of) ×
+        (type_of y ≡ of) × (form_at z.types of ≡ forms.Bool)
     Needs want names from (typed at of (Dereference p)) = Needs the_value names from p
     Needs want names from (typed at of (Select offset e)) = Needs the_address names from e × (offset + bytes_at z.types of ≤ bytes_at z.types (type_of e))
     Needs want names from (typed at of (Follow offset p)) = Needs the_value names from p
@@ -115,7 +119,8 @@ module _ (z : Setting) (n : ℕ) (st : Contents) (entries : List FnId) (homes : 
     NeedsOne w names from (statement at (IfElse test block other)) =
         Needs the_value names from test × NeedsBlock w names (from + in_expression test) block × NeedsBlock w names (from + in_expression test + in_block block) other
     NeedsOne w names from (statement at (While test body)) = Needs the_value names from test × NeedsBlock (in_loop w) names (from + in_expression test) body
-    NeedsOne w names from (statement at (Repeat body test)) = ⊥
+    NeedsOne w names from (statement at (Repeat body test)) =
+        NeedsBlock (in_loop w) names from body × Needs the_value (names_after body names) (from + in_block body) test
     NeedsOne w names from (statement at (For x bounds body)) = ⊥
     NeedsOne w names from (statement at (Do body)) = NeedsBlock w names from body
     NeedsOne w names from (statement at Break) = w.in_loop ≡ true
@@ -153,7 +158,22 @@ module _ (z : Setting) (n : ℕ) (st : Contents) (entries : List FnId) (homes : 
           (grown-none p.used)
           (λ out at1 k s v has fine e h. both_tests z names scope p.used u.temps at1 k s v fine e)
           (subst (λ t. Sim z n names scope [] p.used q (meant c the_value y (from + in_expression x)) names scope (λ v. one_of the_value t q.result v)) needs.4 (expression_sim the_value y (from + in_expression x) names scope [] p.used needs.2))
-      expression_sim want (typed at of (Either x y)) from names scope facts u needs = absurd needs
+      expression_sim the_address (typed at of (Either x y)) from names scope facts u needs = absurd needs.0
+      expression_sim the_value (typed at of (Either x y)) from names scope facts u needs =
+          let p = piece a the_value x from scope (with_temp u) in
+          let p2 = with_temp p.used in
+          let q = piece a the_value y (from + in_expression x) scope p2 in
+          let gob = meant c the_value y (from + in_expression x) in
+          sim_as (λ s. next (meant c the_value x from s) (λ v s'. if not (is_true v) then gob s' else Gives v s'))
+          (meant c the_value (typed at of (Either x y)) from) (λ s. next-not (meant c the_value x from s) gob)
+          (short_sim u of p (meant c the_value x from) gob (opposite (Temp u.temps))
+          (λ u'. piece a the_value y (from + in_expression x) scope u') (λ v. not (is_true v)) (plain-bool z.types of needs.5)
+          (subst (λ t. Sim z n names scope facts (with_temp u) p (meant c the_value x from) names scope (λ v. one_of the_value t p.result v)) needs.3
+          (expression_sim the_value x from names scope facts (with_temp u) needs.1))
+          (grown-temp p.used)
+          (λ out at1 k s v has fine e h. either_tests z names scope of p.used u.temps out at1 k s v needs.5 has fine e h)
+          (subst (λ t. Sim z n names scope [] p2 q gob names scope (λ v. one_of the_value t q.result v)) needs.4
+          (expression_sim the_value y (from + in_expression x) names scope [] p2 needs.2)))
       expression_sim want (typed at of (Dereference p)) from names scope facts u needs =
           let q = piece a the_value p from scope u in
           then_sim (λ v u'. reached z.types want at of (a_word (word_of v)) u') (λ v s'. meaning.reached z.types want at of (number v) s') (word 0)
@@ -268,7 +288,10 @@ module _ (z : Setting) (n : ℕ) (st : Contents) (entries : List FnId) (homes : 
       statement_acts (statement at (While test body)) from w names scope u needs =
           acts_while (type_of test) turns enough (expression_sim the_value test from names scope [] u needs.0)
           (block_acts body (from + in_expression test) (in_loop w) names scope (piece a the_value test from scope u).used needs.1)
-      statement_acts (statement at (Repeat body test)) from w names scope u needs = absurd needs
+      statement_acts (statement at (Repeat body test)) from w names scope u needs =
+          let r = all a body from scope u in
+          acts_repeat (type_of test) turns enough (block_acts body from (in_loop w) names scope u needs.0)
+          (expression_sim the_value test (from + in_block body) (names_after body names) r.result [] r.used needs.1)
       statement_acts (statement at (For x bounds body)) from w names scope u needs = absurd needs
       statement_acts (statement at (Do body)) from w names scope u needs = acts_scoped (block_acts body from w names scope u needs)
       statement_acts (statement at Break) from w names scope u needs = acts_break u needs

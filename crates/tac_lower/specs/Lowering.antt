@@ -135,7 +135,7 @@ operation c at of (operations.Construct offsets) ts vs u =
     construct c.store.types (bytes_at c.store.types of) offsets ts vs u
 
 -- `and` and `or`: the first operand goes to a temporary, whose word, or its opposite, is tested before the second
-abbrev opposite : Operand → Used → Piece Operand
+abbrev pub opposite : Operand → Used → Piece Operand
 opposite a u = taken word_of (compute operators.Xor whole_word a (Constant 1) u)
 
 abbrev pub passed_over : (test : Operand) → List Item → List Item
