@@ -127,7 +127,7 @@ pub word-of-value : (z : Setting) (of : TypeId) (v : Value) → is_aggregate z.t
 word-of-value z of (word x) plain h = h
 word-of-value z of (bytes bs) plain h = let bad : true ≡ false = sym h.0 ∙ plain in absurd (grind (arith, bad))
 
-declare_some_sim : {z : Setting} {n : ℕ} {names : List TypedName} {scope : Holders} {facts : List Fact} (u : Used) (c : Call) (place : Place) (x : TypedName) (home : Home) (r : Result) (v : Value) → GoodHome z x.of home →
+pub declare_some_sim : {z : Setting} {n : ℕ} {names : List TypedName} {scope : Holders} {facts : List Fact} (u : Used) (c : Call) (place : Place) (x : TypedName) (home : Home) (r : Result) (v : Value) → GoodHome z x.of home →
     Sim z n names scope (one_of the_value x.of r v ∷ facts) u (declare_at z.types place x (Some r) home scope u) (meaning.declared_at (record c { base = z.base; store = record c.store { types = z.types } }) place x (Some v) home) (x ∷ names) (declare_at z.types place x (Some r) home scope u).result (λ w. nothing)
 declare_some_sim {z} u c place x by_value r v good =
     temp_sim u x (word_of r) (number v) (λ k knows. (word-is z x.of _ u r k v knows.0, word-of-value z x.of v good (is-value z x.of r v knows.0.good)))
@@ -154,7 +154,7 @@ abbrev FirstType : List TypeId → TypedName → Type 0
 FirstType [] x = Unit {0}
 FirstType (t ∷ ts) x = t ≡ x.of
 
-abbrev types_behind : List TypeId → List TypeId
+abbrev pub types_behind : List TypeId → List TypeId
 types_behind [] = []
 types_behind (t ∷ ts) = ts
 
@@ -163,7 +163,7 @@ first-of-well : (z : Setting) (homes : List Home) (k : ℕ) (x : TypedName) (xs 
 first-of-well z homes k x xs [] h = (h.0, tt, h.1)
 first-of-well z homes k x xs (t ∷ ts) h = (h.0, h.1, h.2)
 
-all-behind : (z : Setting) (scope : Holders) (u : Used) (ts : List TypeId) (rs : List Result) (vs : List Value) (k : Private) → AllMean z scope u ts rs vs k → AllMean z scope u (types_behind ts) (rest rs) (behind vs) k
+pub all-behind : (z : Setting) (scope : Holders) (u : Used) (ts : List TypeId) (rs : List Result) (vs : List Value) (k : Private) → AllMean z scope u ts rs vs k → AllMean z scope u (types_behind ts) (rest rs) (behind vs) k
 all-behind z scope u [] [] [] k h = tt
 all-behind z scope u (t ∷ ts) (r ∷ rs) (v ∷ vs) k h = h.1
 all-behind z scope u [] [] (v ∷ vs) k h = absurd h
@@ -206,7 +206,7 @@ module _ (z : Setting) (n : ℕ) (c' : Call) where
       (λ v. sim_facts (nothing ∷ all_of ts rs vs ∷ facts) (λ k1 knows. (all-behind z q.result q.used ts rs vs k1 knows.1.0, knows.1.1))
       (declare_all_sim a (x ∷ names) q.result facts q.used place xs (suc k) (types_behind ts) (rest rs) (behind vs) h.2))
 
-under-one : (types : List TypeForm) (place : Place) (x : TypedName) (v : Option Result) (home : Home) (names : List TypedName) (scope : Holders) (u : Used) → Under names scope (x ∷ names) (declare_at types place x v home scope u).result
+pub under-one : (types : List TypeForm) (place : Place) (x : TypedName) (v : Option Result) (home : Home) (names : List TypedName) (scope : Holders) (u : Used) → Under names scope (x ∷ names) (declare_at types place x v home scope u).result
 under-one types place x None by_value names scope u = record { ns = x ∷ []; bs = record { symbol = x.symbol; holder = in_temp u.temps } ∷ []; names_are = refl; scope_is = refl; long = refl }
 under-one types place x (Some v) by_value names scope u = record { ns = x ∷ []; bs = record { symbol = x.symbol; holder = in_temp u.temps } ∷ []; names_are = refl; scope_is = refl; long = refl }
 under-one types place x None (in_frame o) names scope u = record { ns = x ∷ []; bs = record { symbol = x.symbol; holder = at_offset o } ∷ []; names_are = refl; scope_is = refl; long = refl }

@@ -43,15 +43,15 @@ after-loop (does i ∷ is) at = after-loop is (step_on at)
 after-loop (ends e ∷ is) at = after-loop is (start_of (suc at.block))
 
 -- the inside of a `while`
-abbrev while_code : List Item → Operand → List Item → List Item
+abbrev pub while_code : List Item → Operand → List Item → List Item
 while_code code test body = code ++ ends (tests test (suc (count_ends body))) ∷ (body ++ ends (repeats (count_ends code + suc (count_ends body))) ∷ [])
 
-while-count : (code body : List Item) (test : Operand) → count_ends (while_code code test body) ≡ count_ends code + suc (count_ends body + 1)
+pub while-count : (code body : List Item) (test : Operand) → count_ends (while_code code test body) ≡ count_ends code + suc (count_ends body + 1)
 while-count code body test =
     ends-append code (ends (tests test (suc (count_ends body))) ∷ (body ++ ends (repeats (count_ends code + suc (count_ends body))) ∷ []))
     ∙ ap (λ m. count_ends code + suc m) (ends-append body (ends (repeats (count_ends code + suc (count_ends body))) ∷ []))
 
-while-after : (code body : List Item) (test : Operand) (b0 : ℕ) → after (while_code code test body) (start_of b0) ≡ start_of (b0 + count_ends (while_code code test body))
+pub while-after : (code body : List Item) (test : Operand) (b0 : ℕ) → after (while_code code test body) (start_of b0) ≡ start_of (b0 + count_ends (while_code code test body))
 while-after code body test b0 =
     let start = start_of b0 in
     let q = after code start in

@@ -55,7 +55,7 @@ both-words z scope facts ts rs vs = λ u k knows. (first-word z scope u ts rs vs
 pub good-number : (z : Setting) (of : TypeId) (o : Operand) (m : ℕ) → HasNumber (form_at z.types of) → Good z the_value of (a_word o) (word (wrapped (width_of z.types of) m))
 good-number z of o m h = ((load-number z of (form_at z.types of) refl h).1, wrapped-again (form_at z.types of) m)
 
-number-width_at : (z : Setting) (of : TypeId) → HasNumber (form_at z.types of) → flow.width_of (number_of z.types of) ≡ width_of z.types of
+pub number-width_at : (z : Setting) (of : TypeId) → HasNumber (form_at z.types of) → flow.width_of (number_of z.types of) ≡ width_of z.types of
 number-width_at z of h = number-width (form_at z.types of) h
 
 from-zero : (w : Width) (x : ℕ) → applied w operators.Subtract 0 x ≡ negated w x

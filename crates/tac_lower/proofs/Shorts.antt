@@ -38,7 +38,7 @@ pub record Tested (z : Setting) (names : List TypedName) (scope : Holders) (u1 u
   pub is : nat_eq (word_in private test) 0 ≡ not goes
 
 -- a temporary of its own is written again
-fine-set : (z : Setting) (names : List TypedName) (scope : Holders) (u u1 : Used) (k k1 : Private) (s s1 : State) (x : ℕ) → u.temps ≤ u1.temps → Fine z names scope u k s → Fine z names scope u1 k1 s1 →
+pub fine-set : (z : Setting) (names : List TypedName) (scope : Holders) (u u1 : Used) (k k1 : Private) (s s1 : State) (x : ℕ) → u.temps ≤ u1.temps → Fine z names scope u k s → Fine z names scope u1 k1 s1 →
     Fine z names scope u1 (with_word u.temps x k1) s1
 fine-set z names scope u u1 k k1 s s1 x le a b = record {
   holds = holds-later z names scope s1.variables u.temps u1.temps k1 (with_word u.temps x k1) le (λ t lt. put-below k1.temps u.temps x t lt)

@@ -16,7 +16,7 @@ use Rattle.tac_lower.proofs.Places.{Point, step_on, after, DoesAt}
 use Rattle.tac_lower.proofs.Standing.{Setting, Private, stands, one-step, Elsewhere, Apart, Is, below, Holds, Fine, Grown, Good, Means, Comes, Leaves}
 use Rattle.tac_lower.proofs.Simulates.{Fact, one_of, Knows, KnowsAll, whole, Over, Sim, grown-none, keeps-none, facts-later}
 
-nat_eq-ne : (a b : ℕ) → a ≢ b → nat_eq a b ≡ false
+pub nat_eq-ne : (a b : ℕ) → a ≢ b → nat_eq a b ≡ false
 nat_eq-ne a b ne = ⊎_elim (λ t. absurd (ne t.1)) (λ f. f.0) (eqb_tells a b)
 
 pub put-same : {A : Type 0} → (all : ℕ → A) (d : ℕ) (x : A) → put all d x d ≡ x

@@ -190,19 +190,19 @@ pub record Counting : Type 0 where
   pub limit : Operand
   pub step : Operand
 
-abbrev step_in : List Result → Operand
+abbrev pub step_in : List Result → Operand
 step_in [] = Constant 1
 step_in (v ∷ vs) = word_of v
 
 abbrev pub counting : Number → List Result → (value : ℕ) → Counting
 counting number vs value = record { number = number; value = value; limit = word_at vs 1; step = step_in (rest (rest vs)) }
 
-abbrev is_one : Operand → Bool
+abbrev pub is_one : Operand → Bool
 is_one (Constant step) = nat_eq step 1
 is_one (Temp t) = false
 
 -- a step that may be below zero: below the limit where it is above zero, and above the limit where it is below
-abbrev either_way : Counting → Operand → Used → Piece Result
+abbrev pub either_way : Counting → Operand → Used → Piece Result
 either_way k below u =
     then_piece (compute operators.Less k.number k.limit (Temp k.value) u) (λ above u1.
     then_piece (compute operators.Less k.number k.step (Constant 0) u1) (λ falls u2.
@@ -211,7 +211,7 @@ either_way k below u =
     then_piece (compute operators.And whole_word (word_of rises) below u4) (λ rising u5.
     compute operators.Or whole_word (word_of falling) (word_of rising) u5)))))
 
-abbrev with_step : Counting → Operand → Used → Piece Result
+abbrev pub with_step : Counting → Operand → Used → Piece Result
 with_step k below u =
     then_piece (compute operators.NotEqual whole_word k.step (Constant 0) u) (λ moves u'.
     if k.number.signed then either_way k below u' else compute operators.And whole_word below (word_of moves) u')
@@ -223,7 +223,7 @@ runs k u =
     if is_one k.step then known below u' else with_step k (word_of below) u')
 
 -- the value of a `for` goes on behind the count
-abbrev counted_on : Counting → Item
+abbrev pub counted_on : Counting → Item
 counted_on k = does (Compute k.value operators.Add k.number (Temp k.value) k.step)
 
 -- a test, what is done where it holds, and the way back to the test
