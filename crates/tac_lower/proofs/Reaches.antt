@@ -93,7 +93,7 @@ told_in z x of names scope u k s holder fine i e =
     let same : l.holder ≡ holder = grind (arith, l.here, e) in
     (l.value, l.there, subst (λ h. Told z of h l.value k) same (told z of l.holder l.value u.temps k l.is))
 
-no_holder : (z : Setting) (x : SymId) (of : TypeId) (names : List TypedName) (scope : Holders) (u : Used) (k : Private) (s : State) →
+pub no_holder : (z : Setting) (x : SymId) (of : TypeId) (names : List TypedName) (scope : Holders) (u : Used) (k : Private) (s : State) →
     Fine z names scope u k s → InScope x of names → holder_of x scope ≡ None → ⊥
 no_holder z x of names scope u k s fine i e =
     let l = lies-in z x of names scope s.variables u.temps k fine.holds i in

@@ -4,10 +4,11 @@ use Rattle.tl_base.specs.declared.ids.TypeId.{TypeId}
 use Rattle.terra_words.specs.Runs.{Value, word, bytes}
 use Rattle.terra_term.specs.declared.lists.TypedName.{TypedName}
 use Rattle.terra_meaning.specs.Running.{State, Got, Gives, Ends, next}
-use Rattle.terra_meaning.specs.Meaning.{Wanted, the_value}
+use Rattle.terra_meaning.specs.Meaning.{Wanted, the_value, the_address}
 use Rattle.tac_form.specs.declared.tac.Operand.TheVariants.{Temp, Constant}
 use Rattle.tac_form.specs.Flow.{Goes, Stops}
 use Rattle.tac_lower.specs.Pieces.{Used, Piece, then_piece, Result, a_word, an_area, an_offset, Holders}
+use Rattle.tac_lower.specs.Lowering.{Target, to_temp, to_place}
 use Rattle.tac_lower.proofs.Places.{Point, after, after-append, HasAt, has-front, has-back}
 use Rattle.tac_lower.proofs.Standing.{Setting, Private, stands, Leads, leads-to, value_in, Apart, Fine, Keeps, Grown, Own, Means, Comes, Leaves}
 
@@ -16,16 +17,28 @@ pub data Fact : Type 0 where
   nothing : Fact
   one_of : Wanted → TypeId → Result → Value → Fact
   all_of : List TypeId → List Result → List Value → Fact
+  aims : List TypeId → List Target → List Value → Fact
 
 abbrev pub AllMean : Setting → Holders → Used → List TypeId → List Result → List Value → Private → Type 0
 AllMean z scope u [] [] [] k = Unit {0}
 AllMean z scope u (t ∷ ts) (r ∷ rs) (v ∷ vs) k = Means z the_value t scope u r k v × AllMean z scope u ts rs vs k
 AllMean z scope u _ _ _ k = ⊥
 
+-- the target of an assignment, and the address at which it lies if it has one
+abbrev pub Aims : Setting → Holders → Used → TypeId → Target → Value → Private → Type 0
+Aims z scope u t (to_temp d) v k = Unit {0}
+Aims z scope u t (to_place r) v k = Means z the_address t scope u r k v
+
+abbrev pub AllAim : Setting → Holders → Used → List TypeId → List Target → List Value → Private → Type 0
+AllAim z scope u [] [] [] k = Unit {0}
+AllAim z scope u (t ∷ ts) (p ∷ ps) (v ∷ vs) k = Aims z scope u t p v k × AllAim z scope u ts ps vs k
+AllAim z scope u _ _ _ k = ⊥
+
 abbrev pub Knows : Setting → Holders → Used → Fact → Private → Type 0
 Knows z scope u nothing k = Unit {0}
 Knows z scope u (one_of want of r v) k = Means z want of scope u r k v
 Knows z scope u (all_of ts rs vs) k = AllMean z scope u ts rs vs k
+Knows z scope u (aims ts ps vs) k = AllAim z scope u ts ps vs k
 
 abbrev pub KnowsAll : Setting → Holders → Used → List Fact → Private → Type 0
 KnowsAll z scope u [] k = Unit {0}
@@ -105,11 +118,27 @@ all-later z scope scope' u v k k' g over keeps [] (r ∷ rs) xs h = absurd h
 all-later z scope scope' u v k k' g over keeps (t ∷ ts) [] xs h = absurd h
 all-later z scope scope' u v k k' g over keeps (t ∷ ts) (r ∷ rs) [] h = absurd h
 
+aims-later : (z : Setting) (scope scope' : Holders) (u v : Used) (k k' : Private) → Grown u v → Over scope u scope' → Keeps scope u k k' →
+    (t : TypeId) (p : Target) (x : Value) → Aims z scope u t p x k → Aims z scope' v t p x k'
+aims-later z scope scope' u v k k' g over keeps t (to_temp d) x h = tt
+aims-later z scope scope' u v k k' g over keeps t (to_place r) x h = means-later z the_address t scope scope' u v r k k' x g over keeps h
+
+all-aim-later : (z : Setting) (scope scope' : Holders) (u v : Used) (k k' : Private) → Grown u v → Over scope u scope' →
+    Keeps scope u k k' → (ts : List TypeId) (ps : List Target) (vs : List Value) → AllAim z scope u ts ps vs k → AllAim z scope' v ts ps vs k'
+all-aim-later z scope scope' u v k k' g over keeps [] [] [] h = tt
+all-aim-later z scope scope' u v k k' g over keeps (t ∷ ts) (p ∷ ps) (x ∷ xs) h =
+    (aims-later z scope scope' u v k k' g over keeps t p x h.0, all-aim-later z scope scope' u v k k' g over keeps ts ps xs h.1)
+all-aim-later z scope scope' u v k k' g over keeps [] [] (x ∷ xs) h = absurd h
+all-aim-later z scope scope' u v k k' g over keeps [] (p ∷ ps) xs h = absurd h
+all-aim-later z scope scope' u v k k' g over keeps (t ∷ ts) [] xs h = absurd h
+all-aim-later z scope scope' u v k k' g over keeps (t ∷ ts) (p ∷ ps) [] h = absurd h
+
 knows-later : (z : Setting) (scope scope' : Holders) (u v : Used) (k k' : Private) → Grown u v → Over scope u scope' → Keeps scope u k k' →
     (f : Fact) → Knows z scope u f k → Knows z scope' v f k'
 knows-later z scope scope' u v k k' g over keeps nothing h = tt
 knows-later z scope scope' u v k k' g over keeps (one_of want of r x) h = means-later z want of scope scope' u v r k k' x g over keeps h
 knows-later z scope scope' u v k k' g over keeps (all_of ts rs vs) h = all-later z scope scope' u v k k' g over keeps ts rs vs h
+knows-later z scope scope' u v k k' g over keeps (aims ts ps vs) h = all-aim-later z scope scope' u v k k' g over keeps ts ps vs h
 
 pub facts-later : (z : Setting) (scope scope' : Holders) (u v : Used) (k k' : Private) → Grown u v → Over scope u scope' → Keeps scope u k k' →
     (fs : List Fact) → KnowsAll z scope u fs k → KnowsAll z scope' v fs k'

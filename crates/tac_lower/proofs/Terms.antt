@@ -1,6 +1,5 @@
--- The code of each term does what the term means, by recursion on the term. What isn't proved yet: operations are a
--- premise here, and no term with an assignment, `or`, `repeat` or `for` has what is needed.
-use Rattle.std.proofs.Common.{◌≡◌, ℕ, ◌+◌, ◌<◌, ◌≤◌, true, false, List, [], ◌∷◌, refl, ap, ◌∙◌, subst}
+-- The code of each term does what the term means, by recursion on the term. Operations are a premise here.
+use Rattle.std.proofs.Common.{◌≡◌, ℕ, suc, ◌+◌, ◌<◌, ◌≤◌, Some, true, false, List, [], ◌∷◌, refl, ap, ◌∙◌, subst}
 use Rattle.std.specs.Prelude.{◌^◌, ◌*◌, not, if◌then◌else◌}
 use Rattle.tl_base.specs.declared.place.Place.{Place}
 use Rattle.tl_base.specs.declared.ids.TypeId.{TypeId}
@@ -14,29 +13,31 @@ use Rattle.terra_term.specs.TypedTerms.{Expression, typed, Constant', Variable, 
 use Rattle.terra_term.specs.Stores.{Contents}
 use Rattle.terra_term.specs.WellTyped.{Within}
 use Rattle.terra_meaning.specs.Values.{form_at, bytes_at, is_aggregate, IsValue}
-use Rattle.terra_meaning.specs.Frames.{Home}
+use Rattle.terra_meaning.specs.Frames.{Home, home_at}
 use Rattle.terra_meaning.specs.Running.{State, Got, Gives, Ends, next}
 use Rattle.terra_meaning.specs.Meaning as meaning
 use Rattle.terra_meaning.specs.Meaning.{Call, Wanted, the_value, the_address, Way, goes_on, breaks, gives_back, along, rounds, constant, types_of, in_expression, in_list, in_statement, in_block, meant, meant_all, done_one, done_all, operated}
 use Rattle.tac_form.specs.declared.tac.Operand.{Operand}
 use Rattle.tac_form.specs.declared.tac.Operand.TheVariants.{Temp, Constant}
-use Rattle.tac_lower.specs.Pieces.{Used, known, with_temp, Piece, then_piece, taken, Result, a_word, word_of, located, Holders, Around, declare_all}
-use Rattle.tac_lower.specs.Lowering.{piece, pieces, one, all, operation, reached, entry, element, opposite}
+use Rattle.tac_lower.specs.Pieces.{Used, known, with_temp, Piece, then_piece, taken, Result, a_word, word_of, located, Holders, Around, declare, declare_all, number_of}
+use Rattle.tac_lower.specs.Lowering.{piece, pieces, targets, aimed, assigned_all, one, all, operation, reached, entry, element, opposite, counting, runs}
 use Rattle.tac_lower.proofs.Places.{after}
 use Rattle.tac_lower.proofs.Standing.{Setting, Good, Leaves}
-use Rattle.tac_lower.proofs.Simulates.{Fact, one_of, all_of, Sim, then_sim, grown-none}
+use Rattle.tac_lower.proofs.Simulates.{Fact, nothing, one_of, all_of, aims, Sim, then_sim, grown-none}
 use Rattle.tac_lower.proofs.Writes.{grown-temp, known_sim, taken_with_sim}
-use Rattle.tac_lower.proofs.Words.{value-small}
+use Rattle.tac_lower.proofs.Words.{value-small, HasNumber}
 use Rattle.tac_lower.proofs.Loads.{sim_as, next-same, reached_sim, word-is, is-value}
 use Rattle.tac_lower.proofs.Reaches.{address-word, located-number, InScope, variable_sim, entry_sim, follow_sim, located_sim, element_sim, own-word}
 use Rattle.tac_lower.proofs.Acts.{Acts, WayOk, under-self, acts_none, acts_then, acts_scoped}
-use Rattle.tac_lower.proofs.Declares.{declared_names, DeclaresWell, declare_all_sim, declares-under}
+use Rattle.tac_lower.proofs.Declares.{GoodHome, declared_names, DeclaresWell, declare_some_sim, declare_all_sim, under-one, declares-under}
 use Rattle.tac_lower.proofs.Branches.{acts_sim, acts_break, acts_return, acts_finish, acts_if}
 use Rattle.tac_lower.proofs.Choices.{acts_choice, in_let, let_sim}
 use Rattle.tac_lower.proofs.Shorts.{short_sim, both_tests, either_tests, plain-bool, next-not}
 use Rattle.tac_lower.proofs.Rounds.{in_loop}
 use Rattle.tac_lower.proofs.Loops.{acts_while}
 use Rattle.tac_lower.proofs.Repeats.{acts_repeat}
+use Rattle.tac_lower.proofs.Fors.{Begins, acts_for}
+use Rattle.tac_lower.proofs.Targets.{VariableIn, VariablesIn, ReadsVariable, AreAimed, is-aimed, aimed_sim, assigned_all_sim}
 
 -- what is asked for is a value
 abbrev IsValueWanted : Wanted → Type 0
@@ -70,6 +71,19 @@ acts_as {z} {n} {w} {names} {names'} {scope} {u} {r} go go' e x = record {
 next-next : {A B D : Type 0} (g : Got A) (f : A → State → Got B) (h : B → State → Got D) → next (next g f) h ≡ next g (λ x s. next (f x s) h)
 next-next (Gives x s) f h = refl
 next-next (Ends r) f h = refl
+
+-- what follows two parts, told at once or one part after the other
+next-under : {A B D : Type 0} (g : Got A) (f : State → Got B) (h : A → B → State → Got D) →
+    next g (λ x s. next (next (f s) (λ y s'. h x y s')) (λ d s'. Gives goes_on s'))
+    ≡ next g (λ x s. next (f s) (λ y s'. next (h x y s') (λ d s''. Gives goes_on s'')))
+next-under (Ends r) f h = refl
+next-under (Gives x s) f h = next-next (f s) (λ y s'. h x y s') (λ d s'. Gives goes_on s')
+
+-- the scope stays
+scope_taken : {A B : Type 0} {z : Setting} {n : ℕ} {names : List TypedName} {scope : Holders} {facts : List Fact} {u : Used}
+    {go : State → Got B} {post : B → Fact} (p : Piece A) → Sim z n names scope facts u p go names scope post →
+    Sim z n names scope facts u (taken (λ b. scope) p) go names scope post
+scope_taken p x = record { grown = x.grown; over = x.over; run = x.run }
 
 -- an expression whose value isn't kept
 perform : {B : Type 0} {z : Setting} {n : ℕ} {names : List TypedName} {scope : Holders} {u : Used} {p : Piece Result} {go : State → Got B} {post : B → Fact} →
@@ -112,16 +126,23 @@ module _ (z : Setting) (n : ℕ) (st : Contents) (entries : List FnId) (homes : 
     NeedsAll names from no_more = Unit {0}
     NeedsAll names from (then_one e es) = Needs the_value names from e × NeedsAll names (from + in_expression e) es
 
+    pub NeedsTargets : List TypedName → ℕ → Expressions → Type 0
+    NeedsTargets names from no_more = Unit {0}
+    NeedsTargets names from (then_one e es) = Needs the_address names from e × NeedsTargets names (from + in_expression e) es
+
     pub NeedsOne : Within → List TypedName → ℕ → Statement → Type 0
     NeedsOne w names from (statement at (Var xs values)) = NeedsAll names from values × DeclaresWell z homes (from + in_list values) xs (types_of values)
-    NeedsOne w names from (statement at (Assign places values)) = ⊥
+    NeedsOne w names from (statement at (Assign places values)) =
+        NeedsAll names from values × NeedsTargets names (from + in_list values) places × (types_of places ≡ types_of values)
     NeedsOne w names from (statement at (If test block)) = Needs the_value names from test × NeedsBlock w names (from + in_expression test) block
     NeedsOne w names from (statement at (IfElse test block other)) =
         Needs the_value names from test × NeedsBlock w names (from + in_expression test) block × NeedsBlock w names (from + in_expression test + in_block block) other
     NeedsOne w names from (statement at (While test body)) = Needs the_value names from test × NeedsBlock (in_loop w) names (from + in_expression test) body
     NeedsOne w names from (statement at (Repeat body test)) =
         NeedsBlock (in_loop w) names from body × Needs the_value (names_after body names) (from + in_block body) test
-    NeedsOne w names from (statement at (For x bounds body)) = ⊥
+    NeedsOne w names from (statement at (For x bounds body)) =
+        NeedsAll names from bounds × HasNumber (form_at z.types x.of) × Begins x.of (types_of bounds) ×
+        GoodHome z x.of (home_at homes (from + in_list bounds)) × NeedsBlock (in_loop w) (x ∷ names) (suc (from + in_list bounds)) body
     NeedsOne w names from (statement at (Do body)) = NeedsBlock w names from body
     NeedsOne w names from (statement at Break) = w.in_loop ≡ true
     NeedsOne w names from (statement at Finish) = IsValue z.types w.result (word 0) × (w.in_let ≡ false)
@@ -131,6 +152,35 @@ module _ (z : Setting) (n : ℕ) (st : Contents) (entries : List FnId) (homes : 
     pub NeedsBlock : Within → List TypedName → ℕ → Statements → Type 0
     NeedsBlock w names from done = Unit {0}
     NeedsBlock w names from (and_then s ss) = NeedsOne w names from s × NeedsBlock w (names_after_one s names) (from + in_statement s) ss
+
+  -- a target that is a variable is in scope, and the meaning reads it
+  variable-in : (names : List TypedName) (from : ℕ) (e : Expression) → Needs the_address names from e →
+      VariableIn names e × ReadsVariable z e (meant c the_address e from)
+  variable-in names from (typed at of (Variable x)) needs = (needs, λ s. refl)
+  variable-in names from (typed at of (Constant' c)) needs = (tt, tt)
+  variable-in names from (typed at of (Global a)) needs = (tt, tt)
+  variable-in names from (typed at of (Operate op es)) needs = (tt, tt)
+  variable-in names from (typed at of (Both b1 b2)) needs = (tt, tt)
+  variable-in names from (typed at of (Either b1 b2)) needs = (tt, tt)
+  variable-in names from (typed at of (Dereference q)) needs = (tt, tt)
+  variable-in names from (typed at of (Select o e1)) needs = (tt, tt)
+  variable-in names from (typed at of (Follow o q)) needs = (tt, tt)
+  variable-in names from (typed at of (Element b1 i)) needs = (tt, tt)
+  variable-in names from (typed at of (Index q i)) needs = (tt, tt)
+  variable-in names from (typed at of (Address e1)) needs = (tt, tt)
+  variable-in names from (typed at of (Decay e1)) needs = (tt, tt)
+  variable-in names from (typed at of (Let ss e1)) needs = (tt, tt)
+
+  variables-in : (names : List TypedName) (from : ℕ) (es : Expressions) → NeedsTargets names from es → VariablesIn names es
+  variables-in names from no_more needs = tt
+  variables-in names from (then_one e es) needs =
+      ((variable-in names from e needs.0).0, variables-in names (from + in_expression e) es needs.1)
+
+  are-aimed : (scope : Holders) (es : Expressions) (from : ℕ) (u : Used) → AreAimed scope es (targets a es from scope u).result
+  are-aimed scope no_more from u = tt
+  are-aimed scope (then_one e es) from u =
+      let p = aimed scope e (piece a the_address e from scope u) u in
+      (is-aimed scope e (piece a the_address e from scope u) u, are-aimed scope es (from + in_expression e) p.used)
 
   module _
       (enough : n ≤ turns)
@@ -265,6 +315,22 @@ module _ (z : Setting) (n : ℕ) (st : Contents) (entries : List FnId) (homes : 
           (expressions_sim es (from + in_expression e) names scope (one_of the_value (type_of e) q.result v ∷ facts) q.used needs.1)
           (λ vs k knows h. (knows.0, h)))
 
+      pub targets_sim : (es : Expressions) (from : ℕ) (names : List TypedName) (scope : Holders) (facts : List Fact) (u : Used) →
+          NeedsTargets names from es →
+          Sim z n names scope facts u (targets a es from scope u) (meant_all c the_address es from) names scope
+          (λ vs. aims (types_of es) (targets a es from scope u).result vs)
+      targets_sim no_more from names scope facts u needs = known_sim u [] [] (λ k s fine knows. tt)
+      targets_sim (then_one e es) from names scope facts u needs =
+          let v = variable-in names from e needs.0 in
+          let q = aimed scope e (piece a the_address e from scope u) u in
+          then_sim (λ p u'. taken (λ ps. p ∷ ps) (targets a es (from + in_expression e) scope u'))
+          (λ v s'. next (meant_all c the_address es (from + in_expression e) s') (λ vs s''. Gives (v ∷ vs) s'')) (word 0)
+          (aimed_sim u e (piece a the_address e from scope u) (meant c the_address e from) v.0 v.1
+          (expression_sim the_address e from names scope facts u needs.0))
+          (λ v. taken_with_sim (λ ps. q.result ∷ ps) (λ vs. v ∷ vs)
+          (targets_sim es (from + in_expression e) names scope (aims (type_of e ∷ []) (q.result ∷ []) (v ∷ []) ∷ facts) q.used needs.1)
+          (λ vs k knows h. (knows.0.0, h)))
+
       pub statement_acts : (s : Statement) (from : ℕ) (w : Within) (names : List TypedName) (scope : Holders) (u : Used) → NeedsOne w names from s →
           Acts z n w names scope u (one a s from scope u) (done_one c s from) (names_after_one s names)
       statement_acts (statement at (Var xs values)) from w names scope u needs =
@@ -276,7 +342,31 @@ module _ (z : Setting) (n : ℕ) (st : Contents) (entries : List FnId) (homes : 
           (expressions_sim values from names scope [] u needs.0)
           (λ vs. declare_all_sim z n c a names scope [] q.used at xs (from + in_list values) (types_of values) q.result vs needs.1))
           (declares-under a at xs (from + in_list values) q.result names scope q.used))
-      statement_acts (statement at (Assign places values)) from w names scope u needs = absurd needs
+      statement_acts (statement at (Assign places values)) from w names scope u needs =
+          let q = pieces a values from scope u in
+          let p = targets a places (from + in_list values) scope q.used in
+          let then_targets : List Value → State → Got (List Value) = λ vs s'. meant_all c the_address places (from + in_list values) s' in
+          let go2 : List Value → State → Got Value = λ vs s'. next (meant_all c the_address places (from + in_list values) s')
+          (λ ws s''. meaning.assigned_all z.types places ws vs s'') in
+          acts_as (λ s. next (next (meant_all c the_value values from s) go2) (λ v s'. Gives goes_on s'))
+          (done_one c (statement at (Assign places values)) from)
+          (λ s. next-next (meant_all c the_value values from s) go2 (λ v s'. Gives goes_on s')
+          ∙ next-under (meant_all c the_value values from s) (meant_all c the_address places (from + in_list values))
+          (λ vs ws s''. meaning.assigned_all z.types places ws vs s''))
+          (acts_sim
+          (then_sim (λ vs u1. then_piece (targets a places (from + in_list values) scope u1)
+          (λ ps u2. taken (λ b. scope) (assigned_all z.types places ps vs u2))) go2 []
+          (expressions_sim values from names scope [] u needs.0)
+          (λ vs. then_sim {post = λ w. nothing} (λ ps u2. taken (λ b. scope) (assigned_all z.types places ps q.result u2))
+          (λ ws s''. meaning.assigned_all z.types places ws vs s'') []
+          (targets_sim places (from + in_list values) names scope (all_of (types_of values) q.result vs ∷ []) q.used needs.1)
+          (λ ws. scope_taken (assigned_all z.types places p.result q.result p.used)
+          (subst (λ ts. Sim z n names scope (aims (types_of places) p.result ws ∷ all_of ts q.result vs ∷ []) p.used
+          (assigned_all z.types places p.result q.result p.used) (meaning.assigned_all z.types places ws vs) names scope (λ w. nothing))
+          needs.2
+          (assigned_all_sim p.used places p.result q.result ws vs (are-aimed scope places (from + in_list values) q.used)
+          (variables-in names (from + in_list values) places needs.1))))))
+          (under-self names scope))
       statement_acts (statement at (If test block)) from w names scope u needs =
           acts_if (type_of test) (expression_sim the_value test from names scope [] u needs.0)
           (block_acts block (from + in_expression test) w names scope (piece a the_value test from scope u).used needs.1)
@@ -292,7 +382,17 @@ module _ (z : Setting) (n : ℕ) (st : Contents) (entries : List FnId) (homes : 
           let r = all a body from scope u in
           acts_repeat (type_of test) turns enough (block_acts body from (in_loop w) names scope u needs.0)
           (expression_sim the_value test (from + in_block body) (names_after body names) r.result [] r.used needs.1)
-      statement_acts (statement at (For x bounds body)) from w names scope u needs = absurd needs
+      statement_acts (statement at (For x bounds body)) from w names scope u needs =
+          let q = pieces a bounds from scope u in
+          let number = from + in_list bounds in
+          let k = counting (number_of z.types x.of) q.result q.used.temps in
+          let t = runs k (with_temp q.used) in
+          let d = declare a at x (Some (a_word (Temp q.used.temps))) number scope t.used in
+          acts_for x (types_of bounds) d (all a body (suc number) d.result d.used) (λ i s. meaning.declared c at x (Some (word i)) number s)
+          (λ s. done_all c body (suc number) s) turns enough needs.1 needs.2 (expressions_sim bounds from names scope [] u needs.0)
+          (λ vs i. declare_some_sim t.used c at x (home_at homes number) (a_word (Temp q.used.temps)) (word i) needs.3)
+          (under-one z.types at x (Some (a_word (Temp q.used.temps))) (home_at homes number) names scope t.used)
+          (block_acts body (suc number) (in_loop w) (x ∷ names) d.result d.used needs.4)
       statement_acts (statement at (Do body)) from w names scope u needs = acts_scoped (block_acts body from w names scope u needs)
       statement_acts (statement at Break) from w names scope u needs = acts_break u needs
       statement_acts (statement at Finish) from w names scope u needs = acts_finish u needs.0 needs.1

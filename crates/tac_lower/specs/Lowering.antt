@@ -163,7 +163,7 @@ pub data Target : Type 0 where
   to_temp : ℕ → Target
   to_place : Result → Target
 
-abbrev target_at : Option Holder → Piece Result → Used → Piece Target
+abbrev pub target_at : Option Holder → Piece Result → Used → Piece Target
 target_at (Some (in_temp t)) p u = known (to_temp t) u
 target_at _ p u = taken to_place p
 
