@@ -42,7 +42,7 @@ true-flag true = refl
 true-flag false = refl
 
 -- what a part gives that always gives the same
-fixed_sim : {A B : Type 0} {z : Setting} {n : ℕ} {names names' : List TypedName} {scope scope' : Holders} {facts : List Fact} {u : Used}
+pub fixed_sim : {A B : Type 0} {z : Setting} {n : ℕ} {names names' : List TypedName} {scope scope' : Holders} {facts : List Fact} {u : Used}
     {r : Piece A} {post : B → Fact} (b : B) → Sim z n names scope facts u r (λ s. Gives b s) names' scope' post →
     Sim z n names scope facts u r (λ s. Gives b s) names' scope' (λ c. post b)
 fixed_sim b x = record { grown = x.grown; over = x.over; run = x.run }

@@ -44,7 +44,7 @@ Begins of (t ∷ ts) = t ≡ of
 
 -- the first value, and the step
 
-first-value : (z : Setting) (scope : Holders) (u : Used) (of : TypeId) (ts : List TypeId) (rs : List Result) (vs : List Value)
+pub first-value : (z : Setting) (scope : Holders) (u : Used) (of : TypeId) (ts : List TypeId) (rs : List Result) (vs : List Value)
     (k : Private) → Begins of ts → AllMean z scope u ts rs vs k → IsValue z.types of (value_at vs 0)
 first-value z scope u of [] rs vs k b h = absurd b
 first-value z scope u of (t ∷ ts) (r ∷ rs) (v ∷ vs) k b h = subst (λ y. IsValue z.types y v) b (is-value z t r v h.0.good)

@@ -136,7 +136,7 @@ is-value z of (an_offset o) v h = absurd h
 
 -- ranges
 
-part-length : (bs : List ℕ) (at count : ℕ) → at + count ≤ length bs → length (part bs at count) ≡ count
+pub part-length : (bs : List ℕ) (at count : ℕ) → at + count ≤ length bs → length (part bs at count) ≡ count
 part-length bs at count le = length-take-le count (drop at bs) (let e = length-drop at bs in omega (arith, e, le))
 
 range-length : (r : Contents) (a n : ℕ) (bs : List ℕ) → range_of r a n ≡ Some bs → length bs ≡ n
@@ -228,13 +228,13 @@ read-number types place of form s (Some bs) plain w =
     ap (λ x. Gives (word (wrapped x (number_of bs))) s) w
     ∙ ap (λ b. Gives (if b then bytes bs else word (wrapped (width_of types of) (number_of bs))) s) (sym plain)
 
-bit-is : (m : ℕ) → wrapped (record { signed = false; bits = 64 }) (bit_and (wrapped (record { signed = false; bits = 8 }) m) 1) ≡ wrapped (record { signed = false; bits = 1 }) m
+pub bit-is : (m : ℕ) → wrapped (record { signed = false; bits = 64 }) (bit_and (wrapped (record { signed = false; bits = 8 }) m) 1) ≡ wrapped (record { signed = false; bits = 1 }) m
 unfolding wrapped
 bit-is m =
     let e : bit_and (m % 256) 1 ≡ m % 256 % 2 = and_mask (m % 256) 1 in
     ap (λ x. x % 2 ^ 64) e ∙ omega arith
 
-abbrev word_piece : TypeForm → Spot → Used → Piece Result
+abbrev pub word_piece : TypeForm → Spot → Used → Piece Result
 word_piece form from u = then_piece (loaded_number (number_in form) from u) (λ r u'. loaded_bit (bool_form form) r u')
 
 -- what code does at an address that it knows
@@ -253,7 +253,7 @@ number_sim {z} {n} {names} {scope} {facts} u place of form address a e h there =
     (λ m. (l.1, subst (λ w. wrapped (width_of z.types of) (wrapped w m) ≡ wrapped w m) (sym l.2) (wrapped-again (form_at z.types of) m))))
     (λ v. known_sim (with_temp u) (a_word (Temp u.temps)) v (λ k s fine knows. knows.0)))
 
-and-bit : (x : ℕ) → wrapped (record { signed = false; bits = 1 }) (applied (record { signed = false; bits = 64 }) operators.And x 1) ≡ applied (record { signed = false; bits = 64 }) operators.And x 1
+pub and-bit : (x : ℕ) → wrapped (record { signed = false; bits = 1 }) (applied (record { signed = false; bits = 64 }) operators.And x 1) ≡ applied (record { signed = false; bits = 64 }) operators.And x 1
 unfolding wrapped applied
 and-bit x =
     let e : bit_and x 1 ≡ x % 2 = and_mask x 1 in
@@ -307,24 +307,21 @@ area-size z size u g =
     ∙ ap (λ o. unwrap_or o 0) (slice_get-get_or (u.areas ++ size ∷ g.areas.0) (length u.areas) size lt)
     ∙ get_or-append_seam u.areas size g.areas.0 size
 
-overwritten-whole : (old bs : List ℕ) → length old ≤ length bs → overwritten old 0 bs ≡ bs
+pub overwritten-whole : (old bs : List ℕ) → length old ≤ length bs → overwritten old 0 bs ≡ bs
 overwritten-whole old bs le =
     let n : 0 + length bs ≡ length bs = omega arith in
     ap (λ m. bs ++ drop m old) n ∙ ap (λ l. bs ++ l) (drop_all (length bs) old le) ∙ append-nil bs
 
--- nothing is read into an area of no bytes
-empty_sim : {z : Setting} {n : ℕ} {names : List TypedName} {scope : Holders} {facts : List Fact} (u : Used) (place : Place) (of : TypeId) (a size : ℕ) →
+-- an area of no bytes holds none
+pub empty_sim : {z : Setting} {n : ℕ} {names : List TypedName} {scope : Holders} {facts : List Fact} (u : Used) (of : TypeId) (size : ℕ) →
     is_aggregate z.types of ≡ true → bytes_at z.types of ≡ size → size ≡ 0 →
-    Sim z n names scope facts u (known (an_area (length u.areas)) (with_area size u)) (meaning.loaded z.types place of a) names scope (λ v. one_of the_value of (an_area (length u.areas)) v)
-unfolding range_of
-empty_sim {z} {n} {names} {scope} {facts} u place of a size agg bytes_are e = record {
+    Sim z n names scope facts u (known (an_area (length u.areas)) (with_area size u)) (λ s. Gives (bytes []) s) names scope
+    (λ v. one_of the_value of (an_area (length u.areas)) v)
+empty_sim {z} {n} {names} {scope} {facts} u of size agg bytes_are e = record {
   grown = record { temps = omega arith; areas = (size ∷ [], refl) };
   over = λ t lt away. away;
   run = λ out at k s has whole_ fine knows less.
       let none : bytes_at z.types of ≡ 0 = bytes_are ∙ e in
-      let same : meaning.loaded z.types place of a s ≡ Gives (bytes []) s =
-      ap (λ m. meaning.read z.types place of s (range_of s.region a m)) none
-      ∙ ap (λ b. Gives (if b then bytes [] else word (wrapped (width_of z.types of) (number_of []))) s) agg in
       let empty : k.areas (length u.areas) ≡ [] =
       nil_from_length (k.areas (length u.areas)) (omega (arith, fine.small (length u.areas), area-size z size u whole_, e)) in
       let zero_long : 0 ≡ bytes_at z.types of = sym none in
@@ -333,16 +330,27 @@ empty_sim {z} {n} {names} {scope} {facts} u place of a size agg bytes_are e = re
         own = omega (arith, length-append u.areas (size ∷ []));
         good = (agg, zero_long);
       } in
-      subst (λ g. Leaves z at k s (λ v s'. Comes z names scope at u k s at names scope (with_area size u) s' (λ k1. Means z the_value of scope (with_area size u) (an_area (length u.areas)) k1 v)) g) (sym same)
-      (record {
+      record {
         private = k;
         leads = (0, refl);
         ok = ok;
         fine = record { holds = fine.holds; small = fine.small; sized = fine.sized };
         keeps = record { temps = λ t lt away. refl; areas = λ m lt. refl };
         fewer = omega arith;
-      });
+      };
 }
+
+-- nothing is read into it
+empty_read_sim : {z : Setting} {n : ℕ} {names : List TypedName} {scope : Holders} {facts : List Fact} (u : Used) (place : Place)
+    (of : TypeId) (a size : ℕ) → is_aggregate z.types of ≡ true → bytes_at z.types of ≡ size → size ≡ 0 →
+    Sim z n names scope facts u (known (an_area (length u.areas)) (with_area size u)) (meaning.loaded z.types place of a) names scope
+    (λ v. one_of the_value of (an_area (length u.areas)) v)
+unfolding range_of
+empty_read_sim {z} u place of a size agg bytes_are e =
+    sim_as (λ s. Gives (bytes []) s) (meaning.loaded z.types place of a) (λ s. sym (
+    ap (λ m. meaning.read z.types place of s (range_of s.region a m)) (bytes_are ∙ e)
+    ∙ ap (λ b. Gives (if b then bytes [] else word (wrapped (width_of z.types of) (number_of []))) s) agg))
+    (empty_sim u of size agg bytes_are e)
 
 -- bytes are moved into an area
 moved_sim : {z : Setting} {n : ℕ} {names : List TypedName} {scope : Holders} {facts : List Fact} (u : Used) (place : Place) (of : TypeId) (address : Address) (a size : ℕ) →
@@ -395,7 +403,7 @@ loaded_sim {z} {n} {names} {scope} {facts} u place of address a there = by (is_a
 
     by : (agg : Bool) → is_aggregate z.types of ≡ agg → (none : Bool) → nat_eq (bytes_at z.types of) 0 ≡ none →
         Sim z n names scope facts u (piece_by agg none) (meaning.loaded z.types place of a) names scope (λ v. one_of the_value of (piece_by agg none).result v)
-    by true agg true none = empty_sim u place of a (bytes_at z.types of) agg refl (eqb-true (bytes_at z.types of) 0 none)
+    by true agg true none = empty_read_sim u place of a (bytes_at z.types of) agg refl (eqb-true (bytes_at z.types of) 0 none)
     by true agg false none = moved_sim u place of address a (bytes_at z.types of) agg refl there
     by false agg true none = nothing_sim (eqb-true (bytes_at z.types of) 0 none) agg
       where

@@ -42,6 +42,7 @@ pub record Setting : Type 0 where
   pub memory : ℕ
   pub there : program.code function ≡ Some tac
   pub low : base + tac.frame < 2 ^ 64
+  pub room : memory ≤ 67108864
   pub sizes : (t : TypeId) → SizedBy (form_at types t) (bytes_at types t)
   pub boolean_is : form_at types boolean ≡ forms.Bool
   pub unit_is : form_at types unit ≡ forms.Unit

@@ -55,7 +55,7 @@ write-by z place at k s i None sized e = e
 write-by z place at k s i (Some r) sized e = record { moves = e; same = record { variables = refl; sized = sized r refl; left = refl } }
 
 -- how many bytes a word of a type has in memory
-store-size : (z : Setting) (of : TypeId) (form : TypeForm) → form_at z.types of ≡ form → is_aggregate z.types of ≡ false → bytes_at z.types of ≢ 0 →
+pub store-size : (z : Setting) (of : TypeId) (form : TypeForm) → form_at z.types of ≡ form → is_aggregate z.types of ≡ false → bytes_at z.types of ≢ 0 →
     flow.bytes_of (number_in form).size ≡ bytes_at z.types of
 store-size z of (forms.Integer i) e plain some = (load-number z of (forms.Integer i) e tt).0
 store-size z of (forms.Pointer t) e plain some = (load-number z of (forms.Pointer t) e tt).0
@@ -65,11 +65,11 @@ store-size z of forms.Unit e plain some = absurd (some (subst (λ f. SizedBy f (
 store-size z of (forms.Array t m) e plain some = let p : true ≡ false = subst (λ f. is_aggregate (f ∷ []) (record { 0 = 0 }) ≡ false) e plain in absurd (grind (arith, p))
 store-size z of (forms.Struct number placed layout) e plain some = let p : true ≡ false = subst (λ f. is_aggregate (f ∷ []) (record { 0 = 0 }) ≡ false) e plain in absurd (grind (arith, p))
 
-encoded-word : (z : Setting) (of : TypeId) (x : ℕ) → is_aggregate z.types of ≡ false → encoded z.types of (word x) ≡ low_bytes (bytes_at z.types of) x
+pub encoded-word : (z : Setting) (of : TypeId) (x : ℕ) → is_aggregate z.types of ≡ false → encoded z.types of (word x) ≡ low_bytes (bytes_at z.types of) x
 encoded-word z of x plain = ap (λ b. if b then [] else low_bytes (bytes_at z.types of) x) plain
 
 -- nothing is stored of a type of no bytes
-encoded-none : (z : Setting) (of : TypeId) (v : Value) → IsValue z.types of v → bytes_at z.types of ≡ 0 → encoded z.types of v ≡ []
+pub encoded-none : (z : Setting) (of : TypeId) (v : Value) → IsValue z.types of v → bytes_at z.types of ≡ 0 → encoded z.types of v ≡ []
 unfolding low_bytes
 encoded-none z of (word x) h e = encoded-word z of x h.0 ∙ ap (λ m. low_bytes m x) e
 encoded-none z of (bytes bs) h e = ap (λ b. if b then bs else low_bytes (bytes_at z.types of) 0) h.0 ∙ nil_from_length bs (h.1 ∙ e)
@@ -97,7 +97,7 @@ store_word_sim {z} {n} {names} {scope} {facts} u place of address a o v there so
     ∙ ap (λ bs. written place (stands z at k s) (put_bytes s.region a bs)) same)) (λ w k knows. tt)
 
 -- the bytes of an area
-encoded-bytes : (z : Setting) (of : TypeId) (bs : List ℕ) → is_aggregate z.types of ≡ true → encoded z.types of (bytes bs) ≡ bs
+pub encoded-bytes : (z : Setting) (of : TypeId) (bs : List ℕ) → is_aggregate z.types of ≡ true → encoded z.types of (bytes bs) ≡ bs
 encoded-bytes z of bs agg = ap (λ b. if b then bs else low_bytes (bytes_at z.types of) 0) agg
 
 store_area_sim : {z : Setting} {n : ℕ} {names : List TypedName} {scope : Holders} {facts : List Fact} (u : Used) (place : Place) (of : TypeId) (address : Address) (a area : ℕ) (v : Value) →

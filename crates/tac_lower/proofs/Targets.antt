@@ -205,7 +205,7 @@ first-aim : (z : Setting) (scope : Holders) (u : Used) (t : TypeId) (ts : List T
 first-aim z scope u t ts p ps (v ∷ vs) k h = (h.0, h.1)
 first-aim z scope u t ts p ps [] k h = absurd h
 
-first-mean : (z : Setting) (scope : Holders) (u : Used) (t : TypeId) (ts : List TypeId) (rs : List Result) (vs : List Value)
+pub first-mean : (z : Setting) (scope : Holders) (u : Used) (t : TypeId) (ts : List TypeId) (rs : List Result) (vs : List Value)
     (k : Private) → AllMean z scope u (t ∷ ts) rs vs k → Means z the_value t scope u (result_at rs 0) k (value_at vs 0)
 first-mean z scope u t ts (r ∷ rs) (v ∷ vs) k h = h.0
 first-mean z scope u t ts [] vs k h = absurd h

@@ -156,10 +156,10 @@ abbrev pub FillsOr : Setting → Wanted → TypeId → Point → Private → Sta
 FillsOr z want of at k s n i (Gives v s1) = Fills z want of at k s n i v s1
 FillsOr z want of at k s n i (Ends r) = act z.program i (stands z at k s) ≡ Stops r
 
-grown-area : (size : ℕ) (u : Used) → Grown u (with_area size u)
+pub grown-area : (size : ℕ) (u : Used) → Grown u (with_area size u)
 grown-area size u = record { temps = omega arith; areas = (size ∷ [], refl) }
 
-small-put : (z : Setting) (k : Private) (n : ℕ) (bs : List ℕ) → length bs ≤ area_size z.tac n → ((m : ℕ) → length (k.areas m) ≤ area_size z.tac m) →
+pub small-put : (z : Setting) (k : Private) (n : ℕ) (bs : List ℕ) → length bs ≤ area_size z.tac n → ((m : ℕ) → length (k.areas m) ≤ area_size z.tac m) →
     (m : ℕ) → length (put k.areas n bs m) ≤ area_size z.tac m
 small-put z k n bs fits small m = ⊎_elim
     (λ t. subst (λ j. length (put k.areas n bs j) ≤ area_size z.tac j) (sym t.1)
