@@ -120,7 +120,7 @@ acts_break {z} {n} {w} {names} {scope} u loop = record {
   );
 }
 
-part-value : (z : Setting) (of : TypeId) (scope : Holders) (u : Used) (r : Result) (at : Point) (k : Private) (s : State) (v : Value) →
+pub part-value : (z : Setting) (of : TypeId) (scope : Holders) (u : Used) (r : Result) (at : Point) (k : Private) (s : State) (v : Value) →
     Means z the_value of scope u r k v → flow.value_of (stands z at k s) (part_of r) ≡ v
 part-value z of scope u (a_word o) at k s v m = ap word (operand-is z at k s o) ∙ m.is
 part-value z of scope u (an_area n) at k s v m = m.is

@@ -198,7 +198,7 @@ pub bytes-in-area : (z : Setting) (of : TypeId) (scope : Holders) (u : Used) (m 
     Means z the_value of scope u (an_area m) k v → k.areas m ≡ bytes_in v
 bytes-in-area z of scope u m k v means = ap bytes_in means.is
 
-no-word-area : (z : Setting) (of : TypeId) (scope : Holders) (u : Used) (r : Result) (k : Private) (v : Value) →
+pub no-word-area : (z : Setting) (of : TypeId) (scope : Holders) (u : Used) (r : Result) (k : Private) (v : Value) →
     is_aggregate z.types of ≡ true → Means z the_value of scope u r k v → (m : ℕ) × (r ≡ an_area m)
 no-word-area z of scope u (an_area m) k v agg means = (m, refl)
 no-word-area z of scope u (an_offset o) k v agg means = absurd means.good

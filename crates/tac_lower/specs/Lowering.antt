@@ -355,7 +355,7 @@ received types (x ∷ xs) u =
 abbrev pub ending : Callable → Item
 ending k = ends (if nat_eq k.body.result.0 unit.0 then gives (part_of no_word) else fails NoReturn k.at)
 
-abbrev type_of_name : TypedName → TypeId
+abbrev pub type_of_name : TypedName → TypeId
 type_of_name x = x.of
 
 abbrev pub around : Contents → List FnId → Callable → Around
