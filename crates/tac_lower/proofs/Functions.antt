@@ -47,17 +47,17 @@ use Rattle.tac_lower.proofs.Terms.{block_acts}
 
 -- what is received
 
-abbrev with_private : Private → Activation → Activation
+abbrev pub with_private : Private → Activation → Activation
 with_private k a = record a { temps = k.temps; areas = k.areas }
 
 -- Values that were received: parameters hold them.
-record Received (z : Setting) (p : Piece (List Destination)) (ts : List TypeId) (u : Used) (vs : List Value) (k : Private) : Type 0 where
-  private : Private
-  takes : (a : Activation) → flow.takes_all p.result vs (with_private k a) ≡ with_private private a
-  accepts : flow.accepts_all z.tac p.result vs ≡ true
-  keeps : Keeps [] u k private
-  all : AllMean z [] p.used ts (map given p.result) vs private
-  small : (m : ℕ) → length (private.areas m) ≤ area_size z.tac m
+pub record Received (z : Setting) (p : Piece (List Destination)) (ts : List TypeId) (u : Used) (vs : List Value) (k : Private) : Type 0 where
+  pub private : Private
+  pub takes : (a : Activation) → flow.takes_all p.result vs (with_private k a) ≡ with_private private a
+  pub accepts : flow.accepts_all z.tac p.result vs ≡ true
+  pub keeps : Keeps [] u k private
+  pub all : AllMean z [] p.used ts (map given p.result) vs private
+  pub small : (m : ℕ) → length (private.areas m) ≤ area_size z.tac m
 
 abbrev step_piece : (z : Setting) → Bool → TypedName → List TypedName → Used → Piece (List Destination)
 step_piece z b x xs u =
@@ -73,7 +73,7 @@ received-grown z (x ∷ xs) u = by (is_aggregate z.types x.of) (λ v. received-g
         (grown-by true (bytes_at z.types x.of) u) (more (used_by true (bytes_at z.types x.of) u))
     by false more = grown-then u (with_temp u) (received z.types xs (with_temp u)).used (grown-by false 0 u) (more (with_temp u))
 
-receives : (z : Setting) (xs : List TypedName) (u : Used) (vs : List Value) (k : Private) → AreValues z.types xs vs →
+pub receives : (z : Setting) (xs : List TypedName) (u : Used) (vs : List Value) (k : Private) → AreValues z.types xs vs →
     Grown (received z.types xs u).used (whole z) → ((m : ℕ) → length (k.areas m) ≤ area_size z.tac m) →
     Received z (received z.types xs u) (map type_of_name xs) u vs k
 receives z [] u [] k values whole_ small =
@@ -133,7 +133,7 @@ receives z (x ∷ xs) u (v ∷ vs) k values whole_ small =
         }
 
 -- code that ends with the end of a block
-ends-whole : (is : List Item) (d : Draft) (k : Callable) → (with_items d (is ++ ending k ∷ [])).code ≡ []
+pub ends-whole : (is : List Item) (d : Draft) (k : Callable) → (with_items d (is ++ ending k ∷ [])).code ≡ []
 ends-whole [] d k = refl
 ends-whole (i ∷ is) d k = ends-whole is (with_item d i) k
 
@@ -172,29 +172,27 @@ module _ (z : Setting) (m : ℕ) (st : Contents) (k : Callable) where
       DeclaresWell z homes 0 k.body.parameters (map type_of_name k.body.parameters)
       × NeedsBlock z entries homes w (OperationNeeds z (CallNeeds store)) w names1 (length k.body.parameters) k.body.body
 
-  abbrev tos : Piece (List Destination)
+  abbrev pub tos : Piece (List Destination)
   tos = received z.types k.body.parameters nothing_used
 
-  abbrev D : Piece Holders
+  abbrev pub D : Piece Holders
   D = declare_all a k.at k.body.parameters (map given tos.result) 0 [] tos.used
 
-  abbrev B : Piece Holders
+  abbrev pub B : Piece Holders
   B = all a k.body.body (length k.body.parameters) D.result D.used
 
-  abbrev code : List Item
+  abbrev pub code : List Item
   code = D.code ++ B.code
 
   module _ (calls : CallsOk z.program store z.memory m)
       (code_is : (f : FnId) → z.program.code f ≡ option_map (lowered store z.program.entries) (callable_of store f))
-      (needs : BodyNeeds) (stood : HasAt z.tac.blocks 0 (start_of 0) (code ++ ending k ∷ [])) (whole_ : Grown B.used (whole z))
-      (vs : List Value) (pr : Private) (s : State) (all_mean : AllMean z [] tos.used (map type_of_name k.body.parameters) (map given tos.result) vs pr)
-      (fine : Fine z [] [] tos.used pr s) (less : s.left < suc m) where
-    abbrev Ok : Got Value → Type 0
-    Ok g = CallOk z.program z.types z.memory z.callers (Goes (stands z (start_of 0) pr s)) k.body.result s.left g
-
-    d_sim : Sim z (suc m) [] [] (all_of (map type_of_name k.body.parameters) (map given tos.result) vs ∷ []) tos.used D
+      (needs : BodyNeeds) where
+    d_sim : (vs : List Value) →
+        Sim z (suc m) [] [] (all_of (map type_of_name k.body.parameters) (map given tos.result) vs ∷ []) tos.used D
         (declared_all c k.at k.body.parameters vs 0) names1 D.result (λ v. nothing)
-    d_sim = declare_all_sim z (suc m) c a [] [] [] tos.used k.at k.body.parameters 0 (map type_of_name k.body.parameters) (map given tos.result) vs needs.0
+    d_sim vs =
+        declare_all_sim z (suc m) c a [] [] [] tos.used k.at k.body.parameters 0 (map type_of_name k.body.parameters) (map given tos.result) vs
+        needs.0
 
     b_acts : Acts z (suc m) w names1 D.result D.used B (done_all c k.body.body (length k.body.parameters)) (names_after k.body.body names1)
     b_acts =
@@ -203,6 +201,17 @@ module _ (z : Setting) (m : ℕ) (st : Contents) (k : Callable) where
         (λ names scope facts u at of ts rs us f h. call_sim z m st homes (suc m) calls code_is names scope facts u at of ts rs us f h)
         (λ names scope facts u at of t ts rs us form. value_call_sim z m st homes (suc m) calls code_is names scope facts u at of t ts rs us form))
         k.body.body (length k.body.parameters) w names1 D.result D.used needs.1
+
+    pub body_grown : Grown tos.used B.used
+    body_grown = grown-then tos.used D.used B.used (d_sim []).grown b_acts.grown
+
+  module _ (calls : CallsOk z.program store z.memory m)
+      (code_is : (f : FnId) → z.program.code f ≡ option_map (lowered store z.program.entries) (callable_of store f))
+      (needs : BodyNeeds) (stood : HasAt z.tac.blocks 0 (start_of 0) (code ++ ending k ∷ [])) (whole_ : Grown B.used (whole z))
+      (vs : List Value) (pr : Private) (s : State) (all_mean : AllMean z [] tos.used (map type_of_name k.body.parameters) (map given tos.result) vs pr)
+      (fine : Fine z [] [] tos.used pr s) (less : s.left < suc m) where
+    abbrev Ok : Got Value → Type 0
+    Ok g = CallOk z.program z.types z.memory z.callers (Goes (stands z (start_of 0) pr s)) k.body.result s.left g
 
     -- the end of the body
     at_end : (q : Point) (p1 : Private) (s1 : State) → Leads z (start_of 0) pr s q p1 s1 → length s1.region.bytes ≡ z.memory → s1.left ≤ s.left →
@@ -253,7 +262,7 @@ module _ (z : Setting) (m : ℕ) (st : Contents) (k : Callable) where
     first (Gives v s1) d =
         let front = has-front z.tac.blocks 0 (start_of 0) code (ending k ∷ []) stood in
         second s1 d (done_all c k.body.body (length k.body.parameters) s1)
-        (b_acts.run 0 (after D.code (start_of 0)) d.private s1 (has-back z.tac.blocks 0 (start_of 0) D.code B.code front) whole_ d.fine
+        ((b_acts calls code_is needs).run 0 (after D.code (start_of 0)) d.private s1 (has-back z.tac.blocks 0 (start_of 0) D.code B.code front) whole_ d.fine
         (omega (arith, less, d.fewer)))
 
     -- a body does what it means
@@ -265,5 +274,6 @@ module _ (z : Setting) (m : ℕ) (st : Contents) (k : Callable) where
         subst (λ s1. Ok (next (declared_all c k.at k.body.parameters vs 0 s1)
         (λ v s'. next (done_all c k.body.body (length k.body.parameters) s') (given_back k)))) (sym same)
         (first (declared_all c k.at k.body.parameters vs 0 s)
-        (d_sim.run 0 (start_of 0) pr s (has-front z.tac.blocks 0 (start_of 0) D.code B.code front) (grown-then D.used B.used (whole z) b_acts.grown whole_)
+        ((d_sim calls code_is needs vs).run 0 (start_of 0) pr s (has-front z.tac.blocks 0 (start_of 0) D.code B.code front)
+        (grown-then D.used B.used (whole z) (b_acts calls code_is needs).grown whole_)
         fine (all_mean, tt) less))
