@@ -26,6 +26,7 @@ use Rattle.tac_form.specs.Flow as flow
 use Rattle.tac_form.specs.Flow.{Moved, Goes, Stops, act}
 use Rattle.tac_lower.specs.Pieces.{Used, with_temp, with_area, Piece, known, then_piece, Result, given, parts_of, word_at, rest, Holders}
 use Rattle.tac_lower.specs.Lowering.{lowered, type_of_name, call, call_value, signature_in}
+pub use Rattle.tac_lower.specs.Needs.{CallNeeds}
 use Rattle.tac_lower.proofs.Places.{Point, step_on, DoesAt}
 use Rattle.tac_lower.proofs.Standing.{Setting, Private, stands, one-step, operand-is, Fine, Grown, Means, Comes, Leaves}
 use Rattle.tac_lower.proofs.Simulates.{Fact, one_of, all_of, AllMean, KnowsAll, whole, Sim}
@@ -33,11 +34,6 @@ use Rattle.tac_lower.proofs.Operators.{first-word}
 use Rattle.tac_lower.proofs.Declares.{all-behind}
 use Rattle.tac_lower.proofs.Operating.{Does}
 use Rattle.tac_lower.proofs.Calls.{CallsOk, values-are, are-values, goes_to, used_by, grown-by, call_here, call_runs}
-
--- what a call needs: the callee is there, with parameters of these types and this result
-abbrev pub CallNeeds : Contents → FnId → List TypeId → TypeId → Type 0
-CallNeeds store f ts of =
-    (k : Callable) × (callable_of store f ≡ Some k) × (ts ≡ map type_of_name k.body.parameters) × (k.body.result ≡ of)
 
 -- signatures are the same on both sides
 

@@ -13,6 +13,7 @@ use Rattle.tac_form.specs.Flow.{Goes, Stops}
 use Rattle.tac_lower.specs.Items.{Item, ends, skips, count_ends}
 use Rattle.tac_lower.specs.Pieces.{Used, Piece, then_piece, Result, a_word, an_area, an_offset, word_of, Holders}
 use Rattle.tac_lower.specs.Lowering.{choice}
+pub use Rattle.tac_lower.specs.Needs.{in_let}
 use Rattle.tac_lower.proofs.Places.{Point, start_of, after, after-append, after-block, HasAt, has-front, has-back}
 use Rattle.tac_lower.proofs.Standing.{Setting, Private, stands, Leads, leads-to, word_in, Apart, Fine, Grown, Own, Means, Comes, Leaves}
 use Rattle.tac_lower.proofs.Simulates.{Fact, one_of, whole, Sim, grown-none, grown-then, keeps-then}
@@ -95,10 +96,6 @@ acts_choice {z} {n} {w} {names} {names1} {names2} {scope} {u} {p} {r1} {r2} {go}
         (jumps z last k1 s1 (suc last.block + 0) (has-back z.tac.blocks out other r2.code (ends (skips 0) ∷ []) has1.1).0)) (scoped s (go2 s))
         (scoped-ways z w names names2 scope r2.result other last r1.used r2.used k s out fine1 y2.under (go2 s)
         (y2.run out other k s (has-front z.tac.blocks out other r2.code (ends (skips 0) ∷ []) has1.1) whole_ fine1 less)))
-
--- the statements of a `let` neither break nor give back
-abbrev pub in_let : Within → Within
-in_let w = record w { in_loop = false; in_let = true }
 
 apart-under : (bs scope : Holders) (t : ℕ) → Apart t (bs ++ scope) → Apart t scope
 apart-under [] scope t h = h

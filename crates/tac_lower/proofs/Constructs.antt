@@ -22,17 +22,13 @@ use Rattle.tac_form.specs.Flow.{Goes, area_size}
 use Rattle.tac_lower.specs.Items.{Item}
 use Rattle.tac_lower.specs.Pieces.{Used, with_area, Piece, known, then_piece, Result, a_word, an_area, an_offset, word_of, Holders, number_of, stored, stored_part}
 use Rattle.tac_lower.specs.Lowering.{constructed, construct}
+pub use Rattle.tac_lower.specs.Needs.{EntriesFit}
 use Rattle.tac_lower.proofs.Places.{Point, step_on, after, after-append, HasAt, DoesAt, has-front, has-back}
 use Rattle.tac_lower.proofs.Standing.{Setting, Private, stands, Leads, leads-to, one-step, word_in, operand-is, Fine, Keeps, Grown, Own, Means, Comes}
 use Rattle.tac_lower.proofs.Simulates.{Fact, one_of, all_of, AllMean, KnowsAll, whole, Sim, grown-none, facts-later}
 use Rattle.tac_lower.proofs.Writes.{nat_eq-ne, put-same, put-other, put-below, with_bytes, holds-later, grown-area, small-put}
 use Rattle.tac_lower.proofs.Loads.{area-size, word-is, is-value}
 use Rattle.tac_lower.proofs.Stores.{store-size, encoded-word, encoded-none, encoded-bytes}
-
--- entries lie within a size
-abbrev pub EntriesFit : Setting → (size : ℕ) → List ℕ → List TypeId → Type 0
-EntriesFit z size (o ∷ os) (t ∷ ts) = (o + bytes_at z.types t ≤ size) × EntriesFit z size os ts
-EntriesFit z size _ _ = Unit {0}
 
 -- the code uses nothing more
 
@@ -164,7 +160,7 @@ module _ (z : Setting) (scope : Holders) (u0 : Used) (size : ℕ) where
   -- all entries
   fills_all : (os : List ℕ) (ts : List TypeId) (rs : List Result) (vs : List Value) (u : Used) (all : List ℕ) (out : ℕ) (at : Point)
       (k : Private) (s : State) → HasAt z.tac.blocks out at (constructed z.types area os ts rs u).code → AllMean z scope u0 ts rs vs k →
-      k.areas area ≡ all → length all ≡ size → EntriesFit z size os ts →
+      k.areas area ≡ all → length all ≡ size → EntriesFit z.types size os ts →
       Filled z area at k s (after (constructed z.types area os ts rs u).code at) (meaning.constructed z.types all os ts vs)
       × (length (meaning.constructed z.types all os ts vs) ≡ size)
   fills_all [] ts rs vs u all out at k s has means e long fit =
@@ -198,7 +194,7 @@ module _ (z : Setting) (scope : Holders) (u0 : Used) (size : ℕ) where
 
 pub construct_sim : {z : Setting} {n : ℕ} {names : List TypedName} {scope : Holders} {facts : List Fact} (u : Used) (of : TypeId)
     (os : List ℕ) (ts : List TypeId) (rs : List Result) (vs : List Value) → is_aggregate z.types of ≡ true →
-    EntriesFit z (bytes_at z.types of) os ts →
+    EntriesFit z.types (bytes_at z.types of) os ts →
     Sim z n names scope (all_of ts rs vs ∷ facts) u (construct z.types (bytes_at z.types of) os ts rs u)
     (λ s. Gives (bytes (meaning.constructed z.types (replicate (bytes_at z.types of) 0) os ts vs)) s) names scope
     (λ w. one_of the_value of (an_area (length u.areas)) w)

@@ -20,6 +20,7 @@ use Rattle.tac_form.specs.declared.tac.Instruction.TheVariants.{Copy}
 use Rattle.tac_form.specs.Flow as flow
 use Rattle.tac_form.specs.Flow.{Goes, Stops, put}
 use Rattle.tac_lower.specs.Pieces.{Used, Piece, taken, Result, a_word, an_area, an_offset, word_of, rest, in_temp, at_offset, Holders, bound, copied, stored, placed, Around, declare_at, declare, declare_all, first_of}
+pub use Rattle.tac_lower.specs.Needs.{GoodHome, declared_names, DeclaresWell}
 use Rattle.tac_lower.proofs.Places.{Point, after}
 use Rattle.tac_lower.proofs.Standing.{Setting, Private, stands, one-step, word_in, operand-is, Fine, Means, Comes, Leaves}
 use Rattle.tac_lower.proofs.Simulates.{Fact, nothing, one_of, all_of, AllMean, Knows, KnowsAll, Sim, then_sim}
@@ -118,37 +119,21 @@ placed_sim {z} {n} {names} {scope} {facts} u place of offset (an_offset o) v mea
     by true e = read_sim u (Constant 0) (meaning.stored z.types place of (z.base + offset) v) (λ k s fine knows. absurd (means k knows).good)
     by false e = stored_sim u place of (addresses.Frame offset) (z.base + offset) (an_offset o) v (λ at k s fine knows. refl) means
 
--- where a declaration's variable may be: alone where it is no aggregate, or within the frame
-abbrev pub GoodHome : Setting → TypeId → Home → Type 0
-GoodHome z of by_value = is_aggregate z.types of ≡ false
-GoodHome z of (in_frame offset) = offset + bytes_at z.types of ≤ z.tac.frame
-
 pub word-of-value : (z : Setting) (of : TypeId) (v : Value) → is_aggregate z.types of ≡ false → IsValue z.types of v → IsValue z.types of (word (number v))
 word-of-value z of (word x) plain h = h
 word-of-value z of (bytes bs) plain h = let bad : true ≡ false = sym h.0 ∙ plain in absurd (grind (arith, bad))
 
-pub declare_some_sim : {z : Setting} {n : ℕ} {names : List TypedName} {scope : Holders} {facts : List Fact} (u : Used) (c : Call) (place : Place) (x : TypedName) (home : Home) (r : Result) (v : Value) → GoodHome z x.of home →
+pub declare_some_sim : {z : Setting} {n : ℕ} {names : List TypedName} {scope : Holders} {facts : List Fact} (u : Used) (c : Call) (place : Place) (x : TypedName) (home : Home) (r : Result) (v : Value) → GoodHome z.types z.tac.frame x.of home →
     Sim z n names scope (one_of the_value x.of r v ∷ facts) u (declare_at z.types place x (Some r) home scope u) (meaning.declared_at (record c { base = z.base; store = record c.store { types = z.types } }) place x (Some v) home) (x ∷ names) (declare_at z.types place x (Some r) home scope u).result (λ w. nothing)
 declare_some_sim {z} u c place x by_value r v good =
     temp_sim u x (word_of r) (number v) (λ k knows. (word-is z x.of _ u r k v knows.0, word-of-value z x.of v good (is-value z x.of r v knows.0.good)))
 declare_some_sim u c place x (in_frame offset) r v good =
     frame_sim x offset good (placed_sim u place x.of offset r v (λ k knows. knows.0))
 
-declare_none_sim : {z : Setting} {n : ℕ} {names : List TypedName} {scope : Holders} {facts : List Fact} (u : Used) (c : Call) (place : Place) (x : TypedName) (home : Home) → GoodHome z x.of home →
+declare_none_sim : {z : Setting} {n : ℕ} {names : List TypedName} {scope : Holders} {facts : List Fact} (u : Used) (c : Call) (place : Place) (x : TypedName) (home : Home) → GoodHome z.types z.tac.frame x.of home →
     Sim z n names scope facts u (declare_at z.types place x None home scope u) (meaning.declared_at (record c { base = z.base; store = record c.store { types = z.types } }) place x None home) (x ∷ names) (declare_at z.types place x None home scope u).result (λ w. nothing)
 declare_none_sim {z} u c place x by_value good = temp_sim u x (Constant 0) 0 (λ k knows. (refl, (good, wrapped-zero (form_at z.types x.of))))
 declare_none_sim u c place x (in_frame offset) good = frame_sim x offset good (known_sim {post = λ w. nothing} u (tt {0}) (word 0) (λ k s fine knows. tt))
-
--- the names in scope after declarations
-abbrev pub declared_names : List TypedName → List TypedName → List TypedName
-declared_names [] names = names
-declared_names (x ∷ xs) names = declared_names xs (x ∷ names)
-
--- declarations from the k-th on may be where they are, and have values of their types, or none
-abbrev pub DeclaresWell : Setting → List Home → ℕ → List TypedName → List TypeId → Type 0
-DeclaresWell z homes k [] ts = Unit {0}
-DeclaresWell z homes k (x ∷ xs) [] = GoodHome z x.of (home_at homes k) × DeclaresWell z homes (suc k) xs []
-DeclaresWell z homes k (x ∷ xs) (t ∷ ts) = GoodHome z x.of (home_at homes k) × (t ≡ x.of) × DeclaresWell z homes (suc k) xs ts
 
 abbrev FirstType : List TypeId → TypedName → Type 0
 FirstType [] x = Unit {0}
@@ -158,8 +143,8 @@ abbrev pub types_behind : List TypeId → List TypeId
 types_behind [] = []
 types_behind (t ∷ ts) = ts
 
-first-of-well : (z : Setting) (homes : List Home) (k : ℕ) (x : TypedName) (xs : List TypedName) (ts : List TypeId) → DeclaresWell z homes k (x ∷ xs) ts →
-    GoodHome z x.of (home_at homes k) × FirstType ts x × DeclaresWell z homes (suc k) xs (types_behind ts)
+first-of-well : (z : Setting) (homes : List Home) (k : ℕ) (x : TypedName) (xs : List TypedName) (ts : List TypeId) → DeclaresWell z.types z.tac.frame homes k (x ∷ xs) ts →
+    GoodHome z.types z.tac.frame x.of (home_at homes k) × FirstType ts x × DeclaresWell z.types z.tac.frame homes (suc k) xs (types_behind ts)
 first-of-well z homes k x xs [] h = (h.0, tt, h.1)
 first-of-well z homes k x xs (t ∷ ts) h = (h.0, h.1, h.2)
 
@@ -175,7 +160,7 @@ module _ (z : Setting) (n : ℕ) (c' : Call) where
   abbrev c : Call
   c = record c' { base = z.base; store = record c'.store { types = z.types } }
 
-  first_sim : (names : List TypedName) (scope : Holders) (facts : List Fact) (u : Used) (place : Place) (x : TypedName) (home : Home) (ts : List TypeId) (rs : List Result) (vs : List Value) → GoodHome z x.of home → FirstType ts x →
+  first_sim : (names : List TypedName) (scope : Holders) (facts : List Fact) (u : Used) (place : Place) (x : TypedName) (home : Home) (ts : List TypeId) (rs : List Result) (vs : List Value) → GoodHome z.types z.tac.frame x.of home → FirstType ts x →
       Sim z n names scope (all_of ts rs vs ∷ facts) u (declare_at z.types place x (first_of rs) home scope u) (meaning.declared_at c place x (meaning.first_of vs) home) (x ∷ names) (declare_at z.types place x (first_of rs) home scope u).result (λ w. nothing)
   first_sim names scope facts u place x home [] [] [] good first = declare_none_sim u c' place x home good
   first_sim names scope facts u place x home (t ∷ ts) (r ∷ rs) (v ∷ vs) good first =
@@ -193,7 +178,7 @@ module _ (z : Setting) (n : ℕ) (c' : Call) where
       (sim_facts (all_of (t ∷ ts) (r ∷ rs) [] ∷ facts) (λ k knows. absurd knows.0) (declare_some_sim {facts = facts} u c' place x home r (word 0) good))
 
   pub declare_all_sim : (a : Around) (names : List TypedName) (scope : Holders) (facts : List Fact) (u : Used) (place : Place) (xs : List TypedName) (k : ℕ) (ts : List TypeId) (rs : List Result) (vs : List Value) →
-      DeclaresWell z c.homes k xs ts →
+      DeclaresWell z.types z.tac.frame c.homes k xs ts →
       let b : Around = record { store = record a.store { types = z.types }; entries = a.entries; homes = c.homes } in
       Sim z n names scope (all_of ts rs vs ∷ facts) u (declare_all b place xs rs k scope u) (meaning.declared_all c place xs vs k) (declared_names xs names) (declare_all b place xs rs k scope u).result (λ w. nothing)
   declare_all_sim a names scope facts u place [] k ts rs vs well = known_sim u scope (word 0) (λ k1 s fine knows. tt)

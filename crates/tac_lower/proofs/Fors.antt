@@ -22,6 +22,7 @@ use Rattle.tac_form.specs.Flow.{Goes, Stops, put}
 use Rattle.tac_lower.specs.Items.{Item, does, ends, tests, repeats, count_ends, onward, backward}
 use Rattle.tac_lower.specs.Pieces.{Used, with_temp, Piece, then_piece, Result, a_word, word_of, word_at, rest, Holders, number_of}
 use Rattle.tac_lower.specs.Lowering.{Counting, counting, step_in, runs, counted_on, while_loop}
+pub use Rattle.tac_lower.specs.Needs.{Begins}
 use Rattle.tac_lower.proofs.Places.{Point, step_on, start_of, after, after-append, after-block, DoesAt, EndsAt, HasAt, has-front, has-back, has-loop}
 use Rattle.tac_lower.proofs.Standing.{Setting, Private, stands, Leads, leads-to, one-step, word_in, operand-is, Apart, Fine, Keeps, Grown, Means, Comes, Leaves}
 use Rattle.tac_lower.proofs.Simulates.{Fact, nothing, one_of, all_of, AllMean, KnowsAll, whole, Sim, grown-none, grown-then, grown-areas, keeps-none, keeps-then, facts-later}
@@ -36,11 +37,6 @@ use Rattle.tac_lower.proofs.Shorts.{fine-set}
 use Rattle.tac_lower.proofs.Counts.{bit, Counts, AreCounts, runs_sim, true-flag}
 use Rattle.tac_lower.proofs.Rounds.{in_loop, RoundOk, TurnOk, round-before, scoped-round, back-none, back-one, numbered, numbered_ways, next-turned}
 use Rattle.tac_lower.proofs.Loops.{after-loop, while_code, while-count, while-after}
-
--- the first of some values has a type
-abbrev pub Begins : TypeId → List TypeId → Type 0
-Begins of [] = ⊥
-Begins of (t ∷ ts) = t ≡ of
 
 -- the first value, and the step
 

@@ -42,7 +42,7 @@ use Rattle.tac_lower.proofs.Declares.{declared_names, DeclaresWell, declare_all_
 use Rattle.tac_lower.proofs.Operating.{OperationNeeds, operation_sim}
 use Rattle.tac_lower.proofs.Calls.{beside, Gave, CallOk, CallsOk, goes_to, used_by, grown-by, call_here}
 use Rattle.tac_lower.proofs.CallSims.{CallNeeds, call_sim, value_call_sim}
-use Rattle.tac_lower.proofs.Needs.{NeedsBlock, names_after}
+use Rattle.tac_lower.specs.Needs.{NeedsBlock, names_after}
 use Rattle.tac_lower.proofs.Terms.{block_acts}
 
 -- what is received
@@ -169,8 +169,8 @@ module _ (z : Setting) (m : ℕ) (st : Contents) (k : Callable) where
   -- what lowering needs of a function's types
   abbrev pub BodyNeeds : Type 0
   BodyNeeds =
-      DeclaresWell z homes 0 k.body.parameters (map type_of_name k.body.parameters)
-      × NeedsBlock z entries homes w (OperationNeeds z (CallNeeds store)) w names1 (length k.body.parameters) k.body.body
+      DeclaresWell z.types z.tac.frame homes 0 k.body.parameters (map type_of_name k.body.parameters)
+      × NeedsBlock z.types z.tac.frame entries homes w (OperationNeeds z.types (CallNeeds store)) w names1 (length k.body.parameters) k.body.body
 
   abbrev pub tos : Piece (List Destination)
   tos = received z.types k.body.parameters nothing_used
@@ -196,7 +196,7 @@ module _ (z : Setting) (m : ℕ) (st : Contents) (k : Callable) where
 
     b_acts : Acts z (suc m) w names1 D.result D.used B (done_all c k.body.body (length k.body.parameters)) (names_after k.body.body names1)
     b_acts =
-        block_acts z (suc m) st entries homes (call_here z m st) (suc m) w (OperationNeeds z (CallNeeds store)) (omega arith)
+        block_acts z (suc m) st entries homes (call_here z m st) (suc m) w (OperationNeeds z.types (CallNeeds store)) (omega arith)
         (operation_sim z (suc m) st entries homes (call_here z m st) (suc m) (CallNeeds store)
         (λ names scope facts u at of ts rs us f h. call_sim z m st homes (suc m) calls code_is names scope facts u at of ts rs us f h)
         (λ names scope facts u at of t ts rs us form. value_call_sim z m st homes (suc m) calls code_is names scope facts u at of t ts rs us form))

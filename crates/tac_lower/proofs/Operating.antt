@@ -24,6 +24,7 @@ use Rattle.tac_form.specs.declared.tac.Operand.TheVariants.{Temp, Constant}
 use Rattle.tac_form.specs.declared.tac.Spot.TheVariants as spots
 use Rattle.tac_lower.specs.Pieces.{Used, Piece, known, Result, a_word, an_area, an_offset, no_word, word_at, result_at, Holders, Around, whole_word, number_of, compute, loaded}
 use Rattle.tac_lower.specs.Lowering.{operation, extracted}
+pub use Rattle.tac_lower.specs.Needs.{NumberUnless, OperationNeeds}
 use Rattle.tac_lower.proofs.Standing.{Setting, Private, Fine, Means}
 use Rattle.tac_lower.proofs.Simulates.{Fact, one_of, all_of, AllMean, KnowsAll, Sim}
 use Rattle.tac_lower.proofs.Words.{value-small, HasNumber}
@@ -35,31 +36,6 @@ use Rattle.tac_lower.proofs.Targets.{first-mean}
 use Rattle.tac_lower.proofs.Operations.{IsWide, is-boolean, is_comparison, BinaryNeeds, PrimitiveNeeds, not_bool_sim, not_number_sim, to_bool_sim, forward_sim, back_sim, difference_sim, operator_sim, primitive_sim}
 use Rattle.tac_lower.proofs.Extracts.{entry_sim, bytes-in-area, no-word-area}
 use Rattle.tac_lower.proofs.Constructs.{EntriesFit, construct_sim}
-
--- an integer where it isn't a bool
-abbrev pub NumberUnless : Setting → Bool → TypeId → Type 0
-NumberUnless z true of = Unit {0}
-NumberUnless z false of = HasNumber (form_at z.types of)
-
--- what operations need of the types of their operands and their results
-abbrev pub OperationNeeds : Setting → (FnId → List TypeId → TypeId → Type 0) → Operation → List TypeId → TypeId → Type 0
-OperationNeeds z CallNeeds operations.Negate ts of = HasNumber (form_at z.types of)
-OperationNeeds z CallNeeds operations.Not ts of = Begins of ts × NumberUnless z (nat_eq of.0 boolean.0) of
-OperationNeeds z CallNeeds (operations.Binary op) ts of = BinaryNeeds z (is_comparison op) (type_at ts 0) of
-OperationNeeds z CallNeeds operations.StepForward ts of = IsWide z of
-OperationNeeds z CallNeeds operations.StepBack ts of = IsWide z of
-OperationNeeds z CallNeeds operations.Difference ts of =
-    (bytes_at z.types (target_of z.types (type_at ts 0)) ≢ 0) × IsWide z of
-OperationNeeds z CallNeeds operations.Convert ts of = NumberUnless z (nat_eq of.0 boolean.0) of
-OperationNeeds z CallNeeds (operations.Extract offset) [] of = ⊥
-OperationNeeds z CallNeeds (operations.Extract offset) (t ∷ ts) of =
-    (is_aggregate z.types t ≡ true) × (offset + bytes_at z.types of ≤ bytes_at z.types t)
-OperationNeeds z CallNeeds (operations.Call f) ts of = CallNeeds f ts of
-OperationNeeds z CallNeeds (operations.Primitive p) ts of = PrimitiveNeeds z p of
-OperationNeeds z CallNeeds operations.CallValue [] of = ⊥
-OperationNeeds z CallNeeds operations.CallValue (t ∷ ts) of = form_at z.types t ≡ forms.Function ts of
-OperationNeeds z CallNeeds (operations.Construct offsets) ts of =
-    (is_aggregate z.types of ≡ true) × EntriesFit z (bytes_at z.types of) offsets ts
 
 module _ (z : Setting) (n : ℕ) (st : Contents) (entries : List FnId) (homes : List Home)
     (call : FnId → List Value → Place → State → Got Value) (turns : ℕ) (CallNeeds : FnId → List TypeId → TypeId → Type 0)
@@ -82,14 +58,14 @@ module _ (z : Setting) (n : ℕ) (st : Contents) (entries : List FnId) (homes : 
   abbrev x0 : ℕ
   x0 = number (value_at vs 0)
 
-  not_sim : Begins of ts → NumberUnless z (nat_eq of.0 boolean.0) of → Does operations.Not
+  not_sim : Begins of ts → NumberUnless z.types (nat_eq of.0 boolean.0) of → Does operations.Not
   not_sim begins needs = by (nat_eq of.0 boolean.0) refl needs
     where
       code : Bool → Piece Result
       code b = if b then compute operators.Xor whole_word (word_at rs 0) (Constant 1) u
           else compute operators.Xor (number_of z.types of) (word_at rs 0) (Constant (2 ^ 64 - 1)) u
 
-      by : (b : Bool) → nat_eq of.0 boolean.0 ≡ b → NumberUnless z b of →
+      by : (b : Bool) → nat_eq of.0 boolean.0 ≡ b → NumberUnless z.types b of →
           Sim z n names scope (all_of ts rs vs ∷ facts) u (code b)
           (λ s. Gives (word (if b then 1 - x0 else complemented (width_of z.types of) x0)) s) names scope
           (λ v. one_of the_value of (code b).result v)
@@ -109,14 +85,14 @@ module _ (z : Setting) (n : ℕ) (st : Contents) (entries : List FnId) (homes : 
             (value-small z.types of (value_at vs 0) (first-value z scope u of ts rs vs k begins knows.0))).run out at k s has whole_ fine knows less;
       }
 
-  conversion_sim : NumberUnless z (nat_eq of.0 boolean.0) of → Does operations.Convert
+  conversion_sim : NumberUnless z.types (nat_eq of.0 boolean.0) of → Does operations.Convert
   conversion_sim needs = by (nat_eq of.0 boolean.0) refl needs
     where
       code : Bool → Piece Result
       code b = if b then compute operators.NotEqual whole_word (word_at rs 0) (Constant 0) u
           else compute operators.Add (number_of z.types of) (word_at rs 0) (Constant 0) u
 
-      by : (b : Bool) → nat_eq of.0 boolean.0 ≡ b → NumberUnless z b of →
+      by : (b : Bool) → nat_eq of.0 boolean.0 ≡ b → NumberUnless z.types b of →
           Sim z n names scope (all_of ts rs vs ∷ facts) u (code b)
           (λ s. Gives (word (if b then flag (nat_lt 0 x0) else wrapped (width_of z.types of) x0)) s) names scope
           (λ v. one_of the_value of (code b).result v)
@@ -176,7 +152,7 @@ module _ (z : Setting) (n : ℕ) (st : Contents) (entries : List FnId) (homes : 
     (rs : List Result) (vs : List Value) → form_at z.types t ≡ forms.Function ts of →
     Does z n st entries homes call turns CallNeeds names scope facts u at of (t ∷ ts) rs vs operations.CallValue) where
   pub operation_sim : (names : List TypedName) (scope : Holders) (facts : List Fact) (u : Used) (at : Place) (of : TypeId) (op : Operation)
-      (ts : List TypeId) (rs : List Result) (vs : List Value) → OperationNeeds z CallNeeds op ts of →
+      (ts : List TypeId) (rs : List Result) (vs : List Value) → OperationNeeds z.types CallNeeds op ts of →
       Does z n st entries homes call turns CallNeeds names scope facts u at of ts rs vs op
   operation_sim names scope facts u at of operations.Negate ts rs vs needs = negate_sim u of ts rs vs needs
   operation_sim names scope facts u at of operations.Not ts rs vs needs =

@@ -33,6 +33,7 @@ use Rattle.tac_form.specs.Flow as flow
 use Rattle.tac_form.specs.Flow.{Goes, fetched}
 use Rattle.tac_lower.specs.Pieces.{Used, with_temp, Piece, known, doing, then_piece, Result, a_word, word_of, word_at, no_word, Holders, number_in, number_of, whole_word, long, compute}
 use Rattle.tac_lower.specs.Lowering.{binary, step, difference, primitive}
+pub use Rattle.tac_lower.specs.Needs.{IsWide, is_comparison, BinaryNeeds, PrimitiveNeeds}
 use Rattle.tac_lower.proofs.Places.{Point, after}
 use Rattle.tac_lower.proofs.Standing.{Setting, Private, stands, word_in, operand-is, Fine, Means, Comes, Leaves}
 use Rattle.tac_lower.proofs.Simulates.{Fact, nothing, one_of, all_of, AllMean, Knows, KnowsAll, Sim, then_sim}
@@ -44,10 +45,6 @@ use Rattle.tac_lower.proofs.Reaches.{added, multiplied}
 use Rattle.tac_lower.proofs.Shorts.{bit-of-bool}
 use Rattle.tac_lower.proofs.Counts.{good-flag}
 use Rattle.tac_lower.proofs.Fors.{Begins, first-value}
-
--- each word is a value of the type
-abbrev pub IsWide : Setting → TypeId → Type 0
-IsWide z of = (x : ℕ) → x < 2 ^ 64 → IsValue z.types of (word x)
 
 -- a type that is the opening's is a bool
 pub is-boolean : (z : Setting) (of : TypeId) → nat_eq of.0 boolean.0 ≡ true → form_at z.types of ≡ forms.Bool
@@ -83,15 +80,6 @@ unfolding complemented
 complement-wrapped w x = refl
 
 -- operators that compare give bits, and the others words of the width
-
-abbrev pub is_comparison : BinaryOperator → Bool
-is_comparison operators.Equal = true
-is_comparison operators.NotEqual = true
-is_comparison operators.Less = true
-is_comparison operators.LessEqual = true
-is_comparison operators.Greater = true
-is_comparison operators.GreaterEqual = true
-is_comparison _ = false
 
 applied-word : (w : Width) (op : BinaryOperator) (x y : ℕ) (P : ℕ → Type 0) → is_comparison op ≡ false → ((m : ℕ) → P (wrapped w m)) →
     P (applied w op x y)
@@ -172,11 +160,6 @@ same-sign (forms.Function params result) = refl
 same-sign (forms.Array t m) = refl
 same-sign (forms.Struct number place layout) = refl
 
--- what an operator needs of the types of its operands and its result
-abbrev pub BinaryNeeds : Setting → Bool → TypeId → TypeId → Type 0
-BinaryNeeds z true first of = form_at z.types of ≡ forms.Bool
-BinaryNeeds z false first of = HasNumber (form_at z.types first) × (first ≡ of)
-
 long-small : (op : BinaryOperator) (x y : ℕ) → is_comparison op ≡ false → applied long_width op x y < 2 ^ 64
 long-small op x y e = applied-word long_width op x y (λ m. m < 2 ^ 64) e (λ m. wrapped-small (forms.Integer Int64) m)
 
@@ -184,11 +167,6 @@ long-small op x y e = applied-word long_width op x y (λ m. m < 2 ^ 64) e (λ m.
 abbrev pub GivesOnly : Value → Got Value → Type 0
 GivesOnly v (Gives w s) = w ≡ v
 GivesOnly v (Ends r) = Unit {0}
-
-abbrev pub PrimitiveNeeds : Setting → Primitive → TypeId → Type 0
-PrimitiveNeeds z primitives.PutByte of = IsValue z.types of (word 0)
-PrimitiveNeeds z primitives.Write of = IsValue z.types of (word 0)
-PrimitiveNeeds z primitives.Alloc of = IsWide z of
 
 -- an address that is given lies in the region
 alloc-small : (r : regions.Contents) (m : ℤ) → length r.bytes ≤ 67108864 → (alloc_of r m).0 < 2 ^ 64
@@ -277,7 +255,7 @@ module _ (z : Setting) (n : ℕ) (names : List TypedName) (scope : Holders) (fac
       (word ((x1 * size) % 2 ^ 64)) (λ u1 k knows. (second-word z scope u1 ts rs vs k knows.0, refl)) refl
       (ap word (multiplied x1 size)) (omega arith)
 
-  pub forward_sim : (size : ℕ) → IsWide z of →
+  pub forward_sim : (size : ℕ) → IsWide z.types of →
       Sim z n names scope all u (step size operators.Add (word_at rs 0) (word_at rs 1) u)
       (λ s. Gives (word (moved x0 (x1 * size))) s) names scope
       (λ w. one_of the_value of (step size operators.Add (word_at rs 0) (word_at rs 1) u).result w)
@@ -295,7 +273,7 @@ module _ (z : Setting) (n : ℕ) (names : List TypedName) (scope : Holders) (fac
   unfolding applied wrapped
   subtracted y = refl
 
-  pub back_sim : (size : ℕ) → IsWide z of →
+  pub back_sim : (size : ℕ) → IsWide z.types of →
       Sim z n names scope all u (step size operators.Subtract (word_at rs 0) (word_at rs 1) u)
       (λ s. Gives (word (moved x0 (2 ^ 64 - (x1 * size) % 2 ^ 64))) s) names scope
       (λ w. one_of the_value of (step size operators.Subtract (word_at rs 0) (word_at rs 1) u).result w)
@@ -309,7 +287,7 @@ module _ (z : Setting) (n : ℕ) (names : List TypedName) (scope : Holders) (fac
 
   -- how many elements lie between two pointers
 
-  pub difference_sim : (size : ℕ) → size ≢ 0 → IsWide z of →
+  pub difference_sim : (size : ℕ) → size ≢ 0 → IsWide z.types of →
       Sim z n names scope all u (difference size (word_at rs 0) (word_at rs 1) u)
       (λ s. meaning.in_elements (applied long_width operators.Subtract x0 x1) size s) names scope
       (λ w. one_of the_value of (difference size (word_at rs 0) (word_at rs 1) u).result w)
@@ -336,7 +314,7 @@ module _ (z : Setting) (n : ℕ) (names : List TypedName) (scope : Holders) (fac
       by true = refl
       by false = refl
 
-  pub operator_sim : (place : Place) (op : BinaryOperator) (first : TypeId) → BinaryNeeds z (is_comparison op) first of →
+  pub operator_sim : (place : Place) (op : BinaryOperator) (first : TypeId) → BinaryNeeds z.types (is_comparison op) first of →
       Sim z n names scope all u (binary place (number_of z.types first) op (word_at rs 0) (word_at rs 1) u)
       (meaning.binary place (width_of z.types first) op x0 x1) names scope
       (λ w. one_of the_value of (binary place (number_of z.types first) op (word_at rs 0) (word_at rs 1) u).result w)
@@ -345,7 +323,7 @@ module _ (z : Setting) (n : ℕ) (names : List TypedName) (scope : Holders) (fac
       (meaning.binary place (width_of z.types first) op x0 x1) names scope (λ w. one_of the_value of r w)) (binary-result place op first)
       (by (is_comparison op) refl needs)
     where
-      by : (b : Bool) → is_comparison op ≡ b → BinaryNeeds z b first of →
+      by : (b : Bool) → is_comparison op ≡ b → BinaryNeeds z.types b first of →
           Sim z n names scope all u (binary place (number_of z.types first) op (word_at rs 0) (word_at rs 1) u)
           (meaning.binary place (width_of z.types first) op x0 x1) names scope (λ w. one_of the_value of (a_word (Temp u.temps)) w)
       by true e form =
@@ -435,7 +413,7 @@ module _ (z : Setting) (n : ℕ) (names : List TypedName) (scope : Holders) (fac
       by at k s false None e = e
       by at k s false (Some bs) e = record { moves = e; same = record { variables = refl; sized = refl; left = refl } }
 
-  alloc_sim : IsWide z of →
+  alloc_sim : IsWide z.types of →
       Sim z n names scope all u (doing (a_word (Temp u.temps)) (Alloc u.temps (word_at rs 0)) (with_temp u))
       (λ s. meaning.allocated s (alloc_of s.region (signed x0))) names scope (λ w. one_of the_value of (a_word (Temp u.temps)) w)
   alloc_sim wide =
@@ -451,7 +429,7 @@ module _ (z : Setting) (n : ℕ) (names : List TypedName) (scope : Holders) (fac
       })
 
   -- what a primitive needs of its result's type
-  pub primitive_sim : (place : Place) (p : Primitive) → PrimitiveNeeds z p of →
+  pub primitive_sim : (place : Place) (p : Primitive) → PrimitiveNeeds z.types p of →
       Sim z n names scope all u (primitive place p rs u) (meaning.primitive place p vs) names scope
       (λ w. one_of the_value of (primitive place p rs u).result w)
   primitive_sim place primitives.PutByte unit = put_byte_sim unit

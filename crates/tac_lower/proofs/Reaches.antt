@@ -20,20 +20,12 @@ use Rattle.tac_form.specs.Flow as flow
 use Rattle.tac_form.specs.Flow.{Goes}
 use Rattle.tac_lower.specs.Pieces.{Used, with_temp, known, Result, a_word, an_area, an_offset, word_of, no_word, Holder, in_temp, at_offset, Holders, holder_of, whole_word, compute, located}
 use Rattle.tac_lower.specs.Lowering.{variable, entry, element}
+pub use Rattle.tac_lower.specs.Needs.{by_test, InScope}
 use Rattle.tac_lower.proofs.Standing.{Setting, Private, word_in, value_in, Is, below, Holds, Fine, Own, Good, Means}
 use Rattle.tac_lower.proofs.Simulates.{Fact, one_of, KnowsAll, Sim, then_sim}
 use Rattle.tac_lower.proofs.Words.{value-small}
 use Rattle.tac_lower.proofs.Writes.{same-self, puts_sim, is-later, below-le, known_sim}
 use Rattle.tac_lower.proofs.Loads.{sim_as, sim_from, AreWords, compute_sim, copied_sim, reached_sim, word-is, is-value}
-
--- the nearest variable of a symbol has this type
-abbrev pub by_test : Bool → Type 0 → Type 0 → Type 0
-by_test true a b = a
-by_test false a b = b
-
-abbrev pub InScope : SymId → TypeId → List TypedName → Type 0
-InScope x of [] = ⊥
-InScope x of (y ∷ ys) = by_test (nat_eq x.0 y.symbol.0) (of ≡ y.of) (InScope x of ys)
 
 -- where a variable is, in code and in the meaning
 pub record Lies (z : Setting) (x : SymId) (of : TypeId) (scope : Holders) (vs : List Variable) (limit : ℕ) (k : Private) : Type 0 where

@@ -11,14 +11,11 @@ use Rattle.tac_form.specs.Flow as flow
 use Rattle.tac_form.specs.Flow.{Moved, Goes, Stops, steps}
 use Rattle.tac_lower.specs.Items.{backward}
 use Rattle.tac_lower.specs.Pieces.{Used, Holder, in_temp, at_offset, Holders}
+pub use Rattle.tac_lower.specs.Needs.{in_loop}
 use Rattle.tac_lower.proofs.Places.{Point, start_of, EndsAt}
 use Rattle.tac_lower.proofs.Standing.{Setting, Private, stands, Leads, Halts, leads-to, one-end, Is, below, Holds, Fine, Keeps, Grown, Comes, Leaves}
 use Rattle.tac_lower.proofs.Simulates.{grown-none, comes-before}
 use Rattle.tac_lower.proofs.Acts.{Under, under-self, holds-length, fine-outer, Returns, WayOk, way-before}
-
--- a loop is left by breaks, and statements in it may break
-abbrev pub in_loop : Within → Within
-in_loop w = record w { in_loop = true }
 
 -- what a round's code leads to: where the loop goes back, behind the loop, or to the caller
 abbrev pub RoundOk : Setting → Within → List TypedName → Holders → Point → Used → Private → State → Point → Used → (out : ℕ) → Way → State → Type 0

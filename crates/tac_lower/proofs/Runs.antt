@@ -24,21 +24,22 @@ use Rattle.tac_form.specs.Flow as flow
 use Rattle.tac_form.specs.Flow.{Program, Activation, Caller, Moved, Goes, Stops, steps, begun, TacRun}
 use Rattle.tac_lower.specs.Items.{empty_draft}
 use Rattle.tac_lower.specs.Lowering.{lowered, ending}
+use Rattle.tac_lower.specs.Needs.{BodyNeeds}
 use Rattle.tac_lower.specs.Laws.{HasRun}
 use Rattle.tac_lower.proofs.Places.{start_of}
 use Rattle.tac_lower.proofs.Standing.{Setting, SizedBy, Private, stands, Fine}
 use Rattle.tac_lower.proofs.Simulates.{grown-none}
 use Rattle.tac_lower.proofs.Whole.{has-whole}
 use Rattle.tac_lower.proofs.Calls.{beside, Gave, CallOk, CallsOk, call_here}
-use Rattle.tac_lower.proofs.Functions.{with_private, Received, receives, ends-whole, BodyNeeds, tos, D, B, code, body_grown, body_ok}
+use Rattle.tac_lower.proofs.Functions as functions
+use Rattle.tac_lower.proofs.Functions.{with_private, Received, receives, ends-whole, tos, D, B, code, body_grown, body_ok}
 use Rattle.tac_form.proofs.OneRun.{one-run}
 
 module _ (p : Program) (st : Contents) (memory : ℕ) (room : memory ≤ 67108864)
     (sizes : (t : TypeId) → SizedBy (form_at st.types t) (bytes_at st.types t)) (boolean_is : form_at st.types boolean ≡ forms.Bool)
     (unit_is : form_at st.types unit ≡ forms.Unit)
     (code_is : (f : FnId) → p.code f ≡ option_map (lowered st p.entries) (callable_of st f))
-    (needs : (z : Setting) (m : ℕ) (f : FnId) (k : Callable) → callable_of st f ≡ Some k → z.types ≡ st.types → z.program ≡ p →
-    z.tac.frame ≡ (frame_of st.types k.body).size → BodyNeeds z m st k) where
+    (needs : (f : FnId) (k : Callable) → callable_of st f ≡ Some k → BodyNeeds st p.entries k) where
   abbrev frame : Callable → ℕ
   frame k = (frame_of st.types k.body).size
 
@@ -100,7 +101,7 @@ module _ (p : Program) (st : Contents) (memory : ℕ) (room : memory ≤ 6710886
           let enough = ltb-false top (heap_limit s.region + frame k) e in
           let le : frame k ≤ top = omega (arith, enough) in
           let z = setting f k callers top (code-there f k there) le low in
-          let h = needs z m f k there refl refl refl in
+          let h : functions.BodyNeeds z m st k = needs f k there in
           let whole_ = grown-none (B z m st k).used in
           let k0 : Private = record { temps = λ t. 0; areas = λ n. [] } in
           let r = receives z k.body.parameters (record { temps = 0; areas = [] }) vs k0 values (body_grown z m st k calls code_is h) (λ n. omega arith) in

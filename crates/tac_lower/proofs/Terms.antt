@@ -36,10 +36,15 @@ use Rattle.tac_lower.proofs.Shorts.{short_sim, both_tests, either_tests, plain-b
 use Rattle.tac_lower.proofs.Rounds.{in_loop}
 use Rattle.tac_lower.proofs.Loops.{acts_while}
 use Rattle.tac_lower.proofs.Repeats.{acts_repeat}
-use Rattle.tac_lower.proofs.Needs as needed
-use Rattle.tac_lower.proofs.Needs.{names_after_one, names_after}
+use Rattle.tac_lower.specs.Needs as needed
+use Rattle.tac_lower.specs.Needs.{names_after_one, names_after, IsWanted}
 use Rattle.tac_lower.proofs.Fors.{Begins, acts_for}
 use Rattle.tac_lower.proofs.Targets.{VariableIn, VariablesIn, ReadsVariable, AreAimed, is-aimed, aimed_sim, assigned_all_sim}
+
+-- a word that is wanted
+good-wanted : (z : Setting) (want : Wanted) (of : TypeId) (o : Operand) (x : ℕ) → IsWanted z.types want of x → Good z want of (a_word o) (word x)
+good-wanted z the_value of o x h = h
+good-wanted z the_address of o x h = h
 
 -- statements, told otherwise
 acts_as : {z : Setting} {n : ℕ} {w : Within} {names names' : List TypedName} {scope : Holders} {u : Used} {r : Piece Holders} (go go' : State → Got Way) → ((s : State) → go s ≡ go' s) →
@@ -87,19 +92,19 @@ module _ (z : Setting) (n : ℕ) (st : Contents) (entries : List FnId) (homes : 
   -- what lowering needs of a term's types, here
 
   abbrev pub Needs : Wanted → List TypedName → ℕ → Expression → Type 0
-  Needs = needed.Needs z entries homes outside OperationNeeds
+  Needs = needed.Needs z.types z.tac.frame entries homes outside OperationNeeds
 
   abbrev pub NeedsAll : List TypedName → ℕ → Expressions → Type 0
-  NeedsAll = needed.NeedsAll z entries homes outside OperationNeeds
+  NeedsAll = needed.NeedsAll z.types z.tac.frame entries homes outside OperationNeeds
 
   abbrev pub NeedsTargets : List TypedName → ℕ → Expressions → Type 0
-  NeedsTargets = needed.NeedsTargets z entries homes outside OperationNeeds
+  NeedsTargets = needed.NeedsTargets z.types z.tac.frame entries homes outside OperationNeeds
 
   abbrev pub NeedsOne : Within → List TypedName → ℕ → Statement → Type 0
-  NeedsOne = needed.NeedsOne z entries homes outside OperationNeeds
+  NeedsOne = needed.NeedsOne z.types z.tac.frame entries homes outside OperationNeeds
 
   abbrev pub NeedsBlock : Within → List TypedName → ℕ → Statements → Type 0
-  NeedsBlock = needed.NeedsBlock z entries homes outside OperationNeeds
+  NeedsBlock = needed.NeedsBlock z.types z.tac.frame entries homes outside OperationNeeds
 
   -- a target that is a variable is in scope, and the meaning reads it
   variable-in : (names : List TypedName) (from : ℕ) (e : Expression) → Needs the_address names from e →
@@ -138,7 +143,7 @@ module _ (z : Setting) (n : ℕ) (st : Contents) (entries : List FnId) (homes : 
       pub expression_sim : (want : Wanted) (e : Expression) (from : ℕ) (names : List TypedName) (scope : Holders) (facts : List Fact) (u : Used) → Needs want names from e →
           Sim z n names scope facts u (piece a want e from scope u) (meant c want e from) names scope (λ v. one_of want (type_of e) (piece a want e from scope u).result v)
       expression_sim want (typed at of (Constant' k)) from names scope facts u needs =
-          known_sim u (a_word (Constant (constant entries k))) (word (constant entries k)) (λ k1 s fine knows. record { is = refl; own = tt; good = needs })
+          known_sim u (a_word (Constant (constant entries k))) (word (constant entries k)) (λ k1 s fine knows. record { is = refl; own = tt; good = good-wanted z want of (Constant (constant entries k)) (constant entries k) needs })
       expression_sim want (typed at of (Variable x)) from names scope facts u needs = variable_sim u want at of x needs
       expression_sim want (typed at of (Global address)) from names scope facts u needs =
           reached_sim u want at of (a_word (Constant address)) address (λ k s fine knows. record { is = refl; own = tt; good = needs })
@@ -238,12 +243,12 @@ module _ (z : Setting) (n : ℕ) (st : Contents) (entries : List FnId) (homes : 
           let q = piece a the_address e from scope u in
           sim_as (λ s. next (meant c the_address e from s) (λ v s'. Gives v s')) (meant c the_address e from) (λ s. next-same (meant c the_address e from s))
           (then_sim (λ v u'. located v u') (λ v s'. Gives v s') (word 0) (expression_sim the_address e from names scope facts u needs.0)
-          (λ v. located_sim q.used want (type_of e) of q.result v needs.1))
+          (λ v. located_sim q.used want (type_of e) of q.result v (λ o x lt. good-wanted z want of o x (needs.1 x lt))))
       expression_sim want (typed at of (Decay e)) from names scope facts u needs =
           let q = piece a the_address e from scope u in
           sim_as (λ s. next (meant c the_address e from s) (λ v s'. Gives v s')) (meant c the_address e from) (λ s. next-same (meant c the_address e from s))
           (then_sim (λ v u'. located v u') (λ v s'. Gives v s') (word 0) (expression_sim the_address e from names scope facts u needs.0)
-          (λ v. located_sim q.used want (type_of e) of q.result v needs.1))
+          (λ v. located_sim q.used want (type_of e) of q.result v (λ o x lt. good-wanted z want of o x (needs.1 x lt))))
       expression_sim the_address (typed at of (Let block e)) from names scope facts u needs = absurd needs.0
       expression_sim the_value (typed at of (Let block e)) from names scope facts u needs =
           let r = all a block from scope u in

@@ -11,6 +11,7 @@ use Rattle.terra_types.specs.declared.types.TypeForm.TheVariants as forms
 use Rattle.terra_meaning.specs.Values.{form_at, width_of, IsValue}
 use Rattle.tac_form.specs.Flow as flow
 use Rattle.tac_lower.specs.Pieces.{number_in}
+pub use Rattle.tac_lower.specs.Needs.{HasNumber}
 
 -- the width of a type's words
 abbrev pub width_by : TypeForm → Width
@@ -89,13 +90,6 @@ wrapped-zero (forms.Struct number place layout) = refl
 pub value-small : (types : List TypeForm) (t : TypeId) (v : Value) → IsValue types t v → number v < 2 ^ 64
 value-small types t (word x) h = subst (λ y. y < 2 ^ 64) h.1 (wrapped-small (form_at types t) x)
 value-small types t (bytes bs) h = omega arith
-
--- forms whose words have all bits of their bytes: integers, pointers and functions
-abbrev pub HasNumber : TypeForm → Type 0
-HasNumber (forms.Integer i) = Unit {0}
-HasNumber (forms.Pointer t) = Unit {0}
-HasNumber (forms.Function params result) = Unit {0}
-HasNumber _ = ⊥
 
 pub number-width : (form : TypeForm) → HasNumber form → flow.width_of (number_in form) ≡ width_by form
 number-width (forms.Integer Int8) h = refl

@@ -4,5 +4,7 @@ pub mod Items
 pub mod Pieces
 -- The code of a typed term.
 pub mod Lowering
+-- What lowering needs of a typed term.
+pub mod Needs
 -- What is promised of lowered code.
 pub mod Laws
