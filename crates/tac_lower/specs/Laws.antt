@@ -3,6 +3,7 @@ use Rattle.std.specs.Prelude.{◌≡◌, ℕ, ◌≤◌, ◌/◌, true, List, le
 use Rattle.tl_base.specs.declared.ids.FnId.{FnId}
 use Rattle.terra_memory.specs.Region.{IsMemorySize}
 use Rattle.terra_words.specs.Runs.{Value, Run}
+use Rattle.terra_types.specs.Opening.{AreTypes}
 use Rattle.terra_term.specs.Stores.{Callable, Contents, callable_of, static_bytes}
 use Rattle.terra_term.specs.WellTyped.{body_typed}
 use Rattle.terra_meaning.specs.Values.{AreValues}
@@ -11,10 +12,11 @@ use Rattle.tac_form.specs.declared.tac.Tac.{Tac}
 use Rattle.tac_form.specs.Flow.{Program, TacRun}
 use Rattle.tac_form.specs.Weights.{Sized}
 use Rattle.tac_form.specs.Fits.{Counted, Fits}
+use Rattle.tac_lower.specs.Needs.{BodyNeeds}
 
--- every function of a store that can be called is one that typing leaves
-abbrev pub AreTyped : Contents → Type 0
-AreTyped store = (f : FnId) (k : Callable) → callable_of store f ≡ Some k → body_typed store k.body ≡ true
+-- every function of a store that can be called has what lowering needs, where these functions stand as values
+abbrev pub AreReady : Contents → List FnId → Type 0
+AreReady store entries = (f : FnId) (k : Callable) → callable_of store f ≡ Some k → BodyNeeds store entries k
 
 -- a program has the code of each function, as lowering makes it
 abbrev pub AreLowered : (Contents → List FnId → Callable → Tac) → Contents → Program → Type 0
@@ -28,7 +30,7 @@ pub record HasRun (p : Program) (statics : List ℕ) (memory n : ℕ) (f : FnId)
 -- the code of a store's functions has the runs of their terms, at every count
 abbrev pub LoweringKeepsRuns : (Contents → List FnId → Callable → Tac) → Type 0
 LoweringKeepsRuns lowered =
-    (store : Contents) (p : Program) → AreTyped store → AreLowered lowered store p →
+    (store : Contents) (p : Program) → AreTypes store.types → AreReady store p.entries → AreLowered lowered store p →
     (memory n : ℕ) (f : FnId) (k : Callable) (arguments : List Value) →
     IsMemorySize memory → length (static_bytes store) ≤ memory / 2 →
     callable_of store f ≡ Some k → AreValues store.types k.body.parameters arguments →

@@ -1,8 +1,13 @@
 //! From typed terms to three-address code.
 //!
 //! `specs/Lowering.antt` says which code a function has, by recursion on its term: pieces of code, which are the same wherever they
-//! stand, go on from one another as the parts of the meaning do. `specs/Laws.antt` has what is to be promised of it; nothing in this
-//! crate promises it yet. `proofs/Terms.antt` shows that the code of a term does what the term means, where operations do so; no
-//! assignment, `or`, `repeat` or `for` is among its terms yet. `proofs/Examples.antt` has the runs of small functions' code, computed
-//! by the checker.
+//! stand, go on from one another as the parts of the meaning do. That the code of a store's functions has the runs that their terms
+//! mean is the law of [`lowering_keeps_runs`]; `specs/Needs.antt` says what it needs of the terms. It isn't proved yet that what
+//! typing leaves has that, nor that the code fits, is counted, and keeps its sizes (`LoweredIsGood` in `specs/Laws.antt`), and no
+//! function of this crate makes the code yet. `proofs/Examples.antt` and `proofs/Mixed.antt` have the runs of small functions' code,
+//! computed by the checker.
 #![tactic(auto)]
+
+pub mod law;
+
+pub use law::lowering_keeps_runs;
