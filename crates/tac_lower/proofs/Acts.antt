@@ -49,7 +49,8 @@ holds-length z [] (b ∷ bs) vs l k h = absurd h
 holds-length z (x ∷ xs) [] vs l k h = absurd h
 holds-length z (x ∷ xs) (b ∷ bs) [] l k h = absurd h
 
-holds-under : (z : Setting) (ns names : List TypedName) (bs scope : Holders) (vs : List Variable) (l : ℕ) (k : Private) → length ns ≡ length bs →
+holds-under : (z : Setting) (ns names : List TypedName) (bs scope : Holders) (vs : List Variable) (l : ℕ) (k : Private) →
+    length ns ≡ length bs →
     Holds z (ns ++ names) (bs ++ scope) vs l k → Holds z names scope (drop (length ns) vs) l k
 holds-under z [] names [] scope vs l k e h = h
 holds-under z (x ∷ ns) names (b ∷ bs) scope (v ∷ vs) l k e h =
@@ -60,7 +61,8 @@ holds-under z (x ∷ ns) names [] scope vs l k e h = absurd (omega (arith, e))
 holds-under z (x ∷ ns) names (b ∷ bs) scope [] l k e h = absurd h
 
 -- a scope is left
-pub fine-outer : (z : Setting) (names names' : List TypedName) (scope scope' : Holders) (u : Used) (k : Private) (n : ℕ) (s : State) → Under names scope names' scope' →
+pub fine-outer : (z : Setting) (names names' : List TypedName) (scope scope' : Holders) (u : Used) (k : Private) (n : ℕ) (s : State) →
+    Under names scope names' scope' →
     n ≡ length scope → Fine z names' scope' u k s → Fine z names scope u k (outermost n s)
 fine-outer z names names' scope scope' u k n s x e fine =
     let h = subst (λ a. Holds z a scope' s.variables u.temps k) x.names_are fine.holds in
@@ -68,7 +70,8 @@ fine-outer z names names' scope scope' u k n s x e fine =
     let long = holds-length z names' scope' s.variables u.temps k fine.holds in
     let deep : length s.variables - n ≡ length x.ns = omega (arith, long, ap length x.scope_is, length-append x.bs scope, x.long, e) in
     record {
-      holds = subst (λ m. Holds z names scope (drop m s.variables) u.temps k) (sym deep) (holds-under z x.ns names x.bs scope s.variables u.temps k x.long h');
+      holds = subst (λ m. Holds z names scope (drop m s.variables) u.temps k) (sym deep)
+          (holds-under z x.ns names x.bs scope s.variables u.temps k x.long h');
       small = fine.small;
       sized = fine.sized;
     }
@@ -93,14 +96,16 @@ pub record Returns (z : Setting) (w : Within) (at : Point) (k : Private) (s : St
   pub lawful : w.in_let ≡ false
 
 -- what a statement's code leads to, by the way in which the meaning ends
-abbrev pub WayOk : Setting → Within → List TypedName → Holders → Point → Used → Private → State → Point → List TypedName → Holders → Used → (out : ℕ) → Way → State → Type 0
+abbrev pub WayOk : Setting → Within → List TypedName → Holders → Point → Used → Private → State → Point → List TypedName → Holders →
+    Used → (out : ℕ) → Way → State → Type 0
 WayOk z w names scope at u k s to names' scope' u' out goes_on s' = Comes z names scope at u k s to names' scope' u' s' (λ k1. Unit {0})
 WayOk z w names scope at u k s to names' scope' u' out breaks s' =
     (w.in_loop ≡ true) × Comes z names scope at u k s (start_of out) names scope u' (outermost (length s.variables) s') (λ k1. Unit {0})
 WayOk z w names scope at u k s to names' scope' u' out (gives_back v) s' = Returns z w at k s v s'
 
 -- The code of statements does what a part of the meaning does where less than n is left of the count.
-pub record Acts (z : Setting) (n : ℕ) (w : Within) (names : List TypedName) (scope : Holders) (u : Used) (r : Piece Holders) (go : State → Got Way) (names' : List TypedName) : Type 0 where
+pub record Acts (z : Setting) (n : ℕ) (w : Within) (names : List TypedName) (scope : Holders) (u : Used) (r : Piece Holders)
+    (go : State → Got Way) (names' : List TypedName) : Type 0 where
   pub grown : Grown u r.used
   pub over : Over scope u r.result
   pub under : Under names scope names' r.result
@@ -117,22 +122,28 @@ fine-later z names scope u u' k s le fine = record {
 }
 
 -- a stretch of code before statements
-pub way-before : (z : Setting) (w : Within) (names names1 names2 : List TypedName) (scope scope1 scope2 : Holders) (at at1 to : Point) (u u1 u2 : Used) (k k1 : Private) (s s1 : State) (out : ℕ) →
+pub way-before : (z : Setting) (w : Within) (names names1 names2 : List TypedName) (scope scope1 scope2 : Holders) (at at1 to : Point)
+    (u u1 u2 : Used) (k k1 : Private) (s s1 : State) (out : ℕ) →
     Leads z at k s at1 k1 s1 → Grown u u1 → Over scope u scope1 → Under names scope names1 scope1 → Keeps scope u k k1 → s1.left ≤ s.left →
     Fine z names scope u k s → Fine z names1 scope1 u1 k1 s1 → (g : Got Way) →
     Leaves z at1 k1 s1 (λ way s'. WayOk z w names1 scope1 at1 u1 k1 s1 to names2 scope2 u2 out way s') g →
     Leaves z at k s (λ way s'. WayOk z w names scope at u k s to names2 scope2 u2 out way s') g
-way-before z w names names1 names2 scope scope1 scope2 at at1 to u u1 u2 k k1 s s1 out leads g over under keeps fewer fine fine1 (Ends e) h =
+way-before z w names names1 names2 scope scope1 scope2 at at1 to u u1 u2 k k1 s s1 out leads g over under keeps fewer fine fine1
+    (Ends e) h =
     leads-to z at k s at1 k1 s1 (Stops e) leads h
-way-before z w names names1 names2 scope scope1 scope2 at at1 to u u1 u2 k k1 s s1 out leads g over under keeps fewer fine fine1 (Gives goes_on s2) d =
+way-before z w names names1 names2 scope scope1 scope2 at at1 to u u1 u2 k k1 s s1 out leads g over under keeps fewer fine fine1
+    (Gives goes_on s2) d =
     comes-before z names names1 names2 scope scope1 scope2 at at1 to u u1 u2 k k1 s s1 s2 (λ k2. Unit {0}) leads g over keeps fewer d
-way-before z w names names1 names2 scope scope1 scope2 at at1 to u u1 u2 k k1 s s1 out leads g over under keeps fewer fine fine1 (Gives breaks s2) d =
+way-before z w names names1 names2 scope scope1 scope2 at at1 to u u1 u2 k k1 s s1 out leads g over under keeps fewer fine fine1
+    (Gives breaks s2) d =
     let c = d.1 in
     let n = holds-length z names scope s.variables u.temps k fine.holds in
     let m = holds-length z names1 scope1 s1.variables u1.temps k1 fine1.holds in
-    let inner = holds-length z names1 scope1 (drop (length s2.variables - length s1.variables) s2.variables) u2.temps c.private c.fine.holds in
+    let inner = holds-length z names1 scope1 (drop (length s2.variables - length s1.variables) s2.variables) u2.temps c.private
+    c.fine.holds in
     let le : length s.variables ≤ length s1.variables = omega (arith, n, m, ap length under.scope_is, length-append under.bs scope) in
-    let outer = fine-outer z names names1 scope scope1 u2 c.private (length s.variables) (outermost (length s1.variables) s2) under n c.fine in (
+    let outer = fine-outer z names names1 scope scope1 u2 c.private (length s.variables) (outermost (length s1.variables) s2) under n
+    c.fine in (
       d.0,
       record {
         private = c.private;
@@ -144,25 +155,29 @@ way-before z w names names1 names2 scope scope1 scope2 at at1 to u u1 u2 k k1 s 
         fewer = omega (arith, fewer, c.fewer);
       },
     )
-way-before z w names names1 names2 scope scope1 scope2 at at1 to u u1 u2 k k1 s s1 out leads g over under keeps fewer fine fine1 (Gives (gives_back v) s2) d = record {
-  to = d.to;
-  private = d.private;
-  leads = leads-to z at k s at1 k1 s1 (flow.give z.program v z.callers (stands z d.to d.private s2)) leads d.leads;
-  sized = d.sized;
-  fewer = omega (arith, fewer, d.fewer);
-  is_value = d.is_value;
-  lawful = d.lawful;
-}
+way-before z w names names1 names2 scope scope1 scope2 at at1 to u u1 u2 k k1 s s1 out leads g over under keeps fewer fine fine1
+    (Gives (gives_back v) s2) d = record {
+      to = d.to;
+      private = d.private;
+      leads = leads-to z at k s at1 k1 s1 (flow.give z.program v z.callers (stands z d.to d.private s2)) leads d.leads;
+      sized = d.sized;
+      fewer = omega (arith, fewer, d.fewer);
+      is_value = d.is_value;
+      lawful = d.lawful;
+    }
 
 -- where code ends after two pieces, and what is used then
-pub way-at : (z : Setting) (w : Within) (names names' : List TypedName) (scope scope' : Holders) (at to to' : Point) (u u' : Used) (k : Private) (s : State) (out : ℕ) → to ≡ to' →
+pub way-at : (z : Setting) (w : Within) (names names' : List TypedName) (scope scope' : Holders) (at to to' : Point) (u u' : Used)
+    (k : Private) (s : State) (out : ℕ) → to ≡ to' →
     (g : Got Way) → Leaves z at k s (λ way s'. WayOk z w names scope at u k s to names' scope' u' out way s') g →
     Leaves z at k s (λ way s'. WayOk z w names scope at u k s to' names' scope' u' out way s') g
 way-at z w names names' scope scope' at to to' u u' k s out e g h =
     subst (λ p. Leaves z at k s (λ way s'. WayOk z w names scope at u k s p names' scope' u' out way s') g) e h
 
-pub comes-later : (z : Setting) (names names' : List TypedName) (scope scope' : Holders) (at to : Point) (u u' v : Used) (k : Private) (s s' : State) → u'.temps ≤ v.temps →
-    Comes z names scope at u k s to names' scope' u' s' (λ k1. Unit {0}) → Comes z names scope at u k s to names' scope' v s' (λ k1. Unit {0})
+pub comes-later : (z : Setting) (names names' : List TypedName) (scope scope' : Holders) (at to : Point) (u u' v : Used) (k : Private)
+    (s s' : State) → u'.temps ≤ v.temps →
+    Comes z names scope at u k s to names' scope' u' s' (λ k1. Unit {0}) → Comes z names scope at u k s to names' scope' v s'
+    (λ k1. Unit {0})
 comes-later z names names' scope scope' at to u u' v k s s' le c = record {
   private = c.private;
   leads = c.leads;
@@ -173,7 +188,8 @@ comes-later z names names' scope scope' at to u u' v k s s' le c = record {
 }
 
 -- no statements
-pub acts_none : {z : Setting} {n : ℕ} {w : Within} {names : List TypedName} {scope : Holders} (u : Used) → Acts z n w names scope u (known scope u) (λ s. Gives goes_on s) names
+pub acts_none : {z : Setting} {n : ℕ} {w : Within} {names : List TypedName} {scope : Holders} (u : Used) →
+    Acts z n w names scope u (known scope u) (λ s. Gives goes_on s) names
 acts_none {z} {n} {w} {names} {scope} u = record {
   grown = grown-none u;
   over = λ t lt away. away;
@@ -189,7 +205,8 @@ acts_none {z} {n} {w} {names} {scope} u = record {
 }
 
 -- a statement, and those behind it
-pub acts_then : {z : Setting} {n : ℕ} {w : Within} {names names1 names2 : List TypedName} {scope : Holders} {u : Used} {r : Piece Holders} {go : State → Got Way}
+pub acts_then : {z : Setting} {n : ℕ} {w : Within} {names names1 names2 : List TypedName} {scope : Holders} {u : Used} {r : Piece Holders}
+    {go : State → Got Way}
     (more : Holders → Used → Piece Holders) (go2 : State → Got Way) → Acts z n w names scope u r go names1 →
     Acts z n w names1 r.result r.used (more r.result r.used) go2 names2 →
     Acts z n w names scope u (then_piece r more) (λ s. next (go s) (λ way s'. along way s' go2)) names2
@@ -205,21 +222,30 @@ acts_then {z} {n} {w} {names} {names1} {names2} {scope} {u} {r} {go} more go2 x 
     q : Piece Holders
     q = more r.result r.used
 
-    second : (out : ℕ) (at : Point) (k : Private) (s : State) → HasAt z.tac.blocks out at (r.code ++ q.code) → Grown q.used (whole z) → Fine z names scope u k s → s.left < n → (g : Got Way) →
+    second : (out : ℕ) (at : Point) (k : Private) (s : State) → HasAt z.tac.blocks out at (r.code ++ q.code) → Grown q.used (whole z) →
+        Fine z names scope u k s → s.left < n → (g : Got Way) →
         Leaves z at k s (λ way s'. WayOk z w names scope at u k s (after r.code at) names1 r.result r.used out way s') g →
-        Leaves z at k s (λ way s'. WayOk z w names scope at u k s (after (r.code ++ q.code) at) names2 q.result q.used out way s') (next g (λ way s'. along way s' go2))
+        Leaves z at k s (λ way s'. WayOk z w names scope at u k s (after (r.code ++ q.code) at) names2 q.result q.used out way s')
+        (next g (λ way s'. along way s' go2))
     second out at k s has whole_ fine less (Ends e) h = h
     second out at k s has whole_ fine less (Gives goes_on s1) c =
-        way-at z w names names2 scope q.result at (after q.code (after r.code at)) (after (r.code ++ q.code) at) u q.used k s out (sym (after-append r.code q.code at)) (go2 s1)
-        (way-before z w names names1 names2 scope r.result q.result at (after r.code at) (after q.code (after r.code at)) u r.used q.used k c.private s s1 out
+        way-at z w names names2 scope q.result at (after q.code (after r.code at)) (after (r.code ++ q.code) at) u q.used k s out
+        (sym (after-append r.code q.code at)) (go2 s1)
+        (way-before z w names names1 names2 scope r.result q.result at (after r.code at) (after q.code (after r.code at)) u r.used q.used
+        k c.private s s1 out
         c.leads x.grown x.over x.under c.keeps c.fewer fine c.fine (go2 s1)
-        (y.run out (after r.code at) c.private s1 (has-back z.tac.blocks out at r.code q.code has) whole_ c.fine (omega (arith, less, c.fewer))))
-    second out at k s has whole_ fine less (Gives breaks s1) c =
-        (c.0, comes-later z names names scope scope at (start_of out) u r.used q.used k s (outermost (length s.variables) s1) y.grown.temps c.1)
+        (y.run out (after r.code at) c.private s1 (has-back z.tac.blocks out at r.code q.code has) whole_ c.fine
+        (omega (arith, less, c.fewer))))
+    second out at k s has whole_ fine less (Gives breaks s1) c = (
+      c.0,
+      comes-later z names names scope scope at (start_of out) u r.used q.used k s (outermost (length s.variables) s1)
+          y.grown.temps c.1,
+    )
     second out at k s has whole_ fine less (Gives (gives_back v) s1) c = c
 
 -- a scope of its own
-pub scoped-ways : (z : Setting) (w : Within) (names names1 : List TypedName) (scope scope1 : Holders) (at to : Point) (u u1 : Used) (k : Private) (s : State) (out : ℕ) → Fine z names scope u k s →
+pub scoped-ways : (z : Setting) (w : Within) (names names1 : List TypedName) (scope scope1 : Holders) (at to : Point) (u u1 : Used)
+    (k : Private) (s : State) (out : ℕ) → Fine z names scope u k s →
     Under names scope names1 scope1 → (g : Got Way) →
     Leaves z at k s (λ way s'. WayOk z w names scope at u k s to names1 scope1 u1 out way s') g →
     Leaves z at k s (λ way s'. WayOk z w names scope at u k s to names scope u1 out way s') (scoped s g)
@@ -228,14 +254,16 @@ scoped-ways z w names names1 scope scope1 at to u u1 k s out fine under (Gives g
   private = c.private;
   leads = c.leads;
   ok = tt;
-  fine = fine-outer z names names1 scope scope1 u1 c.private (length s.variables) s1 under (holds-length z names scope s.variables u.temps k fine.holds) c.fine;
+  fine = fine-outer z names names1 scope scope1 u1 c.private (length s.variables) s1 under
+      (holds-length z names scope s.variables u.temps k fine.holds) c.fine;
   keeps = c.keeps;
   fewer = c.fewer;
 }
 scoped-ways z w names names1 scope scope1 at to u u1 k s out fine under (Gives breaks s1) d =
     let c = d.1 in
     let n = holds-length z names scope s.variables u.temps k fine.holds in
-    let inner = holds-length z names scope (drop (length s1.variables - length s.variables) s1.variables) u1.temps c.private c.fine.holds in (
+    let inner = holds-length z names scope (drop (length s1.variables - length s.variables) s1.variables) u1.temps c.private c.fine.holds
+    in (
       d.0,
       record {
         private = c.private;
@@ -257,12 +285,14 @@ scoped-ways z w names names1 scope scope1 at to u u1 k s out fine under (Gives (
   lawful = d.lawful;
 }
 
-pub acts_scoped : {z : Setting} {n : ℕ} {w : Within} {names names1 : List TypedName} {scope : Holders} {u : Used} {r : Piece Holders} {go : State → Got Way} →
+pub acts_scoped : {z : Setting} {n : ℕ} {w : Within} {names names1 : List TypedName} {scope : Holders} {u : Used} {r : Piece Holders}
+    {go : State → Got Way} →
     Acts z n w names scope u r go names1 → Acts z n w names scope u (taken (λ inner. scope) r) (λ s. scoped s (go s)) names
 acts_scoped {z} {n} {w} {names} {names1} {scope} {u} {r} {go} x = record {
   grown = x.grown;
   over = λ t lt away. away;
   under = under-self names scope;
   run = λ out at k s has whole_ fine less.
-      scoped-ways z w names names1 scope r.result at (after r.code at) u r.used k s out fine x.under (go s) (x.run out at k s has whole_ fine less);
+      scoped-ways z w names names1 scope r.result at (after r.code at) u r.used k s out fine x.under (go s)
+      (x.run out at k s has whole_ fine less);
 }

@@ -27,12 +27,15 @@ use Rattle.tac_lower.proofs.Stores.{stored_sim}
 use Rattle.tac_lower.proofs.Declares.{word-of-value}
 
 -- a temporary that is a variable's is below the number of its scope
-holder-below : (z : Setting) (x : SymId) (names : List TypedName) (scope : Holders) (vs : List running.Variable) (l t : ℕ) (k : Private) → Holds z names scope vs l k →
+holder-below : (z : Setting) (x : SymId) (names : List TypedName) (scope : Holders) (vs : List running.Variable) (l t : ℕ) (k : Private) →
+    Holds z names scope vs l k →
     holder_of x scope ≡ Some (in_temp t) → t < l
 holder-below z x [] [] [] l t k h e = absurd (grind (arith, e))
-holder-below z x (y ∷ ys) (b ∷ bs) (v ∷ vs) l t k h e = by (nat_eq x.0 b.symbol.0) b.holder v.is h.2 e (λ f. holder-below z x ys bs vs (below b.holder l) t k h.3 f) (below-le z y.of b.holder v.is l k h.2)
+holder-below z x (y ∷ ys) (b ∷ bs) (v ∷ vs) l t k h e = by (nat_eq x.0 b.symbol.0) b.holder v.is h.2 e
+    (λ f. holder-below z x ys bs vs (below b.holder l) t k h.3 f) (below-le z y.of b.holder v.is l k h.2)
   where
-    by : (test : Bool) (holder : Holder) (is : Held) → Is z y.of holder is l k → (if test then Some holder else holder_of x bs) ≡ Some (in_temp t) →
+    by : (test : Bool) (holder : Holder) (is : Held) → Is z y.of holder is l k → (if test then Some holder else holder_of x bs) ≡ Some
+        (in_temp t) →
         (holder_of x bs ≡ Some (in_temp t) → t < below b.holder l) → below b.holder l ≤ l → t < l
     by true (in_temp u) (held w) i f deeper le = let same : u ≡ t = grind (arith, f) in omega (arith, i.0, same)
     by true (at_offset o) is i f deeper le = absurd (grind (arith, f))
@@ -48,19 +51,23 @@ apart-ne : (x : SymId) (scope : Holders) (t t' : ℕ) → holder_of x scope ≡ 
 apart-ne x [] t t' e away = absurd (grind (arith, e))
 apart-ne x (b ∷ bs) t t' e away = by (nat_eq x.0 b.symbol.0) b.holder e away.0 (λ f. apart-ne x bs t t' f away.1)
   where
-    by : (test : Bool) (holder : Holder) → (if test then Some holder else holder_of x bs) ≡ Some (in_temp t) → Elsewhere t' holder → (holder_of x bs ≡ Some (in_temp t) → t' ≢ t) → t' ≢ t
+    by : (test : Bool) (holder : Holder) → (if test then Some holder else holder_of x bs) ≡ Some (in_temp t) → Elsewhere t' holder →
+        (holder_of x bs ≡ Some (in_temp t) → t' ≢ t) → t' ≢ t
     by true (in_temp u) f away1 deeper = let same : u ≡ t = grind (arith, f) in subst (λ m. t' ≢ m) same away1
     by true (at_offset o) f away1 deeper = absurd (grind (arith, f))
     by false holder f away1 deeper = deeper f
 
 -- the nearest variable of a symbol is set, and the others stay
-set-holds : (z : Setting) (x : SymId) (of : TypeId) (names : List TypedName) (scope : Holders) (vs : List running.Variable) (l t w : ℕ) (k : Private) → Holds z names scope vs l k → InScope x of names →
+set-holds : (z : Setting) (x : SymId) (of : TypeId) (names : List TypedName) (scope : Holders) (vs : List running.Variable) (l t w : ℕ)
+    (k : Private) → Holds z names scope vs l k → InScope x of names →
     holder_of x scope ≡ Some (in_temp t) → IsValue z.types of (word w) → Holds z names scope (set x (held w) vs) l (with_word t w k)
 set-holds z x of [] [] [] l t w k h i e good = absurd i
 set-holds z x of (y ∷ ys) (b ∷ bs) (v ∷ vs) l t w k h i e good =
-    by (nat_eq x.0 y.symbol.0) (ap (λ m. nat_eq x.0 m.0) h.1) i (ap (λ m. if nat_eq x.0 m.0 then Some b.holder else holder_of x bs) (sym h.0) ∙ e) (λ j f. set-holds z x of ys bs vs (below b.holder l) t w k h.3 j f good)
+    by (nat_eq x.0 y.symbol.0) (ap (λ m. nat_eq x.0 m.0) h.1) i (ap (λ m. if nat_eq x.0 m.0 then Some b.holder else holder_of x bs)
+    (sym h.0) ∙ e) (λ j f. set-holds z x of ys bs vs (below b.holder l) t w k h.3 j f good)
   where
-    here : (holder : Holder) (is : Held) → Is z y.of holder is l k → Holds z ys bs vs (below holder l) k → of ≡ y.of → Some holder ≡ Some (in_temp t) →
+    here : (holder : Holder) (is : Held) → Is z y.of holder is l k → Holds z ys bs vs (below holder l) k → of ≡ y.of →
+        Some holder ≡ Some (in_temp t) →
         Is z y.of holder (held w) l (with_word t w k) × Holds z ys bs vs (below holder l) (with_word t w k)
     here (in_temp u) (held o) is1 rest1 j f =
         let same : u ≡ t = grind (arith, f) in (
@@ -76,16 +83,19 @@ set-holds z x of (y ∷ ys) (b ∷ bs) (v ∷ vs) l t w k h i e good =
     there (in_temp u) (lies o) is1 lt = absurd is1
     there (at_offset o) (held m) is1 lt = absurd is1
 
-    by : (test : Bool) → nat_eq x.0 v.symbol.0 ≡ test → by_test test (of ≡ y.of) (InScope x of ys) → (if test then Some b.holder else holder_of x bs) ≡ Some (in_temp t) →
+    by : (test : Bool) → nat_eq x.0 v.symbol.0 ≡ test → by_test test (of ≡ y.of) (InScope x of ys) →
+        (if test then Some b.holder else holder_of x bs) ≡ Some (in_temp t) →
         (InScope x of ys → holder_of x bs ≡ Some (in_temp t) → Holds z ys bs (set x (held w) vs) (below b.holder l) (with_word t w k)) →
         Holds z (y ∷ ys) (b ∷ bs) (set x (held w) (v ∷ vs)) l (with_word t w k)
     by true same j f deeper =
         let both = here b.holder v.is h.2 h.3 j f in
-        subst (λ c. Holds z (y ∷ ys) (b ∷ bs) (if c then record v { is = held w } ∷ vs else v ∷ set x (held w) vs) l (with_word t w k)) (sym same)
+        subst (λ c. Holds z (y ∷ ys) (b ∷ bs) (if c then record v { is = held w } ∷ vs else v ∷ set x (held w) vs) l (with_word t w k))
+        (sym same)
         (h.0, h.1, both.0, both.1)
     by false same j f deeper =
         let lt = holder-below z x ys bs vs (below b.holder l) t k h.3 f in
-        subst (λ c. Holds z (y ∷ ys) (b ∷ bs) (if c then record v { is = held w } ∷ vs else v ∷ set x (held w) vs) l (with_word t w k)) (sym same)
+        subst (λ c. Holds z (y ∷ ys) (b ∷ bs) (if c then record v { is = held w } ∷ vs else v ∷ set x (held w) vs) l (with_word t w k))
+        (sym same)
         (h.0, h.1, there b.holder v.is h.2 lt, deeper j f)
 set-holds z x of [] [] (v ∷ vs) l t w k h i e good = absurd h
 set-holds z x of [] (b ∷ bs) vs l t w k h i e good = absurd h
@@ -93,9 +103,12 @@ set-holds z x of (y ∷ ys) [] vs l t w k h i e good = absurd h
 set-holds z x of (y ∷ ys) (b ∷ bs) [] l t w k h i e good = absurd h
 
 -- a value goes to a variable that is a value alone
-pub assign_temp_sim : {z : Setting} {n : ℕ} {names : List TypedName} {scope : Holders} {facts : List Fact} (u : Used) (place : Place) (of : TypeId) (x : SymId) (t : ℕ) (r : Result) (target v : Value) →
-    InScope x of names → holder_of x scope ≡ Some (in_temp t) → ((k : Private) → KnowsAll z scope u facts k → Means z the_value of scope u r k v) →
-    Sim z n names scope facts u (doing (tt {0}) (Copy t (word_of r)) u) (meaning.assigned z.types (typed place of (Variable x)) target v) names scope (λ w. nothing)
+pub assign_temp_sim : {z : Setting} {n : ℕ} {names : List TypedName} {scope : Holders} {facts : List Fact} (u : Used) (place : Place)
+    (of : TypeId) (x : SymId) (t : ℕ) (r : Result) (target v : Value) →
+    InScope x of names → holder_of x scope ≡ Some (in_temp t) →
+    ((k : Private) → KnowsAll z scope u facts k → Means z the_value of scope u r k v) →
+    Sim z n names scope facts u (doing (tt {0}) (Copy t (word_of r)) u) (meaning.assigned z.types (typed place of (Variable x)) target v)
+    names scope (λ w. nothing)
 assign_temp_sim {z} {n} {names} {scope} {facts} u place of x t r target v i e means = record {
   grown = grown-none u;
   over = λ m lt away. away;
@@ -104,25 +117,40 @@ assign_temp_sim {z} {n} {names} {scope} {facts} u place of x t r target v i e me
       let l = told_in z x of names scope u k s (in_temp t) fine i e in
       let good = word-of-value z of v l.2.1.0 (is-value z of r v m.good) in
       let same : meaning.assigned z.types (typed place of (Variable x)) target v s ≡ Gives (word 0) (with_value x (number v) s) =
-      ap (λ o. if held_symbol o then Gives (word 0) (with_value x (number v) s) else meaning.stored z.types place of (number target) v s) (l.1 ∙ ap Some l.2.0) in
+      ap (λ o. if held_symbol o then Gives (word 0) (with_value x (number v) s) else meaning.stored z.types place of (number target) v s)
+      (l.1 ∙ ap Some l.2.0) in
       subst (λ g. Leaves z at k s (λ b s'. Comes z names scope at u k s (step_on at) names scope u s' (λ k1. Unit {0})) g) (sym same)
       (record {
         private = with_word t (number v) k;
-        leads = (1, one-step z at k s (Copy t (word_of r)) has.0 ∙ ap (λ y. Goes (flow.ahead (flow.set_temp t y (stands z at k s)))) (operand-is z at k s (word_of r) ∙ word-is z of scope u r k v m));
+        leads = (
+          1,
+          one-step z at k s (Copy t (word_of r)) has.0 ∙ ap (λ y. Goes (flow.ahead (flow.set_temp t y (stands z at k s))))
+              (operand-is z at k s (word_of r) ∙ word-is z of scope u r k v m),
+        );
         ok = tt;
-        fine = record { holds = set-holds z x of names scope s.variables u.temps t (number v) k fine.holds i e good; small = fine.small; sized = fine.sized };
+        fine = record {
+          holds = set-holds z x of names scope s.variables u.temps t (number v) k fine.holds i e good;
+          small = fine.small;
+          sized = fine.sized;
+        };
         keeps = record { temps = λ j lt away. put-other k.temps t (number v) j (apart-ne x scope t j e away); areas = λ j lt. refl };
         fewer = omega arith;
       });
 }
 
 -- a value goes to a variable in the frame
-pub assign_frame_sim : {z : Setting} {n : ℕ} {names : List TypedName} {scope : Holders} {facts : List Fact} (u : Used) (place : Place) (of : TypeId) (x : SymId) (o : ℕ) (p r : Result) (target v : Value) →
-    InScope x of names → holder_of x scope ≡ Some (at_offset o) → ((k : Private) → KnowsAll z scope u facts k → Means z the_address of scope u p k target × Means z the_value of scope u r k v) →
-    Sim z n names scope facts u (stored z.types of (spots.Region place (address_of p)) r u) (meaning.assigned z.types (typed place of (Variable x)) target v) names scope (λ w. nothing)
+pub assign_frame_sim : {z : Setting} {n : ℕ} {names : List TypedName} {scope : Holders} {facts : List Fact} (u : Used) (place : Place)
+    (of : TypeId) (x : SymId) (o : ℕ) (p r : Result) (target v : Value) →
+    InScope x of names → holder_of x scope ≡ Some (at_offset o) →
+    ((k : Private) → KnowsAll z scope u facts k → Means z the_address of scope u p k target × Means z the_value of scope u r k v) →
+    Sim z n names scope facts u (stored z.types of (spots.Region place (address_of p)) r u)
+    (meaning.assigned z.types (typed place of (Variable x)) target v) names scope (λ w. nothing)
 assign_frame_sim {z} {n} {names} {scope} {facts} u place of x o p r target v i e means =
-    sim_from (meaning.stored z.types place of (number target) v) (meaning.assigned z.types (typed place of (Variable x)) target v) (λ k s fine knows.
+    sim_from (meaning.stored z.types place of (number target) v) (meaning.assigned z.types (typed place of (Variable x)) target v)
+    (λ k s fine knows.
     let l = told_in z x of names scope u k s (at_offset o) fine i e in
-    sym (ap (λ h. if held_symbol h then Gives (word 0) (with_value x (number v) s) else meaning.stored z.types place of (number target) v s) (l.1 ∙ ap Some l.2.0)))
+    sym (ap (λ h. if held_symbol h then Gives (word 0) (with_value x (number v) s) else meaning.stored z.types place of
+    (number target) v s) (l.1 ∙ ap Some l.2.0)))
     (stored_sim u place of (address_of p) (number target) r v
-    (λ at k s fine knows. address-is z of scope u p at k s (number target) (address-word z of scope u p k target (means k knows).0)) (λ k knows. (means k knows).1))
+    (λ at k s fine knows. address-is z of scope u p at k s (number target) (address-word z of scope u p k target (means k knows).0))
+    (λ k knows. (means k knows).1))

@@ -1,12 +1,12 @@
 -- Calls of functions, and of values that are functions.
-use Rattle.std.proofs.Common.{◌≡◌, ℕ, zero, suc, ◌<◌, ◌≤◌, Bool, true, false, List, [], ◌∷◌, ◌++◌, length, map, Option, Some, None, refl, sym, ap, ◌∙◌, subst, arith}
-use Rattle.std.specs.Prelude.{◌^◌, ◌&&◌, nat_eq, option_map, if◌then◌else◌}
+use Rattle.std.proofs.Common.{◌≡◌, ℕ, zero, suc, ◌<◌, Bool, true, false, List, [], ◌∷◌, length, map, Option, Some, None, refl, sym, ap, ◌∙◌, subst, arith}
+use Rattle.std.specs.Prelude.{◌&&◌, nat_eq, option_map, if◌then◌else◌}
 use Rattle.std.proofs.lemmas.Bool.{eqb-true}
 use Rattle.tl_base.specs.declared.place.Place.{Place}
 use Rattle.tl_base.specs.declared.ids.TypeId.{TypeId}
 use Rattle.tl_base.specs.declared.ids.FnId.{FnId}
 use Rattle.terra_words.specs.declared.words.FaultKind.TheVariants.{BadCall}
-use Rattle.terra_words.specs.Runs.{Value, word, number, value_at}
+use Rattle.terra_words.specs.Runs.{Value, number, value_at}
 use Rattle.terra_types.specs.declared.types.TypeForm.{TypeForm}
 use Rattle.terra_types.specs.declared.types.TypeForm.TheVariants as forms
 use Rattle.terra_term.specs.declared.operators.Operation.TheVariants as operations
@@ -29,7 +29,7 @@ use Rattle.tac_lower.specs.Lowering.{lowered, type_of_name, call, call_value, si
 pub use Rattle.tac_lower.specs.Needs.{CallNeeds}
 use Rattle.tac_lower.proofs.Places.{Point, step_on, DoesAt}
 use Rattle.tac_lower.proofs.Standing.{Setting, Private, stands, one-step, operand-is, Fine, Grown, Means, Comes, Leaves}
-use Rattle.tac_lower.proofs.Simulates.{Fact, one_of, all_of, AllMean, KnowsAll, whole, Sim}
+use Rattle.tac_lower.proofs.Simulates.{Fact, one_of, all_of, AllMean, whole, Sim}
 use Rattle.tac_lower.proofs.Operators.{first-word}
 use Rattle.tac_lower.proofs.Declares.{all-behind}
 use Rattle.tac_lower.proofs.Operating.{Does}
@@ -44,7 +44,8 @@ same-types (t ∷ ts) [] = refl
 same-types (t ∷ ts) (x ∷ xs) = ap (λ b. nat_eq t.0 x.of.0 && b) (same-types ts xs)
 
 same-signature : (store : Contents) (entries : List FnId) (ts : List TypeId) (of : TypeId) (o : Option Callable) →
-    flow.has_signature (record { params = ts; result = of }) (option_map (lowered store entries) o) ≡ meaning.has_type (forms.Function ts of) o
+    flow.has_signature (record { params = ts; result = of }) (option_map (lowered store entries) o) ≡ meaning.has_type
+    (forms.Function ts of) o
 same-signature store entries ts of None = refl
 same-signature store entries ts of (Some k) = ap (λ b. b && nat_eq of.0 k.body.result.0) (same-types ts k.body.parameters)
 
@@ -92,7 +93,8 @@ module _ (z : Setting) (m : ℕ) (st : Contents) (homes : List Home) (turns : �
           grown = grown-by true (bytes_at z.types of) u;
           over = λ t lt away. away;
           run = λ out q k s has whole_ fine knows less.
-              call_runs z m st calls names scope u at of f needs.0 vs needs.1 needs.3 true e (Call (goes_to true u) at f (parts_of rs)) q k s has.0
+              call_runs z m st calls names scope u at of f needs.0 vs needs.1 needs.3 true e (Call (goes_to true u) at f (parts_of rs)) q
+              k s has.0
               (ap (λ l. flow.call z.program (goes_to true u) at f l (stands z q k s)) (values-are z scope u ts rs vs q k s knows.0))
               (are-values z scope u needs.0.body.parameters ts rs vs k needs.2 knows.0) whole_ fine less;
         }
@@ -100,7 +102,8 @@ module _ (z : Setting) (m : ℕ) (st : Contents) (homes : List Home) (turns : �
           grown = grown-by false (bytes_at z.types of) u;
           over = λ t lt away. away;
           run = λ out q k s has whole_ fine knows less.
-              call_runs z m st calls names scope u at of f needs.0 vs needs.1 needs.3 false e (Call (goes_to false u) at f (parts_of rs)) q k s has.0
+              call_runs z m st calls names scope u at of f needs.0 vs needs.1 needs.3 false e (Call (goes_to false u) at f (parts_of rs))
+              q k s has.0
               (ap (λ l. flow.call z.program (goes_to false u) at f l (stands z q k s)) (values-are z scope u ts rs vs q k s knows.0))
               (are-values z scope u needs.0.body.parameters ts rs vs k needs.2 knows.0) whole_ fine less;
         }
@@ -128,7 +131,8 @@ module _ (z : Setting) (m : ℕ) (st : Contents) (homes : List Home) (turns : �
       }) at (forms.Function ts of) o (behind vs) s
 
       run_value : (b : Bool) → is_aggregate z.types of ≡ b → (q : Point) (k : Private) (s : State) → DoesAt z.tac.blocks q (instruction b) →
-          AllMean z scope u (t ∷ ts) rs vs k → Grown (used_by b (bytes_at z.types of) u) (whole z) → Fine z names scope u k s → s.left < suc m →
+          AllMean z scope u (t ∷ ts) rs vs k → Grown (used_by b (bytes_at z.types of) u) (whole z) → Fine z names scope u k s →
+          s.left < suc m →
           (o : Option FnId) → flow.entry z.program.entries (number (value_at vs 0)) ≡ o → Goal b q k s (called s o)
       run_value b e q k s stood all whole_ fine less o entry_is = by o entry_is
         where
@@ -142,7 +146,8 @@ module _ (z : Setting) (m : ℕ) (st : Contents) (homes : List Home) (turns : �
               ap (λ i. flow.call_entry z.program (goes_to b u) at sig (flow.entry z.program.entries i)
               (flow.values_of (stands z q k s) (parts_of (rest rs))) (stands z q k s))
               (operand-is z q k s (word_at rs 0) ∙ first-word z scope u (t ∷ ts) rs vs k all)
-              ∙ ap (λ l. flow.call_entry z.program (goes_to b u) at sig (flow.entry z.program.entries (number (value_at vs 0))) l (stands z q k s))
+              ∙ ap (λ l. flow.call_entry z.program (goes_to b u) at sig (flow.entry z.program.entries (number (value_at vs 0))) l
+              (stands z q k s))
               (values-are z scope u ts (rest rs) (behind vs) q k s behind_mean)
               ∙ ap (λ p. flow.call_entry z.program (goes_to b u) at sig p (behind vs) (stands z q k s)) entry_p
 
@@ -155,12 +160,16 @@ module _ (z : Setting) (m : ℕ) (st : Contents) (homes : List Home) (turns : �
               Goal b q k s (call_here z m st f (behind vs) at s)
           good f kk there same a =
               let h = both (meaning.same_types ts kk.body.parameters) (nat_eq of.0 kk.body.result.0) same in
-              call_runs z m st calls names scope u at of f kk (behind vs) there (sym (same-id of kk.body.result h.1)) b e (instruction b) q k s stood a
-              (are-values z scope u kk.body.parameters ts (rest rs) (behind vs) k (types-same ts kk.body.parameters h.0) behind_mean) whole_ fine less
+              call_runs z m st calls names scope u at of f kk (behind vs) there (sym (same-id of kk.body.result h.1)) b e
+              (instruction b) q k s stood a
+              (are-values z scope u kk.body.parameters ts (rest rs) (behind vs) k (types-same ts kk.body.parameters h.0) behind_mean)
+              whole_ fine less
 
-          tests : (f : FnId) (o1 : Option Callable) → callable_of store f ≡ o1 → (same : Bool) → meaning.has_type (forms.Function ts of) o1 ≡ same →
+          tests : (f : FnId) (o1 : Option Callable) → callable_of store f ≡ o1 → (same : Bool) →
+              meaning.has_type (forms.Function ts of) o1 ≡ same →
               act z.program (instruction b) (stands z q k s)
-              ≡ (if same then flow.call z.program (goes_to b u) at f (behind vs) (stands z q k s) else flow.fault BadCall at (stands z q k s)) →
+              ≡ (if same then flow.call z.program (goes_to b u) at f (behind vs) (stands z q k s) else flow.fault BadCall at
+              (stands z q k s)) →
               Goal b q k s (if same then call_here z m st f (behind vs) at s else running.fault BadCall at s)
           tests f (Some kk) there true same a = good f kk there same a
           tests f None there true same a = absurd (grind (arith, same))
@@ -201,7 +210,8 @@ module _ (z : Setting) (m : ℕ) (st : Contents) (homes : List Home) (turns : �
       }
 
       pub value_call_sim : form_at z.types t ≡ forms.Function ts of →
-          Does z (suc m) st z.program.entries homes (call_here z m st) turns needed names scope facts u at of (t ∷ ts) rs vs operations.CallValue
+          Does z (suc m) st z.program.entries homes (call_here z m st) turns needed names scope facts u at of
+          (t ∷ ts) rs vs operations.CallValue
       unfolding code
       value_call_sim form =
           subst (λ f. Sim z (suc m) names scope (all_of (t ∷ ts) rs vs ∷ facts) u (code f (is_aggregate z.types of))

@@ -1,36 +1,28 @@
 -- Calls: the count, the callee, and what it gives. What callees do is a premise here.
-use Rattle.std.proofs.Common.{◌≡◌, ℕ, zero, suc, ◌+◌, ◌<◌, ◌≤◌, Bool, true, false, List, [], ◌∷◌, ◌++◌, length, map, Option, Some, None, refl, sym, ap, ◌∙◌, subst, arith, length-append}
-use Rattle.std.specs.Prelude.{◌^◌, ◌&&◌, nat_eq, option_map, if◌then◌else◌}
-use Rattle.std.proofs.lemmas.Bool.{eqb-true, eq-eqb}
+use Rattle.std.proofs.Common.{◌≡◌, ℕ, zero, suc, ◌+◌, ◌<◌, ◌≤◌, Bool, true, false, List, [], ◌∷◌, ◌++◌, length, map, Some, refl, sym, ap, ◌∙◌, subst, arith, length-append}
+use Rattle.std.specs.Prelude.{◌^◌, if◌then◌else◌}
+use Rattle.std.proofs.lemmas.Bool.{eq-eqb}
 use Rattle.tl_base.specs.declared.place.Place.{Place}
 use Rattle.tl_base.specs.declared.ids.TypeId.{TypeId}
 use Rattle.tl_base.specs.declared.ids.FnId.{FnId}
-use Rattle.terra_words.specs.declared.words.FaultKind.TheVariants.{BadCall}
-use Rattle.terra_words.specs.Runs.{Value, word, bytes, number, value_at, Run, More, Stuck}
+use Rattle.terra_words.specs.Runs.{Value, word, bytes, Stuck}
 use Rattle.terra_types.specs.declared.types.TypeForm.{TypeForm}
-use Rattle.terra_types.specs.declared.types.TypeForm.TheVariants as forms
 use Rattle.terra_term.specs.declared.lists.TypedName.{TypedName}
 use Rattle.terra_term.specs.Stores.{Contents, Callable, callable_of}
-use Rattle.terra_meaning.specs.Values.{form_at, bytes_at, is_aggregate, IsValue, AreValues}
+use Rattle.terra_meaning.specs.Values.{bytes_at, is_aggregate, IsValue, AreValues}
 use Rattle.terra_meaning.specs.Running.{State, Got, Gives, Ends, counted, counted_from}
-use Rattle.terra_meaning.specs.Running as running
-use Rattle.terra_meaning.specs.Meaning as meaning
 use Rattle.terra_meaning.specs.Meaning.{the_value, apply, kept}
-use Rattle.tac_form.specs.declared.tac.Operand.TheVariants.{Temp}
 use Rattle.tac_form.specs.declared.tac.Destination.{Destination}
 use Rattle.tac_form.specs.declared.tac.Destination.TheVariants as destinations
 use Rattle.tac_form.specs.declared.tac.Instruction.{Instruction}
-use Rattle.tac_form.specs.declared.tac.Instruction.TheVariants.{Call, CallValue}
-use Rattle.tac_form.specs.declared.tac.Signature.{Signature}
-use Rattle.tac_form.specs.declared.tac.Tac.{Tac}
 use Rattle.tac_form.specs.Flow as flow
 use Rattle.tac_form.specs.Flow.{Program, Activation, Caller, Moved, Goes, Stops, steps, act, area_size}
 use Rattle.tac_lower.specs.Items.{does}
-use Rattle.tac_lower.specs.Pieces.{Used, with_temp, with_area, Piece, Result, a_word, an_area, an_offset, given, parts_of, word_at, rest, Holders}
-use Rattle.tac_lower.specs.Lowering.{lowered, type_of_name}
-use Rattle.tac_lower.proofs.Places.{Point, step_on, HasAt, DoesAt}
-use Rattle.tac_lower.proofs.Standing.{Setting, Private, stands, steps-add, leads-to, one-step, operand-is, Fine, Grown, Means, Comes, Leaves}
-use Rattle.tac_lower.proofs.Simulates.{Fact, one_of, all_of, AllMean, KnowsAll, whole, Sim}
+use Rattle.tac_lower.specs.Pieces.{Used, with_temp, with_area, Piece, Result, given, parts_of, Holders}
+use Rattle.tac_lower.specs.Lowering.{type_of_name}
+use Rattle.tac_lower.proofs.Places.{Point, step_on, DoesAt}
+use Rattle.tac_lower.proofs.Standing.{Setting, Private, stands, steps-add, one-step, Fine, Grown, Means, Comes, Leaves}
+use Rattle.tac_lower.proofs.Simulates.{AllMean, whole}
 use Rattle.tac_lower.proofs.Writes.{put-same, put-below, with_word, with_bytes, holds-later, fresh-apart, grown-temp, grown-area, small-put}
 use Rattle.tac_lower.proofs.Loads.{area-size, is-value}
 use Rattle.tac_lower.proofs.Branches.{part-value}
@@ -123,7 +115,10 @@ module _ (z : Setting) (m : ℕ) (st : Contents) where
 
     -- the caller goes on with what it gets
     abbrev caller : Bool → Point → Private → Caller
-    caller agg q k = record { waits = (stands z (step_on q) k (record { variables = []; region = record { bytes = []; heap = 0 }; left = 0; out = [] })).here; to = goes_to agg u }
+    caller agg q k = record {
+      waits = (stands z (step_on q) k (record { variables = []; region = record { bytes = []; heap = 0 }; left = 0; out = [] })).here;
+      to = goes_to agg u;
+    }
 
     goes_on : (agg : Bool) → is_aggregate z.types of ≡ agg → (q : Point) (k : Private) (s s2 : State) (l : ℕ) (v : Value) →
         Grown (used_by agg (bytes_at z.types of) u) (whole z) → Fine z names scope u k s → s.left ≡ suc l →
@@ -140,7 +135,8 @@ module _ (z : Setting) (m : ℕ) (st : Contents) where
             good = c.is_value;
           };
           fine = record {
-            holds = holds-later z names scope s.variables u.temps (suc u.temps) k k1 (omega arith) (λ t lt. put-below k.temps u.temps x t lt) fine.holds;
+            holds = holds-later z names scope s.variables u.temps (suc u.temps) k k1 (omega arith)
+                (λ t lt. put-below k.temps u.temps x t lt) fine.holds;
             small = fine.small;
             sized = c.sized;
           };
@@ -163,7 +159,8 @@ module _ (z : Setting) (m : ℕ) (st : Contents) where
           leads = (
             c.leads.0,
             c.leads.1 ∙ ap (λ o. flow.given (bytes bs) o (caller true q k) z.callers (beside c.here c.behind s2)) z.there
-                ∙ ap (λ b. if b then Goes (stands z (step_on q) k1 (record s2 { variables = s.variables })) else flow.stop (beside c.here c.behind s2) Stuck)
+                ∙ ap (λ b. if b then Goes (stands z (step_on q) k1 (record s2 { variables = s.variables })) else flow.stop
+                (beside c.here c.behind s2) Stuck)
                 (eq-eqb (length bs) (area_size z.tac area) long),
           );
           ok = record { is = ap bytes (put-same k.areas area bs); own = longer; good = c.is_value };
@@ -184,9 +181,11 @@ module _ (z : Setting) (m : ℕ) (st : Contents) where
     call_runs agg is_agg i q k s stood acts values whole_ fine less = by s.left refl
       where
         first : (l : ℕ) → s.left ≡ l →
-            steps z.program 1 (Goes (stands z q k s)) ≡ flow.counted l (stands z q k s) (λ s'. flow.enter at f (z.program.code f) vs s'.here.base
+            steps z.program 1 (Goes (stands z q k s)) ≡ flow.counted l (stands z q k s)
+            (λ s'. flow.enter at f (z.program.code f) vs s'.here.base
             (record { waits = (flow.ahead s').here; to = goes_to agg u } ∷ s'.callers) s')
-        first l e = one-step z q k s i stood ∙ acts ∙ ap (λ j. flow.counted j (stands z q k s) (λ s'. flow.enter at f (z.program.code f) vs s'.here.base
+        first l e = one-step z q k s i stood ∙ acts ∙ ap
+            (λ j. flow.counted j (stands z q k s) (λ s'. flow.enter at f (z.program.code f) vs s'.here.base
             (record { waits = (flow.ahead s').here; to = goes_to agg u } ∷ s'.callers) s')) e
 
         before : (j : ℕ) (m1 m2 : Moved) → steps z.program 1 (Goes (stands z q k s)) ≡ m1 → steps z.program j m1 ≡ m2 →
@@ -194,27 +193,34 @@ module _ (z : Setting) (m : ℕ) (st : Contents) where
         before j m1 m2 a b = steps-add z.program 1 j (Goes (stands z q k s)) ∙ ap (steps z.program j) a ∙ b
 
         by : (l : ℕ) → s.left ≡ l →
-            Goal agg q k s (counted_from l s (λ s1. kept s.variables (apply store z.program.entries m (suc (length z.callers)) z.base f vs at s1)))
+            Goal agg q k s (counted_from l s
+            (λ s1. kept s.variables (apply store z.program.entries m (suc (length z.callers)) z.base f vs at s1)))
         by zero e = (1, first zero e)
         by (suc l) e =
             let s1 : State = record s { left = l } in
             let here = (stands z q k s).here in
             let entered = flow.enter at f (z.program.code f) vs z.base (caller agg q k ∷ z.callers) (beside here z.callers s1) in
             came (apply store z.program.entries m (suc (length z.callers)) z.base f vs at s1)
-            (calls (caller agg q k ∷ z.callers) z.base f kk vs at here z.callers s1 there values fine.sized (let b = z.low in omega (arith, b))
+            (calls (caller agg q k ∷ z.callers) z.base f kk vs at here z.callers s1 there values fine.sized
+            (let b = z.low in omega (arith, b))
             (omega (arith, e, less)))
           where
             came : (g : Got Value) → CallOk z.program z.types z.memory (caller agg q k ∷ z.callers)
-                (flow.enter at f (z.program.code f) vs z.base (caller agg q k ∷ z.callers) (beside (stands z q k s).here z.callers (record s { left = l })))
+                (flow.enter at f (z.program.code f) vs z.base (caller agg q k ∷ z.callers)
+                (beside (stands z q k s).here z.callers (record s { left = l })))
                 kk.body.result l g → Goal agg q k s (kept s.variables g)
-            came (Ends r) h =
-                (1 + h.0, before h.0 (flow.enter at f (z.program.code f) vs z.base (caller agg q k ∷ z.callers) (beside (stands z q k s).here z.callers (record s { left = l }))) (Stops r) (first (suc l) e) h.1)
+            came (Ends r) h = (
+              1 + h.0,
+              before h.0 (flow.enter at f (z.program.code f) vs z.base (caller agg q k ∷ z.callers)
+                  (beside (stands z q k s).here z.callers (record s { left = l }))) (Stops r) (first (suc l) e) h.1,
+            )
             came (Gives v s2) c = goes_on agg is_agg q k s s2 l v whole_ fine e (record {
               here = c.here;
               behind = c.behind;
               leads = (
                 1 + c.leads.0,
-                before c.leads.0 (flow.enter at f (z.program.code f) vs z.base (caller agg q k ∷ z.callers) (beside (stands z q k s).here z.callers (record s { left = l })))
+                before c.leads.0 (flow.enter at f (z.program.code f) vs z.base (caller agg q k ∷ z.callers)
+                    (beside (stands z q k s).here z.callers (record s { left = l })))
                     (flow.give z.program v (caller agg q k ∷ z.callers) (beside c.here c.behind s2)) (first (suc l) e) c.leads.1,
               );
               is_value = subst (λ t. IsValue z.types t v) result c.is_value;

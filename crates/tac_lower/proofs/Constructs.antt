@@ -1,5 +1,5 @@
 -- A value of a struct from those of its entries: an area that is cleared, and stores into it.
-use Rattle.std.proofs.Common.{◌≡◌, ◌≢◌, ℕ, zero, suc, ◌+◌, ◌<◌, ◌≤◌, Bool, true, false, List, [], ◌∷◌, ◌++◌, length, replicate, refl, sym, ap, ◌∙◌, subst, arith, append-nil, length-append, ⊎_elim}
+use Rattle.std.proofs.Common.{◌≡◌, ◌≢◌, ℕ, ◌+◌, ◌<◌, ◌≤◌, Bool, true, false, List, [], ◌∷◌, ◌++◌, length, replicate, refl, sym, ap, ◌∙◌, subst, arith, append-nil, length-append, ⊎_elim}
 use Rattle.std.specs.Prelude.{nat_eq, nat_le, take, drop, if◌then◌else◌}
 use Rattle.std.proofs.lemmas.Bool.{eqb-true, eqb-false, le-leb}
 use Rattle.std.proofs.lemmas.List.{take_all, take-append-drop, length-replicate}
@@ -8,26 +8,25 @@ use Rattle.tl_base.specs.declared.ids.TypeId.{TypeId}
 use Rattle.terra_memory.specs.Numbers.{low_bytes, part, overwritten}
 use Rattle.terra_memory.proofs.Overwriting.{length-overwritten}
 use Rattle.terra_memory.proofs.Bytes.{length-low_bytes}
-use Rattle.terra_words.specs.Runs.{Value, word, bytes, number, bytes_in, Stuck}
+use Rattle.terra_words.specs.Runs.{Value, word, bytes, Stuck}
 use Rattle.terra_term.specs.declared.lists.TypedName.{TypedName}
 use Rattle.terra_meaning.specs.Values.{form_at, bytes_at, is_aggregate, encoded, IsValue}
-use Rattle.terra_meaning.specs.Running.{State, Got, Gives}
+use Rattle.terra_meaning.specs.Running.{State, Gives}
 use Rattle.terra_meaning.specs.Meaning as meaning
 use Rattle.terra_meaning.specs.Meaning.{the_value}
-use Rattle.tac_form.specs.declared.tac.Operand.{Operand}
 use Rattle.tac_form.specs.declared.tac.Spot.TheVariants as spots
 use Rattle.tac_form.specs.declared.tac.Instruction.TheVariants.{Store, Move, Clear}
 use Rattle.tac_form.specs.Flow as flow
 use Rattle.tac_form.specs.Flow.{Goes, area_size}
 use Rattle.tac_lower.specs.Items.{Item}
-use Rattle.tac_lower.specs.Pieces.{Used, with_area, Piece, known, then_piece, Result, a_word, an_area, an_offset, word_of, Holders, number_of, stored, stored_part}
+use Rattle.tac_lower.specs.Pieces.{Used, with_area, Piece, known, Result, a_word, an_area, an_offset, Holders, number_of, stored, stored_part}
 use Rattle.tac_lower.specs.Lowering.{constructed, construct}
 pub use Rattle.tac_lower.specs.Needs.{EntriesFit}
-use Rattle.tac_lower.proofs.Places.{Point, step_on, after, after-append, HasAt, DoesAt, has-front, has-back}
-use Rattle.tac_lower.proofs.Standing.{Setting, Private, stands, Leads, leads-to, one-step, word_in, operand-is, Fine, Keeps, Grown, Own, Means, Comes}
-use Rattle.tac_lower.proofs.Simulates.{Fact, one_of, all_of, AllMean, KnowsAll, whole, Sim, grown-none, facts-later}
-use Rattle.tac_lower.proofs.Writes.{nat_eq-ne, put-same, put-other, put-below, with_bytes, holds-later, grown-area, small-put}
-use Rattle.tac_lower.proofs.Loads.{area-size, word-is, is-value}
+use Rattle.tac_lower.proofs.Places.{Point, step_on, after, after-append, HasAt, has-front, has-back}
+use Rattle.tac_lower.proofs.Standing.{Setting, Private, stands, Leads, leads-to, one-step, word_in, operand-is, Fine, Keeps, Grown, Means}
+use Rattle.tac_lower.proofs.Simulates.{Fact, one_of, all_of, AllMean, whole, Sim, grown-none, facts-later}
+use Rattle.tac_lower.proofs.Writes.{put-same, put-other, with_bytes, holds-later, grown-area}
+use Rattle.tac_lower.proofs.Loads.{area-size, is-value}
 use Rattle.tac_lower.proofs.Stores.{store-size, encoded-word, encoded-none, encoded-bytes}
 
 -- the code uses nothing more
@@ -82,7 +81,8 @@ filled-put z area at k s bs leads = record {
 -- bytes go into the area
 puts-into : (z : Setting) (area offset : ℕ) (at : Point) (k : Private) (s : State) (all bs : List ℕ) → k.areas area ≡ all →
     offset ≤ length all →
-    flow.to_spot (spots.Area area offset) bs (stands z at k s) ≡ Goes (stands z (step_on at) (with_bytes area (overwritten all offset bs) k) s)
+    flow.to_spot (spots.Area area offset) bs (stands z at k s) ≡ Goes
+    (stands z (step_on at) (with_bytes area (overwritten all offset bs) k) s)
 puts-into z area offset at k s all bs e le =
     ap (λ l. if nat_le offset (length l) then Goes (flow.ahead (flow.set_area area (overwritten l offset bs) (stands z at k s)))
     else flow.stop (stands z at k s) Stuck) e
@@ -94,7 +94,8 @@ module _ (z : Setting) (scope : Holders) (u0 : Used) (size : ℕ) where
   area = length u0.areas
 
   -- one entry
-  fills_one : (t : TypeId) (offset : ℕ) (r : Result) (v : Value) (u : Used) (all : List ℕ) (out : ℕ) (at : Point) (k : Private) (s : State) →
+  fills_one : (t : TypeId) (offset : ℕ) (r : Result) (v : Value) (u : Used) (all : List ℕ) (out : ℕ) (at : Point) (k : Private)
+      (s : State) →
       HasAt z.tac.blocks out at (stored z.types t (spots.Area area offset) r u).code → Means z the_value t scope u0 r k v →
       k.areas area ≡ all → offset + bytes_at z.types t ≤ length all →
       Filled z area at k s (after (stored z.types t (spots.Area area offset) r u).code at) (overwritten all offset (encoded z.types t v))
@@ -142,7 +143,8 @@ module _ (z : Setting) (scope : Holders) (u0 : Used) (size : ℕ) where
             one-step z at k s (Move (spots.Area area offset) (spots.Area j 0) (bytes_at z.types t)) h.0
                 ∙ ap (λ b. if b then flow.to_spot (spots.Area area offset) (part (k.areas j) 0 (bytes_at z.types t)) (stands z at k s)
                 else flow.stop (stands z at k s) Stuck) (le-leb (0 + bytes_at z.types t) (length (k.areas j)) within)
-                ∙ ap (λ bs. flow.to_spot (spots.Area area offset) bs (stands z at k s)) (take_all (bytes_at z.types t) (k.areas j) short ∙ same)
+                ∙ ap (λ bs. flow.to_spot (spots.Area area offset) bs (stands z at k s))
+                (take_all (bytes_at z.types t) (k.areas j) short ∙ same)
                 ∙ puts-into z area offset at k s all (encoded z.types t v) e le,
           )
       by false some (an_offset o) m h = absurd m.good
@@ -184,7 +186,8 @@ module _ (z : Setting) (scope : Holders) (u0 : Used) (size : ℕ) where
         record {
           private = g.0.private;
           leads = subst (λ to. Leads z at k s to g.0.private s) (sym (after-append p.code q.code at))
-              (leads-to z at k s (after p.code at) f.private s (Goes (stands z (after q.code (after p.code at)) g.0.private s)) f.leads g.0.leads);
+              (leads-to z at k s (after p.code at) f.private s (Goes (stands z (after q.code (after p.code at)) g.0.private s)) f.leads
+              g.0.leads);
           temps = λ i. g.0.temps i ∙ f.temps i;
           others = λ m ne. g.0.others m ne ∙ f.others m ne;
           is = g.0.is;
@@ -208,7 +211,8 @@ construct_sim {z} {n} {names} {scope} {facts} u of os ts rs vs agg fit = record 
       let k1 = with_bytes area zeros k in
       let cleared : Leads z at k s (step_on at) k1 s = (1, one-step z at k s (Clear area size) has.0) in
       let means1 = entries-later z scope u size ts rs vs k k1 (λ t. refl) (λ m ne. put-other k.areas area zeros m ne) knows.0 in
-      let f = fills_all z scope u size os ts rs vs (with_area size u) zeros out (step_on at) k1 s has.1 means1 (put-same k.areas area zeros) long fit in
+      let f = fills_all z scope u size os ts rs vs (with_area size u) zeros out (step_on at) k1 s has.1 means1
+      (put-same k.areas area zeros) long fit in
       let k2 = f.0.private in
       let all = meaning.constructed z.types zeros os ts vs in
       let longer : length u.areas < length (u.areas ++ size ∷ []) = omega (arith, length-append u.areas (size ∷ [])) in
@@ -248,7 +252,8 @@ construct_sim {z} {n} {names} {scope} {facts} u of os ts rs vs agg fit = record 
 
     -- areas are no longer than they may be
     small : (k k2 : Private) (all : List ℕ) → k2.areas area ≡ all → ((m : ℕ) → m ≢ area → k2.areas m ≡ k.areas m) →
-        length all ≤ area_size z.tac area → ((m : ℕ) → length (k.areas m) ≤ area_size z.tac m) → (m : ℕ) → length (k2.areas m) ≤ area_size z.tac m
+        length all ≤ area_size z.tac area → ((m : ℕ) → length (k.areas m) ≤ area_size z.tac m) → (m : ℕ) →
+        length (k2.areas m) ≤ area_size z.tac m
     small k k2 all is others fits before m = ⊎_elim
         (λ t. subst (λ i. length (k2.areas i) ≤ area_size z.tac i) (sym t.1) (subst (λ l. length l ≤ area_size z.tac area) (sym is) fits))
         (λ f. subst (λ l. length l ≤ area_size z.tac m) (sym (others m f.1)) (before m))

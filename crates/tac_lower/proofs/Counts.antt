@@ -1,5 +1,5 @@
 -- The test of a `for`: whether it goes on to its value, for steps above zero, below it, and zero.
-use Rattle.std.proofs.Common.{◌≡◌, ◌≢◌, ℕ, zero, suc, ◌+◌, ◌<◌, ◌≤◌, Bool, true, false, List, [], ◌∷◌, refl, sym, ap, ◌∙◌, subst, arith}
+use Rattle.std.proofs.Common.{◌≡◌, ◌≢◌, ℕ, zero, suc, ◌+◌, ◌<◌, Bool, true, false, List, refl, sym, ap, ◌∙◌, subst, arith}
 use Rattle.std.specs.Prelude.{◌^◌, ◌%◌, not, ◌&&◌, ◌||◌, nat_eq, nat_le, nat_lt, if◌then◌else◌}
 use Rattle.std.proofs.lemmas.Bool.{eqb-true, leb-true, leb-false, lt-ltb, le-ltb}
 use Rattle.tl_base.specs.declared.ids.TypeId.{TypeId}
@@ -11,7 +11,7 @@ use Rattle.terra_words.specs.Runs.{Value, word, number, is_true}
 use Rattle.terra_types.specs.declared.types.TypeForm.TheVariants as forms
 use Rattle.terra_types.specs.Opening.{boolean}
 use Rattle.terra_term.specs.declared.lists.TypedName.{TypedName}
-use Rattle.terra_meaning.specs.Values.{form_at, is_aggregate, IsValue}
+use Rattle.terra_meaning.specs.Values.{form_at, IsValue}
 use Rattle.terra_meaning.specs.Running.{State, Got, Gives}
 use Rattle.terra_meaning.specs.Meaning as meaning
 use Rattle.terra_meaning.specs.Meaning.{the_value}
@@ -21,7 +21,7 @@ use Rattle.tac_form.specs.declared.tac.Operand.TheVariants.{Temp, Constant}
 use Rattle.tac_form.specs.Flow as flow
 use Rattle.tac_lower.specs.Pieces.{Used, with_temp, Piece, known, then_piece, Result, a_word, word_of, Holders, whole_word, compute}
 use Rattle.tac_lower.specs.Lowering.{Counting, is_one, either_way, with_step, runs}
-use Rattle.tac_lower.proofs.Standing.{Setting, Private, word_in, Good, Means}
+use Rattle.tac_lower.proofs.Standing.{Setting, Private, word_in, Means}
 use Rattle.tac_lower.proofs.Simulates.{Fact, one_of, KnowsAll, Sim, then_sim}
 use Rattle.tac_lower.proofs.Words.{width_by}
 use Rattle.tac_lower.proofs.Writes.{nat_eq-ne, known_sim}
@@ -115,7 +115,8 @@ runs-plain : (w : Width) (i l st : ℕ) → w.signed ≡ false → (is_less w i 
 runs-plain w i l zero e = and-false (is_less w i l)
 runs-plain w i l (suc st) e =
     let some : suc st ≢ 0 = omega arith in
-    ap (λ t. is_less w i l && not t) (nat_eq-ne (suc st) 0 some) ∙ and-true (is_less w i l) ∙ ap (λ b. if b && is_negative (suc st) then is_less w l i else is_less w i l) (sym e)
+    ap (λ t. is_less w i l && not t) (nat_eq-ne (suc st) 0 some) ∙ and-true (is_less w i l) ∙ ap
+    (λ b. if b && is_negative (suc st) then is_less w l i else is_less w i l) (sym e)
 
 runs-one : (w : Width) (i l : ℕ) → is_less w i l ≡ meaning.runs w i l 1
 runs-one w i l = sym (ap (λ b. if b then is_less w l i else is_less w i l) (and-false w.signed))

@@ -263,7 +263,8 @@ abbrev code : Body → Tac
 code b = lowered sample [] (record { at = at 1 1; body = b })
 
 abbrev is_good : Tac → Bool
-is_good c = is_within c && blocks_count 0 c.blocks && nat_le (code_words c) (250 * c.nodes) && nat_le (private_bytes c) (136 * c.nodes + 65536)
+is_good c =
+    is_within c && blocks_count 0 c.blocks && nat_le (code_words c) (250 * c.nodes) && nat_le (private_bytes c) (136 * c.nodes + 65536)
 
 abbrev all : List Body
 all = body_0 ∷ body_1 ∷ body_2 ∷ body_3 ∷ body_4 ∷ body_5 ∷ body_6 ∷ body_7 ∷ body_8 ∷ []

@@ -1,20 +1,18 @@
 -- An entry of a value of a struct: what is read from an area.
-use Rattle.std.proofs.Common.{◌≡◌, ◌≢◌, ℕ, suc, ◌+◌, ◌<◌, ◌≤◌, Bool, true, false, List, [], ◌∷◌, length, drop, refl, sym, ap, ◌∙◌, subst, arith}
-use Rattle.std.specs.Prelude.{◌^◌, nat_eq, nat_le, if◌then◌else◌}
+use Rattle.std.proofs.Common.{◌≡◌, ◌≢◌, ℕ, suc, ◌+◌, ◌≤◌, Bool, true, false, List, [], ◌∷◌, length, refl, sym, ap, ◌∙◌, subst, arith}
+use Rattle.std.specs.Prelude.{nat_eq, nat_le, if◌then◌else◌}
 use Rattle.std.proofs.lemmas.Bool.{eqb-true, eqb-false, le-leb}
-use Rattle.tl_base.specs.declared.place.Place.{Place}
 use Rattle.tl_base.specs.declared.ids.TypeId.{TypeId}
 use Rattle.terra_memory.specs.Numbers.{number_of, part, overwritten}
 use Rattle.terra_words.specs.declared.words.BinaryOperator.TheVariants as operators
 use Rattle.terra_words.specs.Words.{wrapped, applied}
-use Rattle.terra_words.specs.Runs.{Value, word, bytes, number, bytes_in, value_at, Stuck}
+use Rattle.terra_words.specs.Runs.{Value, word, bytes, number, bytes_in, Stuck}
 use Rattle.terra_types.specs.declared.types.Integer.TheVariants.{Uint8}
 use Rattle.terra_types.specs.declared.types.TypeForm.{TypeForm}
 use Rattle.terra_types.specs.declared.types.TypeForm.TheVariants as forms
 use Rattle.terra_term.specs.declared.lists.TypedName.{TypedName}
 use Rattle.terra_meaning.specs.Values.{form_at, bytes_at, is_aggregate, width_of, decoded, IsValue}
-use Rattle.terra_meaning.specs.Running.{State, Got, Gives, Ends, next}
-use Rattle.terra_meaning.specs.Meaning as meaning
+use Rattle.terra_meaning.specs.Running.{State, Got, Gives, next}
 use Rattle.terra_meaning.specs.Meaning.{Wanted, the_value, the_address}
 use Rattle.tac_form.specs.declared.tac.Number.{Number}
 use Rattle.tac_form.specs.declared.tac.Operand.TheVariants.{Temp, Constant}
@@ -22,16 +20,14 @@ use Rattle.tac_form.specs.declared.tac.Spot.TheVariants as spots
 use Rattle.tac_form.specs.declared.tac.Instruction.TheVariants.{Load, Move}
 use Rattle.tac_form.specs.Flow as flow
 use Rattle.tac_form.specs.Flow.{Goes, area_size}
-use Rattle.tac_lower.specs.Pieces.{Used, with_temp, with_area, Piece, known, doing, then_piece, Result, a_word, an_area, an_offset, no_word, word_of, result_at, Holders, number_in, bool_form, whole_word, loaded_bit, loaded_number, loaded_word, loaded}
-use Rattle.tac_lower.specs.Lowering.{extracted}
+use Rattle.tac_lower.specs.Pieces.{Used, with_temp, with_area, Piece, known, doing, then_piece, Result, a_word, an_area, an_offset, no_word, Holders, number_in, whole_word, loaded_bit, loaded_number, loaded_word, loaded}
 use Rattle.tac_lower.proofs.Places.{Point}
-use Rattle.tac_lower.proofs.Standing.{Setting, SizedBy, Private, stands, word_in, Fine, Grown, Good, Means}
-use Rattle.tac_lower.proofs.Simulates.{Fact, one_of, all_of, AllMean, KnowsAll, whole, Sim, then_sim}
+use Rattle.tac_lower.proofs.Standing.{Setting, SizedBy, Private, stands, Good, Means}
+use Rattle.tac_lower.proofs.Simulates.{Fact, one_of, KnowsAll, Sim, then_sim}
 use Rattle.tac_lower.proofs.Words.{width_by, wrapped-again, wrapped-small, wrapped-zero, HasNumber}
 use Rattle.tac_lower.proofs.Writes.{same-self, puts_sim, fills_sim, known_sim}
 use Rattle.tac_lower.proofs.Loads.{sim_as, compute_sim, load-number, word_piece, empty_sim, part-length, and-bit, bit-is, area-size, overwritten-whole}
 use Rattle.tac_lower.proofs.Shorts.{plain-bool}
-use Rattle.tac_lower.proofs.Targets.{first-mean}
 
 part-none : (bs : List ℕ) (at size : ℕ) → size ≡ 0 → part bs at size ≡ []
 part-none bs at size e = ap (λ m. part bs at m) e
@@ -63,7 +59,8 @@ module _ (z : Setting) (n : ℕ) (names : List TypedName) (scope : Holders) (fac
       (λ w. one_of want of (a_word (Temp u.temps)) w)
   area_word_sim want form le good =
       puts_sim u want of (Load u.temps form (spots.Area area offset))
-      (λ s. Gives (word (wrapped (flow.width_of form) (number_of (part bs offset (flow.bytes_of form.size))))) s) (λ at k s fine knows. record {
+      (λ s. Gives (word (wrapped (flow.width_of form) (number_of (part bs offset (flow.bytes_of form.size))))) s)
+      (λ at k s fine knows. record {
         word_put = wrapped (flow.width_of form) (number_of (part bs offset (flow.bytes_of form.size)));
         moves = reads at k s (flow.bytes_of form.size)
             (λ cs. Goes (flow.ahead (flow.set_temp u.temps (wrapped (flow.width_of form) (number_of cs)) (stands z at k s))))
@@ -86,10 +83,12 @@ module _ (z : Setting) (n : ℕ) (names : List TypedName) (scope : Holders) (fac
       ∙ ap (λ w. Gives (word (wrapped w (number_of entry))) s) l.2
       ∙ ap (λ b. Gives (if b then bytes entry else word (wrapped (width_of z.types of) (number_of entry))) s) (sym l.1))
       (then_sim (λ r u'. known r u') (λ v s'. Gives v s') (word 0)
-      (area_word_sim the_value (number_in form) (omega (arith, fits, bytes_are))
-      (l.1, subst (λ w. wrapped (width_of z.types of) (wrapped w (number_of (part bs offset (flow.bytes_of (number_in form).size))))
-      ≡ wrapped w (number_of (part bs offset (flow.bytes_of (number_in form).size)))) (sym l.2)
-      (wrapped-again (form_at z.types of) (number_of (part bs offset (flow.bytes_of (number_in form).size))))))
+      (area_word_sim the_value (number_in form) (omega (arith, fits, bytes_are)) (
+        l.1,
+        subst (λ w. wrapped (width_of z.types of) (wrapped w (number_of (part bs offset (flow.bytes_of (number_in form).size))))
+            ≡ wrapped w (number_of (part bs offset (flow.bytes_of (number_in form).size)))) (sym l.2)
+            (wrapped-again (form_at z.types of) (number_of (part bs offset (flow.bytes_of (number_in form).size)))),
+      ))
       (λ v. known_sim (with_temp u) (a_word (Temp u.temps)) v (λ k s fine knows. knows.0)))
 
   bool_sim : form_at z.types of ≡ forms.Bool →
@@ -109,12 +108,15 @@ module _ (z : Setting) (n : ℕ) (names : List TypedName) (scope : Holders) (fac
       ∙ ap (λ w. Gives (word (wrapped w m)) s) (sym width)
       ∙ ap (λ i. Gives (word (wrapped (width_of z.types of) (number_of (part bs offset i)))) s) (sym one)
       ∙ ap (λ b. Gives (if b then bytes entry else word (wrapped (width_of z.types of) (number_of entry))) s) (sym plain))
-      (then_sim (λ r u'. loaded_bit true r u') (λ v s'. Gives (word (applied (flow.width_of whole_word) operators.And (number v) 1)) s') (word 0)
+      (then_sim (λ r u'. loaded_bit true r u') (λ v s'. Gives (word (applied (flow.width_of whole_word) operators.And (number v) 1)) s')
+      (word 0)
       (area_word_sim the_address (number_in forms.Bool) (omega (arith, fits, one)) (wrapped-small (forms.Integer Uint8) m))
       (λ v. compute_sim (with_temp u) the_value of operators.And whole_word (Temp u.temps) (Constant 1) (number v) 1
-      (word (applied (flow.width_of whole_word) operators.And (number v) 1)) (λ u1 k knows. (ap number knows.0.is, refl)) refl refl
-      (plain, subst (λ w. wrapped w (applied (flow.width_of whole_word) operators.And (number v) 1)
-      ≡ applied (flow.width_of whole_word) operators.And (number v) 1) (sym width) (and-bit (number v)))))
+      (word (applied (flow.width_of whole_word) operators.And (number v) 1)) (λ u1 k knows. (ap number knows.0.is, refl)) refl refl (
+        plain,
+        subst (λ w. wrapped w (applied (flow.width_of whole_word) operators.And (number v) 1)
+            ≡ applied (flow.width_of whole_word) operators.And (number v) 1) (sym width) (and-bit (number v)),
+      )))
 
   word_piece_sim : is_aggregate z.types of ≡ false → size ≢ 0 → (form : TypeForm) → form_at z.types of ≡ form →
       Sim z n names scope facts u (word_piece form (spots.Area area offset) u) given names scope

@@ -20,21 +20,21 @@ use Rattle.tac_form.specs.declared.tac.Exit.TheVariants.{Jump, Branch}
 use Rattle.tac_form.specs.Flow as flow
 use Rattle.tac_form.specs.Flow.{Goes, Stops, put}
 use Rattle.tac_lower.specs.Items.{Item, does, ends, tests, repeats, count_ends, onward, backward}
-use Rattle.tac_lower.specs.Pieces.{Used, with_temp, Piece, then_piece, Result, a_word, word_of, word_at, rest, Holders, number_of}
+use Rattle.tac_lower.specs.Pieces.{Used, with_temp, Piece, Result, a_word, word_of, word_at, rest, Holders, number_of}
 use Rattle.tac_lower.specs.Lowering.{Counting, counting, step_in, runs, counted_on, while_loop}
 pub use Rattle.tac_lower.specs.Needs.{Begins}
 use Rattle.tac_lower.proofs.Places.{Point, step_on, start_of, after, after-append, after-block, DoesAt, EndsAt, HasAt, has-front, has-back, has-loop}
-use Rattle.tac_lower.proofs.Standing.{Setting, Private, stands, Leads, leads-to, one-step, word_in, operand-is, Apart, Fine, Keeps, Grown, Means, Comes, Leaves}
-use Rattle.tac_lower.proofs.Simulates.{Fact, nothing, one_of, all_of, AllMean, KnowsAll, whole, Sim, grown-none, grown-then, grown-areas, keeps-none, keeps-then, facts-later}
+use Rattle.tac_lower.proofs.Standing.{Setting, Private, stands, Leads, leads-to, one-step, word_in, operand-is, Fine, Keeps, Grown, Comes, Leaves}
+use Rattle.tac_lower.proofs.Simulates.{Fact, nothing, one_of, all_of, AllMean, KnowsAll, whole, Sim, grown-none, grown-then, keeps-none, facts-later}
 use Rattle.tac_lower.proofs.Words.{value-small, wrapped-again, HasNumber}
 use Rattle.tac_lower.proofs.Writes.{put-same, put-below, with_word, fresh-apart, grown-temp}
 use Rattle.tac_lower.proofs.Loads.{word-is, is-value, load-number}
 use Rattle.tac_lower.proofs.Operators.{first-word, second-word, number-width_at}
-use Rattle.tac_lower.proofs.Acts.{Under, under-self, under-then, holds-length, fine-outer, fine-later, WayOk, Acts, way-before, way-at}
+use Rattle.tac_lower.proofs.Acts.{Under, under-self, under-then, fine-later, WayOk, Acts, way-before, way-at}
 use Rattle.tac_lower.proofs.Declares.{all-behind, types_behind, word-of-value}
 use Rattle.tac_lower.proofs.Branches.{value_ways, jumps, branches, tested}
 use Rattle.tac_lower.proofs.Shorts.{fine-set}
-use Rattle.tac_lower.proofs.Counts.{bit, Counts, AreCounts, runs_sim, true-flag}
+use Rattle.tac_lower.proofs.Counts.{bit, AreCounts, runs_sim, true-flag}
 use Rattle.tac_lower.proofs.Rounds.{in_loop, RoundOk, TurnOk, round-before, scoped-round, back-none, back-one, numbered, numbered_ways, next-turned}
 use Rattle.tac_lower.proofs.Loops.{after-loop, while_code, while-count, while-after}
 
@@ -80,7 +80,8 @@ numbered-for (suc m) i w l st round s =
         ≡ for_rounds m w l st round (wrapped w (i + st)) s1) →
         next (if b then round i s else Gives breaks s)
         (λ way s'. meaning.turned way s' (numbered m (tested_round w l st round) (λ j. wrapped w (j + st)) (wrapped w (i + st))))
-        ≡ (if b then next (round i s) (λ way s'. meaning.turned way s' (for_rounds m w l st round (wrapped w (i + st)))) else Gives goes_on s)
+        ≡ (if b then next (round i s) (λ way s'. meaning.turned way s' (for_rounds m w l st round (wrapped w (i + st)))) else Gives
+        goes_on s)
     by true same = next-turned (round i s) (numbered m (tested_round w l st round) (λ j. wrapped w (j + st)) (wrapped w (i + st)))
         (for_rounds m w l st round (wrapped w (i + st))) same
     by false same = refl
@@ -142,11 +143,13 @@ module _ (z : Setting) (n : ℕ) (w : Within) (names names2 : List TypedName) (s
             own = (own, fresh-apart z names scope s.variables u.temps u.temps k (omega arith) fine.holds);
             good = h.1;
           },
-          facts-later z scope scope u (with_temp u) k k (grown-temp u) (λ t lt away. away) (keeps-none scope u k) (all_of ts rs vs ∷ []) (h.2, tt),
+          facts-later z scope scope u (with_temp u) k k (grown-temp u) (λ t lt away. away) (keeps-none scope u k) (all_of ts rs vs ∷ [])
+              (h.2, tt),
         )
 
     test_sim : (i : ℕ) → stride < 2 ^ 64 → Sim z n names scope (facts i) (with_temp u) test
-        (λ s. Gives (word (flag (meaning.runs wide i limit stride))) s) names scope (λ v. bit test.result (meaning.runs wide i limit stride))
+        (λ s. Gives (word (flag (meaning.runs wide i limit stride))) s) names scope
+        (λ v. bit test.result (meaning.runs wide i limit stride))
     test_sim i small =
         runs_sim {facts = facts i} (with_temp u) c i limit stride wide (number-width_at z x.of numbers) small (are_counts i)
 
@@ -160,7 +163,8 @@ module _ (z : Setting) (n : ℕ) (w : Within) (names names2 : List TypedName) (s
         DoesAt z.tac.blocks q (Compute u.temps operators.Add (number_of z.types x.of) (Temp u.temps) c.step) →
         EndsAt z.tac.blocks (step_on q) (Jump (backward b0)) → (g : Got Way) →
         Leaves z (start_of b0) k s (λ way s'. RoundOk z w names scope (start_of b0) (with_temp u) k s q B.used e way s') g →
-        Leaves z (start_of b0) k s (λ way s'. TurnOk z w names scope (start_of b0) u k s b0 B.used e (Before (wrapped wide (i + stride))) way s') g
+        Leaves z (start_of b0) k s (λ way s'. TurnOk z w names scope (start_of b0) u k s b0 B.used e (Before (wrapped wide (i + stride)))
+        way s') g
     turns b0 e i k s q fine before adds back (Ends f) h = h
     turns b0 e i k s q fine before adds back (Gives breaks s1) d = record {
       private = d.private;
@@ -178,24 +182,34 @@ module _ (z : Setting) (n : ℕ) (w : Within) (names names2 : List TypedName) (s
         let away = fresh-apart z names scope s.variables u.temps u.temps k (omega arith) fine.holds in
         let at_i : d.private.temps u.temps ≡ i = d.keeps.temps u.temps own away ∙ before.0 in
         let h = facts-later z scope scope u u k d.private (grown-none u) (λ t lt aw. aw)
-        (record { temps = λ t lt aw. d.keeps.temps t (omega (arith, lt)) aw; areas = d.keeps.areas }) (all_of ts rs vs ∷ []) (before.2, tt) in
+        (record { temps = λ t lt aw. d.keeps.temps t (omega (arith, lt)) aw; areas = d.keeps.areas }) (all_of ts rs vs ∷ [])
+        (before.2, tt) in
         let st = (third-word z scope u ts rs vs d.private h.0).0 in
-        let adds_to : flow.act z.program (Compute u.temps operators.Add (number_of z.types x.of) (Temp u.temps) c.step) (stands z q d.private s1)
+        let adds_to : flow.act z.program (Compute u.temps operators.Add (number_of z.types x.of) (Temp u.temps) c.step)
+        (stands z q d.private s1)
         ≡ Goes (stands z (step_on q) k1 s1) =
-        ap (λ a. Goes (flow.ahead (flow.set_temp u.temps (applied (flow.width_of (number_of z.types x.of)) operators.Add a (flow.operand (stands z q d.private s1) c.step)) (stands z q d.private s1)))) at_i
-        ∙ ap (λ a. Goes (flow.ahead (flow.set_temp u.temps (applied (flow.width_of (number_of z.types x.of)) operators.Add i a) (stands z q d.private s1)))) (operand-is z q d.private s1 c.step ∙ st)
-        ∙ ap (λ a. Goes (flow.ahead (flow.set_temp u.temps (applied a operators.Add i stride) (stands z q d.private s1)))) (number-width_at z x.of numbers)
+        ap (λ a. Goes (flow.ahead
+        (flow.set_temp u.temps (applied (flow.width_of (number_of z.types x.of)) operators.Add a
+        (flow.operand (stands z q d.private s1) c.step)) (stands z q d.private s1)))) at_i
+        ∙ ap (λ a. Goes (flow.ahead (flow.set_temp u.temps (applied (flow.width_of (number_of z.types x.of)) operators.Add i a)
+        (stands z q d.private s1)))) (operand-is z q d.private s1 c.step ∙ st)
+        ∙ ap (λ a. Goes (flow.ahead (flow.set_temp u.temps (applied a operators.Add i stride) (stands z q d.private s1))))
+        (number-width_at z x.of numbers)
         ∙ ap (λ a. Goes (flow.ahead (flow.set_temp u.temps a (stands z q d.private s1)))) (added-word wide i stride) in
         let on : Leads z (start_of b0) k s (step_on q) k1 s1 =
-        leads-to z (start_of b0) k s q d.private s1 (Goes (stands z (step_on q) k1 s1)) d.leads (1, one-step z q d.private s1
-        (Compute u.temps operators.Add (number_of z.types x.of) (Temp u.temps) c.step) adds ∙ adds_to) in
+        leads-to z (start_of b0) k s q d.private s1 (Goes (stands z (step_on q) k1 s1)) d.leads (
+          1,
+          one-step z q d.private s1
+              (Compute u.temps operators.Add (number_of z.types x.of) (Temp u.temps) c.step) adds ∙ adds_to,
+        ) in
         let kept : Keeps scope u k k1 = record {
           temps = λ t lt aw. put-below d.private.temps u.temps to t lt ∙ d.keeps.temps t (omega (arith, lt)) aw;
           areas = d.keeps.areas;
         } in
         record {
           private = k1;
-          none = λ none. leads-to z (start_of b0) k s (step_on q) k1 s1 (Stops (More s1.out)) on (back-none z (step_on q) b0 k1 s1 back none);
+          none =
+              λ none. leads-to z (start_of b0) k s (step_on q) k1 s1 (Stops (More s1.out)) on (back-none z (step_on q) b0 k1 s1 back none);
           some = λ l some. leads-to z (start_of b0) k s (step_on q) k1 s1 (Goes (stands z (start_of b0) k1 (record s1 { left = l }))) on
               (back-one z (step_on q) b0 k1 s1 l back some);
           ok = (
@@ -203,13 +217,15 @@ module _ (z : Setting) (n : ℕ) (w : Within) (names names2 : List TypedName) (s
             ((load-number z x.of (form_at z.types x.of) refl numbers).1, wrapped-again (form_at z.types x.of) (i + stride)),
             (facts-later z scope scope u u k k1 (grown-none u) (λ t lt aw. aw) kept (all_of ts rs vs ∷ []) (before.2, tt)).0,
           );
-          fine = fine-set z names scope u B.used k d.private s s1 to (omega (arith, (all_grown i (small_step k before.2)).temps)) fine d.fine;
+          fine =
+              fine-set z names scope u B.used k d.private s s1 to (omega (arith, (all_grown i (small_step k before.2)).temps)) fine d.fine;
           keeps = kept;
           fewer = d.fewer;
         }
 
     -- a round: the test, and where it holds the declaration and the statements in a scope of their own
-    in_round : (b0 e : ℕ) (i : ℕ) (k : Private) (s : State) (q : Point) → HasAt z.tac.blocks e q (D.code ++ B.code) → Grown B.used (whole z) →
+    in_round : (b0 e : ℕ) (i : ℕ) (k : Private) (s : State) (q : Point) → HasAt z.tac.blocks e q (D.code ++ B.code) →
+        Grown B.used (whole z) →
         Fine z names scope test.used k s → KnowsAll z scope test.used (facts i) k → s.left < n →
         Leaves z q k s (λ way s'. RoundOk z w names scope q test.used k s (after (D.code ++ B.code) q) B.used e way s') (round i s)
     in_round b0 e i k s q has whole_ fine knows less =
@@ -221,15 +237,18 @@ module _ (z : Setting) (n : ℕ) (w : Within) (names names2 : List TypedName) (s
         (grown-then D.used B.used (whole z) y.grown whole_) fine knows less))
       where
         declared : (g : Got Value) →
-            Leaves z q k s (λ v s'. Comes z names scope q test.used k s (after D.code q) (x ∷ names) D.result D.used s' (λ k1. Unit {0})) g →
-            Leaves z q k s (λ way s'. WayOk z (in_loop w) names scope q test.used k s (after (D.code ++ B.code) q) names2 B.result B.used e way s')
+            Leaves z q k s (λ v s'. Comes z names scope q test.used k s (after D.code q) (x ∷ names) D.result D.used s' (λ k1. Unit {0}))
+            g →
+            Leaves z q k s (λ way s'. WayOk z (in_loop w) names scope q test.used k s (after (D.code ++ B.code) q) names2 B.result B.used
+            e way s')
             (next g (λ v s'. gob s'))
         declared (Ends f) h = h
         declared (Gives v s1) d =
             let q1 = after D.code q in
             way-at z (in_loop w) names names2 scope B.result q (after B.code q1) (after (D.code ++ B.code) q) test.used B.used k s e
             (sym (after-append D.code B.code q)) (gob s1)
-            (way-before z (in_loop w) names (x ∷ names) names2 scope D.result B.result q q1 (after B.code q1) test.used D.used B.used k d.private
+            (way-before z (in_loop w) names (x ∷ names) names2 scope D.result B.result q q1 (after B.code q1) test.used D.used B.used k
+            d.private
             s s1 e d.leads (dec i).grown (dec i).over under d.keeps d.fewer fine d.fine (gob s1)
             (y.run e q1 d.private s1 (has-back z.tac.blocks e q D.code B.code has) whole_ d.fine (omega (arith, less, d.fewer))))
 
@@ -270,7 +289,8 @@ module _ (z : Setting) (n : ℕ) (w : Within) (names names2 : List TypedName) (s
         (subst (λ j. EndsAt z.tac.blocks (after body start2) (Jump (backward j))) m stood) in
         let fine1 = fine-later z names scope u (with_temp u) k s (omega arith) fine in
         let knows = begins i k s fine before in
-        let c1 = t.run e start k s has1 (grown-then test.used B.used (whole z) (grown-then test.used D.used B.used (dec i).grown y.grown) whole_)
+        let c1 = t.run e start k s has1 (grown-then test.used B.used (whole z) (grown-then test.used D.used B.used (dec i).grown y.grown)
+        whole_)
         fine1 knows less in
         let knows1 = facts-later z scope scope (with_temp u) test.used k c1.private t.grown (λ m1 lt aw. aw) c1.keeps (facts i) knows in
         turns b0 e i k s q2 fine before adds back (tested_round wide limit stride round i s)
@@ -278,7 +298,8 @@ module _ (z : Setting) (n : ℕ) (w : Within) (names names2 : List TypedName) (s
         (tested_round wide limit stride round i s)
         (by c1.private c1.fine knows1 has2.0 (has-front z.tac.blocks e start2 (D.code ++ B.code) (counted_on c ∷ []) has3)
         (meaning.runs wide i limit stride)
-        (tested z boolean scope test.used test.result c1.private (word (flag (meaning.runs wide i limit stride))) (meaning.runs wide i limit stride)
+        (tested z boolean scope test.used test.result c1.private (word (flag (meaning.runs wide i limit stride)))
+        (meaning.runs wide i limit stride)
         c1.ok (true-flag (meaning.runs wide i limit stride)))))
       where
         q0 : Point

@@ -1,46 +1,39 @@
 -- Whole functions: what they receive, their bodies, and what they give; by induction on how deep calls may go.
-use Rattle.std.proofs.Common.{◌≡◌, ◌≢◌, ℕ, zero, suc, ◌+◌, ◌<◌, ◌≤◌, Bool, true, false, List, [], ◌∷◌, ◌++◌, length, map, Option, Some, None, refl, sym, ap, ◌∙◌, subst, arith, length-append}
-use Rattle.std.specs.Prelude.{◌^◌, ◌-◌, ◌&&◌, nat_eq, nat_le, nat_lt, option_map, if◌then◌else◌}
-use Rattle.std.proofs.lemmas.Bool.{eqb-true, eq-eqb, ltb-false}
-use Rattle.tl_base.specs.declared.place.Place.{Place}
+use Rattle.std.proofs.Common.{◌≡◌, ℕ, suc, ◌<◌, ◌≤◌, Bool, true, false, List, [], ◌∷◌, ◌++◌, length, map, refl, sym, ap, ◌∙◌, subst, arith, length-append}
+use Rattle.std.specs.Prelude.{◌&&◌, nat_eq, option_map, if◌then◌else◌}
+use Rattle.std.proofs.lemmas.Bool.{eqb-true, eq-eqb}
 use Rattle.tl_base.specs.declared.ids.TypeId.{TypeId}
 use Rattle.tl_base.specs.declared.ids.FnId.{FnId}
-use Rattle.terra_memory.specs.Region.{heap_limit}
 use Rattle.terra_words.specs.declared.words.FaultKind.TheVariants.{NoReturn}
-use Rattle.terra_words.specs.Words.{wrapped, most_calls}
-use Rattle.terra_words.specs.Runs.{Value, word, bytes, number, Run}
-use Rattle.terra_types.specs.declared.types.TypeForm.{TypeForm}
+use Rattle.terra_words.specs.Runs.{Value, word, bytes}
 use Rattle.terra_types.specs.declared.types.TypeForm.TheVariants as forms
-use Rattle.terra_types.specs.Opening.{boolean, unit}
+use Rattle.terra_types.specs.Opening.{unit}
 use Rattle.terra_term.specs.declared.lists.TypedName.{TypedName}
 use Rattle.terra_term.specs.Stores.{Contents, Callable, callable_of}
 use Rattle.terra_term.specs.WellTyped.{Within}
 use Rattle.terra_meaning.specs.Values.{form_at, bytes_at, is_aggregate, IsValue, AreValues}
 use Rattle.terra_meaning.specs.Frames.{Home, frame_of}
 use Rattle.terra_meaning.specs.Running.{State, Got, Gives, Ends, next, counted}
-use Rattle.terra_meaning.specs.Meaning as meaning
 use Rattle.terra_meaning.specs.Running as running
-use Rattle.terra_meaning.specs.Meaning.{Call, the_value, Way, goes_on, breaks, gives_back, given_back, body_run, declared_all, done_all, apply, entered, kept}
+use Rattle.terra_meaning.specs.Meaning.{Call, Way, goes_on, breaks, gives_back, given_back, body_run, declared_all, done_all}
 use Rattle.tac_form.specs.declared.tac.Destination.{Destination}
 use Rattle.tac_form.specs.declared.tac.Destination.TheVariants as destinations
 use Rattle.tac_form.specs.declared.tac.Exit.TheVariants.{Return, Fail}
-use Rattle.tac_form.specs.declared.tac.Tac.{Tac}
 use Rattle.tac_form.specs.Flow as flow
 use Rattle.tac_form.specs.Flow.{Program, Activation, Caller, Moved, Goes, Stops, steps, area_size}
-use Rattle.tac_lower.specs.Items.{Item, ends, gives, fails, exit_of, with_item, with_items, empty_draft, Draft, blocks_of}
+use Rattle.tac_lower.specs.Items.{Item, gives, fails, exit_of, with_item, with_items, Draft}
 use Rattle.tac_lower.specs.Pieces.{Used, nothing_used, with_temp, with_area, Piece, known, then_piece, taken, given, Holders, Around, declare_all, part_of, no_word}
-use Rattle.tac_lower.specs.Lowering.{lowered, around, body_piece, received, ending, all, type_of_name}
+use Rattle.tac_lower.specs.Lowering.{lowered, received, ending, all, type_of_name}
 use Rattle.tac_lower.proofs.Places.{Point, start_of, after, after-append, EndsAt, HasAt, has-front, has-back}
-use Rattle.tac_lower.proofs.Standing.{Setting, SizedBy, Private, stands, Leads, leads-to, one-end, Fine, Keeps, Grown, Means, Comes, Leaves}
-use Rattle.tac_lower.proofs.Simulates.{Fact, nothing, one_of, all_of, AllMean, KnowsAll, whole, Sim, grown-none, grown-then, keeps-none, keeps-then}
+use Rattle.tac_lower.proofs.Standing.{Setting, Private, stands, Leads, leads-to, one-end, Fine, Keeps, Grown, Comes, Leaves}
+use Rattle.tac_lower.proofs.Simulates.{nothing, all_of, AllMean, whole, Sim, grown-none, grown-then, keeps-none}
 use Rattle.tac_lower.proofs.Words.{wrapped-zero}
 use Rattle.tac_lower.proofs.Writes.{put-same, put-below, with_word, with_bytes, small-put}
 use Rattle.tac_lower.proofs.Loads.{area-size}
-use Rattle.tac_lower.proofs.Whole.{has-whole}
-use Rattle.tac_lower.proofs.Acts.{Acts, WayOk, Returns}
+use Rattle.tac_lower.proofs.Acts.{Acts, WayOk}
 use Rattle.tac_lower.proofs.Declares.{declared_names, DeclaresWell, declare_all_sim}
 use Rattle.tac_lower.proofs.Operating.{OperationNeeds, operation_sim}
-use Rattle.tac_lower.proofs.Calls.{beside, Gave, CallOk, CallsOk, goes_to, used_by, grown-by, call_here}
+use Rattle.tac_lower.proofs.Calls.{CallOk, CallsOk, used_by, grown-by, call_here}
 use Rattle.tac_lower.proofs.CallSims.{CallNeeds, call_sim, value_call_sim}
 use Rattle.tac_lower.specs.Needs.{NeedsBlock, names_after}
 use Rattle.tac_lower.proofs.Terms.{block_acts}
@@ -51,7 +44,8 @@ abbrev pub with_private : Private → Activation → Activation
 with_private k a = record a { temps = k.temps; areas = k.areas }
 
 -- Values that were received: parameters hold them.
-pub record Received (z : Setting) (p : Piece (List Destination)) (ts : List TypeId) (u : Used) (vs : List Value) (k : Private) : Type 0 where
+pub record Received (z : Setting) (p : Piece (List Destination)) (ts : List TypeId) (u : Used) (vs : List Value)
+    (k : Private) : Type 0 where
   pub private : Private
   pub takes : (a : Activation) → flow.takes_all p.result vs (with_private k a) ≡ with_private private a
   pub accepts : flow.accepts_all z.tac p.result vs ≡ true
@@ -123,7 +117,8 @@ receives z (x ∷ xs) u (v ∷ vs) k values whole_ small =
         record {
           private = r.private;
           takes = λ a. r.takes a;
-          accepts = ap (λ b. b && flow.accepts_all z.tac (received z.types xs u1).result vs) (eq-eqb (length bs) (area_size z.tac area) long) ∙ r.accepts;
+          accepts = ap (λ b. b && flow.accepts_all z.tac (received z.types xs u1).result vs)
+              (eq-eqb (length bs) (area_size z.tac area) long) ∙ r.accepts;
           keeps = record {
             temps = r.keeps.temps;
             areas = λ m l. (let l1 : m < length u1.areas = omega (arith, l, lt) in r.keeps.areas m l1) ∙ put-below k.areas area bs m l;
@@ -170,7 +165,8 @@ module _ (z : Setting) (m : ℕ) (st : Contents) (k : Callable) where
   abbrev pub BodyNeeds : Type 0
   BodyNeeds =
       DeclaresWell z.types z.tac.frame homes 0 k.body.parameters (map type_of_name k.body.parameters)
-      × NeedsBlock z.types z.tac.frame entries homes w (OperationNeeds z.types (CallNeeds store)) w names1 (length k.body.parameters) k.body.body
+      × NeedsBlock z.types z.tac.frame entries homes w (OperationNeeds z.types (CallNeeds store)) w names1
+      (length k.body.parameters) k.body.body
 
   abbrev pub tos : Piece (List Destination)
   tos = received z.types k.body.parameters nothing_used
@@ -191,7 +187,8 @@ module _ (z : Setting) (m : ℕ) (st : Contents) (k : Callable) where
         Sim z (suc m) [] [] (all_of (map type_of_name k.body.parameters) (map given tos.result) vs ∷ []) tos.used D
         (declared_all c k.at k.body.parameters vs 0) names1 D.result (λ v. nothing)
     d_sim vs =
-        declare_all_sim z (suc m) c a [] [] [] tos.used k.at k.body.parameters 0 (map type_of_name k.body.parameters) (map given tos.result) vs
+        declare_all_sim z (suc m) c a [] [] [] tos.used k.at k.body.parameters 0 (map type_of_name k.body.parameters)
+        (map given tos.result) vs
         needs.0
 
     b_acts : Acts z (suc m) w names1 D.result D.used B (done_all c k.body.body (length k.body.parameters)) (names_after k.body.body names1)
@@ -199,7 +196,8 @@ module _ (z : Setting) (m : ℕ) (st : Contents) (k : Callable) where
         block_acts z (suc m) st entries homes (call_here z m st) (suc m) w (OperationNeeds z.types (CallNeeds store)) (omega arith)
         (operation_sim z (suc m) st entries homes (call_here z m st) (suc m) (CallNeeds store)
         (λ names scope facts u at of ts rs us f h. call_sim z m st homes (suc m) calls code_is names scope facts u at of ts rs us f h)
-        (λ names scope facts u at of t ts rs us form. value_call_sim z m st homes (suc m) calls code_is names scope facts u at of t ts rs us form))
+        (λ names scope facts u at of t ts rs us form. value_call_sim z m st homes (suc m) calls code_is names scope facts u at of t ts rs
+        us form))
         k.body.body (length k.body.parameters) w names1 D.result D.used needs.1
 
     pub body_grown : Grown tos.used B.used
@@ -208,13 +206,15 @@ module _ (z : Setting) (m : ℕ) (st : Contents) (k : Callable) where
   module _ (calls : CallsOk z.program store z.memory m)
       (code_is : (f : FnId) → z.program.code f ≡ option_map (lowered store z.program.entries) (callable_of store f))
       (needs : BodyNeeds) (stood : HasAt z.tac.blocks 0 (start_of 0) (code ++ ending k ∷ [])) (whole_ : Grown B.used (whole z))
-      (vs : List Value) (pr : Private) (s : State) (all_mean : AllMean z [] tos.used (map type_of_name k.body.parameters) (map given tos.result) vs pr)
+      (vs : List Value) (pr : Private) (s : State) (all_mean : AllMean z [] tos.used (map type_of_name k.body.parameters)
+      (map given tos.result) vs pr)
       (fine : Fine z [] [] tos.used pr s) (less : s.left < suc m) where
     abbrev Ok : Got Value → Type 0
     Ok g = CallOk z.program z.types z.memory z.callers (Goes (stands z (start_of 0) pr s)) k.body.result s.left g
 
     -- the end of the body
-    at_end : (q : Point) (p1 : Private) (s1 : State) → Leads z (start_of 0) pr s q p1 s1 → length s1.region.bytes ≡ z.memory → s1.left ≤ s.left →
+    at_end : (q : Point) (p1 : Private) (s1 : State) → Leads z (start_of 0) pr s q p1 s1 → length s1.region.bytes ≡ z.memory →
+        s1.left ≤ s.left →
         (b : Bool) → nat_eq k.body.result.0 unit.0 ≡ b →
         EndsAt z.tac.blocks q (exit_of 0 q.block (if b then gives (part_of no_word) else fails NoReturn k.at)) →
         Ok (if b then Gives (word 0) s1 else running.fault NoReturn k.at s1)
@@ -228,11 +228,14 @@ module _ (z : Setting) (m : ℕ) (st : Contents) (k : Callable) where
       fewer = fewer;
     }
     at_end q p1 s1 leads sized fewer false e h =
-        leads-to z (start_of 0) pr s q p1 s1 (flow.fault NoReturn k.at (stands z q p1 s1)) leads (1, one-end z q p1 s1 (Fail NoReturn k.at) h)
+        leads-to z (start_of 0) pr s q p1 s1 (flow.fault NoReturn k.at (stands z q p1 s1)) leads
+        (1, one-end z q p1 s1 (Fail NoReturn k.at) h)
 
-    second : (s1 : State) → (d : Comes z [] [] (start_of 0) tos.used pr s (after D.code (start_of 0)) names1 D.result D.used s1 (λ k1. Unit {0})) →
+    second : (s1 : State) → (d : Comes z [] [] (start_of 0) tos.used pr s (after D.code (start_of 0)) names1 D.result D.used s1
+        (λ k1. Unit {0})) →
         (g : Got Way) →
-        Leaves z (after D.code (start_of 0)) d.private s1 (λ way s'. WayOk z w names1 D.result (after D.code (start_of 0)) D.used d.private s1
+        Leaves z (after D.code (start_of 0)) d.private s1
+        (λ way s'. WayOk z w names1 D.result (after D.code (start_of 0)) D.used d.private s1
         (after B.code (after D.code (start_of 0))) (names_after k.body.body names1) B.result B.used 0 way s') g →
         Ok (next g (given_back k))
     second s1 d (Ends r) h = leads-to z (start_of 0) pr s (after D.code (start_of 0)) d.private s1 (Stops r) d.leads h
@@ -240,14 +243,16 @@ module _ (z : Setting) (m : ℕ) (st : Contents) (k : Callable) where
         let q1 = after D.code (start_of 0) in
         let q2 = after B.code q1 in
         let here : after code (start_of 0) ≡ q2 = after-append D.code B.code (start_of 0) in
-        let last = subst (λ q. HasAt z.tac.blocks 0 q (ending k ∷ [])) here (has-back z.tac.blocks 0 (start_of 0) code (ending k ∷ []) stood) in
+        let last = subst (λ q. HasAt z.tac.blocks 0 q (ending k ∷ [])) here
+        (has-back z.tac.blocks 0 (start_of 0) code (ending k ∷ []) stood) in
         at_end q2 b.private s2 (leads-to z (start_of 0) pr s q1 d.private s1 (Goes (stands z q2 b.private s2)) d.leads b.leads) b.fine.sized
         (omega (arith, d.fewer, b.fewer)) (nat_eq k.body.result.0 unit.0) refl last.0
     second s1 d (Gives breaks s2) b = absurd (grind (arith, b.0))
     second s1 d (Gives (gives_back v) s2) b = record {
       here = (stands z b.to b.private s2).here;
       behind = z.callers;
-      leads = leads-to z (start_of 0) pr s (after D.code (start_of 0)) d.private s1 (flow.give z.program v z.callers (stands z b.to b.private s2))
+      leads = leads-to z (start_of 0) pr s (after D.code (start_of 0)) d.private s1
+          (flow.give z.program v z.callers (stands z b.to b.private s2))
           d.leads b.leads;
       is_value = b.is_value;
       sized = b.sized;
@@ -262,7 +267,8 @@ module _ (z : Setting) (m : ℕ) (st : Contents) (k : Callable) where
     first (Gives v s1) d =
         let front = has-front z.tac.blocks 0 (start_of 0) code (ending k ∷ []) stood in
         second s1 d (done_all c k.body.body (length k.body.parameters) s1)
-        ((b_acts calls code_is needs).run 0 (after D.code (start_of 0)) d.private s1 (has-back z.tac.blocks 0 (start_of 0) D.code B.code front) whole_ d.fine
+        ((b_acts calls code_is needs).run 0 (after D.code (start_of 0)) d.private s1
+        (has-back z.tac.blocks 0 (start_of 0) D.code B.code front) whole_ d.fine
         (omega (arith, less, d.fewer)))
 
     -- a body does what it means

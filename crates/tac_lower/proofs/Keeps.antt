@@ -1,11 +1,11 @@
 -- Lowering keeps runs: the types of a store are as large as they should be, and the rest is proved of its functions.
-use Rattle.std.proofs.Common.{◌≡◌, ℕ, zero, suc, ◌≤◌, false, List, [], ◌∷◌, length, Option, Some, None, refl, sym, ap, ◌∙◌, subst, arith}
+use Rattle.std.proofs.Common.{◌≡◌, ℕ, zero, suc, ◌≤◌, false, List, [], ◌∷◌, length, Option, Some, None, refl, sym, ap, subst, arith}
 use Rattle.std.specs.Prelude.{slice_get, unwrap_or}
 use Rattle.tl_base.specs.declared.ids.TypeId.{TypeId}
 use Rattle.terra_types.specs.declared.types.TypeForm.{TypeForm}
 use Rattle.terra_types.specs.declared.types.TypeForm.TheVariants as forms
 use Rattle.terra_types.specs.declared.measure.Measure.{Measure}
-use Rattle.terra_types.specs.Opening.{AreTypes, boolean, unit}
+use Rattle.terra_types.specs.Opening.{boolean, unit}
 use Rattle.terra_types.specs.Sizes.{measure_of, measured, for_some}
 use Rattle.terra_types.proofs.Growing.{is_array, plain-measure, past-measure}
 use Rattle.terra_meaning.specs.Values.{form_at, bytes_at}

@@ -42,25 +42,30 @@ use Rattle.tac_lower.proofs.Words.{width_by, wrapped-again, wrapped-small, wrapp
 use Rattle.tac_lower.proofs.Writes.{same-self, Puts, PutsOr, puts_sim, FillsOr, fills_sim, known_sim}
 
 -- a part of the meaning, told otherwise
-pub sim_as : {A B : Type 0} {z : Setting} {n : ℕ} {names names' : List TypedName} {scope scope' : Holders} {facts : List Fact} {u : Used} {r : Piece A} {post : B → Fact}
-    (go go' : State → Got B) → ((s : State) → go s ≡ go' s) → Sim z n names scope facts u r go names' scope' post → Sim z n names scope facts u r go' names' scope' post
+pub sim_as : {A B : Type 0} {z : Setting} {n : ℕ} {names names' : List TypedName} {scope scope' : Holders} {facts : List Fact} {u : Used}
+    {r : Piece A} {post : B → Fact}
+    (go go' : State → Got B) → ((s : State) → go s ≡ go' s) → Sim z n names scope facts u r go names' scope' post →
+    Sim z n names scope facts u r go' names' scope' post
 sim_as {A} {B} {z} {n} {names} {names'} {scope} {scope'} {facts} {u} {r} {post} go go' e x = record {
   grown = x.grown;
   over = x.over;
   run = λ out at k s has whole_ fine knows less.
-      subst (λ g. Leaves z at k s (λ b s'. Comes z names scope at u k s (after r.code at) names' scope' r.used s' (Knows z scope' r.used (post b))) g) (e s)
+      subst (λ g. Leaves z at k s (λ b s'. Comes z names scope at u k s (after r.code at) names' scope' r.used s'
+      (Knows z scope' r.used (post b))) g) (e s)
       (x.run out at k s has whole_ fine knows less);
 }
 
 -- the same where it is told so of the states in which the code may stand
-pub sim_from : {A B : Type 0} {z : Setting} {n : ℕ} {names names' : List TypedName} {scope scope' : Holders} {facts : List Fact} {u : Used} {r : Piece A} {post : B → Fact}
+pub sim_from : {A B : Type 0} {z : Setting} {n : ℕ} {names names' : List TypedName} {scope scope' : Holders} {facts : List Fact}
+    {u : Used} {r : Piece A} {post : B → Fact}
     (go go' : State → Got B) → ((k : Private) (s : State) → Fine z names scope u k s → KnowsAll z scope u facts k → go s ≡ go' s) →
     Sim z n names scope facts u r go names' scope' post → Sim z n names scope facts u r go' names' scope' post
 sim_from {A} {B} {z} {n} {names} {names'} {scope} {scope'} {facts} {u} {r} {post} go go' e x = record {
   grown = x.grown;
   over = x.over;
   run = λ out at k s has whole_ fine knows less.
-      subst (λ g. Leaves z at k s (λ b s'. Comes z names scope at u k s (after r.code at) names' scope' r.used s' (Knows z scope' r.used (post b))) g) (e k s fine knows)
+      subst (λ g. Leaves z at k s (λ b s'. Comes z names scope at u k s (after r.code at) names' scope' r.used s'
+      (Knows z scope' r.used (post b))) g) (e k s fine knows)
       (x.run out at k s has whole_ fine knows less);
 }
 
@@ -70,8 +75,10 @@ sim_from {A} {B} {z} {n} {names} {names'} {scope} {scope'} {facts} {u} {r} {post
 abbrev pub AreWords : Setting → Holders → List Fact → Operand → Operand → ℕ → ℕ → Type 0
 AreWords z scope facts a b x y = (u : Used) (k : Private) → KnowsAll z scope u facts k → (word_in k a ≡ x) × (word_in k b ≡ y)
 
-pub compute_sim : {z : Setting} {n : ℕ} {names : List TypedName} {scope : Holders} {facts : List Fact} (u : Used) (want : Wanted) (of : TypeId) (op : BinaryOperator) (form : Number) (a b : Operand)
-    (x y : ℕ) (v : Value) → AreWords z scope facts a b x y → (divides op && nat_eq y 0) ≡ false → word (applied (flow.width_of form) op x y) ≡ v →
+pub compute_sim : {z : Setting} {n : ℕ} {names : List TypedName} {scope : Holders} {facts : List Fact} (u : Used) (want : Wanted)
+    (of : TypeId) (op : BinaryOperator) (form : Number) (a b : Operand)
+    (x y : ℕ) (v : Value) → AreWords z scope facts a b x y → (divides op && nat_eq y 0) ≡ false →
+    word (applied (flow.width_of form) op x y) ≡ v →
     Good z want of (a_word (Temp u.temps)) v →
     Sim z n names scope facts u (compute op form a b u) (λ s. Gives v s) names scope (λ w. one_of want of (a_word (Temp u.temps)) w)
 compute_sim {z} {n} {names} {scope} {facts} u want of op form a b x y v words safe is good =
@@ -88,16 +95,21 @@ compute_sim {z} {n} {names} {scope} {facts} u want of op form a b x y v words sa
     })
   where
     moves : (at : Point) (k : Private) (s : State) (i j : ℕ) → i ≡ x → j ≡ y →
-        (if divides op && nat_eq j 0 then flow.stop (stands z at k s) Stuck else Goes (flow.ahead (flow.set_temp u.temps (applied (flow.width_of form) op i j) (stands z at k s))))
+        (if divides op && nat_eq j 0 then flow.stop (stands z at k s) Stuck else Goes
+        (flow.ahead (flow.set_temp u.temps (applied (flow.width_of form) op i j) (stands z at k s))))
         ≡ Goes (flow.ahead (flow.set_temp u.temps (applied (flow.width_of form) op x y) (stands z at k s)))
     moves at k s i j ei ej =
-        ap (λ m. if divides op && nat_eq m 0 then flow.stop (stands z at k s) Stuck else Goes (flow.ahead (flow.set_temp u.temps (applied (flow.width_of form) op i m) (stands z at k s)))) ej
-        ∙ ap (λ m. if m then flow.stop (stands z at k s) Stuck else Goes (flow.ahead (flow.set_temp u.temps (applied (flow.width_of form) op i y) (stands z at k s)))) safe
+        ap (λ m. if divides op && nat_eq m 0 then flow.stop (stands z at k s) Stuck else Goes
+        (flow.ahead (flow.set_temp u.temps (applied (flow.width_of form) op i m) (stands z at k s)))) ej
+        ∙ ap (λ m. if m then flow.stop (stands z at k s) Stuck else Goes
+        (flow.ahead (flow.set_temp u.temps (applied (flow.width_of form) op i y) (stands z at k s)))) safe
         ∙ ap (λ m. Goes (flow.ahead (flow.set_temp u.temps (applied (flow.width_of form) op m y) (stands z at k s)))) ei
 
 -- a copy of a word
-pub copied_sim : {z : Setting} {n : ℕ} {names : List TypedName} {scope : Holders} {facts : List Fact} (u : Used) (want : Wanted) (of : TypeId) (a : Operand) (go : State → Got Value) →
-    ((k : Private) (s : State) → Fine z names scope u k s → KnowsAll z scope u facts k → (go s ≡ Gives (word (word_in k a)) s) × Good z want of (a_word (Temp u.temps)) (word (word_in k a))) →
+pub copied_sim : {z : Setting} {n : ℕ} {names : List TypedName} {scope : Holders} {facts : List Fact} (u : Used) (want : Wanted)
+    (of : TypeId) (a : Operand) (go : State → Got Value) →
+    ((k : Private) (s : State) → Fine z names scope u k s → KnowsAll z scope u facts k → (go s ≡ Gives (word (word_in k a)) s) ×
+    Good z want of (a_word (Temp u.temps)) (word (word_in k a))) →
     Sim z n names scope facts u (copied a u) go names scope (λ w. one_of want of (a_word (Temp u.temps)) w)
 copied_sim {z} {n} {names} {scope} {facts} u want of a go h =
     puts_sim u want of (Copy u.temps a) go (λ at k s fine knows.
@@ -105,7 +117,8 @@ copied_sim {z} {n} {names} {scope} {facts} u want of a go h =
     subst (λ x. PutsOr z want of at k s u.temps (Copy u.temps a) x) (sym g.0)
     (puts at k s g.1))
   where
-    puts : (at : Point) (k : Private) (s : State) → Good z want of (a_word (Temp u.temps)) (word (word_in k a)) → Puts z want of at k s u.temps (Copy u.temps a) (word (word_in k a)) s
+    puts : (at : Point) (k : Private) (s : State) → Good z want of (a_word (Temp u.temps)) (word (word_in k a)) →
+        Puts z want of at k s u.temps (Copy u.temps a) (word (word_in k a)) s
     puts at k s good = record {
       word_put = word_in k a;
       moves = ap (λ x. Goes (flow.ahead (flow.set_temp u.temps x (stands z at k s)))) (operand-is z at k s a);
@@ -144,7 +157,8 @@ unfolding range_of
 range-length r a zero bs e = grind (arith, e)
 range-length r a (suc n) bs e = by (is_inside r a (suc n)) refl e
   where
-    by : (b : Bool) → is_inside r a (suc n) ≡ b → (if b then Some (part r.bytes (a - first_address) (suc n)) else None) ≡ Some bs → length bs ≡ suc n
+    by : (b : Bool) → is_inside r a (suc n) ≡ b → (if b then Some (part r.bytes (a - first_address) (suc n)) else None) ≡ Some bs →
+        length bs ≡ suc n
     by false inside h = grind (arith, h)
     by true inside h =
         let p = inside_parts r a (suc n) inside in
@@ -156,10 +170,15 @@ range-length r a (suc n) bs e = by (is_inside r a (suc n)) refl e
 
 -- which of a type's forms a load of a word is for
 pub load-number : (z : Setting) (of : TypeId) (form : TypeForm) → form_at z.types of ≡ form → HasNumber form →
-    (flow.bytes_of (number_in form).size ≡ bytes_at z.types of) × (is_aggregate z.types of ≡ false) × (flow.width_of (number_in form) ≡ width_of z.types of)
+    (flow.bytes_of (number_in form).size ≡ bytes_at z.types of) × (is_aggregate z.types of ≡ false) ×
+    (flow.width_of (number_in form) ≡ width_of z.types of)
 load-number z of form e h =
-    let s = subst (λ f. SizedBy f (bytes_at z.types of)) e (z.sizes of) in
-    (bytes form h s, subst (λ f. is_aggregate (f ∷ []) (record { 0 = 0 }) ≡ false) (sym e) (plain form h), number-width form h ∙ ap width_by (sym e))
+    let s = subst (λ f. SizedBy f (bytes_at z.types of)) e (z.sizes of) in (
+      bytes form h s,
+      subst (λ f. is_aggregate (f ∷ []) (record { 0 = 0 }) ≡ false) (sym e) (plain form h),
+      number-width form h
+          ∙ ap width_by (sym e),
+    )
   where
     bytes : (f : TypeForm) → HasNumber f → SizedBy f (bytes_at z.types of) → flow.bytes_of (number_in f).size ≡ bytes_at z.types of
     bytes (forms.Integer Int8) h s = sym s
@@ -194,18 +213,25 @@ word_from at form s (Some bs) = Gives (word (wrapped (flow.width_of form) (numbe
 abbrev word_read : Place → Number → (size : ℕ) → ℕ → State → Got Value
 word_read at form size a s = word_from at form s (range_of s.region a size)
 
-word_sim : {z : Setting} {n : ℕ} {names : List TypedName} {scope : Holders} {facts : List Fact} (u : Used) (want : Wanted) (of : TypeId) (place : Place) (form : Number) (address : Address) (a : ℕ) →
-    ((at : Point) (k : Private) (s : State) → Fine z names scope u k s → KnowsAll z scope u facts k → flow.address (stands z at k s) address ≡ a) →
+word_sim : {z : Setting} {n : ℕ} {names : List TypedName} {scope : Holders} {facts : List Fact} (u : Used) (want : Wanted) (of : TypeId)
+    (place : Place) (form : Number) (address : Address) (a : ℕ) →
+    ((at : Point) (k : Private) (s : State) → Fine z names scope u k s → KnowsAll z scope u facts k →
+    flow.address (stands z at k s) address ≡ a) →
     ((m : ℕ) → Good z want of (a_word (Temp u.temps)) (word (wrapped (flow.width_of form) m))) →
-    Sim z n names scope facts u (loaded_number form (spots.Region place address) u) (word_read place form (flow.bytes_of form.size) a) names scope (λ w. one_of want of (a_word (Temp u.temps)) w)
+    Sim z n names scope facts u (loaded_number form (spots.Region place address) u) (word_read place form (flow.bytes_of form.size) a)
+    names scope (λ w. one_of want of (a_word (Temp u.temps)) w)
 word_sim {z} {n} {names} {scope} {facts} u want of place form address a there good =
-    puts_sim u want of (Load u.temps form (spots.Region place address)) (word_read place form (flow.bytes_of form.size) a) (λ at k s fine knows.
+    puts_sim u want of (Load u.temps form (spots.Region place address)) (word_read place form (flow.bytes_of form.size) a)
+    (λ at k s fine knows.
     by at k s (range_of s.region a (flow.bytes_of form.size))
-    (ap (λ x. fetched place (stands z at k s) (range_of s.region x (flow.bytes_of form.size)) (λ bs. Goes (flow.ahead (flow.set_temp u.temps (wrapped (flow.width_of form) (number_of bs)) (stands z at k s))))) (there at k s fine knows)))
+    (ap (λ x. fetched place (stands z at k s) (range_of s.region x (flow.bytes_of form.size))
+    (λ bs. Goes (flow.ahead (flow.set_temp u.temps (wrapped (flow.width_of form) (number_of bs)) (stands z at k s)))))
+    (there at k s fine knows)))
   where
     by : (at : Point) (k : Private) (s : State) (o : Option (List ℕ)) →
         act z.program (Load u.temps form (spots.Region place address)) (stands z at k s)
-        ≡ fetched place (stands z at k s) o (λ bs. Goes (flow.ahead (flow.set_temp u.temps (wrapped (flow.width_of form) (number_of bs)) (stands z at k s)))) →
+        ≡ fetched place (stands z at k s) o
+        (λ bs. Goes (flow.ahead (flow.set_temp u.temps (wrapped (flow.width_of form) (number_of bs)) (stands z at k s)))) →
         PutsOr z want of at k s u.temps (Load u.temps form (spots.Region place address)) (word_from place form s o)
     by at k s None e = e
     by at k s (Some bs) e = record {
@@ -221,14 +247,16 @@ next-same (Gives a s) = refl
 next-same (Ends r) = refl
 
 -- what a read of a type is: of a number, its word
-read-number : (types : List TypeForm) (place : Place) (of : TypeId) (form : Number) (s : State) (o : Option (List ℕ)) → is_aggregate types of ≡ false →
+read-number : (types : List TypeForm) (place : Place) (of : TypeId) (form : Number) (s : State) (o : Option (List ℕ)) →
+    is_aggregate types of ≡ false →
     flow.width_of form ≡ width_of types of → next (word_from place form s o) (λ v s'. Gives v s') ≡ meaning.read types place of s o
 read-number types place of form s None plain w = refl
 read-number types place of form s (Some bs) plain w =
     ap (λ x. Gives (word (wrapped x (number_of bs))) s) w
     ∙ ap (λ b. Gives (if b then bytes bs else word (wrapped (width_of types of) (number_of bs))) s) (sym plain)
 
-pub bit-is : (m : ℕ) → wrapped (record { signed = false; bits = 64 }) (bit_and (wrapped (record { signed = false; bits = 8 }) m) 1) ≡ wrapped (record { signed = false; bits = 1 }) m
+pub bit-is : (m : ℕ) → wrapped (record { signed = false; bits = 64 }) (bit_and (wrapped (record { signed = false; bits = 8 }) m) 1)
+    ≡ wrapped (record { signed = false; bits = 1 }) m
 unfolding wrapped
 bit-is m =
     let e : bit_and (m % 256) 1 ≡ m % 256 % 2 = and_mask (m % 256) 1 in
@@ -239,21 +267,27 @@ word_piece form from u = then_piece (loaded_number (number_in form) from u) (λ 
 
 -- what code does at an address that it knows
 abbrev pub IsThere : Setting → List TypedName → Holders → Used → List Fact → Address → ℕ → Type 0
-IsThere z names scope u facts address a = (at : Point) (k : Private) (s : State) → Fine z names scope u k s → KnowsAll z scope u facts k → flow.address (stands z at k s) address ≡ a
+IsThere z names scope u facts address a = (at : Point) (k : Private) (s : State) → Fine z names scope u k s → KnowsAll z scope u facts k →
+    flow.address (stands z at k s) address ≡ a
 
-number_sim : {z : Setting} {n : ℕ} {names : List TypedName} {scope : Holders} {facts : List Fact} (u : Used) (place : Place) (of : TypeId) (form : TypeForm) (address : Address) (a : ℕ) →
+number_sim : {z : Setting} {n : ℕ} {names : List TypedName} {scope : Holders} {facts : List Fact} (u : Used) (place : Place) (of : TypeId)
+    (form : TypeForm) (address : Address) (a : ℕ) →
     form_at z.types of ≡ form → HasNumber form → IsThere z names scope u facts address a →
-    Sim z n names scope facts u (then_piece (loaded_number (number_in form) (spots.Region place address) u) (λ r u'. known r u')) (meaning.loaded z.types place of a) names scope (λ v. one_of the_value of (a_word (Temp u.temps)) v)
+    Sim z n names scope facts u (then_piece (loaded_number (number_in form) (spots.Region place address) u) (λ r u'. known r u'))
+    (meaning.loaded z.types place of a) names scope (λ v. one_of the_value of (a_word (Temp u.temps)) v)
 number_sim {z} {n} {names} {scope} {facts} u place of form address a e h there =
     let l = load-number z of form e h in
-    sim_as (λ s. next (word_read place (number_in form) (flow.bytes_of (number_in form).size) a s) (λ v s'. Gives v s')) (meaning.loaded z.types place of a)
-    (λ s. read-number z.types place of (number_in form) s (range_of s.region a (flow.bytes_of (number_in form).size)) l.1 l.2 ∙ ap (λ m. meaning.read z.types place of s (range_of s.region a m)) l.0)
+    sim_as (λ s. next (word_read place (number_in form) (flow.bytes_of (number_in form).size) a s) (λ v s'. Gives v s'))
+    (meaning.loaded z.types place of a)
+    (λ s. read-number z.types place of (number_in form) s (range_of s.region a (flow.bytes_of (number_in form).size)) l.1 l.2 ∙ ap
+    (λ m. meaning.read z.types place of s (range_of s.region a m)) l.0)
     (then_sim (λ r u'. known r u') (λ v s'. Gives v s') (word 0)
     (word_sim u the_value of place (number_in form) address a there
     (λ m. (l.1, subst (λ w. wrapped (width_of z.types of) (wrapped w m) ≡ wrapped w m) (sym l.2) (wrapped-again (form_at z.types of) m))))
     (λ v. known_sim (with_temp u) (a_word (Temp u.temps)) v (λ k s fine knows. knows.0)))
 
-pub and-bit : (x : ℕ) → wrapped (record { signed = false; bits = 1 }) (applied (record { signed = false; bits = 64 }) operators.And x 1) ≡ applied (record { signed = false; bits = 64 }) operators.And x 1
+pub and-bit : (x : ℕ) → wrapped (record { signed = false; bits = 1 }) (applied (record { signed = false; bits = 64 }) operators.And x 1)
+    ≡ applied (record { signed = false; bits = 64 }) operators.And x 1
 unfolding wrapped applied
 and-bit x =
     let e : bit_and x 1 ≡ x % 2 = and_mask x 1 in
@@ -262,7 +296,8 @@ and-bit x =
 
 read-bool : (types : List TypeForm) (place : Place) (of : TypeId) (s : State) (o : Option (List ℕ)) → is_aggregate types of ≡ false →
     width_of types of ≡ record { signed = false; bits = 1 } →
-    next (word_from place (number_in forms.Bool) s o) (λ v s'. Gives (word (applied (flow.width_of whole_word) operators.And (number v) 1)) s') ≡ meaning.read types place of s o
+    next (word_from place (number_in forms.Bool) s o)
+    (λ v s'. Gives (word (applied (flow.width_of whole_word) operators.And (number v) 1)) s') ≡ meaning.read types place of s o
 unfolding applied
 read-bool types place of s None plain w = refl
 read-bool types place of s (Some bs) plain w =
@@ -270,29 +305,43 @@ read-bool types place of s (Some bs) plain w =
     ∙ ap (λ x. Gives (word (wrapped x (number_of bs))) s) (sym w)
     ∙ ap (λ b. Gives (if b then bytes bs else word (wrapped (width_of types of) (number_of bs))) s) (sym plain)
 
-bool_sim : {z : Setting} {n : ℕ} {names : List TypedName} {scope : Holders} {facts : List Fact} (u : Used) (place : Place) (of : TypeId) (address : Address) (a : ℕ) →
+bool_sim : {z : Setting} {n : ℕ} {names : List TypedName} {scope : Holders} {facts : List Fact} (u : Used) (place : Place) (of : TypeId)
+    (address : Address) (a : ℕ) →
     form_at z.types of ≡ forms.Bool → IsThere z names scope u facts address a →
-    Sim z n names scope facts u (word_piece forms.Bool (spots.Region place address) u) (meaning.loaded z.types place of a) names scope (λ v. one_of the_value of (a_word (Temp (suc u.temps))) v)
+    Sim z n names scope facts u (word_piece forms.Bool (spots.Region place address) u) (meaning.loaded z.types place of a) names scope
+    (λ v. one_of the_value of (a_word (Temp (suc u.temps))) v)
 bool_sim {z} {n} {names} {scope} {facts} u place of address a e there =
     let size = subst (λ f. SizedBy f (bytes_at z.types of)) e (z.sizes of) in
     let plain : is_aggregate z.types of ≡ false = subst (λ f. is_aggregate (f ∷ []) (record { 0 = 0 }) ≡ false) (sym e) refl in
     let width : width_of z.types of ≡ record { signed = false; bits = 1 } = ap width_by e in
-    sim_as (λ s. next (word_read place (number_in forms.Bool) 1 a s) (λ v s'. Gives (word (applied (flow.width_of whole_word) operators.And (number v) 1)) s')) (meaning.loaded z.types place of a)
-    (λ s. read-bool z.types place of s (range_of s.region a 1) plain width ∙ ap (λ m. meaning.read z.types place of s (range_of s.region a m)) (sym size))
-    (then_sim (λ r u'. loaded_bit true r u') (λ v s'. Gives (word (applied (flow.width_of whole_word) operators.And (number v) 1)) s') (word 0)
+    sim_as (λ s. next (word_read place (number_in forms.Bool) 1 a s)
+    (λ v s'. Gives (word (applied (flow.width_of whole_word) operators.And (number v) 1)) s')) (meaning.loaded z.types place of a)
+    (λ s. read-bool z.types place of s (range_of s.region a 1) plain width ∙ ap
+    (λ m. meaning.read z.types place of s (range_of s.region a m)) (sym size))
+    (then_sim (λ r u'. loaded_bit true r u') (λ v s'. Gives (word (applied (flow.width_of whole_word) operators.And (number v) 1)) s')
+    (word 0)
     (word_sim u the_address of place (number_in forms.Bool) address a there (λ m. wrapped-small (forms.Integer Uint8) m))
-    (λ v. compute_sim (with_temp u) the_value of operators.And whole_word (Temp u.temps) (Constant 1) (number v) 1 (word (applied (flow.width_of whole_word) operators.And (number v) 1))
-    (λ u1 k knows. (ap number knows.0.is, refl)) refl refl
-    (plain, subst (λ w. wrapped w (applied (flow.width_of whole_word) operators.And (number v) 1) ≡ applied (flow.width_of whole_word) operators.And (number v) 1) (sym width) (and-bit (number v)))))
+    (λ v. compute_sim (with_temp u) the_value of operators.And whole_word (Temp u.temps) (Constant 1) (number v) 1
+    (word (applied (flow.width_of whole_word) operators.And (number v) 1))
+    (λ u1 k knows. (ap number knows.0.is, refl)) refl refl (
+      plain,
+      subst (λ w. wrapped w (applied (flow.width_of whole_word) operators.And (number v) 1) ≡ applied
+          (flow.width_of whole_word) operators.And (number v) 1) (sym width) (and-bit (number v)),
+    )))
 
-word_piece_sim : {z : Setting} {n : ℕ} {names : List TypedName} {scope : Holders} {facts : List Fact} (u : Used) (place : Place) (of : TypeId) (address : Address) (a : ℕ) →
-    IsThere z names scope u facts address a → is_aggregate z.types of ≡ false → bytes_at z.types of ≢ 0 → (form : TypeForm) → form_at z.types of ≡ form →
-    Sim z n names scope facts u (word_piece form (spots.Region place address) u) (meaning.loaded z.types place of a) names scope (λ v. one_of the_value of (word_piece form (spots.Region place address) u).result v)
+word_piece_sim : {z : Setting} {n : ℕ} {names : List TypedName} {scope : Holders} {facts : List Fact} (u : Used) (place : Place)
+    (of : TypeId) (address : Address) (a : ℕ) →
+    IsThere z names scope u facts address a → is_aggregate z.types of ≡ false → bytes_at z.types of ≢ 0 → (form : TypeForm) →
+    form_at z.types of ≡ form →
+    Sim z n names scope facts u (word_piece form (spots.Region place address) u) (meaning.loaded z.types place of a) names scope
+    (λ v. one_of the_value of (word_piece form (spots.Region place address) u).result v)
 word_piece_sim {z} u place of address a there plain some (forms.Integer i) e = number_sim u place of (forms.Integer i) address a e tt there
 word_piece_sim {z} u place of address a there plain some (forms.Pointer t) e = number_sim u place of (forms.Pointer t) address a e tt there
-word_piece_sim {z} u place of address a there plain some (forms.Function params result) e = number_sim u place of (forms.Function params result) address a e tt there
+word_piece_sim {z} u place of address a there plain some (forms.Function params result) e =
+    number_sim u place of (forms.Function params result) address a e tt there
 word_piece_sim {z} u place of address a there plain some forms.Bool e = bool_sim u place of address a e there
-word_piece_sim {z} u place of address a there plain some forms.Unit e = absurd (some (subst (λ f. SizedBy f (bytes_at z.types of)) e (z.sizes of)))
+word_piece_sim {z} u place of address a there plain some forms.Unit e =
+    absurd (some (subst (λ f. SizedBy f (bytes_at z.types of)) e (z.sizes of)))
 word_piece_sim {z} u place of address a there plain some (forms.Array t m) e =
     let p : true ≡ false = subst (λ f. is_aggregate (f ∷ []) (record { 0 = 0 }) ≡ false) e plain in absurd (grind (arith, p))
 word_piece_sim {z} u place of address a there plain some (forms.Struct number placed layout) e =
@@ -353,36 +402,48 @@ empty_read_sim {z} u place of a size agg bytes_are e =
     (empty_sim u of size agg bytes_are e)
 
 -- bytes are moved into an area
-moved_sim : {z : Setting} {n : ℕ} {names : List TypedName} {scope : Holders} {facts : List Fact} (u : Used) (place : Place) (of : TypeId) (address : Address) (a size : ℕ) →
+moved_sim : {z : Setting} {n : ℕ} {names : List TypedName} {scope : Holders} {facts : List Fact} (u : Used) (place : Place) (of : TypeId)
+    (address : Address) (a size : ℕ) →
     is_aggregate z.types of ≡ true → bytes_at z.types of ≡ size → IsThere z names scope u facts address a →
-    Sim z n names scope facts u (doing (an_area (length u.areas)) (Move (spots.Area (length u.areas) 0) (spots.Region place address) size) (with_area size u)) (meaning.loaded z.types place of a) names scope (λ v. one_of the_value of (an_area (length u.areas)) v)
+    Sim z n names scope facts u (doing (an_area (length u.areas)) (Move (spots.Area (length u.areas) 0) (spots.Region place address) size)
+    (with_area size u)) (meaning.loaded z.types place of a) names scope (λ v. one_of the_value of (an_area (length u.areas)) v)
 moved_sim {z} {n} {names} {scope} {facts} u place of address a size agg bytes_are there =
-    fills_sim u the_value of size (Move (spots.Area (length u.areas) 0) (spots.Region place address) size) (meaning.loaded z.types place of a) (λ at k s whole_ fine knows.
+    fills_sim u the_value of size (Move (spots.Area (length u.areas) 0) (spots.Region place address) size)
+    (meaning.loaded z.types place of a) (λ at k s whole_ fine knows.
     by at k s (fine.small (length u.areas)) (area-size z size u whole_) (range_of s.region a (bytes_at z.types of)) refl
-    (ap (λ x. fetched place (stands z at k s) (range_of s.region x size) (λ bs. flow.to_spot (spots.Area (length u.areas) 0) bs (stands z at k s))) (there at k s fine knows)
-    ∙ ap (λ m. fetched place (stands z at k s) (range_of s.region a m) (λ bs. flow.to_spot (spots.Area (length u.areas) 0) bs (stands z at k s))) (sym bytes_are)))
+    (ap (λ x. fetched place (stands z at k s) (range_of s.region x size)
+    (λ bs. flow.to_spot (spots.Area (length u.areas) 0) bs (stands z at k s))) (there at k s fine knows)
+    ∙ ap (λ m. fetched place (stands z at k s) (range_of s.region a m)
+    (λ bs. flow.to_spot (spots.Area (length u.areas) 0) bs (stands z at k s))) (sym bytes_are)))
   where
-    by : (at : Point) (k : Private) (s : State) → length (k.areas (length u.areas)) ≤ area_size z.tac (length u.areas) → area_size z.tac (length u.areas) ≡ size →
+    by : (at : Point) (k : Private) (s : State) → length (k.areas (length u.areas)) ≤ area_size z.tac (length u.areas) →
+        area_size z.tac (length u.areas) ≡ size →
         (o : Option (List ℕ)) → range_of s.region a (bytes_at z.types of) ≡ o →
         act z.program (Move (spots.Area (length u.areas) 0) (spots.Region place address) size) (stands z at k s)
         ≡ fetched place (stands z at k s) o (λ bs. flow.to_spot (spots.Area (length u.areas) 0) bs (stands z at k s)) →
-        FillsOr z the_value of at k s (length u.areas) (Move (spots.Area (length u.areas) 0) (spots.Region place address) size) (meaning.read z.types place of s o)
+        FillsOr z the_value of at k s (length u.areas) (Move (spots.Area (length u.areas) 0) (spots.Region place address) size)
+        (meaning.read z.types place of s o)
     by at k s small sized None r e = e
     by at k s small sized (Some bs) r e =
         let long : length bs ≡ bytes_at z.types of = range-length s.region a (bytes_at z.types of) bs r in
         record {
           bytes_put = bs;
           moves = e
-              ∙ ap (λ b. if b then Goes (flow.ahead (flow.set_area (length u.areas) (overwritten (k.areas (length u.areas)) 0 bs) (stands z at k s))) else flow.stop (stands z at k s) Stuck) (le-leb 0 (length (k.areas (length u.areas))) (omega arith))
-              ∙ ap (λ l. Goes (flow.ahead (flow.set_area (length u.areas) l (stands z at k s)))) (overwritten-whole (k.areas (length u.areas)) bs (omega (arith, small, sized, long, bytes_are)));
+              ∙ ap (λ b. if b then Goes
+              (flow.ahead (flow.set_area (length u.areas) (overwritten (k.areas (length u.areas)) 0 bs) (stands z at k s))) else
+              flow.stop (stands z at k s) Stuck) (le-leb 0 (length (k.areas (length u.areas))) (omega arith))
+              ∙ ap (λ l. Goes (flow.ahead (flow.set_area (length u.areas) l (stands z at k s))))
+              (overwritten-whole (k.areas (length u.areas)) bs (omega (arith, small, sized, long, bytes_are)));
           is = ap (λ b. if b then bytes bs else word (wrapped (width_of z.types of) (number_of bs))) (sym agg);
           small = omega (arith, sized, long, bytes_are);
-          good = subst (λ v. Good z the_value of (an_area (length u.areas)) v) (ap (λ b. if b then bytes bs else word (wrapped (width_of z.types of) (number_of bs))) (sym agg)) (agg, long);
+          good = subst (λ v. Good z the_value of (an_area (length u.areas)) v)
+              (ap (λ b. if b then bytes bs else word (wrapped (width_of z.types of) (number_of bs))) (sym agg)) (agg, long);
           same = same-self s;
         }
 
 -- nothing is read of a type of no bytes
-loads-nothing : (z : Setting) (place : Place) (of : TypeId) (a : ℕ) (s : State) → bytes_at z.types of ≡ 0 → is_aggregate z.types of ≡ false → meaning.loaded z.types place of a s ≡ Gives (word 0) s
+loads-nothing : (z : Setting) (place : Place) (of : TypeId) (a : ℕ) (s : State) → bytes_at z.types of ≡ 0 →
+    is_aggregate z.types of ≡ false → meaning.loaded z.types place of a s ≡ Gives (word 0) s
 unfolding range_of number_of
 loads-nothing z place of a s e plain =
     ap (λ m. meaning.read z.types place of s (range_of s.region a m)) e
@@ -390,33 +451,44 @@ loads-nothing z place of a s e plain =
     ∙ ap (λ x. Gives (word x) s) (wrapped-zero (form_at z.types of))
 
 -- the value of a type at an address
-pub loaded_sim : {z : Setting} {n : ℕ} {names : List TypedName} {scope : Holders} {facts : List Fact} (u : Used) (place : Place) (of : TypeId) (address : Address) (a : ℕ) →
+pub loaded_sim : {z : Setting} {n : ℕ} {names : List TypedName} {scope : Holders} {facts : List Fact} (u : Used) (place : Place)
+    (of : TypeId) (address : Address) (a : ℕ) →
     IsThere z names scope u facts address a →
-    Sim z n names scope facts u (loaded z.types of (spots.Region place address) u) (meaning.loaded z.types place of a) names scope (λ v. one_of the_value of (loaded z.types of (spots.Region place address) u).result v)
-loaded_sim {z} {n} {names} {scope} {facts} u place of address a there = by (is_aggregate z.types of) refl (nat_eq (bytes_at z.types of) 0) refl
+    Sim z n names scope facts u (loaded z.types of (spots.Region place address) u) (meaning.loaded z.types place of a) names scope
+    (λ v. one_of the_value of (loaded z.types of (spots.Region place address) u).result v)
+loaded_sim {z} {n} {names} {scope} {facts} u place of address a there =
+    by (is_aggregate z.types of) refl (nat_eq (bytes_at z.types of) 0) refl
   where
     piece_by : Bool → Bool → Piece Result
     piece_by agg none =
         if agg then (if none then known (an_area (length u.areas)) (with_area (bytes_at z.types of) u)
-        else doing (an_area (length u.areas)) (Move (spots.Area (length u.areas) 0) (spots.Region place address) (bytes_at z.types of)) (with_area (bytes_at z.types of) u))
+        else doing (an_area (length u.areas)) (Move (spots.Area (length u.areas) 0) (spots.Region place address) (bytes_at z.types of))
+        (with_area (bytes_at z.types of) u))
         else (if none then known no_word u else loaded_word z.types of (spots.Region place address) u)
 
     by : (agg : Bool) → is_aggregate z.types of ≡ agg → (none : Bool) → nat_eq (bytes_at z.types of) 0 ≡ none →
-        Sim z n names scope facts u (piece_by agg none) (meaning.loaded z.types place of a) names scope (λ v. one_of the_value of (piece_by agg none).result v)
+        Sim z n names scope facts u (piece_by agg none) (meaning.loaded z.types place of a) names scope
+        (λ v. one_of the_value of (piece_by agg none).result v)
     by true agg true none = empty_read_sim u place of a (bytes_at z.types of) agg refl (eqb-true (bytes_at z.types of) 0 none)
     by true agg false none = moved_sim u place of address a (bytes_at z.types of) agg refl there
     by false agg true none = nothing_sim (eqb-true (bytes_at z.types of) 0 none) agg
       where
-        nothing_sim : bytes_at z.types of ≡ 0 → is_aggregate z.types of ≡ false → Sim z n names scope facts u (known no_word u) (meaning.loaded z.types place of a) names scope (λ v. one_of the_value of no_word v)
+        nothing_sim : bytes_at z.types of ≡ 0 → is_aggregate z.types of ≡ false → Sim z n names scope facts u (known no_word u)
+            (meaning.loaded z.types place of a) names scope (λ v. one_of the_value of no_word v)
         nothing_sim e plain = sim_as (λ s. Gives (word 0) s) (meaning.loaded z.types place of a)
             (λ s. sym (loads-nothing z place of a s e plain))
-            (known_sim u no_word (word 0) (λ k s fine knows. record { is = refl; own = tt; good = (plain, wrapped-zero (form_at z.types of)) }))
-    by false agg false none = word_piece_sim u place of address a there agg (eqb-false (bytes_at z.types of) 0 none) (form_at z.types of) refl
+            (known_sim u no_word (word 0)
+            (λ k s fine knows. record { is = refl; own = tt; good = (plain, wrapped-zero (form_at z.types of)) }))
+    by false agg false none =
+        word_piece_sim u place of address a there agg (eqb-false (bytes_at z.types of) 0 none) (form_at z.types of) refl
 
 -- a place that was reached by its address
-pub reached_sim : {z : Setting} {n : ℕ} {names : List TypedName} {scope : Holders} {facts : List Fact} (u : Used) (want : Wanted) (place : Place) (of : TypeId) (r : Result) (a : ℕ) →
+pub reached_sim : {z : Setting} {n : ℕ} {names : List TypedName} {scope : Holders} {facts : List Fact} (u : Used) (want : Wanted)
+    (place : Place) (of : TypeId) (r : Result) (a : ℕ) →
     ((k : Private) (s : State) → Fine z names scope u k s → KnowsAll z scope u facts k → Means z the_address of scope u r k (word a)) →
-    Sim z n names scope facts u (reached z.types want place of r u) (meaning.reached z.types want place of a) names scope (λ v. one_of want of (reached z.types want place of r u).result v)
+    Sim z n names scope facts u (reached z.types want place of r u) (meaning.reached z.types want place of a) names scope
+    (λ v. one_of want of (reached z.types want place of r u).result v)
 reached_sim {z} {n} {names} {scope} {facts} u the_value place of r a means =
     loaded_sim u place of (address_of r) a (λ at k s fine knows. address-is z of scope u r at k s a (means k s fine knows))
-reached_sim {z} {n} {names} {scope} {facts} u the_address place of r a means = known_sim u r (word a) (λ k s fine knows. means k s fine knows)
+reached_sim {z} {n} {names} {scope} {facts} u the_address place of r a means =
+    known_sim u r (word a) (λ k s fine knows. means k s fine knows)

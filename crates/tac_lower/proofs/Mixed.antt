@@ -56,8 +56,10 @@ body = record {
   parameters = record { symbol = x 0; of = int } ∷ [];
   result = int;
   body = and_then (statement at (Var (record { symbol = x 1; of = int } ∷ []) (then_one (num 0) no_more)))
-      (and_then (statement at (For (record { symbol = x 2; of = int }) (then_one (var 0) (then_one (num 0) (then_one (num 18446744073709551615) no_more)))
-      (and_then (statement at (IfElse (typed at bool (Either (op bool operators.Equal (var 2) (num 3)) (op bool operators.Equal (var 2) (num 5))))
+      (and_then (statement at
+      (For (record { symbol = x 2; of = int }) (then_one (var 0) (then_one (num 0) (then_one (num 18446744073709551615) no_more)))
+      (and_then (statement at
+      (IfElse (typed at bool (Either (op bool operators.Equal (var 2) (num 3)) (op bool operators.Equal (var 2) (num 5))))
       (only (set 1 (op int operators.Add (var 1) (num 10)))) (only (set 1 (op int operators.Add (var 1) (var 2))))))
       (only (statement at (Repeat (and_then (set 1 (op int operators.Add (var 1) (num 1)))
       (only (statement at (If (op bool operators.Greater (var 1) (num 20)) (only (statement at Break))))))

@@ -1,5 +1,5 @@
 -- Operations: what each needs of its types, and that its code does what it means. Calls are a premise here.
-use Rattle.std.proofs.Common.{◌≡◌, ◌≢◌, ℕ, ◌+◌, ◌<◌, ◌≤◌, Bool, true, false, List, [], ◌∷◌, length, replicate, refl, sym, ap, ◌∙◌, subst, arith}
+use Rattle.std.proofs.Common.{◌≡◌, ℕ, ◌+◌, ◌≤◌, Bool, true, false, List, [], ◌∷◌, length, replicate, refl, sym, ap, ◌∙◌, subst, arith}
 use Rattle.std.specs.Prelude.{◌^◌, ◌-◌, nat_eq, nat_lt, if◌then◌else◌}
 use Rattle.std.proofs.lemmas.List.{length-replicate}
 use Rattle.tl_base.specs.declared.place.Place.{Place}
@@ -18,24 +18,22 @@ use Rattle.terra_term.specs.Stores.{Contents}
 use Rattle.terra_meaning.specs.Values.{form_at, bytes_at, is_aggregate, target_of, decoded, width_of, IsValue}
 use Rattle.terra_meaning.specs.Frames.{Home}
 use Rattle.terra_meaning.specs.Running.{State, Got, Gives}
-use Rattle.terra_meaning.specs.Meaning as meaning
 use Rattle.terra_meaning.specs.Meaning.{Call, the_value, type_at, operated}
-use Rattle.tac_form.specs.declared.tac.Operand.TheVariants.{Temp, Constant}
-use Rattle.tac_form.specs.declared.tac.Spot.TheVariants as spots
-use Rattle.tac_lower.specs.Pieces.{Used, Piece, known, Result, a_word, an_area, an_offset, no_word, word_at, result_at, Holders, Around, whole_word, number_of, compute, loaded}
+use Rattle.tac_form.specs.declared.tac.Operand.TheVariants.{Constant}
+use Rattle.tac_lower.specs.Pieces.{Used, Piece, Result, a_word, an_area, an_offset, no_word, word_at, result_at, Holders, Around, whole_word, number_of, compute}
 use Rattle.tac_lower.specs.Lowering.{operation, extracted}
 pub use Rattle.tac_lower.specs.Needs.{NumberUnless, OperationNeeds}
-use Rattle.tac_lower.proofs.Standing.{Setting, Private, Fine, Means}
-use Rattle.tac_lower.proofs.Simulates.{Fact, one_of, all_of, AllMean, KnowsAll, Sim}
-use Rattle.tac_lower.proofs.Words.{value-small, HasNumber}
+use Rattle.tac_lower.proofs.Standing.{Setting, Private, Means}
+use Rattle.tac_lower.proofs.Simulates.{Fact, one_of, all_of, AllMean, Sim}
+use Rattle.tac_lower.proofs.Words.{value-small}
 use Rattle.tac_lower.proofs.Writes.{grown-temp, known_sim}
 use Rattle.tac_lower.proofs.Operators.{negate_sim, convert_sim}
 use Rattle.tac_lower.proofs.Shorts.{bit-of-bool}
 use Rattle.tac_lower.proofs.Fors.{Begins, first-value}
 use Rattle.tac_lower.proofs.Targets.{first-mean}
-use Rattle.tac_lower.proofs.Operations.{IsWide, is-boolean, is_comparison, BinaryNeeds, PrimitiveNeeds, not_bool_sim, not_number_sim, to_bool_sim, forward_sim, back_sim, difference_sim, operator_sim, primitive_sim}
+use Rattle.tac_lower.proofs.Operations.{is-boolean, not_bool_sim, not_number_sim, to_bool_sim, forward_sim, back_sim, difference_sim, operator_sim, primitive_sim}
 use Rattle.tac_lower.proofs.Extracts.{entry_sim, bytes-in-area, no-word-area}
-use Rattle.tac_lower.proofs.Constructs.{EntriesFit, construct_sim}
+use Rattle.tac_lower.proofs.Constructs.{construct_sim}
 
 module _ (z : Setting) (n : ℕ) (st : Contents) (entries : List FnId) (homes : List Home)
     (call : FnId → List Value → Place → State → Got Value) (turns : ℕ) (CallNeeds : FnId → List TypeId → TypeId → Type 0)
@@ -75,14 +73,16 @@ module _ (z : Setting) (n : ℕ) (st : Contents) (entries : List FnId) (homes : 
         run = λ out at k s has whole_ fine knows less.
             let form = is-boolean z of e in
             (not_bool_sim z n names scope facts u of ts rs vs form
-            (bit-of-bool z.types of (value_at vs 0) form (first-value z scope u of ts rs vs k begins knows.0))).run out at k s has whole_ fine knows less;
+            (bit-of-bool z.types of (value_at vs 0) form (first-value z scope u of ts rs vs k begins knows.0))).run out at k s has whole_
+            fine knows less;
       }
       by false e h = record {
         grown = grown-temp u;
         over = λ t lt away. away;
         run = λ out at k s has whole_ fine knows less.
             (not_number_sim z n names scope facts u of ts rs vs h
-            (value-small z.types of (value_at vs 0) (first-value z scope u of ts rs vs k begins knows.0))).run out at k s has whole_ fine knows less;
+            (value-small z.types of (value_at vs 0) (first-value z scope u of ts rs vs k begins knows.0))).run out at k s has whole_ fine
+            knows less;
       }
 
   conversion_sim : NumberUnless z.types (nat_eq of.0 boolean.0) of → Does operations.Convert
@@ -125,23 +125,27 @@ module _ (z : Setting) (n : ℕ) (names : List TypedName) (scope : Holders) (fac
       by (an_area m) means =
           let zeros = replicate (bytes_at z.types t) 0 in
           let long : length zeros ≡ bytes_at z.types t = length-replicate (bytes_at z.types t) 0 in
-          let any = entry_sim z n names scope (impossible ∷ []) u of m offset zeros (λ u1 k knows. absurd knows.0.good) (omega (arith, fits, long)) in
+          let any = entry_sim z n names scope (impossible ∷ []) u of m offset zeros (λ u1 k knows. absurd knows.0.good)
+          (omega (arith, fits, long)) in
           record {
             grown = any.grown;
             over = any.over;
             run = λ out at k s has whole_ fine knows less.
                 let here = means k u knows.0 in
                 let value = subst (λ v. IsValue z.types t v) (sym here.is) here.good in
-                let bs_long : length bs ≡ bytes_at z.types t = ap length (sym (bytes-in-area z t scope u m k (value_at vs 0) here)) ∙ value.1 in
+                let bs_long : length bs ≡ bytes_at z.types t = ap length (sym (bytes-in-area z t scope u m k (value_at vs 0) here))
+                ∙ value.1 in
                 (entry_sim z n names scope (all_of (t ∷ ts) rs vs ∷ facts) u of m offset bs
                 (λ u1 k1 h. bytes-in-area z t scope u1 m k1 (value_at vs 0) (means k1 u1 h.0)) (omega (arith, fits, bs_long))).run
                 out at k s has whole_ fine knows less;
           }
       by (a_word o) means =
           known_sim u no_word (decoded z.types of (part bs offset (bytes_at z.types of)))
-          (λ k s fine knows. let no = no-word-area z t scope u (a_word o) k (value_at vs 0) agg (means k u knows.0) in absurd (grind (arith, no.1)))
+          (λ k s fine knows. let no = no-word-area z t scope u (a_word o) k (value_at vs 0) agg (means k u knows.0) in absurd
+          (grind (arith, no.1)))
       by (an_offset o) means =
-          known_sim u no_word (decoded z.types of (part bs offset (bytes_at z.types of))) (λ k s fine knows. absurd (means k u knows.0).good)
+          known_sim u no_word (decoded z.types of (part bs offset (bytes_at z.types of)))
+          (λ k s fine knows. absurd (means k u knows.0).good)
 
 module _ (z : Setting) (n : ℕ) (st : Contents) (entries : List FnId) (homes : List Home)
     (call : FnId → List Value → Place → State → Got Value) (turns : ℕ) (CallNeeds : FnId → List TypeId → TypeId → Type 0)
@@ -176,4 +180,5 @@ module _ (z : Setting) (n : ℕ) (st : Contents) (entries : List FnId) (homes : 
   operation_sim names scope facts u at of operations.CallValue [] rs vs needs = absurd needs
   operation_sim names scope facts u at of operations.CallValue (t ∷ ts) rs vs needs =
       value_calls names scope facts u at of t ts rs vs needs
-  operation_sim names scope facts u at of (operations.Construct offsets) ts rs vs needs = construct_sim u of offsets ts rs vs needs.0 needs.1
+  operation_sim names scope facts u at of (operations.Construct offsets) ts rs vs needs =
+      construct_sim u of offsets ts rs vs needs.0 needs.1

@@ -1,6 +1,6 @@
 -- The rest of the operations on words: `not`, conversions to bools, steps of pointers, differences, operators, and primitives.
 use Rattle.std.proofs.Common.{◌≡◌, ◌≢◌, ℕ, zero, suc, ◌+◌, ◌*◌, ◌<◌, ◌≤◌, Bool, true, false, ℤ, pos, negsuc, List, [], ◌∷◌, ◌++◌, length, Option, Some, None, refl, sym, ap, ◌∙◌, subst, arith}
-use Rattle.std.specs.Prelude.{◌^◌, ◌-◌, ◌%◌, ◌/◌, ◌&&◌, not, nat_eq, nat_le, nat_lt, if◌then◌else◌, bit_xor, bit_and}
+use Rattle.std.specs.Prelude.{◌^◌, ◌-◌, ◌%◌, not, nat_eq, nat_le, nat_lt, if◌then◌else◌, bit_xor, bit_and}
 use Rattle.std.specs.Int.Bits.{xor_add_and}
 use Rattle.std.proofs.lemmas.Bool.{eqb-true, lt-ltb, leb-true}
 use Rattle.std.proofs.lemmas.Nat.{and_mask}
@@ -15,36 +15,33 @@ use Rattle.terra_words.specs.declared.words.BinaryOperator.TheVariants as operat
 use Rattle.terra_words.specs.declared.words.FaultKind.TheVariants.{BadAddress}
 use Rattle.terra_words.specs.declared.words.Width.{Width}
 use Rattle.terra_words.specs.Words.{wrapped, applied, complemented, divides, moved, flag, is_negative, is_less, signed, long_width}
-use Rattle.terra_words.specs.Runs.{Value, word, bytes, number, value_at}
+use Rattle.terra_words.specs.Runs.{Value, word, number, value_at}
 use Rattle.terra_types.specs.declared.types.Integer.TheVariants.{Int8, Int16, Int32, Int64, Uint8, Uint16, Uint32, Uint64}
 use Rattle.terra_types.specs.declared.types.TypeForm.{TypeForm}
 use Rattle.terra_types.specs.declared.types.TypeForm.TheVariants as forms
 use Rattle.terra_types.specs.Opening.{boolean}
 use Rattle.terra_term.specs.declared.lists.TypedName.{TypedName}
-use Rattle.terra_meaning.specs.Values.{form_at, width_of, bytes_at, IsValue}
+use Rattle.terra_meaning.specs.Values.{form_at, width_of, IsValue}
 use Rattle.terra_meaning.specs.Running.{State, Got, Gives, Ends, fault}
 use Rattle.terra_meaning.specs.Meaning as meaning
 use Rattle.terra_meaning.specs.Meaning.{the_value, type_at}
-use Rattle.tac_form.specs.declared.tac.Operand.{Operand}
 use Rattle.tac_form.specs.declared.tac.Operand.TheVariants.{Temp, Constant}
 use Rattle.tac_form.specs.declared.tac.Instruction.{Instruction}
 use Rattle.tac_form.specs.declared.tac.Instruction.TheVariants.{TestDivisor, PutByte, Write, Alloc}
 use Rattle.tac_form.specs.Flow as flow
 use Rattle.tac_form.specs.Flow.{Goes, fetched}
-use Rattle.tac_lower.specs.Pieces.{Used, with_temp, Piece, known, doing, then_piece, Result, a_word, word_of, word_at, no_word, Holders, number_in, number_of, whole_word, long, compute}
+use Rattle.tac_lower.specs.Pieces.{Used, with_temp, Piece, known, doing, Result, a_word, word_of, word_at, no_word, Holders, number_in, number_of, whole_word, long, compute}
 use Rattle.tac_lower.specs.Lowering.{binary, step, difference, primitive}
 pub use Rattle.tac_lower.specs.Needs.{IsWide, is_comparison, BinaryNeeds, PrimitiveNeeds}
 use Rattle.tac_lower.proofs.Places.{Point, after}
-use Rattle.tac_lower.proofs.Standing.{Setting, Private, stands, word_in, operand-is, Fine, Means, Comes, Leaves}
-use Rattle.tac_lower.proofs.Simulates.{Fact, nothing, one_of, all_of, AllMean, Knows, KnowsAll, Sim, then_sim}
-use Rattle.tac_lower.proofs.Words.{width_by, wrapped-small, HasNumber, number-width}
-use Rattle.tac_lower.proofs.Writes.{nat_eq-ne, same-self, Puts, PutsOr, puts_sim, Passes, PassesOr, passes_sim}
-use Rattle.tac_lower.proofs.Loads.{AreWords, sim_as, compute_sim, word-is, is-value, load-number}
-use Rattle.tac_lower.proofs.Operators.{first-word, second-word, both-words, good-number, number-width_at, convert_sim, binary_sim}
+use Rattle.tac_lower.proofs.Standing.{Setting, Private, stands, operand-is, Fine, Comes, Leaves}
+use Rattle.tac_lower.proofs.Simulates.{Fact, one_of, all_of, AllMean, Knows, Sim, then_sim}
+use Rattle.tac_lower.proofs.Words.{width_by, wrapped-small, HasNumber}
+use Rattle.tac_lower.proofs.Writes.{nat_eq-ne, puts_sim, PassesOr, passes_sim}
+use Rattle.tac_lower.proofs.Loads.{sim_as, compute_sim}
+use Rattle.tac_lower.proofs.Operators.{first-word, second-word, both-words, good-number, number-width_at, binary_sim}
 use Rattle.tac_lower.proofs.Reaches.{added, multiplied}
-use Rattle.tac_lower.proofs.Shorts.{bit-of-bool}
 use Rattle.tac_lower.proofs.Counts.{good-flag}
-use Rattle.tac_lower.proofs.Fors.{Begins, first-value}
 
 -- a type that is the opening's is a bool
 pub is-boolean : (z : Setting) (of : TypeId) → nat_eq of.0 boolean.0 ≡ true → form_at z.types of ≡ forms.Bool
@@ -125,7 +122,8 @@ applied-bit w operators.ShiftRight x y P e h = absurd (grind (arith, e))
 less-by : (w v : Width) (x y : ℕ) → w.signed ≡ v.signed → is_less w x y ≡ is_less v x y
 less-by w v x y e = ap (λ b. if b then nat_lt ((x + 2 ^ 63) % 2 ^ 64) ((y + 2 ^ 63) % 2 ^ 64) else nat_lt x y) e
 
-compared-by : (w v : Width) (op : BinaryOperator) (x y : ℕ) → is_comparison op ≡ true → w.signed ≡ v.signed → applied w op x y ≡ applied v op x y
+compared-by : (w v : Width) (op : BinaryOperator) (x y : ℕ) → is_comparison op ≡ true → w.signed ≡ v.signed →
+    applied w op x y ≡ applied v op x y
 unfolding applied
 compared-by w v operators.Equal x y e s = refl
 compared-by w v operators.NotEqual x y e s = refl
@@ -301,7 +299,8 @@ module _ (z : Setting) (n : ℕ) (names : List TypedName) (scope : Holders) (fac
       (both-words z scope facts ts rs vs) refl refl (long-small operators.Subtract x0 x1 refl))
       (λ w. compute_sim (with_temp u) the_value of operators.Divide (long true) (Temp u.temps) (Constant (suc size)) (number w) (suc size)
       (word (applied long_width operators.Divide (number w) (suc size))) (λ u1 k knows. (ap number knows.0.is, refl))
-      (nat_eq-ne (suc size) 0 some) refl (wide (applied long_width operators.Divide (number w) (suc size)) (long-small operators.Divide (number w) (suc size) refl)))
+      (nat_eq-ne (suc size) 0 some) refl (wide (applied long_width operators.Divide (number w) (suc size))
+      (long-small operators.Divide (number w) (suc size) refl)))
 
   -- an operator
 
@@ -310,7 +309,8 @@ module _ (z : Setting) (n : ℕ) (names : List TypedName) (scope : Holders) (fac
   binary-result place op first = by (divides op)
     where
       by : (b : Bool) →
-          a_word (Temp u.temps) ≡ a_word (Temp (if b then doing (tt {0}) (TestDivisor place (word_at rs 1)) u else known (tt {0}) u).used.temps)
+          a_word (Temp u.temps) ≡ a_word
+          (Temp (if b then doing (tt {0}) (TestDivisor place (word_at rs 1)) u else known (tt {0}) u).used.temps)
       by true = refl
       by false = refl
 
@@ -351,12 +351,15 @@ module _ (z : Setting) (n : ℕ) (names : List TypedName) (scope : Holders) (fac
     where
       by : (at : Point) (k : Private) (s : State) (g : Got Value) → GivesOnly v g →
           Leaves z at k s
-          (λ w s'. Comes z names scope at u k s (after r.code at) names scope r.used s' (Knows z scope r.used (one_of the_value of r.result v))) g →
+          (λ w s'. Comes z names scope at u k s (after r.code at) names scope r.used s'
+          (Knows z scope r.used (one_of the_value of r.result v))) g →
           Leaves z at k s
-          (λ w s'. Comes z names scope at u k s (after r.code at) names scope r.used s' (Knows z scope r.used (one_of the_value of r.result w))) g
+          (λ w s'. Comes z names scope at u k s (after r.code at) names scope r.used s'
+          (Knows z scope r.used (one_of the_value of r.result w))) g
       by at k s (Ends e) o h = h
       by at k s (Gives w s1) o h =
-          subst (λ y. Comes z names scope at u k s (after r.code at) names scope r.used s1 (Knows z scope r.used (one_of the_value of r.result y)))
+          subst (λ y. Comes z names scope at u k s (after r.code at) names scope r.used s1
+          (Knows z scope r.used (one_of the_value of r.result y)))
           (sym o) h
 
   -- an instruction that gives nothing
@@ -365,7 +368,8 @@ module _ (z : Setting) (n : ℕ) (names : List TypedName) (scope : Holders) (fac
       Sim z n names scope all u (doing no_word i u) go names scope (λ w. one_of the_value of no_word w)
   nothing_sim i go unit only passes =
       always_sim (doing no_word i u) go (word 0) only
-      (passes_sim u no_word i go (λ at k s fine knows. passes at k s fine knows.0) (λ b k knows. record { is = refl; own = tt; good = unit }))
+      (passes_sim u no_word i go (λ at k s fine knows. passes at k s fine knows.0)
+      (λ b k knows. record { is = refl; own = tt; good = unit }))
 
   put_byte_sim : IsValue z.types of (word 0) →
       Sim z n names scope all u (doing no_word (PutByte (word_at rs 0)) u) (λ s. meaning.printed s (x0 % 256 ∷ [])) names scope
@@ -401,14 +405,16 @@ module _ (z : Setting) (n : ℕ) (names : List TypedName) (scope : Holders) (fac
       only : (s : State) → GivesOnly (word 0) (meaning.primitive place primitives.Write vs s)
       only s = by (is_negative x1)
         where
-          by : (b : Bool) → GivesOnly (word 0) (if b then fault BadAddress place s else meaning.print_range place s (range_of s.region x0 x1))
+          by : (b : Bool) → GivesOnly (word 0) (if b then fault BadAddress place s else meaning.print_range place s
+              (range_of s.region x0 x1))
           by true = tt
           by false = only-range s (range_of s.region x0 x1)
 
       by : (at : Point) (k : Private) (s : State) (b : Bool) (o : Option (List ℕ)) →
           flow.act z.program (Write place (word_at rs 0) (word_at rs 1)) (stands z at k s)
           ≡ (if b then flow.fault BadAddress place (stands z at k s) else fetched place (stands z at k s) o (λ bs. shown at k s bs)) →
-          PassesOr z at k s (Write place (word_at rs 0) (word_at rs 1)) (if b then fault BadAddress place s else meaning.print_range place s o)
+          PassesOr z at k s (Write place (word_at rs 0) (word_at rs 1))
+          (if b then fault BadAddress place s else meaning.print_range place s o)
       by at k s true o e = e
       by at k s false None e = e
       by at k s false (Some bs) e = record { moves = e; same = record { variables = refl; sized = refl; left = refl } }

@@ -57,7 +57,8 @@ has-front blocks out at [] b h = tt
 has-front blocks out at (does i ∷ a) b h = (h.0, has-front blocks out (step_on at) a b h.1)
 has-front blocks out at (ends e ∷ a) b h = (h.0, has-front blocks out (start_of (suc at.block)) a b h.1)
 
-pub has-back : (blocks : List Block) (out : ℕ) (at : Point) (a b : List Item) → HasAt blocks out at (a ++ b) → HasAt blocks out (after a at) b
+pub has-back : (blocks : List Block) (out : ℕ) (at : Point) (a b : List Item) → HasAt blocks out at (a ++ b) →
+    HasAt blocks out (after a at) b
 has-back blocks out at [] b h = h
 has-back blocks out at (does i ∷ a) b h = has-back blocks out (step_on at) a b h.1
 has-back blocks out at (ends e ∷ a) b h = has-back blocks out (start_of (suc at.block)) a b h.1
@@ -77,9 +78,11 @@ has-loop blocks out n (ends leaves ∷ is) at h e =
 has-loop blocks out n (ends (skips k) ∷ is) at h e = (h.0, has-loop blocks out n is (start_of (suc at.block)) h.1 (omega (arith, e)))
 has-loop blocks out n (ends (tests a k) ∷ is) at h e = (h.0, has-loop blocks out n is (start_of (suc at.block)) h.1 (omega (arith, e)))
 has-loop blocks out n (ends (repeats k) ∷ is) at h e = (h.0, has-loop blocks out n is (start_of (suc at.block)) h.1 (omega (arith, e)))
-has-loop blocks out n (ends (repeats_unless a k) ∷ is) at h e = (h.0, has-loop blocks out n is (start_of (suc at.block)) h.1 (omega (arith, e)))
+has-loop blocks out n (ends (repeats_unless a k) ∷ is) at h e =
+    (h.0, has-loop blocks out n is (start_of (suc at.block)) h.1 (omega (arith, e)))
 has-loop blocks out n (ends (gives v) ∷ is) at h e = (h.0, has-loop blocks out n is (start_of (suc at.block)) h.1 (omega (arith, e)))
-has-loop blocks out n (ends (fails kind place) ∷ is) at h e = (h.0, has-loop blocks out n is (start_of (suc at.block)) h.1 (omega (arith, e)))
+has-loop blocks out n (ends (fails kind place) ∷ is) at h e =
+    (h.0, has-loop blocks out n is (start_of (suc at.block)) h.1 (omega (arith, e)))
 
 pub ends-loop : (is : List Item) → count_ends (loop_of is) ≡ count_ends is
 ends-loop [] = refl

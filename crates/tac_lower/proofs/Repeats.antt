@@ -24,11 +24,13 @@ use Rattle.tac_lower.proofs.Loops.{after-loop}
 
 -- the way back, which counts, is taken where the word is zero
 back-none : (z : Setting) (q : Point) (a : Operand) (one back : ℕ) (k : Private) (s : State) →
-    EndsAt z.tac.blocks q (Branch a (onward one) (backward back)) → nat_eq (word_in k a) 0 ≡ true → s.left ≡ zero → Halts z q k s (More s.out)
+    EndsAt z.tac.blocks q (Branch a (onward one) (backward back)) → nat_eq (word_in k a) 0 ≡ true → s.left ≡ zero →
+    Halts z q k s (More s.out)
 back-none z q a one back k s h e none = (
   1,
   one-end z q k s (Branch a (onward one) (backward back)) h
-      ∙ ap (λ x. if nat_eq x 0 then flow.follow (backward back) (stands z q k s) else flow.follow (onward one) (stands z q k s)) (operand-is z q k s a)
+      ∙ ap (λ x. if nat_eq x 0 then flow.follow (backward back) (stands z q k s) else flow.follow (onward one) (stands z q k s))
+      (operand-is z q k s a)
       ∙ ap (λ b. if b then flow.follow (backward back) (stands z q k s) else flow.follow (onward one) (stands z q k s)) e
       ∙ ap (λ l. flow.counted l (stands z q k s) (λ s'. Goes (record s' { here = record s'.here { block = back; at = 0 } }))) none,
 )
@@ -39,7 +41,8 @@ back-some : (z : Setting) (q : Point) (a : Operand) (one back : ℕ) (k : Privat
 back-some z q a one back k s l h e some = (
   1,
   one-end z q k s (Branch a (onward one) (backward back)) h
-      ∙ ap (λ x. if nat_eq x 0 then flow.follow (backward back) (stands z q k s) else flow.follow (onward one) (stands z q k s)) (operand-is z q k s a)
+      ∙ ap (λ x. if nat_eq x 0 then flow.follow (backward back) (stands z q k s) else flow.follow (onward one) (stands z q k s))
+      (operand-is z q k s a)
       ∙ ap (λ b. if b then flow.follow (backward back) (stands z q k s) else flow.follow (onward one) (stands z q k s)) e
       ∙ ap (λ m. flow.counted m (stands z q k s) (λ s'. Goes (record s' { here = record s'.here { block = back; at = 0 } }))) some,
 )
@@ -49,7 +52,8 @@ ahead-on : (z : Setting) (q : Point) (a : Operand) (one back : ℕ) (k : Private
 ahead-on z q a one back k s h e = (
   1,
   one-end z q k s (Branch a (onward one) (backward back)) h
-      ∙ ap (λ x. if nat_eq x 0 then flow.follow (backward back) (stands z q k s) else flow.follow (onward one) (stands z q k s)) (operand-is z q k s a)
+      ∙ ap (λ x. if nat_eq x 0 then flow.follow (backward back) (stands z q k s) else flow.follow (onward one) (stands z q k s))
+      (operand-is z q k s a)
       ∙ ap (λ b. if b then flow.follow (backward back) (stands z q k s) else flow.follow (onward one) (stands z q k s)) e,
 )
 
@@ -155,11 +159,14 @@ acts_repeat {z} {n} {w} {names} {names1} {scope} {u} {r} {p} {go} {go2} of turns
         (subst (λ m. EndsAt z.tac.blocks q (Branch a (onward m) (backward (q.block - count_ends code)))) to h)
 
     -- the statements were done
-    second : (b0 e : ℕ) → EndsAt z.tac.blocks (after code (start_of b0)) (Branch a (onward e) (backward b0)) → (k : Private) (s s1 : State) →
+    second : (b0 e : ℕ) → EndsAt z.tac.blocks (after code (start_of b0)) (Branch a (onward e) (backward b0)) →
+        (k : Private) (s s1 : State) →
         Fine z names scope u k s →
-        (c : Comes z names scope (start_of b0) u k s (after r.code (start_of b0)) names1 r.result r.used s1 (λ k1. Unit {0})) → (g : Got Value) →
+        (c : Comes z names scope (start_of b0) u k s (after r.code (start_of b0)) names1 r.result r.used s1 (λ k1. Unit {0})) →
+        (g : Got Value) →
         Leaves z (after r.code (start_of b0)) c.private s1 (λ v s'. Comes z names1 r.result (after r.code (start_of b0)) r.used c.private s1
-        (after p.code (after r.code (start_of b0))) names1 r.result p.used s' (λ k1. Means z the_value of r.result p.used p.result k1 v)) g →
+        (after p.code (after r.code (start_of b0))) names1 r.result p.used s' (λ k1. Means z the_value of r.result p.used p.result k1 v))
+        g →
         Ok b0 e k s (scoped s (next g (λ v s4. Gives (if is_true v then breaks else goes_on) s4)))
     second b0 e stood k s s1 fine c (Ends f) h = leads-to z (start_of b0) k s (after r.code (start_of b0)) c.private s1 (Stops f) c.leads h
     second b0 e stood k s s1 fine c (Gives v s2) d =
@@ -177,18 +184,23 @@ acts_repeat {z} {n} {w} {names} {names1} {scope} {u} {r} {p} {go} {go2} of turns
           fewer = omega (arith, c.fewer, d.fewer);
         }) stood (is_true v) (tested z of r.result p.used p.result d.private v (is_true v) d.ok refl)
 
-    first : (b0 e : ℕ) → HasAt z.tac.blocks e (start_of b0) inner → e ≡ b0 + count_ends inner → Grown p.used (whole z) → (k : Private) (s : State) →
+    first : (b0 e : ℕ) → HasAt z.tac.blocks e (start_of b0) inner → e ≡ b0 + count_ends inner → Grown p.used (whole z) →
+        (k : Private) (s : State) →
         Fine z names scope u k s → s.left < n → (g : Got Way) →
-        Leaves z (start_of b0) k s (λ way s'. WayOk z (in_loop w) names scope (start_of b0) u k s (after r.code (start_of b0)) names1 r.result r.used e way s') g →
-        Ok b0 e k s (scoped s (next g (λ way s2. along way s2 (λ s3. next (go2 s3) (λ v s4. Gives (if is_true v then breaks else goes_on) s4)))))
+        Leaves z (start_of b0) k s (λ way s'. WayOk z (in_loop w) names scope (start_of b0) u k s (after r.code (start_of b0)) names1
+        r.result r.used e way s') g →
+        Ok b0 e k s (scoped s
+        (next g (λ way s2. along way s2 (λ s3. next (go2 s3) (λ v s4. Gives (if is_true v then breaks else goes_on) s4)))))
     first b0 e has is_end whole_ k s fine less (Ends f) h = h
     first b0 e has is_end whole_ k s fine less (Gives goes_on s1) c =
         let start = start_of b0 in
         let inside = has-front z.tac.blocks e start code back_item has in
         second b0 e (ends_so b0 e has is_end) k s s1 fine c (go2 s1)
-        (y.run e (after r.code start) c.private s1 (has-back z.tac.blocks e start r.code p.code inside) whole_ c.fine tt (omega (arith, less, c.fewer)))
+        (y.run e (after r.code start) c.private s1 (has-back z.tac.blocks e start r.code p.code inside) whole_ c.fine tt
+        (omega (arith, less, c.fewer)))
     first b0 e has is_end whole_ k s fine less (Gives breaks s1) d =
-        comes-later z names names scope scope (start_of b0) (start_of e) u r.used p.used k s (outermost (length s.variables) s1) y.grown.temps d.1
+        comes-later z names names scope scope (start_of b0) (start_of e) u r.used p.used k s (outermost (length s.variables) s1)
+        y.grown.temps d.1
     first b0 e has is_end whole_ k s fine less (Gives (gives_back v) s1) d = record {
       to = d.to;
       private = d.private;

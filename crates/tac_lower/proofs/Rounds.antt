@@ -1,5 +1,5 @@
 -- Loops: rounds of code do what the rounds of the meaning do, and each that goes on counts once.
-use Rattle.std.proofs.Common.{◌≡◌, ℕ, zero, suc, ◌<◌, ◌≤◌, true, List, [], ◌∷◌, length, refl, ap, ◌∙◌, subst, arith}
+use Rattle.std.proofs.Common.{◌≡◌, ℕ, zero, suc, ◌<◌, ◌≤◌, List, [], ◌∷◌, length, refl, ap, ◌∙◌, subst, arith}
 use Rattle.tl_base.specs.declared.ids.TypeId.{TypeId}
 use Rattle.terra_words.specs.Runs.{More}
 use Rattle.terra_term.specs.declared.lists.TypedName.{TypedName}
@@ -18,21 +18,25 @@ use Rattle.tac_lower.proofs.Simulates.{grown-none, comes-before}
 use Rattle.tac_lower.proofs.Acts.{Under, under-self, holds-length, fine-outer, Returns, WayOk, way-before}
 
 -- what a round's code leads to: where the loop goes back, behind the loop, or to the caller
-abbrev pub RoundOk : Setting → Within → List TypedName → Holders → Point → Used → Private → State → Point → Used → (out : ℕ) → Way → State → Type 0
+abbrev pub RoundOk : Setting → Within → List TypedName → Holders → Point → Used → Private → State → Point → Used → (out : ℕ) → Way →
+    State → Type 0
 RoundOk z w names scope at u k s to u' out goes_on s' = Comes z names scope at u k s to names scope u' s' (λ k1. Unit {0})
 RoundOk z w names scope at u k s to u' out breaks s' = Comes z names scope at u k s (start_of out) names scope u' s' (λ k1. Unit {0})
 RoundOk z w names scope at u k s to u' out (gives_back v) s' = Returns z w at k s v s'
 
 -- a stretch of code before a round's
-pub round-before : (z : Setting) (w : Within) (names : List TypedName) (scope : Holders) (at at1 to : Point) (u u1 u2 : Used) (k k1 : Private) (s s1 : State) (out : ℕ) →
+pub round-before : (z : Setting) (w : Within) (names : List TypedName) (scope : Holders) (at at1 to : Point) (u u1 u2 : Used)
+    (k k1 : Private) (s s1 : State) (out : ℕ) →
     Leads z at k s at1 k1 s1 → Grown u u1 → Keeps scope u k k1 → s1.left ≤ s.left → (g : Got Way) →
     Leaves z at1 k1 s1 (λ way s'. RoundOk z w names scope at1 u1 k1 s1 to u2 out way s') g →
     Leaves z at k s (λ way s'. RoundOk z w names scope at u k s to u2 out way s') g
 round-before z w names scope at at1 to u u1 u2 k k1 s s1 out leads g keeps fewer (Ends e) h = leads-to z at k s at1 k1 s1 (Stops e) leads h
 round-before z w names scope at at1 to u u1 u2 k k1 s s1 out leads g keeps fewer (Gives goes_on s2) d =
-    comes-before z names names names scope scope scope at at1 to u u1 u2 k k1 s s1 s2 (λ k2. Unit {0}) leads g (λ t lt away. away) keeps fewer d
+    comes-before z names names names scope scope scope at at1 to u u1 u2 k k1 s s1 s2 (λ k2. Unit {0}) leads g
+    (λ t lt away. away) keeps fewer d
 round-before z w names scope at at1 to u u1 u2 k k1 s s1 out leads g keeps fewer (Gives breaks s2) d =
-    comes-before z names names names scope scope scope at at1 (start_of out) u u1 u2 k k1 s s1 s2 (λ k2. Unit {0}) leads g (λ t lt away. away) keeps fewer d
+    comes-before z names names names scope scope scope at at1 (start_of out) u u1 u2 k k1 s s1 s2 (λ k2. Unit {0}) leads g
+    (λ t lt away. away) keeps fewer d
 round-before z w names scope at at1 to u u1 u2 k k1 s s1 out leads g keeps fewer (Gives (gives_back v) s2) d = record {
   to = d.to;
   private = d.private;
@@ -44,7 +48,8 @@ round-before z w names scope at at1 to u u1 u2 k k1 s s1 out leads g keeps fewer
 }
 
 -- statements in a scope of their own, as a round
-pub scoped-round : (z : Setting) (w : Within) (names names1 : List TypedName) (scope scope1 : Holders) (at to : Point) (u u1 : Used) (k : Private) (s : State) (out : ℕ) → Fine z names scope u k s →
+pub scoped-round : (z : Setting) (w : Within) (names names1 : List TypedName) (scope scope1 : Holders) (at to : Point) (u u1 : Used)
+    (k : Private) (s : State) (out : ℕ) → Fine z names scope u k s →
     Under names scope names1 scope1 → (g : Got Way) →
     Leaves z at k s (λ way s'. WayOk z (in_loop w) names scope at u k s to names1 scope1 u1 out way s') g →
     Leaves z at k s (λ way s'. RoundOk z w names scope at u k s to u1 out way s') (scoped s g)
@@ -53,7 +58,8 @@ scoped-round z w names names1 scope scope1 at to u u1 k s out fine under (Gives 
   private = c.private;
   leads = c.leads;
   ok = tt;
-  fine = fine-outer z names names1 scope scope1 u1 c.private (length s.variables) s1 under (holds-length z names scope s.variables u.temps k fine.holds) c.fine;
+  fine = fine-outer z names names1 scope scope1 u1 c.private (length s.variables) s1 under
+      (holds-length z names scope s.variables u.temps k fine.holds) c.fine;
   keeps = c.keeps;
   fewer = c.fewer;
 }
@@ -69,7 +75,8 @@ scoped-round z w names names1 scope scope1 at to u u1 k s out fine under (Gives 
 }
 
 -- the temporaries of a scope's variables are below the same number in each state
-is-again : (z : Setting) (of : TypeId) (b : Holder) (v v' : Held) (l l' : ℕ) (k k' : Private) → Is z of b v l k → Is z of b v' l' k' → Is z of b v' l k'
+is-again : (z : Setting) (of : TypeId) (b : Holder) (v v' : Held) (l l' : ℕ) (k k' : Private) → Is z of b v l k → Is z of b v' l' k' →
+    Is z of b v' l k'
 is-again z of (in_temp t) (held w) (held w') l l' k k' h g = (h.0, g.1, g.2)
 is-again z of (at_offset o) (lies a) (lies a') l l' k k' h g = g
 is-again z of (in_temp t) v (lies a) l l' k k' h g = absurd g
@@ -102,14 +109,16 @@ fine-again z names scope u u' k k' s s' a b = record {
 }
 
 -- the way back, which counts
-pub back-none : (z : Setting) (back : Point) (to : ℕ) (k : Private) (s : State) → EndsAt z.tac.blocks back (Jump (backward to)) → s.left ≡ zero → Halts z back k s (More s.out)
+pub back-none : (z : Setting) (back : Point) (to : ℕ) (k : Private) (s : State) → EndsAt z.tac.blocks back (Jump (backward to)) →
+    s.left ≡ zero → Halts z back k s (More s.out)
 back-none z back to k s h e = (
   1,
   one-end z back k s (Jump (backward to)) h
       ∙ ap (λ l. flow.counted l (stands z back k s) (λ s'. Goes (record s' { here = record s'.here { block = to; at = 0 } }))) e,
 )
 
-pub back-one : (z : Setting) (back : Point) (to : ℕ) (k : Private) (s : State) (l : ℕ) → EndsAt z.tac.blocks back (Jump (backward to)) → s.left ≡ suc l →
+pub back-one : (z : Setting) (back : Point) (to : ℕ) (k : Private) (s : State) (l : ℕ) → EndsAt z.tac.blocks back (Jump (backward to)) →
+    s.left ≡ suc l →
     Leads z back k s (start_of to) k (record s { left = l })
 back-one z back to k s l h e = (
   1,

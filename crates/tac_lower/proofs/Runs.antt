@@ -1,5 +1,5 @@
 -- The code of a store's functions has the runs that their terms mean, where these have what lowering needs.
-use Rattle.std.proofs.Common.{◌≡◌, ℕ, zero, suc, ◌+◌, ◌<◌, ◌≤◌, Bool, true, false, List, [], ◌∷◌, ◌++◌, length, replicate, Option, Some, None, refl, sym, ap, ◌∙◌, subst, arith, length-append}
+use Rattle.std.proofs.Common.{◌≡◌, ℕ, zero, suc, ◌+◌, ◌<◌, ◌≤◌, Bool, true, false, List, [], ◌∷◌, ◌++◌, length, replicate, Some, refl, sym, ap, ◌∙◌, subst, arith, length-append}
 use Rattle.std.specs.Prelude.{◌^◌, ◌-◌, ◌/◌, nat_le, nat_lt, option_map, if◌then◌else◌}
 use Rattle.std.proofs.lemmas.Bool.{ltb-false}
 use Rattle.std.proofs.lemmas.List.{length-replicate}
@@ -10,7 +10,7 @@ use Rattle.terra_memory.specs.Region as regions
 use Rattle.terra_memory.specs.Region.{IsMemorySize, heap_limit, end_address, fresh}
 use Rattle.terra_words.specs.declared.words.FaultKind.TheVariants.{CallDepth, StackFull}
 use Rattle.terra_words.specs.Words.{most_calls}
-use Rattle.terra_words.specs.Runs.{Value, Run, Stuck}
+use Rattle.terra_words.specs.Runs.{Value, Stuck}
 use Rattle.terra_types.specs.declared.types.TypeForm.TheVariants as forms
 use Rattle.terra_types.specs.Opening.{boolean, unit}
 use Rattle.terra_term.specs.Stores.{Contents, Callable, callable_of, static_bytes}
@@ -30,7 +30,7 @@ use Rattle.tac_lower.proofs.Places.{start_of}
 use Rattle.tac_lower.proofs.Standing.{Setting, SizedBy, Private, stands, Fine}
 use Rattle.tac_lower.proofs.Simulates.{grown-none}
 use Rattle.tac_lower.proofs.Whole.{has-whole}
-use Rattle.tac_lower.proofs.Calls.{beside, Gave, CallOk, CallsOk, call_here}
+use Rattle.tac_lower.proofs.Calls.{beside, CallOk, CallsOk}
 use Rattle.tac_lower.proofs.Functions as functions
 use Rattle.tac_lower.proofs.Functions.{with_private, Received, receives, ends-whole, tos, D, B, code, body_grown, body_ok}
 use Rattle.tac_form.proofs.OneRun.{one-run}
@@ -43,7 +43,8 @@ module _ (p : Program) (st : Contents) (memory : ℕ) (room : memory ≤ 6710886
   abbrev frame : Callable → ℕ
   frame k = (frame_of st.types k.body).size
 
-  abbrev setting : (f : FnId) (k : Callable) → List Caller → (top : ℕ) → p.code f ≡ Some (lowered st p.entries k) → frame k ≤ top → top < 2 ^ 64 → Setting
+  abbrev setting : (f : FnId) (k : Callable) → List Caller → (top : ℕ) → p.code f ≡ Some (lowered st p.entries k) → frame k ≤ top →
+      top < 2 ^ 64 → Setting
   setting f k callers top there le low = record {
     program = p;
     tac = lowered st p.entries k;
@@ -70,7 +71,8 @@ module _ (p : Program) (st : Contents) (memory : ℕ) (room : memory ≤ 6710886
   entered_ok : (m : ℕ) → CallsOk p st memory m → (callers : List Caller) (top : ℕ) (f : FnId) (k : Callable) (vs : List Value) (at : Place)
       (here : Activation) (behind : List Caller) (s : State) → callable_of st f ≡ Some k → AreValues st.types k.body.parameters vs →
       length s.region.bytes ≡ memory → top < 2 ^ 64 → s.left < suc m →
-      CallOk p st.types memory callers (flow.enter at f (Some (lowered st p.entries k)) vs top callers (beside here behind s)) k.body.result s.left
+      CallOk p st.types memory callers (flow.enter at f (Some (lowered st p.entries k)) vs top callers (beside here behind s))
+      k.body.result s.left
       (entered st p.entries (below m (length callers)) (suc m) (length callers) top at (Some k) vs s)
   entered_ok m calls callers top f k vs at here behind s there values sized low less =
       by (nat_le most_calls (length callers)) (nat_lt top (heap_limit s.region + frame k)) refl
@@ -104,10 +106,12 @@ module _ (p : Program) (st : Contents) (memory : ℕ) (room : memory ≤ 6710886
           let h : functions.BodyNeeds z m st k = needs f k there in
           let whole_ = grown-none (B z m st k).used in
           let k0 : Private = record { temps = λ t. 0; areas = λ n. [] } in
-          let r = receives z k.body.parameters (record { temps = 0; areas = [] }) vs k0 values (body_grown z m st k calls code_is h) (λ n. omega arith) in
+          let r = receives z k.body.parameters (record { temps = 0; areas = [] }) vs k0 values (body_grown z m st k calls code_is h)
+          (λ n. omega arith) in
           let s0 : State = record s { variables = [] } in
           let fine : Fine z [] [] (tos z m st k).used r.private s0 = record { holds = tt; small = r.small; sized = sized } in
-          let ok = body_ok z m st k calls code_is h (has-whole (code z m st k ++ ending k ∷ []) (ends-whole (code z m st k) empty_draft k)) whole_ vs
+          let ok = body_ok z m st k calls code_is h
+          (has-whole (code z m st k ++ ending k ∷ []) (ends-whole (code z m st k) empty_draft k)) whole_ vs
           r.private s0 r.all fine less refl in
           let moves : goes (flow.accepts_all tac tac.parameters vs) ≡ Goes (stands z (start_of 0) r.private s0) =
           ap goes r.accepts ∙ ap (λ a. Goes (record (beside here behind s) { callers = callers; here = a })) (r.takes fresh_call) in
@@ -154,8 +158,12 @@ module _ (p : Program) (st : Contents) (memory : ℕ) (room : memory ≤ 6710886
       nowhere = record { function = f; block = 0; at = 0; temps = λ t. 0; areas = λ a. []; base = end_address region }
 
       long : length region.bytes ≡ memory
-      long = omega (arith, length-append (static_bytes st) (replicate (memory - length (static_bytes st)) 0),
-          length-replicate {A = ℕ} (memory - length (static_bytes st)) 0, statics)
+      long = omega (
+        arith,
+        length-append (static_bytes st) (replicate (memory - length (static_bytes st)) 0),
+        length-replicate {A = ℕ} (memory - length (static_bytes st)) 0,
+        statics,
+      )
 
       runs_so : (at : Place) (g : Got Value) →
           CallOk p st.types memory [] (flow.enter at f (p.code f) vs (end_address region) [] (beside nowhere [] s)) k.body.result n g →

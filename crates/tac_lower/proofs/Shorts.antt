@@ -30,7 +30,8 @@ use Rattle.tac_lower.proofs.Branches.{passes-by, passes-in, passes-on}
 use Rattle.tac_lower.proofs.Rounds.{holds-again}
 
 -- what a test of the temporary comes to
-pub record Tested (z : Setting) (names : List TypedName) (scope : Holders) (u1 u2 : Used) (from to : Point) (k : Private) (s : State) (test : Operand) (goes : Bool) : Type 0 where
+pub record Tested (z : Setting) (names : List TypedName) (scope : Holders) (u1 u2 : Used) (from to : Point) (k : Private) (s : State)
+    (test : Operand) (goes : Bool) : Type 0 where
   pub private : Private
   pub leads : Leads z from k s to private s
   pub fine : Fine z names scope u2 private s
@@ -38,7 +39,8 @@ pub record Tested (z : Setting) (names : List TypedName) (scope : Holders) (u1 u
   pub is : nat_eq (word_in private test) 0 ≡ not goes
 
 -- a temporary of its own is written again
-pub fine-set : (z : Setting) (names : List TypedName) (scope : Holders) (u u1 : Used) (k k1 : Private) (s s1 : State) (x : ℕ) → u.temps ≤ u1.temps → Fine z names scope u k s → Fine z names scope u1 k1 s1 →
+pub fine-set : (z : Setting) (names : List TypedName) (scope : Holders) (u u1 : Used) (k k1 : Private) (s s1 : State) (x : ℕ) →
+    u.temps ≤ u1.temps → Fine z names scope u k s → Fine z names scope u1 k1 s1 →
     Fine z names scope u1 (with_word u.temps x k1) s1
 fine-set z names scope u u1 k k1 s s1 x le a b = record {
   holds = holds-later z names scope s1.variables u.temps u1.temps k1 (with_word u.temps x k1) le (λ t lt. put-below k1.temps u.temps x t lt)
@@ -51,14 +53,18 @@ word-value : (z : Setting) (of : TypeId) (v : Value) → is_aggregate z.types of
 word-value z of (word x) plain h = refl
 word-value z of (bytes bs) plain h = let bad : true ≡ false = sym h.0 ∙ plain in absurd (grind (arith, bad))
 
-pub short_sim : {z : Setting} {n : ℕ} {names : List TypedName} {scope : Holders} {facts : List Fact} (u : Used) (of : TypeId) (pa : Piece Result) (goa gob : State → Got Value) (test : Used → Piece Operand) (more : Used → Piece Result) (goes : Value → Bool) →
+pub short_sim : {z : Setting} {n : ℕ} {names : List TypedName} {scope : Holders} {facts : List Fact} (u : Used) (of : TypeId)
+    (pa : Piece Result) (goa gob : State → Got Value) (test : Used → Piece Operand) (more : Used → Piece Result) (goes : Value → Bool) →
     is_aggregate z.types of ≡ false →
     Sim z n names scope facts (with_temp u) pa goa names scope (λ v. one_of the_value of pa.result v) →
     Grown pa.used (test pa.used).used →
-    ((out : ℕ) (at : Point) (k : Private) (s : State) (v : Value) → HasAt z.tac.blocks out at (test pa.used).code → Fine z names scope pa.used k s → k.temps u.temps ≡ number v → IsValue z.types of v →
+    ((out : ℕ) (at : Point) (k : Private) (s : State) (v : Value) → HasAt z.tac.blocks out at (test pa.used).code →
+    Fine z names scope pa.used k s → k.temps u.temps ≡ number v → IsValue z.types of v →
     Tested z names scope pa.used (test pa.used).used at (after (test pa.used).code at) k s (test pa.used).result (goes v)) →
-    Sim z n names scope [] (test pa.used).used (more (test pa.used).used) gob names scope (λ v. one_of the_value of (more (test pa.used).used).result v) →
-    Sim z n names scope facts u (short_circuit u.temps (into u.temps pa) test (λ u'. into u.temps (more u'))) (λ s. next (goa s) (λ v s'. if goes v then gob s' else Gives v s')) names scope
+    Sim z n names scope [] (test pa.used).used (more (test pa.used).used) gob names scope
+    (λ v. one_of the_value of (more (test pa.used).used).result v) →
+    Sim z n names scope facts u (short_circuit u.temps (into u.temps pa) test (λ u'. into u.temps (more u')))
+    (λ s. next (goa s) (λ v s'. if goes v then gob s' else Gives v s')) names scope
     (λ v. one_of the_value of (a_word (Temp u.temps)) v)
 short_sim {z} {n} {names} {scope} {facts} u of pa goa gob test more goes plain x grown_t tests y = record {
   grown = all_grown;
@@ -68,7 +74,8 @@ short_sim {z} {n} {names} {scope} {facts} u of pa goa gob test more goes plain x
       let knows1 = facts-later z scope scope u (with_temp u) k k (grown-temp u) (λ t lt away. away) (keeps-none scope u k) facts knows in
       let front = has-front z.tac.blocks out at first (t.code ++ over_code) has in
       first_ out at k s has whole_ fine less (goa s)
-      (x.run out at k s (has-front z.tac.blocks out at pa.code (does (Copy d (word_of pa.result)) ∷ []) front) (grown-then pa.used pb.used (whole z) (grown-then pa.used t.used pb.used grown_t y.grown) whole_) fine1 knows1 less);
+      (x.run out at k s (has-front z.tac.blocks out at pa.code (does (Copy d (word_of pa.result)) ∷ []) front)
+      (grown-then pa.used pb.used (whole z) (grown-then pa.used t.used pb.used grown_t y.grown) whole_) fine1 knows1 less);
 }
   where
     d : ℕ
@@ -90,52 +97,69 @@ short_sim {z} {n} {names} {scope} {facts} u of pa goa gob test more goes plain x
     over_code = passed_over t.result second
 
     all_grown : Grown u pb.used
-    all_grown = grown-then u (with_temp u) pb.used (grown-temp u) (grown-then (with_temp u) pa.used pb.used x.grown (grown-then pa.used t.used pb.used grown_t y.grown))
+    all_grown = grown-then u (with_temp u) pb.used (grown-temp u)
+        (grown-then (with_temp u) pa.used pb.used x.grown (grown-then pa.used t.used pb.used grown_t y.grown))
 
     -- a copy to the temporary
-    copies : (at : Point) (k : Private) (s : State) (r : Result) (u1 : Used) (v : Value) → DoesAt z.tac.blocks at (Copy d (word_of r)) → Means z the_value of scope u1 r k v → Leads z at k s (step_on at) (with_word d (number v) k) s
-    copies at k s r u1 v stood m =
-        (1, one-step z at k s (Copy d (word_of r)) stood ∙ ap (λ w. Goes (flow.ahead (flow.set_temp d w (stands z at k s)))) (operand-is z at k s (word_of r) ∙ word-is z of scope u1 r k v m))
+    copies : (at : Point) (k : Private) (s : State) (r : Result) (u1 : Used) (v : Value) → DoesAt z.tac.blocks at (Copy d (word_of r)) →
+        Means z the_value of scope u1 r k v → Leads z at k s (step_on at) (with_word d (number v) k) s
+    copies at k s r u1 v stood m = (
+      1,
+      one-step z at k s (Copy d (word_of r)) stood ∙ ap (λ w. Goes (flow.ahead (flow.set_temp d w (stands z at k s))))
+          (operand-is z at k s (word_of r) ∙ word-is z of scope u1 r k v m),
+    )
 
-    ok : (u1 : Used) (k : Private) (v : Value) → d < u1.temps → Apart d scope → k.temps d ≡ number v → IsValue z.types of v → Means z the_value of scope u1 (a_word (Temp d)) k v
+    ok : (u1 : Used) (k : Private) (v : Value) → d < u1.temps → Apart d scope → k.temps d ≡ number v → IsValue z.types of v →
+        Means z the_value of scope u1 (a_word (Temp d)) k v
     ok u1 k v lt away e h = record { is = ap word e ∙ word-value z of v plain h; own = (lt, away); good = h }
 
     keeps_set : (k k1 : Private) (w : ℕ) → Keeps scope u k k1 → Keeps scope u k (with_word d w k1)
     keeps_set k k1 w h = record { temps = λ m lt away. put-below k1.temps d w m lt ∙ h.temps m lt away; areas = h.areas }
 
     Goal : (at : Point) (k : Private) (s : State) → Got Value → Type 0
-    Goal at k s g = Leaves z at k s (λ v s'. Comes z names scope at u k s (after (first ++ (t.code ++ over_code)) at) names scope pb.used s' (λ k1. Means z the_value of scope pb.used (a_word (Temp d)) k1 v)) g
+    Goal at k s g = Leaves z at k s (λ v s'. Comes z names scope at u k s (after (first ++ (t.code ++ over_code)) at) names scope pb.used
+        s' (λ k1. Means z the_value of scope pb.used (a_word (Temp d)) k1 v)) g
 
     own_lt : d < pb.used.temps
     own_lt = omega (arith, x.grown.temps, grown_t.temps, y.grown.temps)
 
-    last_ : (out : ℕ) (at q3 : Point) (k k3 : Private) (s s1 : State) → Leads z at k s (start_of (suc q3.block)) k3 s1 → Keeps scope u k k3 → s1.left ≤ s.left → Apart d scope → HasAt z.tac.blocks out q3 over_code →
+    last_ : (out : ℕ) (at q3 : Point) (k k3 : Private) (s s1 : State) → Leads z at k s (start_of (suc q3.block)) k3 s1 →
+        Keeps scope u k k3 → s1.left ≤ s.left → Apart d scope → HasAt z.tac.blocks out q3 over_code →
         Fine z names scope u k s → after over_code q3 ≡ after (first ++ (t.code ++ over_code)) at → (g : Got Value) →
-        Leaves z (start_of (suc q3.block)) k3 s1 (λ v s'. Comes z names scope (start_of (suc q3.block)) t.used k3 s1 (after pb.code (start_of (suc q3.block))) names scope pb.used s' (λ k1. Means z the_value of scope pb.used pb.result k1 v)) g →
+        Leaves z (start_of (suc q3.block)) k3 s1 (λ v s'. Comes z names scope (start_of (suc q3.block)) t.used k3 s1
+        (after pb.code (start_of (suc q3.block))) names scope pb.used s' (λ k1. Means z the_value of scope pb.used pb.result k1 v)) g →
         Goal at k s g
-    last_ out at q3 k k3 s s1 leads keeps fewer away has3 fine done (Ends e) h = leads-to z at k s (start_of (suc q3.block)) k3 s1 (Stops e) leads h
+    last_ out at q3 k k3 s s1 leads keeps fewer away has3 fine done (Ends e) h =
+        leads-to z at k s (start_of (suc q3.block)) k3 s1 (Stops e) leads h
     last_ out at q3 k k3 s s1 leads keeps fewer away has3 fine done (Gives v s2) c =
         let start = start_of (suc q3.block) in
         let q5 = after pb.code start in
         let inside = has-front z.tac.blocks out start second (ends (skips 0) ∷ []) has3.1 in
         let stood = (has-back z.tac.blocks out start pb.code (does (Copy d (word_of pb.result)) ∷ []) inside).0 in
         let k6 = with_word d (number v) c.private in
-        let on : Leads z q5 c.private s2 (after second start) k6 s2 = subst (λ p. Leads z q5 c.private s2 p k6 s2) (sym (after-append pb.code (does (Copy d (word_of pb.result)) ∷ []) start))
+        let on : Leads z q5 c.private s2 (after second start) k6 s2 = subst (λ p. Leads z q5 c.private s2 p k6 s2)
+        (sym (after-append pb.code (does (Copy d (word_of pb.result)) ∷ []) start))
         (copies q5 c.private s2 pb.result pb.used v stood c.ok) in
-        let off : Leads z (after second start) k6 s2 (after (first ++ (t.code ++ over_code)) at) k6 s2 = subst (λ p. Leads z (after second start) k6 s2 p k6 s2) done (passes-on z out t.result second q3 k6 s2 has3) in
+        let off : Leads z (after second start) k6 s2 (after (first ++ (t.code ++ over_code)) at) k6 s2 = subst
+        (λ p. Leads z (after second start) k6 s2 p k6 s2) done (passes-on z out t.result second q3 k6 s2 has3) in
         let end = Goes (stands z (after (first ++ (t.code ++ over_code)) at) k6 s2) in
         record {
           private = k6;
-          leads = leads-to z at k s start k3 s1 end leads (leads-to z start k3 s1 q5 c.private s2 end c.leads (leads-to z q5 c.private s2 (after second start) k6 s2 end on off));
+          leads = leads-to z at k s start k3 s1 end leads
+              (leads-to z start k3 s1 q5 c.private s2 end c.leads (leads-to z q5 c.private s2 (after second start) k6 s2 end on off));
           ok = ok pb.used k6 v own_lt away (put-same c.private.temps d (number v)) (is-value z of pb.result v c.ok.good);
           fine = fine-set z names scope u pb.used k c.private s s2 (number v) (omega (arith, own_lt)) fine c.fine;
           keeps = keeps_set k c.private (number v) (keeps-then scope scope u t.used k k3 c.private
-              (grown-then u (with_temp u) t.used (grown-temp u) (grown-then (with_temp u) pa.used t.used x.grown grown_t)) (λ m lt aw. aw) keeps c.keeps);
+              (grown-then u (with_temp u) t.used (grown-temp u) (grown-then (with_temp u) pa.used t.used x.grown grown_t))
+              (λ m lt aw. aw) keeps c.keeps);
           fewer = omega (arith, fewer, c.fewer);
         }
 
-    rest_ : (out : ℕ) (at q3 : Point) (k k3 : Private) (s s1 : State) (v : Value) → Leads z at k s q3 k3 s1 → Fine z names scope t.used k3 s1 → Keeps scope u k k3 → s1.left ≤ s.left → k3.temps d ≡ number v → Apart d scope → IsValue z.types of v →
-        HasAt z.tac.blocks out q3 over_code → Grown pb.used (whole z) → Fine z names scope u k s → s1.left < n → after over_code q3 ≡ after (first ++ (t.code ++ over_code)) at →
+    rest_ : (out : ℕ) (at q3 : Point) (k k3 : Private) (s s1 : State) (v : Value) → Leads z at k s q3 k3 s1 →
+        Fine z names scope t.used k3 s1 → Keeps scope u k k3 → s1.left ≤ s.left → k3.temps d ≡ number v → Apart d scope →
+        IsValue z.types of v →
+        HasAt z.tac.blocks out q3 over_code → Grown pb.used (whole z) → Fine z names scope u k s → s1.left < n →
+        after over_code q3 ≡ after (first ++ (t.code ++ over_code)) at →
         (b : Bool) → nat_eq (word_in k3 t.result) 0 ≡ not b → Goal at k s (if b then gob s1 else Gives v s1)
     rest_ out at q3 k k3 s s1 v leads fine3 keeps fewer e3 away value has3 whole_ fine less1 done false is = record {
       private = k3;
@@ -149,11 +173,15 @@ short_sim {z} {n} {names} {scope} {facts} u of pa goa gob test more goes plain x
     rest_ out at q3 k k3 s s1 v leads fine3 keeps fewer e3 away value has3 whole_ fine less1 done true is =
         let start = start_of (suc q3.block) in
         let inside = has-front z.tac.blocks out start second (ends (skips 0) ∷ []) has3.1 in
-        last_ out at q3 k k3 s s1 (leads-to z at k s q3 k3 s1 (Goes (stands z start k3 s1)) leads (passes-in z out t.result second q3 k3 s1 has3 is)) keeps fewer away has3 fine done (gob s1)
-        (y.run out start k3 s1 (has-front z.tac.blocks out start pb.code (does (Copy d (word_of pb.result)) ∷ []) inside) whole_ fine3 tt less1)
+        last_ out at q3 k k3 s s1 (leads-to z at k s q3 k3 s1 (Goes (stands z start k3 s1)) leads
+        (passes-in z out t.result second q3 k3 s1 has3 is)) keeps fewer away has3 fine done (gob s1)
+        (y.run out start k3 s1 (has-front z.tac.blocks out start pb.code (does (Copy d (word_of pb.result)) ∷ []) inside) whole_ fine3 tt
+        less1)
 
-    first_ : (out : ℕ) (at : Point) (k : Private) (s : State) → HasAt z.tac.blocks out at (first ++ (t.code ++ over_code)) → Grown pb.used (whole z) → Fine z names scope u k s → s.left < n → (g : Got Value) →
-        Leaves z at k s (λ v s'. Comes z names scope at (with_temp u) k s (after pa.code at) names scope pa.used s' (λ k1. Means z the_value of scope pa.used pa.result k1 v)) g →
+    first_ : (out : ℕ) (at : Point) (k : Private) (s : State) → HasAt z.tac.blocks out at (first ++ (t.code ++ over_code)) →
+        Grown pb.used (whole z) → Fine z names scope u k s → s.left < n → (g : Got Value) →
+        Leaves z at k s (λ v s'. Comes z names scope at (with_temp u) k s (after pa.code at) names scope pa.used s'
+        (λ k1. Means z the_value of scope pa.used pa.result k1 v)) g →
         Goal at k s (next g (λ v s'. if goes v then gob s' else Gives v s'))
     first_ out at k s has whole_ fine less (Ends e) h = h
     first_ out at k s has whole_ fine less (Gives v s1) c =
@@ -162,9 +190,11 @@ short_sim {z} {n} {names} {scope} {facts} u of pa goa gob test more goes plain x
         let copy = does (Copy d (word_of pa.result)) ∷ [] in
         let here : after first at ≡ q2 = after-append pa.code copy at in
         let stood = (has-back z.tac.blocks out at pa.code copy (has-front z.tac.blocks out at first (t.code ++ over_code) has)).0 in
-        let has1 = subst (λ p. HasAt z.tac.blocks out p (t.code ++ over_code)) here (has-back z.tac.blocks out at first (t.code ++ over_code) has) in
+        let has1 = subst (λ p. HasAt z.tac.blocks out p (t.code ++ over_code)) here
+        (has-back z.tac.blocks out at first (t.code ++ over_code) has) in
         let k2 = with_word d (number v) c.private in
-        let lead2 = leads-to z at k s q1 c.private s1 (Goes (stands z q2 k2 s1)) c.leads (copies q1 c.private s1 pa.result pa.used v stood c.ok) in
+        let lead2 = leads-to z at k s q1 c.private s1 (Goes (stands z q2 k2 s1)) c.leads
+        (copies q1 c.private s1 pa.result pa.used v stood c.ok) in
         let le : u.temps ≤ pa.used.temps = omega (arith, x.grown.temps) in
         let fine2 = fine-set z names scope u pa.used k c.private s s1 (number v) le fine c.fine in
         let value = is-value z of pa.result v c.ok.good in
@@ -173,15 +203,22 @@ short_sim {z} {n} {names} {scope} {facts} u of pa goa gob test more goes plain x
         let away = fresh-apart z names scope s.variables u.temps d k (omega arith) fine.holds in
         let own : d < pa.used.temps = omega (arith, x.grown.temps) in
         let q3 = after t.code q2 in
-        let keeps1 : Keeps scope u k c.private = record { temps = λ m lt aw. c.keeps.temps m (omega (arith, lt)) aw; areas = c.keeps.areas } in
+        let keeps1 : Keeps scope u k c.private = record {
+          temps = λ m lt aw. c.keeps.temps m (omega (arith, lt)) aw;
+          areas =
+              c.keeps.areas;
+        } in
         rest_ out at q3 k r.private s s1 v (leads-to z at k s q2 k2 s1 (Goes (stands z q3 r.private s1)) lead2 r.leads) r.fine
-        (keeps-then scope scope u pa.used k k2 r.private (grown-then u (with_temp u) pa.used (grown-temp u) x.grown) (λ m lt aw. aw) (keeps_set k c.private (number v) keeps1) r.keeps)
-        c.fewer (r.keeps.temps d own away ∙ same2) away value (has-back z.tac.blocks out q2 t.code over_code has1) whole_ fine (omega (arith, less, c.fewer))
+        (keeps-then scope scope u pa.used k k2 r.private (grown-then u (with_temp u) pa.used (grown-temp u) x.grown) (λ m lt aw. aw)
+        (keeps_set k c.private (number v) keeps1) r.keeps)
+        c.fewer (r.keeps.temps d own away ∙ same2) away value (has-back z.tac.blocks out q2 t.code over_code has1) whole_ fine
+        (omega (arith, less, c.fewer))
         (sym (after-append first (t.code ++ over_code) at ∙ ap (after (t.code ++ over_code)) here ∙ after-append t.code over_code q2))
         (goes v) r.is
 
 -- `and` tests the word as it is
-pub both_tests : (z : Setting) (names : List TypedName) (scope : Holders) (u1 : Used) (d : ℕ) (at : Point) (k : Private) (s : State) (v : Value) → Fine z names scope u1 k s → k.temps d ≡ number v →
+pub both_tests : (z : Setting) (names : List TypedName) (scope : Holders) (u1 : Used) (d : ℕ) (at : Point) (k : Private) (s : State)
+    (v : Value) → Fine z names scope u1 k s → k.temps d ≡ number v →
     Tested z names scope u1 u1 at at k s (Temp d) (is_true v)
 both_tests z names scope u1 d at k s v fine e = record {
   private = k;
@@ -220,7 +257,8 @@ either_tests z names scope of u1 d out at k s v form has fine e value =
       leads = (
         1,
         one-step z at k s (Compute u1.temps operators.Xor whole_word (Temp d) (Constant 1)) has.0
-            ∙ ap (λ y. Goes (flow.ahead (flow.set_temp u1.temps (applied (flow.width_of whole_word) operators.Xor y 1) (stands z at k s)))) e,
+            ∙ ap (λ y. Goes (flow.ahead (flow.set_temp u1.temps (applied (flow.width_of whole_word) operators.Xor y 1)
+            (stands z at k s)))) e,
       );
       fine = fine-word z names scope u1 k s s x (same-self s) fine;
       keeps = record { temps = λ t lt away. put-below k.temps u1.temps x t lt; areas = λ m lt. refl };

@@ -59,7 +59,8 @@ pub record Sim {A B : Type 0} (z : Setting) (n : ℕ) (names : List TypedName) (
   pub over : Over scope u scope'
   pub run : (out : ℕ) (at : Point) (k : Private) (s : State) → HasAt z.tac.blocks out at r.code → Grown r.used (whole z) →
       Fine z names scope u k s → KnowsAll z scope u facts k → s.left < n →
-      Leaves z at k s (λ b s'. Comes z names scope at u k s (after r.code at) names' scope' r.used s' (Knows z scope' r.used (post b))) (go s)
+      Leaves z at k s (λ b s'. Comes z names scope at u k s (after r.code at) names' scope' r.used s' (Knows z scope' r.used (post b)))
+      (go s)
 
 pub grown-none : (u : Used) → Grown u u
 grown-none u = record { temps = omega arith; areas = ([], sym (append-nil u.areas)) }
@@ -100,7 +101,8 @@ value-kept z scope u k k' (a_word (Constant c)) h x = refl
 value-kept z scope u k k' (an_area n) h x = ap bytes (x.areas n h)
 value-kept z scope u k k' (an_offset o) h x = refl
 
-pub means-later : (z : Setting) (want : Wanted) (of : TypeId) (scope scope' : Holders) (u v : Used) (r : Result) (k k' : Private) (x : Value) →
+pub means-later : (z : Setting) (want : Wanted) (of : TypeId) (scope scope' : Holders) (u v : Used) (r : Result) (k k' : Private)
+    (x : Value) →
     Grown u v → Over scope u scope' → Keeps scope u k k' → Means z want of scope u r k x → Means z want of scope' v r k' x
 means-later z want of scope scope' u v r k k' x g over keeps m = record {
   is = value-kept z scope u k k' r m.own keeps ∙ m.is;
@@ -124,7 +126,8 @@ aims-later z scope scope' u v k k' g over keeps t (to_temp d) x h = tt
 aims-later z scope scope' u v k k' g over keeps t (to_place r) x h = means-later z the_address t scope scope' u v r k k' x g over keeps h
 
 all-aim-later : (z : Setting) (scope scope' : Holders) (u v : Used) (k k' : Private) → Grown u v → Over scope u scope' →
-    Keeps scope u k k' → (ts : List TypeId) (ps : List Target) (vs : List Value) → AllAim z scope u ts ps vs k → AllAim z scope' v ts ps vs k'
+    Keeps scope u k k' → (ts : List TypeId) (ps : List Target) (vs : List Value) → AllAim z scope u ts ps vs k →
+    AllAim z scope' v ts ps vs k'
 all-aim-later z scope scope' u v k k' g over keeps [] [] [] h = tt
 all-aim-later z scope scope' u v k k' g over keeps (t ∷ ts) (p ∷ ps) (x ∷ xs) h =
     (aims-later z scope scope' u v k k' g over keeps t p x h.0, all-aim-later z scope scope' u v k k' g over keeps ts ps xs h.1)
@@ -140,14 +143,16 @@ knows-later z scope scope' u v k k' g over keeps (one_of want of r x) h = means-
 knows-later z scope scope' u v k k' g over keeps (all_of ts rs vs) h = all-later z scope scope' u v k k' g over keeps ts rs vs h
 knows-later z scope scope' u v k k' g over keeps (aims ts ps vs) h = all-aim-later z scope scope' u v k k' g over keeps ts ps vs h
 
-pub facts-later : (z : Setting) (scope scope' : Holders) (u v : Used) (k k' : Private) → Grown u v → Over scope u scope' → Keeps scope u k k' →
+pub facts-later : (z : Setting) (scope scope' : Holders) (u v : Used) (k k' : Private) → Grown u v → Over scope u scope' →
+    Keeps scope u k k' →
     (fs : List Fact) → KnowsAll z scope u fs k → KnowsAll z scope' v fs k'
 facts-later z scope scope' u v k k' g over keeps [] h = tt
 facts-later z scope scope' u v k k' g over keeps (f ∷ fs) h =
     (knows-later z scope scope' u v k k' g over keeps f h.0, facts-later z scope scope' u v k k' g over keeps fs h.1)
 
 -- a stretch of code before another
-pub comes-before : (z : Setting) (names names1 names2 : List TypedName) (scope scope1 scope2 : Holders) (at at1 at2 : Point) (u u1 u2 : Used)
+pub comes-before : (z : Setting) (names names1 names2 : List TypedName) (scope scope1 scope2 : Holders) (at at1 at2 : Point)
+    (u u1 u2 : Used)
     (k k1 : Private) (s s1 s2 : State) (Ok : Private → Type 0) → Leads z at k s at1 k1 s1 → Grown u u1 → Over scope u scope1 →
     Keeps scope u k k1 → s1.left ≤ s.left → Comes z names1 scope1 at1 u1 k1 s1 at2 names2 scope2 u2 s2 Ok →
     Comes z names scope at u k s at2 names2 scope2 u2 s2 Ok
@@ -161,24 +166,30 @@ comes-before z names names1 names2 scope scope1 scope2 at at1 at2 u u1 u2 k k1 s
 }
 
 -- where code ends after two pieces
-pub comes-at : (z : Setting) (names names' : List TypedName) (scope scope' : Holders) (at to to' : Point) (u u' : Used) (k : Private) (s s' : State)
-    (Ok : Private → Type 0) → to ≡ to' → Comes z names scope at u k s to names' scope' u' s' Ok → Comes z names scope at u k s to' names' scope' u' s' Ok
+pub comes-at : (z : Setting) (names names' : List TypedName) (scope scope' : Holders) (at to to' : Point) (u u' : Used) (k : Private)
+    (s s' : State)
+    (Ok : Private → Type 0) → to ≡ to' → Comes z names scope at u k s to names' scope' u' s' Ok →
+    Comes z names scope at u k s to' names' scope' u' s' Ok
 comes-at z names names' scope scope' at to to' u u' k s s' Ok e c =
     subst (λ p. Comes z names scope at u k s p names' scope' u' s' Ok) e c
 
 -- one piece and then another
-pub then_sim : {A B C D : Type 0} {z : Setting} {n : ℕ} {names names1 names2 : List TypedName} {scope scope1 scope2 : Holders} {facts : List Fact}
-    {u : Used} {r : Piece A} {go : State → Got B} {mid : B → Fact} {post : D → Fact} (more : A → Used → Piece C) (go2 : B → State → Got D) (b0 : B) →
+pub then_sim : {A B C D : Type 0} {z : Setting} {n : ℕ} {names names1 names2 : List TypedName} {scope scope1 scope2 : Holders}
+    {facts : List Fact}
+    {u : Used} {r : Piece A} {go : State → Got B} {mid : B → Fact} {post : D → Fact} (more : A → Used → Piece C) (go2 : B → State → Got D)
+    (b0 : B) →
     Sim z n names scope facts u r go names1 scope1 mid →
     ((b : B) → Sim z n names1 scope1 (mid b ∷ facts) r.used (more r.result r.used) (go2 b) names2 scope2 post) →
     Sim z n names scope facts u (then_piece r more) (λ s. next (go s) go2) names2 scope2 post
-then_sim {A} {B} {C} {D} {z} {n} {names} {names1} {names2} {scope} {scope1} {scope2} {facts} {u} {r} {go} {mid} {post} more go2 b0 x y = record {
-  grown = grown-then u r.used (more r.result r.used).used x.grown (y b0).grown;
-  over = λ t h away. (y b0).over t (omega (arith, h, x.grown.temps)) (x.over t h away);
-  run = λ out at k s has whole_ fine knows less.
-      second out at k s has whole_ fine knows less (go s)
-      (x.run out at k s (has-front z.tac.blocks out at r.code q.code has) (grown-then r.used q.used (whole z) (y b0).grown whole_) fine knows less);
-}
+then_sim {A} {B} {C} {D} {z} {n} {names} {names1} {names2} {scope} {scope1} {scope2} {facts} {u} {r} {go} {mid} {post} more go2 b0 x y =
+    record {
+      grown = grown-then u r.used (more r.result r.used).used x.grown (y b0).grown;
+      over = λ t h away. (y b0).over t (omega (arith, h, x.grown.temps)) (x.over t h away);
+      run = λ out at k s has whole_ fine knows less.
+          second out at k s has whole_ fine knows less (go s)
+          (x.run out at k s (has-front z.tac.blocks out at r.code q.code has) (grown-then r.used q.used (whole z) (y b0).grown whole_) fine
+          knows less);
+    }
   where
     q : Piece C
     q = more r.result r.used
@@ -187,18 +198,21 @@ then_sim {A} {B} {C} {D} {z} {n} {names} {names1} {names2} {scope} {scope1} {sco
         (c : Comes z names scope at u k s (after r.code at) names1 scope1 r.used s1 (Knows z scope1 r.used (mid b))) (g : Got D) →
         Leaves z (after r.code at) c.private s1 (λ d s'. Comes z names1 scope1 (after r.code at) r.used c.private s1
         (after q.code (after r.code at)) names2 scope2 q.used s' (Knows z scope2 q.used (post d))) g →
-        Leaves z at k s (λ d s'. Comes z names scope at u k s (after (r.code ++ q.code) at) names2 scope2 q.used s' (Knows z scope2 q.used (post d))) g
+        Leaves z at k s (λ d s'. Comes z names scope at u k s (after (r.code ++ q.code) at) names2 scope2 q.used s'
+        (Knows z scope2 q.used (post d))) g
     third out at k s b s1 c (Ends e) h = leads-to z at k s (after r.code at) c.private s1 (Stops e) c.leads h
     third out at k s b s1 c (Gives d s2) h =
         comes-at z names names2 scope scope2 at (after q.code (after r.code at)) (after (r.code ++ q.code) at) u q.used k s s2
         (Knows z scope2 q.used (post d)) (sym (after-append r.code q.code at))
-        (comes-before z names names1 names2 scope scope1 scope2 at (after r.code at) (after q.code (after r.code at)) u r.used q.used k c.private s s1 s2
+        (comes-before z names names1 names2 scope scope1 scope2 at (after r.code at) (after q.code (after r.code at)) u r.used q.used k
+        c.private s s1 s2
         (Knows z scope2 q.used (post d)) c.leads x.grown x.over c.keeps c.fewer h)
 
     second : (out : ℕ) (at : Point) (k : Private) (s : State) → HasAt z.tac.blocks out at (r.code ++ q.code) → Grown q.used (whole z) →
         Fine z names scope u k s → KnowsAll z scope u facts k → s.left < n → (g : Got B) →
         Leaves z at k s (λ b s'. Comes z names scope at u k s (after r.code at) names1 scope1 r.used s' (Knows z scope1 r.used (mid b))) g →
-        Leaves z at k s (λ d s'. Comes z names scope at u k s (after (r.code ++ q.code) at) names2 scope2 q.used s' (Knows z scope2 q.used (post d))) (next g go2)
+        Leaves z at k s (λ d s'. Comes z names scope at u k s (after (r.code ++ q.code) at) names2 scope2 q.used s'
+        (Knows z scope2 q.used (post d))) (next g go2)
     second out at k s has whole_ fine knows less (Ends e) h = h
     second out at k s has whole_ fine knows less (Gives b s1) c =
         third out at k s b s1 c (go2 b s1)

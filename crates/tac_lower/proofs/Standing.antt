@@ -189,7 +189,8 @@ Good z the_address of (an_area n) v = ⊥
 Good z the_address of (an_offset o) v = o + bytes_at z.types of ≤ z.tac.frame
 Good z the_address of r v = number v < 2 ^ 64
 
-pub record Means (z : Setting) (want : Wanted) (of : TypeId) (scope : Holders) (u : Used) (r : Result) (k : Private) (v : Value) : Type 0 where
+pub record Means (z : Setting) (want : Wanted) (of : TypeId) (scope : Holders) (u : Used) (r : Result) (k : Private)
+    (v : Value) : Type 0 where
   pub is : value_in z k r ≡ v
   pub own : Own scope u r
   pub good : Good z want of r v

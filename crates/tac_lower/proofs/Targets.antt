@@ -1,26 +1,24 @@
 -- Assignments: their targets, and the values that go to them.
-use Rattle.std.proofs.Common.{◌≡◌, ℕ, ◌<◌, ◌≤◌, List, [], ◌∷◌, Option, Some, None, refl, sym, ap, ◌∙◌, subst, arith}
-use Rattle.std.specs.Prelude.{if◌then◌else◌}
+use Rattle.std.proofs.Common.{◌≡◌, ℕ, List, [], ◌∷◌, Option, Some, None, refl, sym, ap, ◌∙◌, subst, arith}
 use Rattle.tl_base.specs.declared.place.Place.{Place}
 use Rattle.tl_base.specs.declared.ids.SymId.{SymId}
 use Rattle.tl_base.specs.declared.ids.TypeId.{TypeId}
 use Rattle.terra_words.specs.Runs.{Value, word, number, value_at}
 use Rattle.terra_term.specs.declared.lists.TypedName.{TypedName}
-use Rattle.terra_term.specs.TypedTerms.{Expression, typed, Constant', Variable, Global, Operate, Both, Either, Dereference, Select, Follow, Element, Index, Address, Decay, Let, Expressions, no_more, then_one, type_of, place_of}
-use Rattle.terra_meaning.specs.Running.{State, Got, Gives, Ends, next, found}
+use Rattle.terra_term.specs.TypedTerms.{Expression, typed, Constant', Variable, Global, Operate, Both, Either, Dereference, Select, Follow, Element, Index, Address, Decay, Let, Expressions, no_more, then_one, type_of}
+use Rattle.terra_meaning.specs.Running.{State, Got, Gives, next, found}
 use Rattle.terra_meaning.specs.Meaning as meaning
 use Rattle.terra_meaning.specs.Meaning.{the_value, the_address, types_of, behind}
 use Rattle.tac_form.specs.declared.tac.Spot.TheVariants as spots
-use Rattle.tac_lower.specs.Pieces.{Used, Piece, known, taken, then_piece, Result, address_of, result_at, rest, Holder, in_temp, at_offset, Holders, holder_of, stored}
+use Rattle.tac_lower.specs.Pieces.{Used, Piece, taken, Result, address_of, result_at, rest, Holder, in_temp, at_offset, Holders, holder_of, stored}
 use Rattle.tac_lower.specs.Lowering.{Target, to_temp, to_place, target_at, aimed, assigned, assigned_all}
-use Rattle.tac_lower.proofs.Places.{Point}
-use Rattle.tac_lower.proofs.Standing.{Setting, Private, Fine, Means, Comes, Leaves}
-use Rattle.tac_lower.proofs.Simulates.{Fact, nothing, one_of, all_of, aims, Aims, AllAim, AllMean, Knows, KnowsAll, Sim, then_sim, grown-none, keeps-none}
+use Rattle.tac_lower.proofs.Standing.{Setting, Private, Means, Comes, Leaves}
+use Rattle.tac_lower.proofs.Simulates.{Fact, nothing, one_of, all_of, aims, Aims, AllAim, AllMean, KnowsAll, Sim, then_sim, grown-none, keeps-none}
 use Rattle.tac_lower.proofs.Writes.{known_sim, taken_sim}
 use Rattle.tac_lower.proofs.Loads.{sim_as, sim_from, next-same, address-is}
 use Rattle.tac_lower.proofs.Reaches.{InScope, told_in, no_holder, address-word}
 use Rattle.tac_lower.proofs.Stores.{stored_sim}
-use Rattle.tac_lower.proofs.Declares.{sim_facts, all-behind, types_behind}
+use Rattle.tac_lower.proofs.Declares.{sim_facts, all-behind}
 use Rattle.tac_lower.proofs.Assigns.{assign_temp_sim, assign_frame_sim}
 
 -- which target an expression is, by the variable that it names
@@ -105,7 +103,8 @@ variable_target_sim {z} {n} {names} {scope} {facts} u place of x p go i reads y 
           let same : Gives (word (k.temps t)) s ≡ go s =
           sym (ap (λ h. meaning.variable z.types the_address place of h s) (l.1 ∙ ap Some l.2.0)) ∙ reads s in
           subst
-          (λ g. Leaves z at k s (λ v s'. Comes z names scope at u k s at names scope u s' (λ k1. AllAim z scope u (of ∷ []) (to_temp t ∷ []) (v ∷ []) k1)) g)
+          (λ g. Leaves z at k s
+          (λ v s'. Comes z names scope at u k s at names scope u s' (λ k1. AllAim z scope u (of ∷ []) (to_temp t ∷ []) (v ∷ []) k1)) g)
           same
           (record { private = k; leads = (0, refl); ok = (tt, tt); fine = fine; keeps = keeps-none scope u k; fewer = omega arith });
     }
@@ -135,7 +134,8 @@ aimed_sim u (typed at of (Let ss e1)) p go i reads y = place_sim u of p go y
 placed_sim : {z : Setting} {n : ℕ} {names : List TypedName} {scope : Holders} {facts : List Fact} (u : Used) (place : Place)
     (of : TypeId) (p r : Result) (target v : Value) →
     ((k : Private) → KnowsAll z scope u facts k → Means z the_address of scope u p k target × Means z the_value of scope u r k v) →
-    Sim z n names scope facts u (stored z.types of (spots.Region place (address_of p)) r u) (meaning.stored z.types place of (number target) v)
+    Sim z n names scope facts u (stored z.types of (spots.Region place (address_of p)) r u)
+    (meaning.stored z.types place of (number target) v)
     names scope (λ w. nothing)
 placed_sim {z} {n} {names} {scope} {facts} u place of p r target v means =
     stored_sim u place of (address_of p) (number target) r v

@@ -34,7 +34,8 @@ record Has (blocks : List Block) (d : Draft) : Type 0 where
 ended : Draft → Ending → Block
 ended d e = record { instructions = d.code; exit = exit_of 0 (length d.blocks) e }
 
-opened : (i : Instruction) (code : List Instruction) (later : List Block) → Opens (code ++ i ∷ []) later ⊎ (code ++ i ∷ [] ≡ []) → Opens (code ++ i ∷ []) later
+opened : (i : Instruction) (code : List Instruction) (later : List Block) → Opens (code ++ i ∷ []) later ⊎ (code ++ i ∷ [] ≡ []) →
+    Opens (code ++ i ∷ []) later
 opened i code later (inl o) = o
 opened i code later (inr e) = let n = ap length e in absurd (omega (arith, n, length-append code (i ∷ [])))
 

@@ -25,14 +25,16 @@ low-again half size c low h k false = k
 abbrev signed_low : (half c low : ℕ) → ℕ
 signed_low half c low = if nat_le half low then low + c else low
 
-signed-again : (half size c low : ℕ) → (low + c) % size ≡ low → low % size ≡ low → signed_low half c (signed_low half c low % size) ≡ signed_low half c low
+signed-again : (half size c low : ℕ) → (low + c) % size ≡ low → low % size ≡ low → signed_low half c (signed_low half c low % size)
+    ≡ signed_low half c low
 signed-again half size c low h k = ap (signed_low half c) (low-again half size c low h k (nat_le half low))
 
 pub wrapped-again : (form : TypeForm) (n : ℕ) → wrapped (width_by form) (wrapped (width_by form) n) ≡ wrapped (width_by form) n
 unfolding wrapped
 wrapped-again (forms.Integer Int8) n = signed-again 128 256 (2 ^ 64 - 256) (n % 256) (omega arith) (omega arith)
 wrapped-again (forms.Integer Int16) n = signed-again 32768 65536 (2 ^ 64 - 65536) (n % 65536) (omega arith) (omega arith)
-wrapped-again (forms.Integer Int32) n = signed-again 2147483648 4294967296 (2 ^ 64 - 4294967296) (n % 4294967296) (omega arith) (omega arith)
+wrapped-again (forms.Integer Int32) n =
+    signed-again 2147483648 4294967296 (2 ^ 64 - 4294967296) (n % 4294967296) (omega arith) (omega arith)
 wrapped-again (forms.Integer Int64) n = signed-again (2 ^ 63) (2 ^ 64) 0 (n % 2 ^ 64) (omega arith) (omega arith)
 wrapped-again (forms.Integer Uint8) n = omega arith
 wrapped-again (forms.Integer Uint16) n = omega arith

@@ -95,7 +95,8 @@ pub same-self : (s : State) → Same s s
 same-self s = record { variables = refl; sized = refl; left = refl }
 
 -- an instruction that puts a word into a temporary, beside what the meaning gives
-pub record Puts (z : Setting) (want : Wanted) (of : TypeId) (at : Point) (k : Private) (s : State) (d : ℕ) (i : Instruction) (v : Value) (s1 : State) : Type 0 where
+pub record Puts (z : Setting) (want : Wanted) (of : TypeId) (at : Point) (k : Private) (s : State) (d : ℕ) (i : Instruction) (v : Value)
+    (s1 : State) : Type 0 where
   pub word_put : ℕ
   pub moves : act z.program i (stands z at k s) ≡ Goes (stands z (step_on at) (with_word d word_put k) s1)
   pub is : word word_put ≡ v
@@ -113,22 +114,28 @@ pub fine-word : (z : Setting) (names : List TypedName) (scope : Holders) (u : Us
     Fine z names scope u k s → Fine z names scope (with_temp u) (with_word u.temps x k) s1
 fine-word z names scope u k s s1 x same fine = record {
   holds = subst (λ vs. Holds z names scope vs (suc u.temps) (with_word u.temps x k)) (sym same.variables)
-      (holds-later z names scope s.variables u.temps (suc u.temps) k (with_word u.temps x k) (omega arith) (λ t lt. put-below k.temps u.temps x t lt) fine.holds);
+      (holds-later z names scope s.variables u.temps (suc u.temps) k (with_word u.temps x k) (omega arith)
+      (λ t lt. put-below k.temps u.temps x t lt) fine.holds);
   small = fine.small;
   sized = same.sized ∙ fine.sized;
 }
 
-pub puts_sim : {z : Setting} {n : ℕ} {names : List TypedName} {scope : Holders} {facts : List Fact} (u : Used) (want : Wanted) (of : TypeId) (i : Instruction) (go : State → Got Value) →
-    ((at : Point) (k : Private) (s : State) → Fine z names scope u k s → KnowsAll z scope u facts k → PutsOr z want of at k s u.temps i (go s)) →
-    Sim z n names scope facts u (doing (a_word (Temp u.temps)) i (with_temp u)) go names scope (λ v. one_of want of (a_word (Temp u.temps)) v)
+pub puts_sim : {z : Setting} {n : ℕ} {names : List TypedName} {scope : Holders} {facts : List Fact} (u : Used) (want : Wanted)
+    (of : TypeId) (i : Instruction) (go : State → Got Value) →
+    ((at : Point) (k : Private) (s : State) → Fine z names scope u k s → KnowsAll z scope u facts k → PutsOr z want of at k s u.temps i
+    (go s)) →
+    Sim z n names scope facts u (doing (a_word (Temp u.temps)) i (with_temp u)) go names scope
+    (λ v. one_of want of (a_word (Temp u.temps)) v)
 puts_sim {z} {n} {names} {scope} {facts} u want of i go h = record {
   grown = grown-temp u;
   over = λ t lt away. away;
   run = λ out at k s has whole_ fine knows less. result at k s has.0 fine (go s) (h at k s fine knows);
 }
   where
-    result : (at : Point) (k : Private) (s : State) → DoesAt z.tac.blocks at i → Fine z names scope u k s → (g : Got Value) → PutsOr z want of at k s u.temps i g →
-        Leaves z at k s (λ v s'. Comes z names scope at u k s (step_on at) names scope (with_temp u) s' (λ k1. Means z want of scope (with_temp u) (a_word (Temp u.temps)) k1 v)) g
+    result : (at : Point) (k : Private) (s : State) → DoesAt z.tac.blocks at i → Fine z names scope u k s → (g : Got Value) →
+        PutsOr z want of at k s u.temps i g →
+        Leaves z at k s (λ v s'. Comes z names scope at u k s (step_on at) names scope (with_temp u) s'
+        (λ k1. Means z want of scope (with_temp u) (a_word (Temp u.temps)) k1 v)) g
     result at k s stood fine (Gives v s1) p = record {
       private = with_word u.temps p.word_put k;
       leads = (1, one-step z at k s i stood ∙ p.moves);
@@ -144,7 +151,8 @@ puts_sim {z} {n} {names} {scope} {facts} u want of i go h = record {
     result at k s stood fine (Ends r) p = (1, one-step z at k s i stood ∙ p)
 
 -- an instruction that puts bytes into an area, beside what the meaning gives
-pub record Fills (z : Setting) (want : Wanted) (of : TypeId) (at : Point) (k : Private) (s : State) (n : ℕ) (i : Instruction) (v : Value) (s1 : State) : Type 0 where
+pub record Fills (z : Setting) (want : Wanted) (of : TypeId) (at : Point) (k : Private) (s : State) (n : ℕ) (i : Instruction) (v : Value)
+    (s1 : State) : Type 0 where
   pub bytes_put : List ℕ
   pub moves : act z.program i (stands z at k s) ≡ Goes (stands z (step_on at) (with_bytes n bytes_put k) s1)
   pub is : bytes bytes_put ≡ v
@@ -159,7 +167,8 @@ FillsOr z want of at k s n i (Ends r) = act z.program i (stands z at k s) ≡ St
 pub grown-area : (size : ℕ) (u : Used) → Grown u (with_area size u)
 grown-area size u = record { temps = omega arith; areas = (size ∷ [], refl) }
 
-pub small-put : (z : Setting) (k : Private) (n : ℕ) (bs : List ℕ) → length bs ≤ area_size z.tac n → ((m : ℕ) → length (k.areas m) ≤ area_size z.tac m) →
+pub small-put : (z : Setting) (k : Private) (n : ℕ) (bs : List ℕ) → length bs ≤ area_size z.tac n →
+    ((m : ℕ) → length (k.areas m) ≤ area_size z.tac m) →
     (m : ℕ) → length (put k.areas n bs m) ≤ area_size z.tac m
 small-put z k n bs fits small m = ⊎_elim
     (λ t. subst (λ j. length (put k.areas n bs j) ≤ area_size z.tac j) (sym t.1)
@@ -167,9 +176,12 @@ small-put z k n bs fits small m = ⊎_elim
     (λ f. subst (λ b. length (if b then bs else k.areas m) ≤ area_size z.tac m) (sym f.0) (small m))
     (eqb_tells m n)
 
-pub fills_sim : {z : Setting} {n : ℕ} {names : List TypedName} {scope : Holders} {facts : List Fact} (u : Used) (want : Wanted) (of : TypeId) (size : ℕ) (i : Instruction) (go : State → Got Value) →
-    ((at : Point) (k : Private) (s : State) → Grown (with_area size u) (whole z) → Fine z names scope u k s → KnowsAll z scope u facts k → FillsOr z want of at k s (length u.areas) i (go s)) →
-    Sim z n names scope facts u (doing (an_area (length u.areas)) i (with_area size u)) go names scope (λ v. one_of want of (an_area (length u.areas)) v)
+pub fills_sim : {z : Setting} {n : ℕ} {names : List TypedName} {scope : Holders} {facts : List Fact} (u : Used) (want : Wanted)
+    (of : TypeId) (size : ℕ) (i : Instruction) (go : State → Got Value) →
+    ((at : Point) (k : Private) (s : State) → Grown (with_area size u) (whole z) → Fine z names scope u k s → KnowsAll z scope u facts k →
+    FillsOr z want of at k s (length u.areas) i (go s)) →
+    Sim z n names scope facts u (doing (an_area (length u.areas)) i (with_area size u)) go names scope
+    (λ v. one_of want of (an_area (length u.areas)) v)
 fills_sim {z} {n} {names} {scope} {facts} u want of size i go h = record {
   grown = grown-area size u;
   over = λ t lt away. away;
@@ -179,15 +191,18 @@ fills_sim {z} {n} {names} {scope} {facts} u want of size i go h = record {
     longer : length u.areas < length (u.areas ++ size ∷ [])
     longer = omega (arith, length-append u.areas (size ∷ []))
 
-    result : (at : Point) (k : Private) (s : State) → DoesAt z.tac.blocks at i → Fine z names scope u k s → (g : Got Value) → FillsOr z want of at k s (length u.areas) i g →
-        Leaves z at k s (λ v s'. Comes z names scope at u k s (step_on at) names scope (with_area size u) s' (λ k1. Means z want of scope (with_area size u) (an_area (length u.areas)) k1 v)) g
+    result : (at : Point) (k : Private) (s : State) → DoesAt z.tac.blocks at i → Fine z names scope u k s → (g : Got Value) →
+        FillsOr z want of at k s (length u.areas) i g →
+        Leaves z at k s (λ v s'. Comes z names scope at u k s (step_on at) names scope (with_area size u) s'
+        (λ k1. Means z want of scope (with_area size u) (an_area (length u.areas)) k1 v)) g
     result at k s stood fine (Gives v s1) p = record {
       private = with_bytes (length u.areas) p.bytes_put k;
       leads = (1, one-step z at k s i stood ∙ p.moves);
       ok = record { is = ap bytes (put-same k.areas (length u.areas) p.bytes_put) ∙ p.is; own = longer; good = p.good };
       fine = record {
         holds = subst (λ vs. Holds z names scope vs u.temps (with_bytes (length u.areas) p.bytes_put k)) (sym p.same.variables)
-            (holds-later z names scope s.variables u.temps u.temps k (with_bytes (length u.areas) p.bytes_put k) (omega arith) (λ t lt. refl) fine.holds);
+            (holds-later z names scope s.variables u.temps u.temps k (with_bytes (length u.areas) p.bytes_put k) (omega arith)
+            (λ t lt. refl) fine.holds);
         small = small-put z k (length u.areas) p.bytes_put p.small fine.small;
         sized = p.same.sized ∙ fine.sized;
       };
@@ -206,7 +221,8 @@ abbrev pub PassesOr : {B : Type 0} → Setting → Point → Private → State �
 PassesOr z at k s i (Gives b s1) = Passes z at k s i s1
 PassesOr z at k s i (Ends r) = act z.program i (stands z at k s) ≡ Stops r
 
-pub passes_sim : {A B : Type 0} {z : Setting} {n : ℕ} {names : List TypedName} {scope : Holders} {facts : List Fact} {post : B → Fact} (u : Used) (a : A) (i : Instruction) (go : State → Got B) →
+pub passes_sim : {A B : Type 0} {z : Setting} {n : ℕ} {names : List TypedName} {scope : Holders} {facts : List Fact} {post : B → Fact}
+    (u : Used) (a : A) (i : Instruction) (go : State → Got B) →
     ((at : Point) (k : Private) (s : State) → Fine z names scope u k s → KnowsAll z scope u facts k → PassesOr z at k s i (go s)) →
     ((b : B) (k : Private) → KnowsAll z scope u facts k → Knows z scope u (post b) k) →
     Sim z n names scope facts u (doing a i u) go names scope post
@@ -216,7 +232,8 @@ passes_sim {A} {B} {z} {n} {names} {scope} {facts} {post} u a i go h ok = record
   run = λ out at k s has whole_ fine knows less. result at k s has.0 fine knows (go s) (h at k s fine knows);
 }
   where
-    result : (at : Point) (k : Private) (s : State) → DoesAt z.tac.blocks at i → Fine z names scope u k s → KnowsAll z scope u facts k → (g : Got B) → PassesOr z at k s i g →
+    result : (at : Point) (k : Private) (s : State) → DoesAt z.tac.blocks at i → Fine z names scope u k s → KnowsAll z scope u facts k →
+        (g : Got B) → PassesOr z at k s i g →
         Leaves z at k s (λ b s'. Comes z names scope at u k s (step_on at) names scope u s' (Knows z scope u (post b))) g
     result at k s stood fine knows (Gives b s1) p = record {
       private = k;
@@ -233,7 +250,8 @@ passes_sim {A} {B} {z} {n} {names} {scope} {facts} {post} u a i go h ok = record
     result at k s stood fine knows (Ends r) p = (1, one-step z at k s i stood ∙ p)
 
 -- no code
-pub known_sim : {A B : Type 0} {z : Setting} {n : ℕ} {names : List TypedName} {scope : Holders} {facts : List Fact} {post : B → Fact} (u : Used) (a : A) (b : B) →
+pub known_sim : {A B : Type 0} {z : Setting} {n : ℕ} {names : List TypedName} {scope : Holders} {facts : List Fact} {post : B → Fact}
+    (u : Used) (a : A) (b : B) →
     ((k : Private) (s : State) → Fine z names scope u k s → KnowsAll z scope u facts k → Knows z scope u (post b) k) →
     Sim z n names scope facts u (known a u) (λ s. Gives b s) names scope post
 known_sim {A} {B} {z} {n} {names} {scope} {facts} {post} u a b h = record {
@@ -250,7 +268,8 @@ known_sim {A} {B} {z} {n} {names} {scope} {facts} {post} u a b h = record {
 }
 
 -- the same code with a result of its own
-taken-leaves : {B D : Type 0} (z : Setting) (names names' : List TypedName) (scope scope' : Holders) (at to : Point) (u u' : Used) (k : Private) (s : State)
+taken-leaves : {B D : Type 0} (z : Setting) (names names' : List TypedName) (scope scope' : Holders) (at to : Point) (u u' : Used)
+    (k : Private) (s : State)
     (Ok : B → Private → Type 0) (Ok' : D → Private → Type 0) (h : B → D) → ((b : B) (k1 : Private) → Ok b k1 → Ok' (h b) k1) → (g : Got B) →
     Leaves z at k s (λ b s'. Comes z names scope at u k s to names' scope' u' s' (Ok b)) g →
     Leaves z at k s (λ d s'. Comes z names scope at u k s to names' scope' u' s' (Ok' d)) (next g (λ b s'. Gives (h b) s'))
@@ -264,7 +283,8 @@ taken-leaves z names names' scope scope' at to u u' k s Ok Ok' h same (Gives b s
 }
 taken-leaves z names names' scope scope' at to u u' k s Ok Ok' h same (Ends r) c = c
 
-pub taken_sim : {A B C D : Type 0} {z : Setting} {n : ℕ} {names names' : List TypedName} {scope scope' : Holders} {facts : List Fact} {u : Used} {r : Piece A}
+pub taken_sim : {A B C D : Type 0} {z : Setting} {n : ℕ} {names names' : List TypedName} {scope scope' : Holders} {facts : List Fact}
+    {u : Used} {r : Piece A}
     {go : State → Got B} {mid : B → Fact} {post : D → Fact} (f : A → C) (h : B → D) → Sim z n names scope facts u r go names' scope' mid →
     ((b : B) (k : Private) → Knows z scope' r.used (mid b) k → Knows z scope' r.used (post (h b)) k) →
     Sim z n names scope facts u (taken f r) (λ s. next (go s) (λ b s'. Gives (h b) s')) names' scope' post
@@ -272,12 +292,14 @@ taken_sim {A} {B} {C} {D} {z} {n} {names} {names'} {scope} {scope'} {facts} {u} 
   grown = x.grown;
   over = x.over;
   run = λ out at k s has whole_ fine knows less.
-      taken-leaves z names names' scope scope' at (after r.code at) u r.used k s (λ b. Knows z scope' r.used (mid b)) (λ d. Knows z scope' r.used (post d)) h same (go s)
+      taken-leaves z names names' scope scope' at (after r.code at) u r.used k s (λ b. Knows z scope' r.used (mid b))
+      (λ d. Knows z scope' r.used (post d)) h same (go s)
       (x.run out at k s has whole_ fine knows less);
 }
 
 -- the same, where what was known before counts too
-taken-with : {B D : Type 0} (z : Setting) (names names' : List TypedName) (scope scope' : Holders) (facts : List Fact) (at to : Point) (u u' : Used) (k : Private) (s : State)
+taken-with : {B D : Type 0} (z : Setting) (names names' : List TypedName) (scope scope' : Holders) (facts : List Fact) (at to : Point)
+    (u u' : Used) (k : Private) (s : State)
     (Ok : B → Private → Type 0) (Ok' : D → Private → Type 0) (h : B → D) → Grown u u' → Over scope u scope' → KnowsAll z scope u facts k →
     ((b : B) (k1 : Private) → KnowsAll z scope' u' facts k1 → Ok b k1 → Ok' (h b) k1) → (g : Got B) →
     Leaves z at k s (λ b s'. Comes z names scope at u k s to names' scope' u' s' (Ok b)) g →
@@ -292,7 +314,8 @@ taken-with z names names' scope scope' facts at to u u' k s Ok Ok' h grown over 
 }
 taken-with z names names' scope scope' facts at to u u' k s Ok Ok' h grown over knows same (Ends r) c = c
 
-pub taken_with_sim : {A B C D : Type 0} {z : Setting} {n : ℕ} {names names' : List TypedName} {scope scope' : Holders} {facts : List Fact} {u : Used} {r : Piece A}
+pub taken_with_sim : {A B C D : Type 0} {z : Setting} {n : ℕ} {names names' : List TypedName} {scope scope' : Holders} {facts : List Fact}
+    {u : Used} {r : Piece A}
     {go : State → Got B} {mid : B → Fact} {post : D → Fact} (f : A → C) (h : B → D) → Sim z n names scope facts u r go names' scope' mid →
     ((b : B) (k : Private) → KnowsAll z scope' r.used facts k → Knows z scope' r.used (mid b) k → Knows z scope' r.used (post (h b)) k) →
     Sim z n names scope facts u (taken f r) (λ s. next (go s) (λ b s'. Gives (h b) s')) names' scope' post
@@ -300,6 +323,7 @@ taken_with_sim {A} {B} {C} {D} {z} {n} {names} {names'} {scope} {scope'} {facts}
   grown = x.grown;
   over = x.over;
   run = λ out at k s has whole_ fine knows less.
-      taken-with z names names' scope scope' facts at (after r.code at) u r.used k s (λ b. Knows z scope' r.used (mid b)) (λ d. Knows z scope' r.used (post d)) h x.grown x.over knows same (go s)
+      taken-with z names names' scope scope' facts at (after r.code at) u r.used k s (λ b. Knows z scope' r.used (mid b))
+      (λ d. Knows z scope' r.used (post d)) h x.grown x.over knows same (go s)
       (x.run out at k s has whole_ fine knows less);
 }
