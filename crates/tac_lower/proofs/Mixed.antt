@@ -23,6 +23,7 @@ use Rattle.terra_term.specs.Stores.{Contents, callable_of}
 use Rattle.terra_meaning.specs.Meaning.{meaning}
 use Rattle.tac_form.specs.Flow.{Program, Moved, Stops, steps, begun}
 use Rattle.tac_lower.specs.Lowering.{lowered}
+use Rattle.tac_lower.specs.Needs.{BodyNeeds}
 
 abbrev at : Place
 at = record { line = 1; word = 1 }
@@ -99,3 +100,39 @@ same = refl
 pub same_less : Stops (meant 7) ≡ ran 7
 unfolding wrapped applied negated complemented number_of low_bytes range_of alloc_of put_bytes
 same_less = refl
+
+-- its term has what lowering needs
+pub ready : BodyNeeds store [] (record { at = at; body = body })
+unfolding wrapped
+ready = (
+  (refl, refl, tt),
+  (
+    (((refl, refl), tt), (refl, refl, tt)),
+    (
+      (
+        (refl, ((refl, refl), ((refl, refl), tt))),
+        tt,
+        refl,
+        refl,
+        (
+          (
+            (tt, (tt, (refl, ((refl, refl), tt)), refl), (tt, (refl, ((refl, refl), tt)), refl), refl, refl, refl),
+            ((((tt, (refl, ((refl, refl), tt)), (tt, refl)), tt), (refl, tt), refl), tt),
+            ((((tt, (refl, (refl, tt)), (tt, refl)), tt), (refl, tt), refl), tt),
+          ),
+          (
+            (
+              (
+                (((tt, (refl, ((refl, refl), tt)), (tt, refl)), tt), (refl, tt), refl),
+                (((tt, (refl, ((refl, refl), tt)), refl), (refl, tt)), tt),
+              ),
+              (tt, ((tt, (refl, ((refl, refl), tt)), (tt, refl)), ((refl, refl), tt)), refl),
+            ),
+            tt,
+          ),
+        ),
+      ),
+      ((refl, refl, refl), tt),
+    ),
+  ),
+)
