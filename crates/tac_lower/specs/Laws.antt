@@ -36,6 +36,11 @@ LoweringKeepsRuns lowered =
     callable_of store f ≡ Some k → AreValues store.types k.body.parameters arguments →
     HasRun p (static_bytes store) memory n f arguments (meaning store p.entries memory n f arguments)
 
+-- each way round the flow graph of the code counts
+abbrev pub LoweredIsCounted : (Contents → List FnId → Callable → Tac) → Type 0
+LoweredIsCounted lowered =
+    (store : Contents) (entries : List FnId) (k : Callable) → BodyNeeds store entries k → Counted (lowered store entries k)
+
 -- what each function's code keeps
 pub record IsGood (code : Tac) : Type 0 where
   pub fits : Fits code

@@ -1,6 +1,6 @@
-// What lowered code does. The function does nothing, and its clause is a law.
+// What lowered code does and keeps. Each function does nothing, and its clause is a law.
 
-ghost use Rattle.tac_lower.specs.Laws.{LoweringKeepsRuns};
+ghost use Rattle.tac_lower.specs.Laws.{LoweredIsCounted, LoweringKeepsRuns};
 ghost use Rattle.tac_lower.specs.Lowering.{lowered};
 
 /// The code of a store's functions has the runs that their typed terms mean, and no others, at every count: the same value or
@@ -8,4 +8,9 @@ ghost use Rattle.tac_lower.specs.Lowering.{lowered};
 /// typing keeps (`specs/Needs.antt`).
 pub fn lowering_keeps_runs()
     ensures { LoweringKeepsRuns lowered }
+{}
+
+/// Each way round the flow graph of a function's code counts: an edge that doesn't count leads to a later block.
+pub fn lowered_code_is_counted()
+    ensures { LoweredIsCounted lowered }
 {}
