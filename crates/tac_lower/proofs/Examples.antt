@@ -36,12 +36,15 @@ use Rattle.terra_term.specs.TypedTerms as items
 use Rattle.terra_term.specs.Stores.{Contents, callable_of}
 use Rattle.terra_term.specs.TypedTerms.{Expression, typed, Form, Constant', Variable, Operate, Dereference, Select, Address, no_more, then_one, statement, Var, Assign, If, While, For, Break, Return, Perform, done, and_then, Body}
 use Rattle.terra_words.specs.Runs.{Value, word, put_bytes, Returned, Fault, Over, More}
-use Rattle.std.specs.Prelude.{option_map}
+use Rattle.std.specs.Prelude.{option_map, ◌<◌, ◌^◌}
+use Rattle.std.proofs.Common.{arith}
+use Rattle.terra_meaning.specs.Values.{IsValue}
 use Rattle.tac_form.specs.declared.tac.Tac.{Tac}
 use Rattle.tac_form.specs.Flow.{Program, Moved, Stops, steps, begun}
 use Rattle.tac_form.specs.Weights.{code_words, private_bytes}
 use Rattle.tac_form.specs.Fits.{blocks_count, is_within}
 use Rattle.tac_lower.specs.Lowering.{lowered}
+use Rattle.tac_lower.specs.Needs.{BodyNeeds}
 
 abbrev t : ℕ → TypeId
 t n = record { 0 = n }
@@ -271,3 +274,21 @@ all = body_0 ∷ body_1 ∷ body_2 ∷ body_3 ∷ body_4 ∷ body_5 ∷ body_6 �
 
 pub good : list_all (λ b. is_good (code b)) all ≡ true
 good = refl
+
+-- the term of `keep`, whose variable has an address, has what lowering needs
+wide : (x : ℕ) → x < 2 ^ 64 → IsValue sample.types (t 11) (word x)
+unfolding wrapped
+wide x lt = (refl, omega (arith, lt))
+
+pub ready : BodyNeeds sample [] (record { at = at 1 1; body = body_2 })
+unfolding wrapped
+ready = (
+  tt,
+  (
+    (((refl, refl), tt), (omega arith, refl, tt)),
+    (
+      (((refl, wide), tt), (refl, refl, tt)),
+      ((((refl, refl), tt), (refl, tt), refl), ((refl, refl, refl), tt)),
+    ),
+  ),
+)
