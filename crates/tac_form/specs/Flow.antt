@@ -80,27 +80,27 @@ pub data Moved : Type 0 where
   Goes : State → Moved
   Stops : Run → Moved
 
-abbrev stop : State → End → Moved
+abbrev pub stop : State → End → Moved
 stop s e = Stops (Over e s.out)
 
-abbrev fault : FaultKind → Place → State → Moved
+abbrev pub fault : FaultKind → Place → State → Moved
 fault kind at s = stop s (Fault kind at)
 
-abbrev operand : State → Operand → ℕ
+abbrev pub operand : State → Operand → ℕ
 operand s (Temp t) = s.here.temps t
 operand s (Constant c) = c
 
-abbrev address : State → Address → ℕ
+abbrev pub address : State → Address → ℕ
 address s (Word a) = operand s a
 address s (Frame offset) = s.here.base + offset
 
-abbrev ahead : State → State
+abbrev pub ahead : State → State
 ahead s = record s { here = record s.here { at = suc s.here.at } }
 
-abbrev set_temp : ℕ → ℕ → State → State
+abbrev pub set_temp : ℕ → ℕ → State → State
 set_temp d x s = record s { here = record s.here { temps = put s.here.temps d x } }
 
-abbrev set_area : ℕ → List ℕ → State → State
+abbrev pub set_area : ℕ → List ℕ → State → State
 set_area a bs s = record s { here = record s.here { areas = put s.here.areas a bs } }
 
 -- how many bytes an area has
@@ -108,50 +108,50 @@ abbrev pub area_size : Tac → ℕ → ℕ
 area_size code n = unwrap_or (slice_get code.areas n) 0
 
 -- so many bytes from a spot
-abbrev fetched : Place → State → Option (List ℕ) → (List ℕ → Moved) → Moved
+abbrev pub fetched : Place → State → Option (List ℕ) → (List ℕ → Moved) → Moved
 fetched at s None go = fault BadAddress at s
 fetched at s (Some bs) go = go bs
 
-abbrev from_spot : Spot → ℕ → State → (List ℕ → Moved) → Moved
+abbrev pub from_spot : Spot → ℕ → State → (List ℕ → Moved) → Moved
 from_spot (spots.Region at a) size s go = fetched at s (range_of s.region (address s a) size) go
 from_spot (spots.Area n offset) size s go =
     if nat_le (offset + size) (length (s.here.areas n)) then go (part (s.here.areas n) offset size) else stop s Stuck
 
-abbrev written : Place → State → Option Contents → Moved
+abbrev pub written : Place → State → Option Contents → Moved
 written at s None = fault BadAddress at s
 written at s (Some r) = Goes (ahead (record s { region = r }))
 
 -- bytes to a spot
-abbrev to_spot : Spot → List ℕ → State → Moved
+abbrev pub to_spot : Spot → List ℕ → State → Moved
 to_spot (spots.Region at a) bs s = written at s (put_bytes s.region (address s a) bs)
 to_spot (spots.Area n offset) bs s =
     if nat_le offset (length (s.here.areas n)) then Goes (ahead (set_area n (overwritten (s.here.areas n) offset bs) s))
     else stop s Stuck
 
 -- what is passed, and where it goes
-abbrev value_of : State → parts.Part → Value
+abbrev pub value_of : State → parts.Part → Value
 value_of s (part_kinds.Word a) = word (operand s a)
 value_of s (part_kinds.Area n) = bytes (s.here.areas n)
 
-abbrev values_of : State → List parts.Part → List Value
+abbrev pub values_of : State → List parts.Part → List Value
 values_of s [] = []
 values_of s (p ∷ ps) = value_of s p ∷ values_of s ps
 
-abbrev takes : Destination → Value → Activation → Activation
+abbrev pub takes : Destination → Value → Activation → Activation
 takes (destinations.Temp t) v a = record a { temps = put a.temps t (number v) }
 takes (destinations.Area n) v a = record a { areas = put a.areas n (bytes_in v) }
 
-abbrev takes_all : List Destination → List Value → Activation → Activation
+abbrev pub takes_all : List Destination → List Value → Activation → Activation
 takes_all (d ∷ ds) (v ∷ vs) a = takes_all ds vs (takes d v a)
 takes_all _ _ a = a
 
 -- a word goes to a temporary, and the bytes of an area to an area of their number
-abbrev accepts : Tac → Destination → Value → Bool
+abbrev pub accepts : Tac → Destination → Value → Bool
 accepts code (destinations.Temp t) (word x) = true
 accepts code (destinations.Area n) (bytes bs) = nat_eq (length bs) (area_size code n)
 accepts code _ _ = false
 
-abbrev accepts_all : Tac → List Destination → List Value → Bool
+abbrev pub accepts_all : Tac → List Destination → List Value → Bool
 accepts_all code [] [] = true
 accepts_all code (d ∷ ds) (v ∷ vs) = accepts code d v && accepts_all code ds vs
 accepts_all code _ _ = false
@@ -162,7 +162,7 @@ pub record Program : Type 0 where
   pub entries : List FnId
 
 -- a function begins below these callers, with its frame under `top`: depth is tested, then the data stack
-abbrev enter : Place → FnId → Option Tac → List Value → (top : ℕ) → List Caller → State → Moved
+abbrev pub enter : Place → FnId → Option Tac → List Value → (top : ℕ) → List Caller → State → Moved
 enter at f None arguments top callers s = stop s Stuck
 enter at f (Some code) arguments top callers s =
     let fresh_call : Activation = record {
@@ -179,18 +179,18 @@ enter at f (Some code) arguments top callers s =
     then Goes (record s { callers = callers; here = takes_all code.parameters arguments fresh_call })
     else stop s Stuck))
 
-abbrev counted : ℕ → State → (State → Moved) → Moved
+abbrev pub counted : ℕ → State → (State → Moved) → Moved
 counted zero s go = Stops (More s.out)
 counted (suc left) s go = go (record s { left = left })
 
-abbrev call : Program → Destination → Place → FnId → List Value → State → Moved
+abbrev pub call : Program → Destination → Place → FnId → List Value → State → Moved
 call p to at f arguments s =
     counted s.left s (λ s'. enter at f (p.code f) arguments s'.here.base (record {
       waits = (ahead s').here;
       to = to;
     } ∷ s'.callers) s')
 
-abbrev same_types : List TypeId → List TypeId → Bool
+abbrev pub same_types : List TypeId → List TypeId → Bool
 same_types [] [] = true
 same_types (t ∷ ts) (u ∷ us) = nat_eq t.0 u.0 && same_types ts us
 same_types _ _ = false
@@ -198,24 +198,24 @@ same_types _ _ = false
 abbrev pub same_signature : Signature → Signature → Bool
 same_signature a b = same_types a.params b.params && nat_eq a.result.0 b.result.0
 
-abbrev has_signature : Signature → Option Tac → Bool
+abbrev pub has_signature : Signature → Option Tac → Bool
 has_signature sig None = false
 has_signature sig (Some code) = same_signature sig code.signature
 
-abbrev call_entry : Program → Destination → Place → Signature → Option FnId → List Value → State → Moved
+abbrev pub call_entry : Program → Destination → Place → Signature → Option FnId → List Value → State → Moved
 call_entry p to at sig None arguments s = fault BadCall at s
 call_entry p to at sig (Some f) arguments s =
     if has_signature sig (p.code f) then call p to at f arguments s else fault BadCall at s
 
-abbrev entry : List FnId → ℕ → Option FnId
+abbrev pub entry : List FnId → ℕ → Option FnId
 entry fs zero = None
 entry fs (suc i) = slice_get fs i
 
-abbrev allocated : ℕ → State → ℕ × Contents → Moved
+abbrev pub allocated : ℕ → State → ℕ × Contents → Moved
 allocated d s given = Goes (ahead (set_temp d given.0 (record s { region = given.1 })))
 
 -- one instruction
-abbrev act : Program → Instruction → State → Moved
+abbrev pub act : Program → Instruction → State → Moved
 act p (Compute d op form a b) s =
     if divides op && nat_eq (operand s b) 0 then stop s Stuck
     else Goes (ahead (set_temp d (applied (width_of form) op (operand s a) (operand s b)) s))
@@ -237,36 +237,36 @@ act p (Write at a b) s =
     { out = s.out ++ bs })))
 act p (Alloc d a) s = allocated d s (alloc_of s.region (signed (operand s a)))
 
-abbrev follow : Edge → State → Moved
+abbrev pub follow : Edge → State → Moved
 follow e s =
     let go : State → Moved = λ s'. Goes (record s' { here = record s'.here { block = e.block; at = 0 } }) in
     if e.counts then counted s.left s go else go s
 
-abbrev given : Value → Option Tac → Caller → List Caller → State → Moved
+abbrev pub given : Value → Option Tac → Caller → List Caller → State → Moved
 given v None c callers s = stop s Stuck
 given v (Some code) c callers s =
     if accepts code c.to v then Goes (record s { here = takes c.to v c.waits; callers = callers }) else stop s Stuck
 
 -- back to the caller, or the end
-abbrev give : Program → Value → List Caller → State → Moved
+abbrev pub give : Program → Value → List Caller → State → Moved
 give p v [] s = stop s (Returned v)
 give p v (c ∷ callers) s = given v (p.code c.waits.function) c callers s
 
-abbrev leave : Program → Exit → State → Moved
+abbrev pub leave : Program → Exit → State → Moved
 leave p (Jump e) s = follow e s
 leave p (Branch a e f) s = if nat_eq (operand s a) 0 then follow f s else follow e s
 leave p (Return v) s = give p (value_of s v) s.callers s
 leave p (Fail kind at) s = fault kind at s
 
-abbrev in_block : Program → Option Block → State → Moved
-in_block p None s = stop s Stuck
-in_block p (Some b) s = step_in (slice_get b.instructions s.here.at)
-  where
-    step_in : Option Instruction → Moved
-    step_in None = leave p b.exit s
-    step_in (Some i) = act p i s
+abbrev pub step_in : Program → Exit → Option Instruction → State → Moved
+step_in p exit None s = leave p exit s
+step_in p exit (Some i) s = act p i s
 
-abbrev in_function : Program → Option Tac → State → Moved
+abbrev pub in_block : Program → Option Block → State → Moved
+in_block p None s = stop s Stuck
+in_block p (Some b) s = step_in p b.exit (slice_get b.instructions s.here.at) s
+
+abbrev pub in_function : Program → Option Tac → State → Moved
 in_function p None s = stop s Stuck
 in_function p (Some code) s = in_block p (slice_get code.blocks s.here.block) s
 
@@ -280,7 +280,7 @@ steps p zero m = m
 steps p (suc k) (Stops r) = Stops r
 steps p (suc k) (Goes s) = steps p k (step p s)
 
-abbrev place_of : Option Tac → Place
+abbrev pub place_of : Option Tac → Place
 place_of None = record { line = 0; word = 0 }
 place_of (Some code) = code.place
 

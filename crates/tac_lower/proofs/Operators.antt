@@ -1,0 +1,160 @@
+-- Operations on words.
+use Rattle.std.proofs.Common.{◌≡◌, ℕ, ◌+◌, Bool, true, false, List, [], ◌∷◌, refl, ap, ◌∙◌, arith}
+use Rattle.std.specs.Prelude.{◌^◌, ◌-◌, ◌&&◌, nat_eq, if◌then◌else◌}
+use Rattle.tl_base.specs.declared.place.Place.{Place}
+use Rattle.tl_base.specs.declared.ids.TypeId.{TypeId}
+use Rattle.terra_words.specs.declared.words.BinaryOperator.{BinaryOperator}
+use Rattle.terra_words.specs.declared.words.BinaryOperator.TheVariants as operators
+use Rattle.terra_words.specs.declared.words.FaultKind.TheVariants.{DivZero}
+use Rattle.terra_words.specs.declared.words.Width.{Width}
+use Rattle.terra_words.specs.Words.{wrapped, applied, negated, divides}
+use Rattle.terra_words.specs.Runs.{Value, word, number, value_at}
+use Rattle.terra_term.specs.declared.lists.TypedName.{TypedName}
+use Rattle.terra_meaning.specs.Values.{form_at, width_of}
+use Rattle.terra_meaning.specs.Running.{State, Got, Gives, fault}
+use Rattle.terra_meaning.specs.Meaning as meaning
+use Rattle.terra_meaning.specs.Meaning.{Wanted, the_value, the_address}
+use Rattle.tac_form.specs.declared.tac.Number.{Number}
+use Rattle.tac_form.specs.declared.tac.Operand.{Operand}
+use Rattle.tac_form.specs.declared.tac.Operand.TheVariants.{Temp, Constant}
+use Rattle.tac_form.specs.declared.tac.Instruction.TheVariants.{TestDivisor}
+use Rattle.tac_form.specs.Flow as flow
+use Rattle.tac_form.specs.Flow.{Goes, Stops, act}
+use Rattle.tac_lower.specs.Pieces.{Used, Piece, known, doing, then_piece, Result, a_word, word_at, Holders, number_of, compute}
+use Rattle.tac_lower.specs.Lowering.{binary}
+use Rattle.tac_lower.proofs.Standing.{Setting, Private, stands, one-step, word_in, operand-is, Good}
+use Rattle.tac_lower.proofs.Simulates.{Fact, nothing, one_of, all_of, AllMean, Sim, then_sim}
+use Rattle.tac_lower.proofs.Words.{wrapped-again, HasNumber, number-width}
+use Rattle.tac_lower.proofs.Writes.{grown-temp, same-self, passes_sim}
+use Rattle.tac_lower.proofs.Loads.{compute_sim, word-is, load-number, AreWords}
+
+-- the words of operands by their positions
+pub first-word : (z : Setting) (scope : Holders) (u : Used) (ts : List TypeId) (rs : List Result) (vs : List Value) (k : Private) →
+    AllMean z scope u ts rs vs k →
+    word_in k (word_at rs 0) ≡ number (value_at vs 0)
+first-word z scope u [] [] [] k h = refl
+first-word z scope u (t ∷ ts) (r ∷ rs) (v ∷ vs) k h = word-is z t scope u r k v h.0
+first-word z scope u [] [] (v ∷ vs) k h = absurd h
+first-word z scope u [] (r ∷ rs) vs k h = absurd h
+first-word z scope u (t ∷ ts) [] vs k h = absurd h
+first-word z scope u (t ∷ ts) (r ∷ rs) [] k h = absurd h
+
+pub second-word : (z : Setting) (scope : Holders) (u : Used) (ts : List TypeId) (rs : List Result) (vs : List Value) (k : Private) →
+    AllMean z scope u ts rs vs k →
+    word_in k (word_at rs 1) ≡ number (value_at vs 1)
+second-word z scope u [] [] [] k h = refl
+second-word z scope u (t ∷ ts) (r ∷ rs) (v ∷ vs) k h = first-word z scope u ts rs vs k h.1
+second-word z scope u [] [] (v ∷ vs) k h = absurd h
+second-word z scope u [] (r ∷ rs) vs k h = absurd h
+second-word z scope u (t ∷ ts) [] vs k h = absurd h
+second-word z scope u (t ∷ ts) (r ∷ rs) [] k h = absurd h
+
+pub both-words : (z : Setting) (scope : Holders) (facts : List Fact) (ts : List TypeId) (rs : List Result) (vs : List Value) →
+    AreWords z scope (all_of ts rs vs ∷ facts) (word_at rs 0) (word_at rs 1) (number (value_at vs 0)) (number (value_at vs 1))
+both-words z scope facts ts rs vs = λ u k knows. (first-word z scope u ts rs vs k knows.0, second-word z scope u ts rs vs k knows.0)
+
+-- a word of a type with numbers, wrapped to its width
+pub good-number : (z : Setting) (of : TypeId) (o : Operand) (m : ℕ) → HasNumber (form_at z.types of) → Good z the_value of (a_word o)
+    (word (wrapped (width_of z.types of) m))
+good-number z of o m h = ((load-number z of (form_at z.types of) refl h).1, wrapped-again (form_at z.types of) m)
+
+pub number-width_at : (z : Setting) (of : TypeId) → HasNumber (form_at z.types of) → flow.width_of (number_of z.types of)
+    ≡ width_of z.types of
+number-width_at z of h = number-width (form_at z.types of) h
+
+from-zero : (w : Width) (x : ℕ) → applied w operators.Subtract 0 x ≡ negated w x
+unfolding applied negated
+from-zero w x = let e : 0 + (2 ^ 64 - x) ≡ 2 ^ 64 - x = omega arith in ap (wrapped w) e
+
+pub negate_sim : {z : Setting} {n : ℕ} {names : List TypedName} {scope : Holders} {facts : List Fact} (u : Used) (of : TypeId)
+    (ts : List TypeId) (rs : List Result) (vs : List Value) → HasNumber (form_at z.types of) →
+    Sim z n names scope (all_of ts rs vs ∷ facts) u (compute operators.Subtract (number_of z.types of) (Constant 0) (word_at rs 0) u)
+    (λ s. Gives (word (negated (width_of z.types of) (number (value_at vs 0)))) s) names scope
+    (λ w. one_of the_value of (a_word (Temp u.temps)) w)
+unfolding negated
+negate_sim {z} {n} {names} {scope} {facts} u of ts rs vs h =
+    compute_sim u the_value of operators.Subtract (number_of z.types of) (Constant 0) (word_at rs 0) 0 (number (value_at vs 0))
+    (word (negated (width_of z.types of) (number (value_at vs 0))))
+    (λ u1 k knows. (refl, first-word z scope u1 ts rs vs k knows.0)) refl
+    (ap word (from-zero (flow.width_of (number_of z.types of)) (number (value_at vs 0)) ∙ ap (λ w. negated w (number (value_at vs 0)))
+    (number-width_at z of h)))
+    (good-number z of (Temp u.temps) (2 ^ 64 - number (value_at vs 0)) h)
+
+plus-zero : (w : Width) (x : ℕ) → applied w operators.Add x 0 ≡ wrapped w x
+unfolding applied
+plus-zero w x = let e : x + 0 ≡ x = omega arith in ap (wrapped w) e
+
+-- the word of one type as one of another that has numbers
+pub convert_sim : {z : Setting} {n : ℕ} {names : List TypedName} {scope : Holders} {facts : List Fact} (u : Used) (of : TypeId)
+    (ts : List TypeId) (rs : List Result) (vs : List Value) → HasNumber (form_at z.types of) →
+    Sim z n names scope (all_of ts rs vs ∷ facts) u (compute operators.Add (number_of z.types of) (word_at rs 0) (Constant 0) u)
+    (λ s. Gives (word (wrapped (width_of z.types of) (number (value_at vs 0)))) s) names scope
+    (λ w. one_of the_value of (a_word (Temp u.temps)) w)
+convert_sim {z} {n} {names} {scope} {facts} u of ts rs vs h =
+    compute_sim u the_value of operators.Add (number_of z.types of) (word_at rs 0) (Constant 0) (number (value_at vs 0)) 0
+    (word (wrapped (width_of z.types of) (number (value_at vs 0))))
+    (λ u1 k knows. (first-word z scope u1 ts rs vs k knows.0, refl)) refl
+    (ap word (plus-zero (flow.width_of (number_of z.types of)) (number (value_at vs 0)) ∙ ap (λ w. wrapped w (number (value_at vs 0)))
+    (number-width_at z of h)))
+    (good-number z of (Temp u.temps) (number (value_at vs 0)) h)
+
+-- an operator on two words, whose divisor is tested before; `told` says that it means the same at the width of three-address code
+pub binary_sim : {z : Setting} {n : ℕ} {names : List TypedName} {scope : Holders} {facts : List Fact} (u : Used) (place : Place)
+    (of first : TypeId) (op : BinaryOperator) (ts : List TypeId) (rs : List Result) (vs : List Value) →
+    applied (flow.width_of (number_of z.types first)) op (number (value_at vs 0)) (number (value_at vs 1)) ≡ applied
+    (width_of z.types first) op (number (value_at vs 0)) (number (value_at vs 1)) →
+    Good z the_value of (a_word (Temp u.temps))
+    (word (applied (width_of z.types first) op (number (value_at vs 0)) (number (value_at vs 1)))) →
+    Sim z n names scope (all_of ts rs vs ∷ facts) u (binary place (number_of z.types first) op (word_at rs 0) (word_at rs 1) u)
+    (meaning.binary place (width_of z.types first) op (number (value_at vs 0)) (number (value_at vs 1))) names scope
+    (λ w. one_of the_value of (a_word (Temp u.temps)) w)
+binary_sim {z} {n} {names} {scope} {facts} u place of first op ts rs vs told good = by (divides op) refl (nat_eq y 0) refl
+  where
+    x : ℕ
+    x = number (value_at vs 0)
+
+    y : ℕ
+    y = number (value_at vs 1)
+
+    w : Width
+    w = width_of z.types first
+
+    form : Number
+    form = number_of z.types first
+
+    code : Bool → Piece Result
+    code d = then_piece (if d then doing (tt {0}) (TestDivisor place (word_at rs 1)) u else known (tt {0}) u)
+        (λ t u'. compute op form (word_at rs 0) (word_at rs 1) u')
+
+    go : Bool → Bool → State → Got Value
+    go d b s = if d && b then fault DivZero place s else Gives (word (applied w op x y)) s
+
+    by : (d : Bool) → divides op ≡ d → (b : Bool) → nat_eq y 0 ≡ b → Sim z n names scope (all_of ts rs vs ∷ facts) u (code d)
+        (go d b) names scope (λ v. one_of the_value of (a_word (Temp u.temps)) v)
+    by false ed b eb =
+        compute_sim u the_value of op form (word_at rs 0) (word_at rs 1) x y (word (applied w op x y)) (both-words z scope facts ts rs vs)
+        (ap (λ d. d && nat_eq y 0) ed) (ap word told) good
+    by true ed true eb = record {
+      grown = grown-temp u;
+      over = λ t lt away. away;
+      run = λ out at k s has whole_ fine knows less. (
+        1,
+        one-step z at k s (TestDivisor place (word_at rs 1)) has.0
+            ∙ ap (λ m. if nat_eq m 0 then flow.fault DivZero place (stands z at k s) else Goes (flow.ahead (stands z at k s)))
+            (operand-is z at k s (word_at rs 1) ∙ second-word z scope u ts rs vs k knows.0)
+            ∙ ap (λ b. if b then flow.fault DivZero place (stands z at k s) else Goes (flow.ahead (stands z at k s))) eb,
+      );
+    }
+    by true ed false eb =
+        then_sim (λ t u'. compute op form (word_at rs 0) (word_at rs 1) u') (λ t s. Gives (word (applied w op x y)) s) (tt {0})
+        (passes_sim {post = λ t. nothing} u (tt {0}) (TestDivisor place (word_at rs 1)) (λ s. Gives (tt {0}) s)
+        (λ at k s fine knows. record {
+          moves =
+              ap (λ m. if nat_eq m 0 then flow.fault DivZero place (stands z at k s) else Goes (flow.ahead (stands z at k s)))
+              (operand-is z at k s (word_at rs 1) ∙ second-word z scope u ts rs vs k knows.0)
+              ∙ ap (λ b. if b then flow.fault DivZero place (stands z at k s) else Goes (flow.ahead (stands z at k s))) eb;
+          same = same-self s;
+        }) (λ t k knows. tt))
+        (λ t. compute_sim u the_value of op form (word_at rs 0) (word_at rs 1) x y (word (applied w op x y))
+        (λ u1 k knows. both-words z scope facts ts rs vs u1 k knows.1)
+        (ap (λ d. d && nat_eq y 0) ed ∙ eb) (ap word told) good)

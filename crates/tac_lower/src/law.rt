@@ -1,0 +1,16 @@
+// What lowered code does and keeps. Each function does nothing, and its clause is a law.
+
+ghost use Rattle.tac_lower.specs.Laws.{LoweredIsCounted, LoweringKeepsRuns};
+ghost use Rattle.tac_lower.specs.Lowering.{lowered};
+
+/// The code of a store's functions has the runs that their typed terms mean, and no others, at every count: the same value or
+/// fault, at the same place, with the same output, and the need of more at the same counts. The functions' terms have what
+/// typing keeps (`specs/Needs.antt`).
+pub fn lowering_keeps_runs()
+    ensures { LoweringKeepsRuns lowered }
+{}
+
+/// Each way round the flow graph of a function's code counts: an edge that doesn't count leads to a later block.
+pub fn lowered_code_is_counted()
+    ensures { LoweredIsCounted lowered }
+{}

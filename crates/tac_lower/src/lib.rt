@@ -1,0 +1,13 @@
+//! From typed terms to three-address code.
+//!
+//! `specs/Lowering.antt` says which code a function has, by recursion on its term: pieces of code, which are the same wherever they
+//! stand, go on from one another as the parts of the meaning do. That the code of a store's functions has the runs that their terms
+//! mean is the law of [`lowering_keeps_runs`], and that each way round its flow graph counts that of [`lowered_code_is_counted`];
+//! `specs/Needs.antt` says what both need of the terms. It isn't proved yet that what typing leaves has that, nor that the code fits
+//! and keeps its sizes (`LoweredIsGood` in `specs/Laws.antt`), and no function of this crate makes the code yet.
+//! `proofs/Examples.antt` and `proofs/Mixed.antt` have the runs of small functions' code, computed by the checker.
+#![tactic(auto)]
+
+pub mod law;
+
+pub use law::{lowered_code_is_counted, lowering_keeps_runs};
