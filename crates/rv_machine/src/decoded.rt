@@ -5,12 +5,13 @@ ghost use Rattle.rv_isa.specs.declared.instr.Instr.TheVariants.{Branch, Load, St
 ghost use Rattle.rv_machine.specs.Decoded.{found_of};
 
 use rv_isa::{
-    BranchCondition, BranchOffset, Immediate, ImmediateOp, Instr, JumpOffset, LoadOp, Register,
-    RegisterOp, ShiftCount, ShiftOp, StoreOp, UpperImmediate,
+    BranchCondition, BranchOffset, FenceFields, Immediate, ImmediateOp, Instr, JumpOffset, LoadOp,
+    Register, RegisterOp, RegisterWordOp, ShiftCount, ShiftOp, StoreOp, UpperImmediate,
+    WordShiftCount,
 };
 
 /// A word of text, decoded. The commonest instructions have a variant of their own, so that a quiet step asks only once which one it
-/// is to carry out.
+/// is to carry out; and no variant holds an [`Instr`], so that a word takes eight bytes and its place is found by one multiplication.
 #[derive(Clone, Copy, PartialEq, Eq, Debug)]
 pub enum Decoded {
     /// The word is no instruction.
@@ -115,8 +116,83 @@ pub enum Decoded {
         rs2: Register,
         offset: Immediate,
     },
-    /// Any instruction.
-    Other(Instr),
+    /// AUIPC.
+    AddUpper {
+        rd: Register,
+        imm: UpperImmediate,
+    },
+    /// BLT, BGE, BLTU and BGEU.
+    Branch {
+        condition: BranchCondition,
+        rs1: Register,
+        rs2: Register,
+        offset: BranchOffset,
+    },
+    /// LB, LH, LHU and LWU.
+    Load {
+        op: LoadOp,
+        rd: Register,
+        rs1: Register,
+        offset: Immediate,
+    },
+    /// SH.
+    Store {
+        op: StoreOp,
+        rs1: Register,
+        rs2: Register,
+        offset: Immediate,
+    },
+    /// SLTI to ANDI.
+    RegisterImmediate {
+        op: ImmediateOp,
+        rd: Register,
+        rs1: Register,
+        imm: Immediate,
+    },
+    /// SRLI and SRAI.
+    Shift {
+        op: ShiftOp,
+        rd: Register,
+        rs1: Register,
+        count: ShiftCount,
+    },
+    /// ADDIW.
+    AddImmediateWord {
+        rd: Register,
+        rs1: Register,
+        imm: Immediate,
+    },
+    /// SLLIW, SRLIW and SRAIW.
+    ShiftWord {
+        op: ShiftOp,
+        rd: Register,
+        rs1: Register,
+        count: WordShiftCount,
+    },
+    /// The operations on two registers that have no variant above.
+    Registers {
+        op: RegisterOp,
+        rd: Register,
+        rs1: Register,
+        rs2: Register,
+    },
+    /// ADDW to SRAW, and MULW to REMUW.
+    RegistersWord {
+        op: RegisterWordOp,
+        rd: Register,
+        rs1: Register,
+        rs2: Register,
+    },
+    /// FENCE.
+    Fence {
+        rd: Register,
+        rs1: Register,
+        fields: FenceFields,
+    },
+    /// ECALL.
+    Call,
+    /// EBREAK.
+    Break,
 }
 
 impl Decoded {
@@ -185,7 +261,54 @@ impl Decoded {
             Decoded::StoreDouble { rs1, rs2, offset } => {
                 Some(of_store(StoreOp::Sd, rs1, rs2, offset))
             }
-            Decoded::Other(instr) => Some(instr),
+            Decoded::AddUpper { rd, imm } => Some(Instr::Auipc { rd, imm }),
+            Decoded::Branch {
+                condition,
+                rs1,
+                rs2,
+                offset,
+            } => Some(Instr::Branch {
+                condition,
+                rs1,
+                rs2,
+                offset,
+            }),
+            Decoded::Load {
+                op,
+                rd,
+                rs1,
+                offset,
+            } => Some(of_load(op, rd, rs1, offset)),
+            Decoded::Store {
+                op,
+                rs1,
+                rs2,
+                offset,
+            } => Some(of_store(op, rs1, rs2, offset)),
+            Decoded::RegisterImmediate { op, rd, rs1, imm } => Some(Instr::RegisterImmediate {
+                op,
+                rd,
+                rs1,
+                imm,
+            }),
+            Decoded::Shift { op, rd, rs1, count } => Some(Instr::Shift { op, rd, rs1, count }),
+            Decoded::AddImmediateWord { rd, rs1, imm } => Some(Instr::Addiw { rd, rs1, imm }),
+            Decoded::ShiftWord { op, rd, rs1, count } => Some(Instr::ShiftWord {
+                op,
+                rd,
+                rs1,
+                count,
+            }),
+            Decoded::Registers { op, rd, rs1, rs2 } => Some(of_registers(op, rd, rs1, rs2)),
+            Decoded::RegistersWord { op, rd, rs1, rs2 } => Some(Instr::RegisterRegisterWord {
+                op,
+                rd,
+                rs1,
+                rs2,
+            }),
+            Decoded::Fence { rd, rs1, fields } => Some(Instr::Fence { rd, rs1, fields }),
+            Decoded::Call => Some(Instr::Ecall),
+            Decoded::Break => Some(Instr::Ebreak),
         }
     }
 }
@@ -260,7 +383,25 @@ fn instruction(instr: Instr) -> Decoded
             rs2,
             offset,
         } => store(op, rs1, rs2, offset),
-        _ => Decoded::Other(instr),
+        Instr::Auipc { rd, imm } => Decoded::AddUpper { rd, imm },
+        Instr::RegisterImmediate { op, rd, rs1, imm } => Decoded::RegisterImmediate {
+            op,
+            rd,
+            rs1,
+            imm,
+        },
+        Instr::Shift { op, rd, rs1, count } => Decoded::Shift { op, rd, rs1, count },
+        Instr::Addiw { rd, rs1, imm } => Decoded::AddImmediateWord { rd, rs1, imm },
+        Instr::ShiftWord { op, rd, rs1, count } => Decoded::ShiftWord { op, rd, rs1, count },
+        Instr::RegisterRegisterWord { op, rd, rs1, rs2 } => Decoded::RegistersWord {
+            op,
+            rd,
+            rs1,
+            rs2,
+        },
+        Instr::Fence { rd, rs1, fields } => Decoded::Fence { rd, rs1, fields },
+        Instr::Ecall => Decoded::Call,
+        Instr::Ebreak => Decoded::Break,
     }
 }
 
@@ -271,12 +412,12 @@ fn branch(condition: BranchCondition, rs1: Register, rs2: Register, offset: Bran
     match condition {
         BranchCondition::Eq => Decoded::BranchEqual { rs1, rs2, offset },
         BranchCondition::Ne => Decoded::BranchNotEqual { rs1, rs2, offset },
-        _ => Decoded::Other(Instr::Branch {
+        _ => Decoded::Branch {
             condition,
             rs1,
             rs2,
             offset,
-        }),
+        },
     }
 }
 
@@ -289,7 +430,7 @@ fn registers(op: RegisterOp, rd: Register, rs1: Register, rs2: Register) -> Deco
         RegisterOp::Sub => Decoded::Subtract { rd, rs1, rs2 },
         RegisterOp::Xor => Decoded::Xor { rd, rs1, rs2 },
         RegisterOp::Mul => Decoded::Multiply { rd, rs1, rs2 },
-        _ => Decoded::Other(Instr::RegisterRegister { op, rd, rs1, rs2 }),
+        _ => Decoded::Registers { op, rd, rs1, rs2 },
     }
 }
 
@@ -301,12 +442,12 @@ fn load(op: LoadOp, rd: Register, rs1: Register, offset: Immediate) -> Decoded
         LoadOp::Lbu => Decoded::LoadByte { rd, rs1, offset },
         LoadOp::Lw => Decoded::LoadWord { rd, rs1, offset },
         LoadOp::Ld => Decoded::LoadDouble { rd, rs1, offset },
-        _ => Decoded::Other(Instr::Load {
+        _ => Decoded::Load {
             op,
             rd,
             rs1,
             offset,
-        }),
+        },
     }
 }
 
@@ -318,11 +459,11 @@ fn store(op: StoreOp, rs1: Register, rs2: Register, offset: Immediate) -> Decode
         StoreOp::Sb => Decoded::StoreByte { rs1, rs2, offset },
         StoreOp::Sw => Decoded::StoreWord { rs1, rs2, offset },
         StoreOp::Sd => Decoded::StoreDouble { rs1, rs2, offset },
-        _ => Decoded::Other(Instr::Store {
+        _ => Decoded::Store {
             op,
             rs1,
             rs2,
             offset,
-        }),
+        },
     }
 }

@@ -75,7 +75,6 @@ impl Hart {
         ensures none { result ≡ None → (pc : ℕ) → stands_at self.new pc ≡ stands_at self.old pc }
     {
         match *word {
-            Decoded::Illegal => None,
             Decoded::LoadByte { rd, rs1, offset } => {
                 self.load_inside(LoadOp::Lbu, rd, self.address(rs1, offset), at)
             }
@@ -130,7 +129,23 @@ impl Hart {
             Decoded::Multiply { rd, rs1, rs2 } => {
                 Some(self.set_value(RegisterOp::Mul, rd, rs1, rs2, at))
             }
-            Decoded::Other(instr) => self.obey_other(instr, at),
+            Decoded::Illegal
+            | Decoded::AddUpper { .. }
+            | Decoded::Branch { .. }
+            | Decoded::Load { .. }
+            | Decoded::Store { .. }
+            | Decoded::RegisterImmediate { .. }
+            | Decoded::Shift { .. }
+            | Decoded::AddImmediateWord { .. }
+            | Decoded::ShiftWord { .. }
+            | Decoded::Registers { .. }
+            | Decoded::RegistersWord { .. }
+            | Decoded::Fence { .. }
+            | Decoded::Call
+            | Decoded::Break => match word.found() {
+                Some(instr) => self.obey_other(instr, at),
+                None => None,
+            },
         }
     }
 
