@@ -1,6 +1,6 @@
 // The hart: the program counter, the registers and the memory that they reach, and what each instruction does to them.
 
-ghost use Rattle.std.specs.Prelude.{◌≡◌, ◌≢◌, ◌+◌, ◌-◌, ◌*◌, ◌%◌, ◌^◌, ◌<◌, ◌≤◌, length, slice_index, IfErr, OnOk, OnErr};
+ghost use Rattle.std.specs.Prelude.{◌≡◌, ◌≢◌, ◌+◌, ◌-◌, ◌%◌, ◌<◌, ◌≤◌, length, slice_index, IfErr, OnOk, OnErr};
 ghost use Rattle.rv_machine.specs.Word.{low, word};
 ghost use Rattle.rv_machine.specs.Machine.{upper_word, written, start_registers};
 
@@ -38,11 +38,9 @@ pub(crate) struct Hart {
 }
 
 impl Hart {
-    ghost use Rattle.std.specs.Prelude.{List, ℕ, Some, IfSome};
+    ghost use Rattle.std.specs.Prelude.{Some, IfSome};
     ghost use Rattle.rv_machine.specs.Machine.{value_at, GoesOn, Faults, writes, jumps, goes_to, branches, loads, stores, act, obeys, calls, write_call, throw_call, at_with, start_state, loaded_state};
     ghost use Rattle.rv_machine.specs.Decoded.{found_of};
-    ghost use Rattle.rv_machine.specs.Arithmetic.{register_value, shift_value};
-    ghost use Rattle.rv_isa.specs.declared.operation.ShiftOp.TheVariants.{Slli};
     ghost use Rattle.rv_machine.specs.declared.stops.MachineKind.TheVariants.{BadAccess};
     ghost use Rattle.rv_machine.specs.declared.stops.Stop.TheVariants.{MachineFault, WriteFault};
     ghost use Rattle.rv_machine.specs.Memory.{place_of, FitsIn, bytes_at};

@@ -13,7 +13,8 @@
 //! `Memory` loads and stores, in the terms of the RISC-V Unprivileged ISA manual; `Program` the instructions of a text, by the table
 //! of `rv_isa`; `Machine` the state, one row for each instruction, one step and a run, with its output; `ImageRun` the run of an image,
 //! and its laws, which [`images_have_runs`] states; `Runs` what a call of `run` does by that run; `Decoded` and `Shown` what contracts
-//! see of a decoded word and of a [`Machine`]; and `Laws` the laws that [`runs_go_on`] states.
+//! see of a decoded word and of a [`Machine`]; `Place` the numbers of addresses by which steps find their words; and `Laws` the laws
+//! that [`runs_go_on`] states.
 #![tactic(auto)]
 
 mod arithmetic;

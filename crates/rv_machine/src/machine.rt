@@ -1,6 +1,6 @@
 // The machine and its run.
 
-ghost use Rattle.std.specs.Prelude.{◌≡◌, ◌≢◌, ◌+◌, ◌-◌, ◌*◌, ◌/◌, ◌%◌, ◌≤◌, ◌<◌, ◌^◌, ◌++◌, map, option_map, length, replicate, drop, IfOk, IfErr, OnOk, OnErr};
+ghost use Rattle.std.specs.Prelude.{◌≡◌, ◌≢◌, ◌+◌, ◌-◌, ◌*◌, ◌≤◌, ◌<◌, ◌^◌, ◌++◌, map, option_map, length, replicate, drop, IfOk, IfErr, OnOk, OnErr};
 ghost use Rattle.rv_machine.specs.Laws.{RunsGoOn, RunsStayOver, RunsStopAgain, OneProgram};
 ghost use Rattle.rv_machine.specs.Program.{IsProgram};
 ghost use Rattle.rv_machine.specs.Decoded.{found_of};
@@ -28,7 +28,7 @@ pub struct Machine {
 }
 
 impl Machine {
-    ghost use Rattle.std.specs.Prelude.{List, ℕ, []};
+    ghost use Rattle.std.specs.Prelude.{[]};
     ghost use Rattle.elf_image.specs.Lawful.{IsLawful};
     ghost use Rattle.rv_machine.specs.declared.stops.Stop.TheVariants.{Returned, MachineFault, WriteFault};
     ghost use Rattle.rv_machine.specs.declared.stops.MachineKind.TheVariants.{BadFetch};
@@ -36,7 +36,6 @@ impl Machine {
     ghost use Rattle.rv_machine.specs.Runs.{Agrees, IsBeforeWrite};
     ghost use Rattle.rv_machine.specs.Steps.{WentOn, StoppedAt, Counted};
     ghost use Rattle.rv_machine.specs.Shown.{program_of, heap_of, state_of};
-    ghost use Rattle.tl_base.specs.Outside.{IsRisen};
 
     /// The machine of an image: its text, its region, which begins with the static bytes, and private memory of zeros. This takes
     /// all the memory of a run.
@@ -81,7 +80,7 @@ impl Machine {
     {
         let mut left = steps;
         while left > 0 {
-            // each step that may write or stop, and the quiet ones after it
+            // One step, which may write or stop the run, and then all the quiet ones after it.
             if let Err(stop) = self.step(out) {
                 return stop;
             }

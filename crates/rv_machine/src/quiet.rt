@@ -1,13 +1,15 @@
-// Steps that write nothing and don't stop the run, one after the other.
+// Quiet steps, which write nothing to the output and don't stop the run, one after the other.
 //
 // Here the hart stands at a place of text, which is a number for each address: the distance from the begin of text, turned right by
-// two bits. So a place within text is the number of its word, and one word further is the next number.
+// two bits. So a place within text is the number of its word, and one word further is the next number. The place is kept apart from
+// the hart, so that a host's register holds it, and a load or store is tried only where eight bytes begin: one comparison says so.
+// All else is left to a step that isn't quiet.
 
 ghost use Rattle.std.specs.Prelude.{◌≡◌, ◌≢◌, ◌+◌, ◌-◌, ◌^◌, ◌<◌, ◌≤◌, ℕ, length, map, IfSome, Some, None, if◌then◌else◌};
 ghost use Rattle.rv_machine.specs.Word.{low, word};
 ghost use Rattle.rv_machine.specs.Decoded.{found_of};
 ghost use Rattle.rv_machine.specs.Place.{address_at};
-ghost use Rattle.rv_machine.specs.Machine.{value_at, GoesOn, writes, jumps, branches, loads, stores, act, obeys, step, run_of};
+ghost use Rattle.rv_machine.specs.Machine.{value_at, GoesOn, writes, jumps, loads, stores, act, obeys, step, run_of};
 ghost use Rattle.rv_machine.specs.Arithmetic.{register_value, shift_value};
 ghost use Rattle.rv_isa.specs.declared.operation.ShiftOp.TheVariants.{Slli};
 ghost use Rattle.rv_machine.specs.Shown.{hart_state, stands_at};
