@@ -46,12 +46,6 @@ module _ (program : List (Option Instr)) (start now : State) (count : ℕ) (outp
       let a = ends_at_zero steps more at in
       record { stops = a.stops ∙ sym h.0; stands = a.stands; took = h.1 ∙ a.took }
 
-  pub ends_at_last : (steps : ℕ) → count ≡ steps → now.pc ≡ 0 → Agrees (run_of program start steps) (Returned (now.registers 10)) now before here
-  ends_at_last steps last at = ends steps 0 (Returned (now.registers 10)) (omega arith) (run_of-at_zero program now 0 at)
-
-  pub ends_unfinished : (steps : ℕ) → count ≡ steps → (now.pc ≡ 0 → ⊥) → Agrees (run_of program start steps) Unfinished now before here
-  ends_unfinished steps last on = ends steps 0 Unfinished (omega arith) (run_of-used_up program now on)
-
   -- a step stopped it
   pub stopped : (steps : ℕ) (stop : Stop) (after : Option (List ℕ)) → count < steps → (now.pc ≡ 0 → ⊥) → StoppedAt stop now.pc (step program now) here after → stop ≢ WriteFault → Agrees (run_of program start steps) stop now before after
   stopped steps (MachineFault kind pc) after more on h other =
