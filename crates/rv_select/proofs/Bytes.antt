@@ -14,28 +14,31 @@ eight-bytes x l =
     let whole : x % 2 ^ 64 ≡ x = omega arith in
     number_of-low_bytes 8 x ∙ whole
 
--- a word of private memory is found there
-past-region : (size a : ℕ) → size ≤ 67108864 → offset_in 0x40000000 size (2 ^ 32 + a) 8 ≡ None
+-- bytes of private memory are found there
+past-region : (size a n : ℕ) → size ≤ 67108864 → offset_in 0x40000000 size (2 ^ 32 + a) n ≡ None
 unfolding offset_in
-past-region size a h =
+past-region size a n h =
     let high : 0x40000000 ≤ 2 ^ 32 + a = omega arith in
-    let out : size < 2 ^ 32 + a - 0x40000000 + 8 = omega arith in
-    ap (λ b. if b then None else (if nat_le (2 ^ 32 + a - 0x40000000 + 8) size then Some (2 ^ 32 + a - 0x40000000) else None)) (le-ltb (2 ^ 32 + a) 0x40000000 high)
-    ∙ ap (λ b. if b then Some (2 ^ 32 + a - 0x40000000) else None) (lt-leb (2 ^ 32 + a - 0x40000000 + 8) size out)
+    let out : size < 2 ^ 32 + a - 0x40000000 + n = omega arith in
+    ap (λ b. if b then None else (if nat_le (2 ^ 32 + a - 0x40000000 + n) size then Some (2 ^ 32 + a - 0x40000000) else None)) (le-ltb (2 ^ 32 + a) 0x40000000 high)
+    ∙ ap (λ b. if b then Some (2 ^ 32 + a - 0x40000000) else None) (lt-leb (2 ^ 32 + a - 0x40000000 + n) size out)
 
-in-private : (size a : ℕ) → a + 8 ≤ size → offset_in (2 ^ 32) size (2 ^ 32 + a) 8 ≡ Some a
+in-private : (size a n : ℕ) → a + n ≤ size → offset_in (2 ^ 32) size (2 ^ 32 + a) n ≡ Some a
 unfolding offset_in
-in-private size a h =
+in-private size a n h =
     let high : 2 ^ 32 ≤ 2 ^ 32 + a = omega arith in
-    let within : 2 ^ 32 + a - 2 ^ 32 + 8 ≤ size = omega arith in
+    let within : 2 ^ 32 + a - 2 ^ 32 + n ≤ size = omega arith in
     let e : 2 ^ 32 + a - 2 ^ 32 ≡ a = omega arith in
-    ap (λ b. if b then None else (if nat_le (2 ^ 32 + a - 2 ^ 32 + 8) size then Some (2 ^ 32 + a - 2 ^ 32) else None)) (le-ltb (2 ^ 32 + a) (2 ^ 32) high)
-    ∙ (ap (λ b. if b then Some (2 ^ 32 + a - 2 ^ 32) else None) (le-leb (2 ^ 32 + a - 2 ^ 32 + 8) size within) ∙ ap Some e)
+    ap (λ b. if b then None else (if nat_le (2 ^ 32 + a - 2 ^ 32 + n) size then Some (2 ^ 32 + a - 2 ^ 32) else None)) (le-ltb (2 ^ 32 + a) (2 ^ 32) high)
+    ∙ (ap (λ b. if b then Some (2 ^ 32 + a - 2 ^ 32) else None) (le-leb (2 ^ 32 + a - 2 ^ 32 + n) size within) ∙ ap Some e)
+
+pub private-part : (region private a n : ℕ) → region ≤ 67108864 → a + n ≤ private → place_of region private (2 ^ 32 + a) n ≡ Some (Private a)
+unfolding place_of
+private-part region private a n h k =
+    ap (λ o. place_in o (offset_in (2 ^ 32) private (2 ^ 32 + a) n)) (past-region region a n h) ∙ ap (λ o. place_in None o) (in-private private a n k)
 
 pub private-place : (region private a : ℕ) → region ≤ 67108864 → a + 8 ≤ private → place_of region private (2 ^ 32 + a) 8 ≡ Some (Private a)
-unfolding place_of
-private-place region private a h k =
-    ap (λ o. place_in o (offset_in (2 ^ 32) private (2 ^ 32 + a) 8)) (past-region region a h) ∙ ap (λ o. place_in None o) (in-private private a k)
+private-place region private a h k = private-part region private a 8 h k
 
 -- what a store of a word changes
 pub stored-length : (xs : List ℕ) (at x : ℕ) → at + 8 ≤ length xs → length (overwritten xs at (low_bytes 8 x)) ≡ length xs

@@ -1,6 +1,7 @@
 -- Each instruction at its place in a function's code.
-use Rattle.std.proofs.Common.{◌≡◌, ◌≢◌, ℕ, suc, ◌+◌, ◌^◌, ◌<◌, ◌≤◌, Bool, true, false, ◌&&◌, ◌||◌, List, [], ◌∷◌, ◌++◌, length, Option, Some, None, refl, sym, ap, ◌∙◌, ⊎_elim, inl, inr, arith}
-use Rattle.std.specs.Prelude.{if◌then◌else◌, nat_eq, nat_le, nat_lt, ◌⊎◌}
+use Rattle.std.proofs.Common.{◌≡◌, ◌≢◌, ℕ, zero, suc, ◌+◌, ◌^◌, ◌<◌, ◌≤◌, Bool, true, false, ◌&&◌, ◌||◌, List, [], ◌∷◌, ◌++◌, length, Option, Some, None, refl, sym, ap, ◌∙◌, ⊎_elim, inl, inr, arith}
+use Rattle.std.specs.Prelude.{if◌then◌else◌, nat_eq, nat_le, nat_lt, slice_get, unwrap_or, ◌⊎◌}
+use Rattle.std.specs.List.{list_all}
 use Rattle.std.proofs.lemmas.Bool.{cases_Bool, eq-eqb, eqb-true, leb-true, ltb-true}
 use Rattle.std.proofs.lemmas.List.{append-nil}
 use Rattle.tl_base.specs.declared.place.Place.{Place}
@@ -24,11 +25,11 @@ use Rattle.tac_form.specs.declared.tac.Instruction.{Instruction}
 use Rattle.tac_form.specs.declared.tac.Instruction.TheVariants.{Alloc, Call, CallValue, Clear, Compute, Copy, Load, Locate, Move, PutByte, Store, TestDivisor, Write}
 use Rattle.tac_form.specs.declared.tac.Tac.{Tac}
 use Rattle.tac_form.specs.Flow as tac
-use Rattle.tac_form.specs.Flow.{Program, bytes_of, step, width_of}
+use Rattle.tac_form.specs.Flow.{Program, area_size, bytes_of, step, width_of}
 use Rattle.tac_form.specs.Graph.{block_of, graph_of, instruction_reads, instruction_write, address_reads, operand_reads, step_of}
 use Rattle.tac_form.specs.Live.{InUse, has, is_written}
-use Rattle.tac_form.specs.Fits.{operand_fits, place_fits, spot_fits}
-use Rattle.tac_form.specs.Weights.{words_of}
+use Rattle.tac_form.specs.Fits.{area_fits, area_there, operand_fits, place_fits, spot_fits}
+use Rattle.tac_form.specs.Weights.{most_moved, words_of}
 use Rattle.rv_select.specs.Places.{IsRead, layout_of, value_in}
 use Rattle.rv_select.specs.Shapes.{loaded, shape_of, stored}
 use Rattle.rv_select.specs.Steps.{AreFewer, Carried, Comes, Ends, Follows, IsPlace, InstructionsAreCarried, StandsBefore, behind, with_temp, world_of}
@@ -38,6 +39,7 @@ use Rattle.rv_select.proofs.Moves.{copies, operators}
 use Rattle.rv_select.proofs.Divisors.{addresses, divisors}
 use Rattle.rv_select.proofs.Regions.{region-loads}
 use Rattle.rv_select.proofs.Stores.{region-stores}
+use Rattle.rv_select.proofs.Areas.{area-loads, area-stores}
 
 pub both-true : (a b : Bool) → (a && b) ≡ true → (a ≡ true) × (b ≡ true)
 both-true true b e = (refl, e)
@@ -290,15 +292,73 @@ carry-store p code homes size at a b s program base m x =
         let e3 = x.in_block in
         ⊎_elim (λ e4. rw (e1, e2, e3) (rw e4 (refl, both.1 e4))) (λ q. let e4 = q.1 in rw (e1, e2, e3) (rw e4 ([], nothing-written s.out, both.0 q.0 e4))) o
 
+-- areas have at most 128 bytes
+areas-short : (sizes : List ℕ) (n : ℕ) → list_all area_fits sizes ≡ true → unwrap_or (slice_get sizes n) 0 ≤ most_moved
+areas-short [] n e = omega arith
+areas-short (x ∷ xs) zero e = leb-true x most_moved (both-true (area_fits x) (list_all area_fits xs) e).0
+areas-short (x ∷ xs) (suc n) e = areas-short xs n (both-true (area_fits x) (list_all area_fits xs) e).1
+
+area-spot : (code : Tac) (n offset size : ℕ) → spot_fits code size (spots.Area n offset) ≡ true → list_all area_fits code.areas ≡ true →
+    (n < length code.areas) × (offset + size ≤ most_moved)
+area-spot code n offset size e f =
+    let b = both-true (area_there code n) (nat_le (offset + size) (area_size code n)) e in
+    let l : offset + size ≤ area_size code n = leb-true (offset + size) (area_size code n) b.1 in
+    (ltb-true n (length code.areas) b.0, omega (arith, l, areas-short code.areas n f))
+
+carry-area-load : (p : Program) (code : Tac) (homes : List (Option Home)) (d : ℕ) (form : Number) (n offset : ℕ) (s : tac.State) (program : List (Option Instr)) (base : ℕ) (m : State) →
+    StandsBefore p code homes (Load d form (spots.Area n offset)) s program base m →
+    Carried (layout_of code homes) (graph_of code) program base 8 (shape_of (layout_of code homes) (Load d form (spots.Area n offset))) s m (step p s)
+carry-area-load p code homes d form n offset s program base m x =
+    let fit = both-true (nat_lt d code.temps) (spot_fits code (bytes_of form.size) (spots.Area n offset)) x.fits in
+    let i : Instruction = Load d form (spots.Area n offset) in
+    let e1 = x.function in
+    let e2 = x.in_function in
+    let e3 = x.in_block in
+    rw (e1, e2, e3)
+    (by-test (λ moved. Carried (layout_of code homes) (graph_of code) program base 8 (shape_of (layout_of code homes) (Load d form (spots.Area n offset))) s m moved)
+    (nat_le (offset + bytes_of form.size) (length (s.here.areas n))) _ _
+    (λ h. (
+      [],
+      nothing-written s.out,
+      area-loads (layout_of code homes) d form n offset (used code s) (next code s) (world_of s) base program m x.stands
+          (area-spot code n offset (bytes_of form.size) fit.1 x.areas).0 (leb-true (offset + bytes_of form.size) (length (s.here.areas n)) h) x.holds
+          (housed code homes s.here.block s.here.at x.right) (housed code homes s.here.block (suc s.here.at) x.right)
+          (written-next p code homes i s program base m d x refl) (follows p code homes i s program base m d x refl),
+    ))
+    (λ h. tt))
+
+carry-area-store : (p : Program) (code : Tac) (homes : List (Option Home)) (size : Size) (n offset : ℕ) (b : Operand) (s : tac.State) (program : List (Option Instr)) (base : ℕ) (m : State) →
+    StandsBefore p code homes (Store (spots.Area n offset) size b) s program base m →
+    Carried (layout_of code homes) (graph_of code) program base 12 (shape_of (layout_of code homes) (Store (spots.Area n offset) size b)) s m (step p s)
+carry-area-store p code homes size n offset b s program base m x =
+    let fit = both-true (spot_fits code (bytes_of size) (spots.Area n offset)) (operand_fits code b) x.fits in
+    let spot = area-spot code n offset (bytes_of size) fit.0 x.areas in
+    let i : Instruction = Store (spots.Area n offset) size b in
+    let e1 = x.function in
+    let e2 = x.in_function in
+    let e3 = x.in_block in
+    rw (e1, e2, e3)
+    (by-test (λ moved. Carried (layout_of code homes) (graph_of code) program base 12 (shape_of (layout_of code homes) (Store (spots.Area n offset) size b)) s m moved)
+    (nat_le offset (length (s.here.areas n))) _ _
+    (λ h. (
+      [],
+      nothing-written s.out,
+      area-stores (layout_of code homes) size n offset b (used code s) (next code s) (world_of s) base program m x.stands spot.0
+          (leb-true offset (length (s.here.areas n)) h) spot.1
+          (operand-read code (used code s) b fit.1 (reads p code homes i s program base m x)) x.holds
+          (housed code homes s.here.block s.here.at x.right) (fewer p code homes i s program base m x refl),
+    ))
+    (λ h. tt))
+
 pub instructions : InstructionsAreCarried
 instructions p code homes (Compute d op form a b) s program base m h x = carry-compute p code homes d op form a b s program base m x
 instructions p code homes (TestDivisor at a) s program base m h x = carry-test p code homes at a s program base m x
 instructions p code homes (Copy d a) s program base m h x = carry-copy p code homes d a s program base m x
 instructions p code homes (Locate d offset) s program base m h x = carry-locate p code homes d offset s program base m x
 instructions p code homes (Load d form (spots.Region at a)) s program base m h x = carry-load p code homes d form at a s program base m x
-instructions p code homes (Load d form (spots.Area n offset)) s program base m h x = cc
+instructions p code homes (Load d form (spots.Area n offset)) s program base m h x = carry-area-load p code homes d form n offset s program base m x
 instructions p code homes (Store (spots.Region at a) size b) s program base m h x = carry-store p code homes size at a b s program base m x
-instructions p code homes (Store (spots.Area n offset) size b) s program base m h x = cc
+instructions p code homes (Store (spots.Area n offset) size b) s program base m h x = carry-area-store p code homes size n offset b s program base m x
 instructions p code homes (Move to from size) s program base m h x = cc
 instructions p code homes (Clear n size) s program base m h x = cc
 instructions p code homes (Call to at f arguments) s program base m h x = cc

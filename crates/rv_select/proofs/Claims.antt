@@ -16,7 +16,7 @@ use Rattle.tac_form.specs.declared.tac.Spot.TheVariants as spots
 use Rattle.tac_form.specs.declared.tac.Number.{Number}
 use Rattle.tac_form.specs.declared.tac.Operand.{Operand}
 use Rattle.tac_form.specs.declared.tac.Instruction.TheVariants.{Compute, Copy, Load, Locate, Store, TestDivisor}
-use Rattle.tac_form.specs.Flow.{bytes_of, width_of}
+use Rattle.tac_form.specs.Flow.{bytes_of, put, width_of}
 use Rattle.tac_form.specs.Weights.{words_of}
 use Rattle.rv_operators.specs.Runs.{Stands}
 use Rattle.rv_select.specs.Places.{Layout, World, Holds, Housed, IsRead, home_of, value_in}
@@ -91,3 +91,7 @@ RegionStoresAreCarried =
     Comes y program Next (with_region w r) base (words_of (Store (spots.Region at a) size b)) (behind m (stored y (spots.Region at a) size b)) [] m)
     × (put_bytes w.region (address_in w a) (low_bytes (bytes_of size) (value_in w.temps b)) ≡ None →
     Ends program BadAddress at (words_of (Store (spots.Region at a) size b)) m)
+
+-- what three-address code sees when an area has other bytes
+abbrev pub with_area : World → ℕ → List ℕ → World
+with_area w n bs = record w { areas = put w.areas n bs }

@@ -2,6 +2,7 @@ pub mod Straight
 pub mod Ways
 pub mod Numbers
 pub mod Bytes
+pub mod Parts
 pub mod Frames
 pub mod Homes
 pub mod Small
@@ -12,6 +13,7 @@ pub mod Faults
 pub mod Divisors
 pub mod Regions
 pub mod Stores
+pub mod Areas
 pub mod Lives
 pub mod Carries
 pub mod Weights

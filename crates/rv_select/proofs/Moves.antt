@@ -94,7 +94,7 @@ fewer-holds y Used Next w base m f p = record {
 }
 
 -- scratch registers don't last
-lasts-not : (r n : ℕ) → IsTrue (is_lasting r) → is_lasting n ≡ false → r ≢ n
+pub lasts-not : (r n : ℕ) → IsTrue (is_lasting r) → is_lasting n ≡ false → r ≢ n
 lasts-not r n h f e = let g : is_lasting r ≡ false = ap is_lasting e ∙ f in cc
 
 pub near-keeps : (y : Layout) (base : ℕ) (m n : State) → Near m n → Keeps y base m n

@@ -13,9 +13,10 @@ use Rattle.tac_form.specs.declared.tac.Instruction.TheVariants.{Alloc, Call, Cal
 use Rattle.tac_form.specs.Flow.{bytes_of, width_of}
 use Rattle.rv_operators.specs.Codes.{x0, x5, x6, code_of, zero_immediate}
 use Rattle.rv_operators.proofs.Short.{code-short}
-use Rattle.rv_select.specs.Places.{Layout, home_of}
-use Rattle.rv_select.specs.Shapes.{bounds_tested, failed, load_of, located, over, put_to, reached, store_of, taken}
+use Rattle.rv_select.specs.Places.{Layout, area_offset, home_of}
+use Rattle.rv_select.specs.Shapes.{bounds_tested, failed, framed, load_of, located, over, put_to, reached, store_of, taken}
 use Rattle.rv_select.specs.Steps.{ShapesKeepWithin}
+use Rattle.rv_select.proofs.Frames.{framed-count}
 use Rattle.rv_select.proofs.Homes.{put-count, taken-count}
 use Rattle.rv_select.proofs.Faults.{failed-count}
 use Rattle.rv_select.proofs.Divisors.{located-count}
@@ -23,6 +24,9 @@ use Rattle.rv_select.proofs.Divisors.{located-count}
 -- most words of two pieces of code
 both : (a b : List Instr) (n k : ℕ) → length a ≤ n → length b ≤ k → length (a ++ b) ≤ n + k
 both a b n k h g = omega (arith, length-append a b)
+
+more : (n k : ℕ) (a : List Instr) → n ≤ k → length a ≤ n → length a ≤ k
+more n k a e g = omega arith
 
 one-more : (i : Instr) (a : List Instr) (n : ℕ) → length a ≤ n → length (i ∷ a) ≤ 1 + n
 one-more i a n h = omega arith
@@ -49,28 +53,25 @@ within y (Load d form (spots.Region at (Word a))) h =
     more 27 29 _ (omega arith)
     (both (reached y at (Word a) (bytes_of form.size)) (instrs.Load (load_of form.signed form.size) x5 x5 zero_immediate ∷ put_to (home_of y d)) 23 4
     (word-reached y at a (bytes_of form.size)) (one-more (instrs.Load (load_of form.signed form.size) x5 x5 zero_immediate) (put_to (home_of y d)) 3 (put-count (home_of y d))))
-  where
-    more : (n k : ℕ) (a : List Instr) → n ≤ k → length a ≤ n → length a ≤ k
-    more n k a e g = omega arith
 within y (Load d form (spots.Region at (Frame offset))) h =
     more 13 14 _ (omega arith)
     (both (located offset) (instrs.Load (load_of form.signed form.size) x5 x5 zero_immediate ∷ put_to (home_of y d)) 9 4
     (located-count offset) (one-more (instrs.Load (load_of form.signed form.size) x5 x5 zero_immediate) (put_to (home_of y d)) 3 (put-count (home_of y d))))
-  where
-    more : (n k : ℕ) (a : List Instr) → n ≤ k → length a ≤ n → length a ≤ k
-    more n k a e g = omega arith
-within y (Load d form (spots.Area n offset)) h = cc
+within y (Load d form (spots.Area n offset)) h =
+    more 6 8 _ (omega arith)
+    (both (framed (λ r far. instrs.Load (load_of form.signed form.size) x5 r far) (area_offset y n + offset)) (put_to (home_of y d)) 3 3
+    (framed-count (λ r far. instrs.Load (load_of form.signed form.size) x5 r far) (area_offset y n + offset)) (put-count (home_of y d)))
 within y (Store (spots.Region at (Word a)) size b) h =
     more 32 33 _ (omega arith)
     (both (reached y at (Word a) (bytes_of size)) (taken y x6 b ++ instrs.Store (store_of size) x5 x6 zero_immediate ∷ []) 23 9
     (word-reached y at a (bytes_of size)) (store-part y (instrs.Store (store_of size) x5 x6 zero_immediate) b))
-  where
-    more : (n k : ℕ) (a : List Instr) → n ≤ k → length a ≤ n → length a ≤ k
-    more n k a e g = omega arith
 within y (Store (spots.Region at (Frame offset)) size b) h =
     both (located offset) (taken y x6 b ++ instrs.Store (store_of size) x5 x6 zero_immediate ∷ []) 9 9
     (located-count offset) (store-part y (instrs.Store (store_of size) x5 x6 zero_immediate) b)
-within y (Store (spots.Area n offset) size b) h = cc
+within y (Store (spots.Area n offset) size b) h =
+    more 11 12 _ (omega arith)
+    (both (taken y x6 b) (framed (λ r far. instrs.Store (store_of size) r x6 far) (area_offset y n + offset)) 8 3 (taken-count y x6 b)
+    (framed-count (λ r far. instrs.Store (store_of size) r x6 far) (area_offset y n + offset)))
 within y (Move to from size) h = cc
 within y (Clear n size) h = cc
 within y (Call to at f arguments) h = cc

@@ -328,17 +328,13 @@ shape_of y (instructions.PutByte a) = byte_put y a
 shape_of y (instructions.Write at a b) = range_written y at a b
 shape_of y (instructions.Alloc d a) = allocated y d a
 
-abbrev pub in_region : Spot → Bool
-in_region (spots.Region at a) = true
-in_region (spots.Area n offset) = false
-
 abbrev pub has_shape : Instruction → Bool
 has_shape (instructions.Compute d op form a b) = true
 has_shape (instructions.TestDivisor at a) = true
 has_shape (instructions.Copy d a) = true
 has_shape (instructions.Locate d offset) = true
-has_shape (instructions.Load d form spot) = in_region spot
-has_shape (instructions.Store spot size a) = in_region spot
+has_shape (instructions.Load d form spot) = true
+has_shape (instructions.Store spot size a) = true
 has_shape _ = false
 
 -- A jump from an address to another, both below 2 ^ 30: how far it is, in 32 bits, in two parts.

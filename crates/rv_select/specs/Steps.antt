@@ -1,6 +1,7 @@
 -- What the code of an instruction promises: one step of three-address code is at least one and at most its weight of the
 -- machine's steps, and the machine holds afterwards what three-address code sees then.
 use Rattle.std.specs.Prelude.{◌≡◌, ℕ, ◌+◌, ◌*◌, ◌^◌, ◌<◌, ◌≤◌, ◌%◌, List, [], ◌++◌, length, Option, Some, None, slice_get, IsTrue, ◌⊎◌}
+use Rattle.std.specs.List.{list_all}
 use Rattle.tl_base.specs.declared.place.Place.{Place}
 use Rattle.rv_isa.specs.declared.instr.Instr.{Instr}
 use Rattle.reg_alloc.specs.declared.assignment.Home.{Home}
@@ -21,7 +22,7 @@ use Rattle.tac_form.specs.Flow as tac
 use Rattle.tac_form.specs.Flow.{Program, Goes, Stops, put, step}
 use Rattle.tac_form.specs.Graph.{graph_of}
 use Rattle.tac_form.specs.Live.{InUse}
-use Rattle.tac_form.specs.Fits.{exit_fits, instruction_fits}
+use Rattle.tac_form.specs.Fits.{area_fits, exit_fits, instruction_fits}
 use Rattle.tac_form.specs.Weights.{exit_words, words_of}
 use Rattle.rv_operators.specs.Runs.{Stands}
 use Rattle.rv_select.specs.Places.{Layout, World, Holds, Keeps, layout_of}
@@ -96,6 +97,7 @@ pub record StandsBefore (p : Program) (code : Tac) (homes : List (Option Home)) 
   pub in_function : slice_get code.blocks s.here.block ≡ Some block
   pub in_block : slice_get block.instructions s.here.at ≡ Some i
   pub fits : IsTrue (instruction_fits code i)
+  pub areas : IsTrue (list_all area_fits code.areas)
   pub frame : s.here.base + code.frame ≤ end_address s.region
   pub right : IsRight code homes
   pub stands : Stands program m.pc (shape_of (layout_of code homes) i)

@@ -1,11 +1,11 @@
 // The words of operands and of places in the frame.
 
-ghost use Rattle.std.specs.Prelude.{◌≡◌, ◌^◌, ◌<◌, ◌≤◌, [], ◌∷◌, ◌++◌, map, length, nat_eq, IfOk, OnOk};
+ghost use Rattle.std.specs.Prelude.{◌≡◌, ◌+◌, ◌^◌, ◌<◌, ◌≤◌, [], ◌∷◌, ◌++◌, map, length, nat_eq, IfOk, OnOk};
 ghost use Rattle.rv_isa.specs.declared.instr.Instr.TheVariants as instrs;
 ghost use Rattle.rv_isa.specs.Table.{word_of};
 ghost use Rattle.rv_select.specs.Numbers.{constant, long_constant, moved_up, short_constant};
 ghost use Rattle.rv_machine.specs.Word.{extended_word};
-ghost use Rattle.rv_select.specs.Places.{home_of, slot_offset, with_homes};
+ghost use Rattle.rv_select.specs.Places.{area_offset, home_of, slot_offset, with_homes};
 ghost use Rattle.rv_select.specs.Shapes.{far_part, framed, moved, put_to, taken, taken_from, x11};
 
 use crate::operands::{immediate, lower, register, upper};
@@ -247,6 +247,22 @@ fn slot_offset(slot: u64) -> Result<u64, NoMemory>
 {
     if slot < 1 << 60 {
         Ok(88 + 8 * slot)
+    } else {
+        Err(NoMemory)
+    }
+}
+
+/// Where a byte of an area lies in the frame, in bytes. No memory has a frame of 2 ^ 62 bytes.
+pub(crate) fn area_offset(
+    homes: &[Option<Home>],
+    area: u64,
+    offset: u64,
+) -> Result<u64, NoMemory>
+    ensures { IfOk result (λ at. at ≡ area_offset (with_homes homes.now) area + offset) }
+{
+    let temps = homes.len() as u64;
+    if temps < 1 << 56 && area < 1 << 52 && offset < 1 << 60 {
+        Ok(88 + 8 * temps + 128 * area + offset)
     } else {
         Err(NoMemory)
     }

@@ -7,9 +7,9 @@ ghost use Rattle.terra_words.specs.Words.{fault_number};
 ghost use Rattle.tac_form.specs.Flow.{bytes_of, width_of};
 ghost use Rattle.rv_operators.specs.Codes.{code_of, x5, x6, zero_immediate};
 ghost use Rattle.rv_select.specs.Places.{home_of, with_homes};
-ghost use Rattle.rv_select.specs.Shapes.{bounds_tested, computed, copied, divisor_tested, failed, fault_call, branched_over, has_shape, in_region, load_of, loaded, located, place_number, put_to, reached, shape_of, small, store_of, stored, taken};
+ghost use Rattle.rv_select.specs.Shapes.{bounds_tested, computed, copied, divisor_tested, failed, fault_call, branched_over, has_shape, load_of, loaded, located, place_number, put_to, reached, shape_of, small, store_of, stored, taken};
 
-use crate::emit::{X0, X5, X6, constant_words, push_constant, push_put, push_taken, put};
+use crate::emit::{X0, X5, X6, area_offset, constant_words, push_constant, push_frame_load, push_frame_store, push_put, push_taken, put};
 use crate::operands::{below_zero, immediate, offset, upper};
 use reg_alloc::Home;
 use rv_isa::{
@@ -387,7 +387,6 @@ fn push_loaded(
     form: Number,
     spot: Spot,
 ) -> Result<(), NoMemory>
-    requires { IsTrue (in_region spot) }
     ensures { OnOk result (code.new.items ≡ code.old.items ++ map word_of (loaded (with_homes homes.now) temp form spot)) }
 {
     match spot {
@@ -396,7 +395,11 @@ fn push_loaded(
             push_load(code, form)?;
             push_put(code, homes, temp)
         }
-        Spot::Area(_, _) => Ok(()),
+        Spot::Area(area, offset) => {
+            let at = area_offset(homes, area, offset)?;
+            push_frame_load(code, load_of(form), X5, at)?;
+            push_put(code, homes, temp)
+        }
     }
 }
 
@@ -422,7 +425,6 @@ fn push_stored(
     size: Size,
     b: Operand,
 ) -> Result<(), NoMemory>
-    requires { IsTrue (in_region spot) }
     ensures { OnOk result (code.new.items ≡ code.old.items ++ map word_of (stored (with_homes homes.now) spot size b)) }
 {
     match spot {
@@ -431,7 +433,11 @@ fn push_stored(
             push_second(code, homes, b)?;
             push_store(code, size)
         }
-        Spot::Area(_, _) => Ok(()),
+        Spot::Area(area, offset) => {
+            let at = area_offset(homes, area, offset)?;
+            push_second(code, homes, b)?;
+            push_frame_store(code, store_of(size), X6, at)
+        }
     }
 }
 
