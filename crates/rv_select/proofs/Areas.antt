@@ -102,6 +102,7 @@ pub record AreaSet (y : Layout) (base n : ℕ) (bs : List ℕ) (m after : State)
   pub here : take (length bs) (drop (base + area_offset y n) after.private) ≡ bs
   pub short : length bs ≤ most_moved
   pub bytes : AreBytes bs
+  pub whole : AreBytes after.private
 
 area-home : (y : Layout) (base n : ℕ) (bs : List ℕ) (m z : State) (h : Home) → IsHome y h → AreaSet y base n bs m z → word_at base z h ≡ word_at base m h
 area-home y base n bs m z (homes.Register x) i s = s.keeps x (λ e. omega (arith, e, i.0)) (λ e. omega (arith, e, i.0)) (λ e. omega (arith, e, i.0))
@@ -120,6 +121,7 @@ area-holds y Used Next w base n bs m z p h f there s small = record {
     pointer = s.keeps 2 (λ e. omega (arith, e)) (λ e. omega (arith, e)) (λ e. omega (arith, e)) ∙ p.frame.pointer;
     within = subst (λ k. base + frame_bytes y ≤ k) (sym s.long) p.frame.within;
     private = subst (λ k. k ≤ 603979776) (sym s.long) p.frame.private;
+    bytes = s.whole;
   };
   pc = small;
   values = λ t u. area-home y base n bs m z (home_of y t) (h.homes t (f t u)) s ∙ p.values t (f t u);
@@ -250,6 +252,7 @@ area-written y Used w base n offset bs code m s p h l k are =
           ∙ part-written m.private (w.areas n) bs (base + area_offset y n) offset (p.areas n h) l (omega arith);
       short = written-count (w.areas n) bs offset most_moved l (p.short n h) k;
       bytes = overwritten-bytes (w.areas n) bs offset (p.area_bytes n h) are;
+      whole = subst AreBytes (sym s.private) (overwritten-bytes m.private bs (base + (area_offset y n + offset)) p.frame.bytes are);
     }
 
 pub area-stores : (y : Layout) (size : Size) (n offset : ℕ) (b : Operand) (Used Next : ℕ → Type 0) (w : World) (base : ℕ) (program : List (Option Instr)) (m : State) →

@@ -1,5 +1,5 @@
 -- Each instruction at its place in a function's code.
-use Rattle.std.proofs.Common.{◌≡◌, ◌≢◌, ℕ, zero, suc, ◌+◌, ◌^◌, ◌<◌, ◌≤◌, Bool, true, false, ◌&&◌, ◌||◌, List, [], ◌∷◌, ◌++◌, length, Option, Some, None, refl, sym, ap, ◌∙◌, ⊎_elim, inl, inr, arith}
+use Rattle.std.proofs.Common.{◌≡◌, ◌≢◌, ℕ, zero, suc, ◌+◌, ◌%◌, ◌^◌, ◌<◌, ◌≤◌, Bool, true, false, ◌&&◌, ◌||◌, List, [], ◌∷◌, ◌++◌, length, Option, Some, None, refl, sym, ap, ◌∙◌, ⊎_elim, inl, inr, arith}
 use Rattle.std.specs.Prelude.{if◌then◌else◌, nat_eq, nat_le, nat_lt, slice_get, unwrap_or, ◌⊎◌}
 use Rattle.std.specs.List.{list_all}
 use Rattle.std.proofs.lemmas.Bool.{cases_Bool, eq-eqb, eqb-true, leb-true, ltb-true}
@@ -40,6 +40,8 @@ use Rattle.rv_select.proofs.Divisors.{addresses, divisors}
 use Rattle.rv_select.proofs.Regions.{region-loads}
 use Rattle.rv_select.proofs.Stores.{region-stores}
 use Rattle.rv_select.proofs.Areas.{area-loads, area-stores}
+use Rattle.rv_select.proofs.Clears.{clears}
+use Rattle.rv_select.proofs.Outputs.{byte-puts}
 
 pub both-true : (a b : Bool) → (a && b) ≡ true → (a ≡ true) × (b ≡ true)
 both-true true b e = (refl, e)
@@ -350,6 +352,37 @@ carry-area-store p code homes size n offset b s program base m x =
     ))
     (λ h. tt))
 
+carry-clear : (p : Program) (code : Tac) (homes : List (Option Home)) (n size : ℕ) (s : tac.State) (program : List (Option Instr)) (base : ℕ) (m : State) → size ≤ most_moved →
+    StandsBefore p code homes (Clear n size) s program base m →
+    Carried (layout_of code homes) (graph_of code) program base 19 (shape_of (layout_of code homes) (Clear n size)) s m (step p s)
+carry-clear p code homes n size s program base m most x =
+    let fit = both-true (area_there code n) (nat_le size (area_size code n)) x.fits in
+    let i : Instruction = Clear n size in
+    let e1 = x.function in
+    let e2 = x.in_function in
+    let e3 = x.in_block in
+    rw (e1, e2, e3) (
+      [],
+      nothing-written s.out,
+      clears (layout_of code homes) n size (used code s) (next code s) (world_of s) base program m x.stands (ltb-true n (length code.areas) fit.0) most x.holds
+          (housed code homes s.here.block s.here.at x.right) (fewer p code homes i s program base m x refl),
+    )
+
+carry-byte : (p : Program) (code : Tac) (homes : List (Option Home)) (a : Operand) (s : tac.State) (program : List (Option Instr)) (base : ℕ) (m : State) →
+    StandsBefore p code homes (PutByte a) s program base m →
+    Carried (layout_of code homes) (graph_of code) program base 14 (shape_of (layout_of code homes) (PutByte a)) s m (step p s)
+carry-byte p code homes a s program base m x =
+    let i : Instruction = PutByte a in
+    let e1 = x.function in
+    let e2 = x.in_function in
+    let e3 = x.in_block in
+    rw (e1, e2, e3) (
+      value_in s.here.temps a % 256 ∷ [],
+      refl,
+      byte-puts (layout_of code homes) a (used code s) (next code s) (world_of s) base program m x.stands x.holds (housed code homes s.here.block s.here.at x.right)
+          (operand-read code (used code s) a x.fits (reads p code homes i s program base m x)) (fewer p code homes i s program base m x refl),
+    )
+
 pub instructions : InstructionsAreCarried
 instructions p code homes (Compute d op form a b) s program base m h x = carry-compute p code homes d op form a b s program base m x
 instructions p code homes (TestDivisor at a) s program base m h x = carry-test p code homes at a s program base m x
@@ -360,9 +393,9 @@ instructions p code homes (Load d form (spots.Area n offset)) s program base m h
 instructions p code homes (Store (spots.Region at a) size b) s program base m h x = carry-store p code homes size at a b s program base m x
 instructions p code homes (Store (spots.Area n offset) size b) s program base m h x = carry-area-store p code homes size n offset b s program base m x
 instructions p code homes (Move to from size) s program base m h x = cc
-instructions p code homes (Clear n size) s program base m h x = cc
+instructions p code homes (Clear n size) s program base m h x = carry-clear p code homes n size s program base m (leb-true size most_moved h) x
 instructions p code homes (Call to at f arguments) s program base m h x = cc
 instructions p code homes (CallValue to at sig a arguments) s program base m h x = cc
-instructions p code homes (PutByte a) s program base m h x = cc
+instructions p code homes (PutByte a) s program base m h x = carry-byte p code homes a s program base m x
 instructions p code homes (Write at a b) s program base m h x = cc
 instructions p code homes (Alloc d a) s program base m h x = cc

@@ -24,7 +24,7 @@ use Rattle.rv_select.proofs.Straight.{Loads}
 use Rattle.rv_select.proofs.Numbers.{constant-count, constant-loads, immediate-is}
 use Rattle.rv_select.proofs.Ways.{Way, at_pc, offset-is, stands-back, stands-front, step-way, straight-way, throw-step, way-both}
 
-small-load : (d : Register) (n : ℕ) (m : State) → d.number ≢ 0 → n ≤ 2047 →
+pub small-load : (d : Register) (n : ℕ) (m : State) → d.number ≢ 0 → n ≤ 2047 →
     act (RegisterImmediate Addi d x0 (immediate_of n)) m ≡ GoesOn (at_with m (low (m.pc + 4)) d.number n)
 unfolding low
 small-load d n m o h =

@@ -19,12 +19,13 @@ use Rattle.rv_operators.specs.Claims.{acts, then_on}
 use Rattle.rv_operators.specs.Codes.{x5}
 use Rattle.rv_operators.specs.Runs.{AreStraight}
 use Rattle.rv_operators.proofs.Runs.{straight-both}
-use Rattle.rv_select.specs.Places.{Layout, World, HasFrame, Holds, Housed, IsHome, IsRead, home_of, private_word, slot_offset, value_in, word_at}
+use Rattle.rv_select.specs.Places.{AreBytes, Layout, World, HasFrame, Holds, Housed, IsHome, IsRead, home_of, private_word, slot_offset, value_in, word_at}
 use Rattle.rv_select.specs.Numbers.{register_of}
 use Rattle.rv_select.specs.Shapes.{moved, put_to, taken, taken_from}
 use Rattle.rv_select.proofs.Bytes.{other-than-word, private-place, stored-length, stored-word}
 use Rattle.rv_select.proofs.Numbers.{constant-count, constant-loads, register-is}
 use Rattle.rv_select.proofs.Straight.{Loads, behind-both, goes-both, loads-one, low-first, low-small, register-value, written-elsewhere, written-there}
+use Rattle.rv_select.proofs.Words.{low-are-bytes, overwritten-bytes}
 use Rattle.rv_select.proofs.Frames.{Reach, framed-count, framed-loads, reach}
 
 -- a slot is within private memory, and near enough
@@ -74,7 +75,7 @@ take-operand y d Used w base m (Temp t) n p h r =
     take-home y d base m (home_of y t) (w.temps t) n p.pc p.frame (region-small y Used w base m p) (h.homes t r) (p.values t r) (p.words t r)
 take-operand y d Used w base m (Constant k) n p h r = constant-loads d m k n r
 
-home-count : (d : Register) (h : Home) → length (taken_from d h) ≤ 3
+pub home-count : (d : Register) (h : Home) → length (taken_from d h) ≤ 3
 home-count d (homes.Register x) = omega arith
 home-count d (homes.Slot k) = framed-count (λ r offset. Load Ld d r offset) (slot_offset k)
 
@@ -89,6 +90,7 @@ put-count (homes.Slot k) = framed-count (λ r offset. Store Sd r x5 offset) (slo
 -- Private memory is the same outside some bytes.
 pub record SameOutside (first behind : ℕ) (m after : State) : Type 0 where
   pub long : length after.private ≡ length m.private
+  pub bytes : AreBytes m.private → AreBytes after.private
   pub outside : (at n : ℕ) → (at + n ≤ first) ⊎ (behind ≤ at) → take n (drop at after.private) ≡ take n (drop at m.private)
 
 -- Code that puts the word in x5 to a home and changes no other.
@@ -120,7 +122,7 @@ to-register y base x m l u s =
       others = λ g i n. elsewhere g n;
       keeps = λ r seven n. written-elsewhere m.registers x (m.registers 5) r (λ q. n (ap homes.Register (sym q)));
       region = refl;
-      memory = record { long = refl; outside = λ at n o. refl };
+      memory = record { long = refl; bytes = λ b. b; outside = λ at n o. refl };
       straight = refl;
     }
   where
@@ -158,6 +160,7 @@ to-slot y base k m p f g h s =
       region = x.before.region;
       memory = record {
         long = stored-length x.at.private at (x.at.registers 5) here ∙ ap length x.before.private;
+        bytes = λ b. overwritten-bytes x.at.private (low_bytes 8 (x.at.registers 5)) at (subst AreBytes (sym x.before.private) b) (low-are-bytes 8 (x.at.registers 5));
         outside = λ a n o.
             other-than-word x.at.private at (x.at.registers 5) a n (omega (arith, here))
             (⊎_elim (λ l. inl (omega (arith, l))) (λ l. inr (omega (arith, l, h))) o)

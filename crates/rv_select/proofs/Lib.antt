@@ -14,6 +14,9 @@ pub mod Divisors
 pub mod Regions
 pub mod Stores
 pub mod Areas
+pub mod Clears
+pub mod Calm
+pub mod Outputs
 pub mod Lives
 pub mod Carries
 pub mod Weights

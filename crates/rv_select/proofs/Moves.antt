@@ -24,7 +24,7 @@ use Rattle.rv_operators.specs.Codes.{x5, x6, code_of, is_width}
 use Rattle.rv_operators.specs.Runs.{Stands}
 use Rattle.rv_operators.proofs.Operators.{computed as operator-computes}
 use Rattle.rv_operators.proofs.Short.{code-short}
-use Rattle.rv_select.specs.Places.{Layout, World, Holds, Housed, IsHome, IsRead, Keeps, area_offset, frame_bytes, home_of, is_lasting, slot_offset, uses, value_in, word_at}
+use Rattle.rv_select.specs.Places.{AreBytes, Layout, World, Holds, Housed, IsHome, IsRead, Keeps, area_offset, frame_bytes, home_of, is_lasting, slot_offset, uses, value_in, word_at}
 use Rattle.rv_select.specs.Shapes.{computed, put_to, taken}
 use Rattle.rv_select.specs.Steps.{Comes, Follows, behind, with_temp}
 use Rattle.rv_select.proofs.Claims.{CopiesAreCarried, OperatorsAreCarried}
@@ -49,6 +49,7 @@ near-holds y Used w base m n p h s small = record {
     pointer = s.keeps 2 (λ e. omega (arith, e)) (λ e. omega (arith, e)) (λ e. omega (arith, e)) ∙ p.frame.pointer;
     within = subst (λ z. base + frame_bytes y ≤ length z) (sym s.private) p.frame.within;
     private = subst (λ z. length z ≤ 603979776) (sym s.private) p.frame.private;
+    bytes = subst AreBytes (sym s.private) p.frame.bytes;
   };
   pc = small;
   values = λ t u. home-keeps y base m n (home_of y t) (h.homes t u) s.keeps s.private ∙ p.values t u;
@@ -134,6 +135,7 @@ put-holds y Used Next w base d v code m p q h n follows e s = record {
     pointer = p.keeps 2 (λ z. omega (arith, z)) (no-home y (home_of y d) 2 (h.homes d n) (inl (omega arith))) ∙ q.frame.pointer;
     within = subst (λ z. base + frame_bytes y ≤ z) (sym p.memory.long) q.frame.within;
     private = subst (λ z. z ≤ 603979776) (sym p.memory.long) q.frame.private;
+    bytes = p.memory.bytes q.frame.bytes;
   };
   pc = subst (λ z. z < 2 ^ 64) (sym p.behind) (low-below (m.pc + 4 * length code));
   values = λ t u. ⊎_elim

@@ -233,3 +233,8 @@ far-off n h k e =
 pub short_test : (n : ℕ) → n < 2 ^ 64 → nat_lt ((n + 2 ^ 31) % 2 ^ 64) (2 ^ 32) ≡ nat_eq (extended_word n) n
 short_test n h =
     both-tests ((n + 2 ^ 31) % 2 ^ 64) (2 ^ 32) (extended_word n) n (λ k. wrapped-32 n ∙ near-zero n h k) (λ k e. far-off n h k (sym (wrapped-32 n) ∙ e))
+
+-- a small number takes two instructions at most
+pub small-count : (d : Register) (n : ℕ) → n < 2 ^ 31 → length (constant d n) ≤ 2
+small-count d n h =
+    subst (λ b. length (if b then short_constant d n else long_constant d n) ≤ 2) (sym (eq-eqb (extended_word n) n (extended-small n h))) (short-count d n)

@@ -1,9 +1,10 @@
 -- Parts of lists of bytes, and writes to them.
 use Rattle.std.proofs.Common.{◌≡◌, ℕ, ◌+◌, ◌-◌, ◌<◌, ◌≤◌, List, [], ◌++◌, length, take, drop, refl, sym, ap, ◌∙◌, ⊎_elim, arith}
 use Rattle.std.proofs.lemmas.Bool.{cases_lt}
-use Rattle.std.proofs.lemmas.List.{append_assoc, drop-append-le, drop-drop, drop-take, drop_all, drop_at, length-append, length-drop, length-take-le, take-take, take_at}
+use Rattle.std.proofs.lemmas.List.{append-nil, append_assoc, drop-append-le, drop-drop, drop-take, drop_all, drop_at, length-append, length-drop, length-take-le, take-append-drop, take-take, take_at}
 use Rattle.std.proofs.Math.Seq.{take-add}
 use Rattle.terra_memory.specs.Numbers.{overwritten}
+use Rattle.terra_memory.proofs.Overwriting.{part-overwritten}
 
 -- a part of a part
 pub part-within : (xs ys : List ℕ) (at k offset size : ℕ) → take k (drop at xs) ≡ ys → offset + size ≤ k → take size (drop (at + offset) xs) ≡ take size (drop offset ys)
@@ -76,3 +77,36 @@ written-twice xs ys zs at h =
     ∙ (ap (drop (length zs)) (drop_at (take at xs ++ ys) (drop (at + length ys) xs) (at + length ys) written) ∙ drop-drop (length zs) (at + length ys) xs) in
     ap (λ z. (z ++ zs) ++ drop n (overwritten xs at ys)) (take_at (take at xs ++ ys) (drop (at + length ys) xs) (at + length ys) written)
     ∙ (ap (λ z. ((take at xs ++ ys) ++ zs) ++ z) past ∙ (ap (λ z. z ++ drop n xs) (append_assoc (take at xs) ys zs) ∙ ap (λ k. (take at xs ++ (ys ++ zs)) ++ drop k xs) split))
+
+-- a write of nothing
+pub none-written : (xs : List ℕ) (at : ℕ) → overwritten xs at [] ≡ xs
+none-written xs at =
+    let e : at + 0 ≡ at = omega arith in
+    ap (λ z. z ++ drop (at + 0) xs) (append-nil (take at xs)) ∙ (ap (λ n. take at xs ++ drop n xs) e ∙ take-append-drop at xs)
+
+-- a write over another
+pub rewritten : (xs ys zs : List ℕ) (at : ℕ) → at ≤ length xs → length ys ≤ length zs → overwritten (overwritten xs at ys) at zs ≡ overwritten xs at zs
+rewritten xs ys zs at h k =
+    let front : length (take at xs) ≡ at = length-take-le at xs h in
+    let written : length (take at xs ++ ys) ≡ at + length ys = omega (arith, length-append (take at xs) ys) in
+    let n : ℕ = length zs - length ys in
+    let split : at + length zs ≡ at + length ys + n = omega arith in
+    let past : drop (at + length zs) (overwritten xs at ys) ≡ drop (at + length zs) xs =
+    ap (λ k. drop k (overwritten xs at ys)) split
+    ∙ (sym (drop-drop n (at + length ys) (overwritten xs at ys))
+    ∙ (ap (drop n) (drop_at (take at xs ++ ys) (drop (at + length ys) xs) (at + length ys) written) ∙ (drop-drop n (at + length ys) xs ∙ ap (λ k. drop k xs) (sym split)))) in
+    ap (λ z. (take at z ++ zs) ++ drop (at + length zs) (overwritten xs at ys)) (append_assoc (take at xs) ys (drop (at + length ys) xs))
+    ∙ (ap (λ z. (z ++ zs) ++ drop (at + length zs) (overwritten xs at ys)) (take_at (take at xs) (ys ++ drop (at + length ys) xs) at front)
+    ∙ ap (λ z. (take at xs ++ zs) ++ z) past)
+
+-- a write of what is there
+pub same-written : (xs : List ℕ) (at n : ℕ) → at + n ≤ length xs → overwritten xs at (take n (drop at xs)) ≡ xs
+same-written xs at n h =
+    let count : length (take n (drop at xs)) ≡ n = length-take-le n (drop at xs) (omega (arith, length-drop at xs)) in
+    ap (λ k. (take at xs ++ take n (drop at xs)) ++ drop (at + k) xs) count
+    ∙ (ap (λ z. z ++ drop (at + n) xs) (sym (take-add at n xs)) ∙ take-append-drop (at + n) xs)
+
+-- a part of what was written
+pub part-of-written : (xs ys : List ℕ) (at n : ℕ) → at ≤ length xs → n ≤ length ys → take n (drop at (overwritten xs at ys)) ≡ take n ys
+part-of-written xs ys at n h k =
+    sym (take-take n (length ys) (drop at (overwritten xs at ys)) k) ∙ ap (take n) (part-overwritten xs ys at h)

@@ -55,7 +55,7 @@ with-bytes-there t bytes = record { pc = low (t.pc + 4); registers = t.registers
 region-holds : (y : Layout) (Used Next : ℕ → Type 0) (w : World) (base : ℕ) (t : State) (bytes : List ℕ) (r : Contents) → Holds y Used w base t → AreFewer Used Next →
     bytes ≡ r.bytes → length r.bytes ≡ length w.region.bytes → r.heap ≡ w.region.heap → AreBytes r.bytes → Holds y Next (with_region w r) base (with-bytes-there t bytes)
 region-holds y Used Next w base t bytes r p f c e g are = record {
-  frame = record { pointer = p.frame.pointer; within = p.frame.within; private = p.frame.private };
+  frame = record { pointer = p.frame.pointer; within = p.frame.within; private = p.frame.private; bytes = p.frame.bytes };
   pc = low-below (t.pc + 4);
   values = λ x u. same (home_of y x) (p.values x (f x u));
   words = λ x u. p.words x (f x u);

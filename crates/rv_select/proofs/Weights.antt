@@ -1,10 +1,12 @@
 -- The code of an instruction keeps within its weight.
-use Rattle.std.proofs.Common.{ℕ, ◌+◌, ◌≤◌, List, [], ◌∷◌, ◌++◌, length, arith}
+use Rattle.std.proofs.Common.{ℕ, ◌+◌, ◌/◌, ◌≤◌, List, [], ◌∷◌, ◌++◌, length, arith}
+use Rattle.std.proofs.lemmas.Bool.{leb-true}
 use Rattle.std.proofs.lemmas.List.{length-append}
 use Rattle.tl_base.specs.declared.place.Place.{Place}
 use Rattle.rv_isa.specs.declared.instr.Instr.{Instr}
 use Rattle.rv_isa.specs.declared.instr.Instr.TheVariants as instrs
 use Rattle.rv_isa.specs.declared.operation.BranchCondition.TheVariants.{Ne}
+use Rattle.rv_isa.specs.declared.operation.ImmediateOp.TheVariants.{Addi}
 use Rattle.terra_words.specs.declared.words.FaultKind.TheVariants.{BadAddress, DivZero}
 use Rattle.tac_form.specs.declared.tac.Operand.{Operand}
 use Rattle.tac_form.specs.declared.tac.Address.TheVariants.{Word, Frame}
@@ -14,12 +16,14 @@ use Rattle.tac_form.specs.Flow.{bytes_of, width_of}
 use Rattle.rv_operators.specs.Codes.{x0, x5, x6, code_of, zero_immediate}
 use Rattle.rv_operators.proofs.Short.{code-short}
 use Rattle.rv_select.specs.Places.{Layout, area_offset, home_of}
-use Rattle.rv_select.specs.Shapes.{bounds_tested, failed, framed, load_of, located, over, put_to, reached, store_of, taken}
+use Rattle.rv_select.specs.Shapes.{area_reached, bounds_tested, byte_taken, failed, framed, load_of, located, over, put_to, reached, store_of, taken, zeros}
 use Rattle.rv_select.specs.Steps.{ShapesKeepWithin}
 use Rattle.rv_select.proofs.Frames.{framed-count}
 use Rattle.rv_select.proofs.Homes.{put-count, taken-count}
 use Rattle.rv_select.proofs.Faults.{failed-count}
 use Rattle.rv_select.proofs.Divisors.{located-count}
+use Rattle.rv_select.proofs.Clears.{zeros-count}
+use Rattle.rv_select.proofs.Outputs.{byte-count}
 
 -- most words of two pieces of code
 both : (a b : List Instr) (n k : ℕ) → length a ≤ n → length b ≤ k → length (a ++ b) ≤ n + k
@@ -73,9 +77,12 @@ within y (Store (spots.Area n offset) size b) h =
     (both (taken y x6 b) (framed (λ r far. instrs.Store (store_of size) r x6 far) (area_offset y n + offset)) 8 3 (taken-count y x6 b)
     (framed-count (λ r far. instrs.Store (store_of size) r x6 far) (area_offset y n + offset)))
 within y (Move to from size) h = cc
-within y (Clear n size) h = cc
+within y (Clear n size) h =
+    let most : size ≤ 128 = leb-true size 128 h in
+    both (area_reached y x5 n 0) (zeros ((size + 7) / 8) 0) 3 16 (framed-count (λ r far. instrs.RegisterImmediate Addi x5 r far) (area_offset y n + 0))
+    (omega (arith, zeros-count ((size + 7) / 8) 0))
 within y (Call to at f arguments) h = cc
 within y (CallValue to at sig a arguments) h = cc
-within y (PutByte a) h = cc
+within y (PutByte a) h = more 11 14 _ (omega arith) (both (byte_taken y x5 a) _ 3 8 (byte-count y a) (omega arith))
 within y (Write at a b) h = cc
 within y (Alloc d a) h = cc

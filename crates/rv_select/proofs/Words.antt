@@ -38,6 +38,16 @@ unfolding low_bytes
 low-are-bytes zero v = tt
 low-are-bytes (suc n) v = (omega arith, low-are-bytes n (v / 256))
 
+-- bytes are those of their number
+pub number-bytes : (bs : List ℕ) → AreBytes bs → low_bytes (length bs) (number_of bs) ≡ bs
+unfolding low_bytes number_of
+number-bytes [] h = refl
+number-bytes (b ∷ bs) h =
+    let first : (b + 256 * number_of bs) % 256 ≡ b = omega (arith, h.0) in
+    let rest : (b + 256 * number_of bs) / 256 ≡ number_of bs = omega (arith, h.0) in
+    ap (λ x. x ∷ low_bytes (length bs) ((b + 256 * number_of bs) / 256)) first
+    ∙ ap (λ xs. b ∷ xs) (ap (low_bytes (length bs)) rest ∙ number-bytes bs h.1)
+
 pub overwritten-bytes : (xs ys : List ℕ) (at : ℕ) → AreBytes xs → AreBytes ys → AreBytes (overwritten xs at ys)
 overwritten-bytes xs ys at h k =
     both-bytes (take at xs ++ ys) (drop (at + length ys) xs) (both-bytes (take at xs) ys (take-bytes at xs h) k) (drop-bytes (at + length ys) xs h)

@@ -72,15 +72,16 @@ abbrev pub word_at : (base : ℕ) → State → Home → ℕ
 word_at base m (Register x) = m.registers x
 word_at base m (Slot k) = private_word m (base + slot_offset k)
 
+abbrev pub AreBytes : List ℕ → Type 0
+AreBytes [] = Unit {0}
+AreBytes (b ∷ bs) = (b < 256) × AreBytes bs
+
 -- The frame lies in private memory, and x2 is its address. Private memory is of a size that an image may ask for.
 pub record HasFrame (y : Layout) (base : ℕ) (m : State) : Type 0 where
   pub pointer : m.registers 2 ≡ 2 ^ 32 + base
   pub within : base + frame_bytes y ≤ length m.private
   pub private : length m.private ≤ 603979776
-
-abbrev pub AreBytes : List ℕ → Type 0
-AreBytes [] = Unit {0}
-AreBytes (b ∷ bs) = (b < 256) × AreBytes bs
+  pub bytes : AreBytes m.private
 
 -- What three-address code sees: the temporaries and areas of an activation, the region, the address of the activation's frame
 -- in the region, and how many calls wait.

@@ -39,6 +39,7 @@ use Rattle.tac_form.specs.declared.tac.Exit.TheVariants as exits
 use Rattle.tac_form.specs.declared.tac.Instruction.{Instruction}
 use Rattle.tac_form.specs.declared.tac.Instruction.TheVariants as instructions
 use Rattle.tac_form.specs.Flow.{bytes_of, width_of}
+use Rattle.tac_form.specs.Weights.{most_moved}
 use Rattle.rv_operators.specs.Codes.{x0, x5, x6, code_of, zero_immediate}
 use Rattle.rv_select.specs.Numbers.{constant, immediate_of, below_zero, lower_of, register_of, upper_of}
 use Rattle.rv_select.specs.Places.{Layout, area_offset, home_of, slot_offset}
@@ -243,9 +244,12 @@ bytes_moved y (spots.Area n offset) (spots.Region at a) size =
 bytes_moved y (spots.Region at a) (spots.Region other b) size = []
 
 -- zeros, eight at a time, from where x5 points. The bytes of an area behind those that it holds may be any
+abbrev pub zero_put : ℕ → Instr
+zero_put at = Store Sd x5 x0 (immediate_of at)
+
 abbrev pub zeros : ℕ → (at : ℕ) → List Instr
 zeros zero at = []
-zeros (suc n) at = Store Sd x5 x0 (immediate_of at) ∷ zeros n (at + 8)
+zeros (suc n) at = zero_put at ∷ zeros n (at + 8)
 
 abbrev pub cleared : Layout → ℕ → ℕ → List Instr
 cleared y n size = area_reached y x5 n 0 ++ zeros ((size + 7) / 8) 0
@@ -261,14 +265,18 @@ byte_taken y d (Temp t) = taken y d (Temp t)
 byte_taken y d (Constant c) = constant d (c % 256)
 
 -- One byte is written from the word of the return address, which x6 keeps meanwhile.
-abbrev pub byte_put : Layout → Operand → List Instr
-byte_put y a =
-    byte_taken y x5 a
-    ++ (Load Ld x6 x2 zero_immediate
-    ∷ Store Sb x2 x5 zero_immediate
-    ∷ moved x11 x2
+abbrev pub byte_stored : List Instr
+byte_stored = Load Ld x6 x2 zero_immediate ∷ Store Sb x2 x5 zero_immediate ∷ []
+
+abbrev pub byte_written : List Instr
+byte_written =
+    byte_stored
+    ++ (moved x11 x2
     ∷ RegisterImmediate Addi x12 x0 (immediate_of 1)
     ∷ (write_call ++ Store Sd x2 x6 zero_immediate ∷ []))
+
+abbrev pub byte_put : Layout → Operand → List Instr
+byte_put y a = byte_taken y x5 a ++ byte_written
 
 -- Bytes of the region are written. No bytes lie anywhere, and a count below zero is larger than every region.
 abbrev pub range_tested : Place → List Instr
@@ -335,6 +343,8 @@ has_shape (instructions.Copy d a) = true
 has_shape (instructions.Locate d offset) = true
 has_shape (instructions.Load d form spot) = true
 has_shape (instructions.Store spot size a) = true
+has_shape (instructions.Clear n size) = nat_le size most_moved
+has_shape (instructions.PutByte a) = true
 has_shape _ = false
 
 -- A jump from an address to another, both below 2 ^ 30: how far it is, in 32 bits, in two parts.

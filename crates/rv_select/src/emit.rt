@@ -2,6 +2,7 @@
 
 ghost use Rattle.std.specs.Prelude.{◌≡◌, ◌+◌, ◌^◌, ◌<◌, ◌≤◌, [], ◌∷◌, ◌++◌, map, length, nat_eq, IfOk, OnOk};
 ghost use Rattle.rv_isa.specs.declared.instr.Instr.TheVariants as instrs;
+ghost use Rattle.rv_isa.specs.declared.operation.ImmediateOp.TheVariants as immediates;
 ghost use Rattle.rv_isa.specs.Table.{word_of};
 ghost use Rattle.rv_select.specs.Numbers.{constant, long_constant, moved_up, short_constant};
 ghost use Rattle.rv_machine.specs.Word.{extended_word};
@@ -202,6 +203,37 @@ pub(crate) fn push_frame_store(
             rs1: X7,
             rs2,
             offset: lower(offset),
+        },
+    )
+}
+
+/// A register gets the address of an offset of the frame.
+pub(crate) fn push_frame_address(
+    code: &mut Vec<u32>,
+    rd: Register,
+    offset: u64,
+) -> Result<(), NoMemory>
+    ensures { OnOk result (code.new.items ≡ code.old.items ++ map word_of (framed (λ r far. instrs.RegisterImmediate immediates.Addi rd r far) offset)) }
+{
+    if offset <= 2047 {
+        return put(
+            code,
+            Instr::RegisterImmediate {
+                op: ImmediateOp::Addi,
+                rd,
+                rs1: X2,
+                imm: immediate(offset),
+            },
+        );
+    }
+    push_far(code, offset)?;
+    put(
+        code,
+        Instr::RegisterImmediate {
+            op: ImmediateOp::Addi,
+            rd,
+            rs1: X7,
+            imm: lower(offset),
         },
     )
 }

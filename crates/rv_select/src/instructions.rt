@@ -7,9 +7,9 @@ ghost use Rattle.terra_words.specs.Words.{fault_number};
 ghost use Rattle.tac_form.specs.Flow.{bytes_of, width_of};
 ghost use Rattle.rv_operators.specs.Codes.{code_of, x5, x6, zero_immediate};
 ghost use Rattle.rv_select.specs.Places.{home_of, with_homes};
-ghost use Rattle.rv_select.specs.Shapes.{bounds_tested, computed, copied, divisor_tested, failed, fault_call, branched_over, has_shape, load_of, loaded, located, place_number, put_to, reached, shape_of, small, store_of, stored, taken};
+ghost use Rattle.rv_select.specs.Shapes.{area_reached, bounds_tested, byte_put, byte_stored, byte_taken, byte_written, cleared, computed, copied, divisor_tested, failed, fault_call, branched_over, has_shape, load_of, loaded, located, place_number, put_to, reached, shape_of, small, store_of, stored, taken, write_call, zero_put, zeros};
 
-use crate::emit::{X0, X5, X6, area_offset, constant_words, push_constant, push_frame_load, push_frame_store, push_put, push_taken, put};
+use crate::emit::{X0, X2, X5, X6, area_offset, constant_words, push_constant, push_frame_address, push_frame_load, push_frame_store, push_moved, push_put, push_taken, put};
 use crate::operands::{below_zero, immediate, offset, upper};
 use reg_alloc::Home;
 use rv_isa::{
@@ -30,6 +30,11 @@ const X10: Register = Register { number: 10 };
 const X11: Register = Register { number: 11 };
 
 const X17: Register = Register { number: 17 };
+
+const X12: Register = Register { number: 12 };
+
+/// The number of the machine's call that writes bytes.
+const WRITE_CALL: u64 = 64;
 
 /// The number of the machine's call that ends a run by a fault.
 const FAULT_CALL: u64 = 1024;
@@ -55,6 +60,8 @@ pub fn push_instruction(
         Instruction::Locate(temp, offset) => push_address(code, homes, *temp, *offset),
         Instruction::Load(temp, form, spot) => push_loaded(code, homes, *temp, *form, *spot),
         Instruction::Store(spot, size, a) => push_stored(code, homes, *spot, *size, *a),
+        Instruction::Clear(area, size) => push_cleared(code, homes, *area, *size),
+        Instruction::PutByte(a) => push_byte_put(code, homes, *a),
         _ => Ok(()),
     }
 }
@@ -454,4 +461,133 @@ fn push_store(code: &mut Vec<u32>, size: Size) -> Result<(), NoMemory>
             offset: Immediate { value: 0 },
         },
     )
+}
+
+/// The bytes of an area are zeros.
+fn push_cleared(
+    code: &mut Vec<u32>,
+    homes: &[Option<Home>],
+    area: u64,
+    size: u64,
+) -> Result<(), NoMemory>
+    requires { size ≤ 128 }
+    ensures { OnOk result (code.new.items ≡ code.old.items ++ map word_of (cleared (with_homes homes.now) area size)) }
+{
+    push_area_address(code, homes, X5, area, 0)?;
+    push_zeros(code, size.div_ceil(8), 0)
+}
+
+/// A register gets the address of a byte of an area.
+fn push_area_address(
+    code: &mut Vec<u32>,
+    homes: &[Option<Home>],
+    rd: Register,
+    area: u64,
+    offset: u64,
+) -> Result<(), NoMemory>
+    ensures { OnOk result (code.new.items ≡ code.old.items ++ map word_of (area_reached (with_homes homes.now) rd area offset)) }
+{
+    push_frame_address(code, rd, area_offset(homes, area, offset)?)
+}
+
+/// So many words of zeros at an offset from where x5 points.
+fn push_zeros(code: &mut Vec<u32>, words: u64, at: u64) -> Result<(), NoMemory>
+    requires { at + 8 * words ≤ 128 }
+    ensures { OnOk result (code.new.items ≡ code.old.items ++ map word_of (zeros words at)) }
+{
+    if words == 0 {
+        return Ok(());
+    }
+    push_zero(code, at)?;
+    push_zeros(code, words - 1, at + 8)
+}
+
+/// A word of zeros at an offset from where x5 points.
+fn push_zero(code: &mut Vec<u32>, at: u64) -> Result<(), NoMemory>
+    requires { at ≤ 2047 }
+    ensures { OnOk result (code.new.items ≡ code.old.items ++ word_of (zero_put at) ∷ []) }
+{
+    put(
+        code,
+        Instr::Store {
+            op: StoreOp::Sd,
+            rs1: X5,
+            rs2: X0,
+            offset: immediate(at),
+        },
+    )
+}
+
+/// One byte goes to the output.
+fn push_byte_put(code: &mut Vec<u32>, homes: &[Option<Home>], a: Operand) -> Result<(), NoMemory>
+    ensures { OnOk result (code.new.items ≡ code.old.items ++ map word_of (byte_put (with_homes homes.now) a)) }
+{
+    push_byte_taken(code, homes, a)?;
+    push_byte_written(code)
+}
+
+/// x5 gets an operand whose low byte alone matters.
+fn push_byte_taken(
+    code: &mut Vec<u32>,
+    homes: &[Option<Home>],
+    a: Operand,
+) -> Result<(), NoMemory>
+    ensures { OnOk result (code.new.items ≡ code.old.items ++ map word_of (byte_taken (with_homes homes.now) x5 a)) }
+{
+    match a {
+        Operand::Temp(_) => push_first(code, homes, a),
+        Operand::Constant(number) => push_constant(code, X5, number % 256),
+    }
+}
+
+/// The byte in x5 is written from the word of the return address, which x6 keeps meanwhile.
+fn push_byte_written(code: &mut Vec<u32>) -> Result<(), NoMemory>
+    ensures { OnOk result (code.new.items ≡ code.old.items ++ map word_of byte_written) }
+{
+    push_byte_stored(code)?;
+    push_moved(code, X11, X2)?;
+    push_small(code, X12, 1)?;
+    push_write_call(code)?;
+    put(
+        code,
+        Instr::Store {
+            op: StoreOp::Sd,
+            rs1: X2,
+            rs2: X6,
+            offset: Immediate { value: 0 },
+        },
+    )
+}
+
+/// x6 gets the word of the return address, whose first byte becomes that in x5.
+fn push_byte_stored(code: &mut Vec<u32>) -> Result<(), NoMemory>
+    ensures { OnOk result (code.new.items ≡ code.old.items ++ map word_of byte_stored) }
+{
+    put(
+        code,
+        Instr::Load {
+            op: LoadOp::Ld,
+            rd: X6,
+            rs1: X2,
+            offset: Immediate { value: 0 },
+        },
+    )?;
+    put(
+        code,
+        Instr::Store {
+            op: StoreOp::Sb,
+            rs1: X2,
+            rs2: X5,
+            offset: Immediate { value: 0 },
+        },
+    )
+}
+
+/// The call that writes x12 bytes from x11 on.
+fn push_write_call(code: &mut Vec<u32>) -> Result<(), NoMemory>
+    ensures { OnOk result (code.new.items ≡ code.old.items ++ map word_of write_call) }
+{
+    push_small(code, X10, 1)?;
+    push_small(code, X17, WRITE_CALL)?;
+    put(code, Instr::Ecall)
 }
