@@ -1,18 +1,18 @@
 -- Each instruction at its place in a function's code.
-use Rattle.std.proofs.Common.{◌≡◌, ◌≢◌, ℕ, zero, suc, ◌+◌, ◌%◌, ◌^◌, ◌<◌, ◌≤◌, Bool, true, false, ◌&&◌, ◌||◌, List, [], ◌∷◌, ◌++◌, length, Option, Some, None, refl, sym, ap, ◌∙◌, ⊎_elim, inl, inr, arith}
+use Rattle.std.proofs.Common.{◌≡◌, ◌≢◌, ℕ, zero, suc, ◌+◌, ◌-◌, ◌%◌, ◌^◌, ◌<◌, ◌≤◌, Bool, true, false, ◌&&◌, ◌||◌, List, [], ◌∷◌, ◌++◌, length, Option, Some, None, refl, sym, ap, ◌∙◌, subst, ⊎_elim, inl, inr, arith}
 use Rattle.std.specs.Prelude.{if◌then◌else◌, nat_eq, nat_le, nat_lt, slice_get, unwrap_or, ◌⊎◌}
 use Rattle.std.specs.List.{list_all}
-use Rattle.std.proofs.lemmas.Bool.{cases_Bool, eq-eqb, eqb-true, leb-true, ltb-true}
+use Rattle.std.proofs.lemmas.Bool.{cases_Bool, cases_eq, cases_lt, eq-eqb, eqb-true, leb-true, ltb-true}
 use Rattle.std.proofs.lemmas.List.{append-nil}
 use Rattle.tl_base.specs.declared.place.Place.{Place}
 use Rattle.rv_isa.specs.declared.instr.Instr.{Instr}
 use Rattle.reg_alloc.specs.declared.assignment.Home.{Home}
 use Rattle.rv_machine.specs.Machine.{State}
-use Rattle.terra_memory.specs.Region.{Contents, end_address, range_of}
+use Rattle.terra_memory.specs.Region.{Contents, end_address, first_address, range_of}
 use Rattle.terra_words.specs.declared.words.BinaryOperator.{BinaryOperator}
-use Rattle.terra_memory.specs.Numbers.{low_bytes, number_of}
+use Rattle.terra_memory.specs.Numbers.{low_bytes, number_of, part}
 use Rattle.terra_words.specs.declared.words.FaultKind.TheVariants.{BadAddress}
-use Rattle.terra_words.specs.Words.{divides, wrapped}
+use Rattle.terra_words.specs.Words.{divides, is_negative, wrapped}
 use Rattle.terra_words.specs.Runs.{put_bytes}
 use Rattle.tac_form.specs.declared.tac.Number.{Number}
 use Rattle.tac_form.specs.declared.tac.Size.{Size}
@@ -31,17 +31,19 @@ use Rattle.tac_form.specs.Live.{InUse, has, is_written}
 use Rattle.tac_form.specs.Fits.{area_fits, area_there, operand_fits, place_fits, spot_fits}
 use Rattle.tac_form.specs.Weights.{most_moved, words_of}
 use Rattle.rv_select.specs.Places.{IsRead, layout_of, value_in}
-use Rattle.rv_select.specs.Shapes.{loaded, shape_of, stored}
+use Rattle.rv_select.specs.Shapes.{loaded, range_written, shape_of, stored}
 use Rattle.rv_select.specs.Steps.{AreFewer, Carried, Comes, Ends, Follows, IsPlace, InstructionsAreCarried, StandsBefore, behind, with_temp, world_of}
 use Rattle.rv_select.proofs.Claims.{IsReached, address_in, with_region}
 use Rattle.rv_select.proofs.Lives.{housed, read-live, step-in-graph, use-follows, write-used}
 use Rattle.rv_select.proofs.Moves.{copies, operators}
 use Rattle.rv_select.proofs.Divisors.{addresses, divisors}
-use Rattle.rv_select.proofs.Regions.{region-loads}
+use Rattle.rv_select.proofs.Regions.{insides, region-loads}
 use Rattle.rv_select.proofs.Stores.{region-stores}
 use Rattle.rv_select.proofs.Areas.{area-loads, area-stores}
 use Rattle.rv_select.proofs.Clears.{clears}
-use Rattle.rv_select.proofs.Outputs.{byte-puts}
+use Rattle.rv_select.proofs.Printed.{byte-puts}
+use Rattle.rv_select.proofs.Ranges.{RangeWritten, range-inside, range-none, range-outside, ranges}
+use Rattle.rv_select.proofs.Allocs.{allocs}
 
 pub both-true : (a b : Bool) → (a && b) ≡ true → (a ≡ true) × (b ≡ true)
 both-true true b e = (refl, e)
@@ -383,6 +385,129 @@ carry-byte p code homes a s program base m x =
           (operand-read code (used code s) a x.fits (reads p code homes i s program base m x)) (fewer p code homes i s program base m x refl),
     )
 
+carry-alloc : (p : Program) (code : Tac) (homes : List (Option Home)) (d : ℕ) (a : Operand) (s : tac.State) (program : List (Option Instr)) (base : ℕ) (m : State) →
+    StandsBefore p code homes (Alloc d a) s program base m →
+    Carried (layout_of code homes) (graph_of code) program base 29 (shape_of (layout_of code homes) (Alloc d a)) s m (step p s)
+carry-alloc p code homes d a s program base m x =
+    let fit = both-true (nat_lt d code.temps) (operand_fits code a) x.fits in
+    let i : Instruction = Alloc d a in
+    let e1 = x.function in
+    let e2 = x.in_function in
+    let e3 = x.in_block in
+    rw (e1, e2, e3) (
+      [],
+      nothing-written s.out,
+      allocs (layout_of code homes) d a (used code s) (next code s) (world_of s) base program m x.stands x.holds
+          (housed code homes s.here.block s.here.at x.right) (housed code homes s.here.block (suc s.here.at) x.right)
+          (operand-read code (used code s) a fit.1 (reads p code homes i s program base m x))
+          (written-next p code homes i s program base m d x refl) (follows p code homes i s program base m d x refl),
+    )
+
+-- a range that is written, by where it lies
+module _ (p : Program) (code : Tac) (homes : List (Option Home)) (at : Place) (a b : Operand) (s : tac.State) (program : List (Option Instr)) (base : ℕ) (m : State)
+    (x : StandsBefore p code homes (Write at a b) s program base m) where
+  abbrev va : ℕ
+  va = value_in s.here.temps a
+
+  abbrev vb : ℕ
+  vb = value_in s.here.temps b
+
+  range-result : RangeWritten (layout_of code homes) program (next code s) (world_of s) base va vb (behind m (range_written (layout_of code homes) at a b)) at m
+  range-result =
+      let fit = both-true (place_fits at && operand_fits code a) (operand_fits code b) x.fits in
+      let fit-a = both-true (place_fits at) (operand_fits code a) fit.0 in
+      let i : Instruction = Write at a b in
+      ranges (layout_of code homes) at a b (used code s) (next code s) (world_of s) base program m x.stands (place-small at fit-a.0)
+      (operand-read code (used code s) a fit-a.1 (λ t u. reads p code homes i s program base m x t (has-left (operand_reads a) (operand_reads b) t u)))
+      (operand-read code (used code s) b fit.1 (λ t u. reads p code homes i s program base m x t (has-right (operand_reads a) (operand_reads b) t u)))
+      x.holds (housed code homes s.here.block s.here.at x.right) (fewer p code homes i s program base m x refl)
+
+  write-goes : (bs : List ℕ) → range_of s.region va vb ≡ Some bs → Comes (layout_of code homes) program (next code s) (world_of s) base 40 (behind m (range_written (layout_of code homes) at a b)) bs m
+  write-goes bs e =
+      ⊎_elim
+      (λ none.
+      let q : range_of s.region va vb ≡ Some [] = range-none s.region va vb none in
+      let same : [] ≡ bs = cc in
+      subst (λ z. Comes (layout_of code homes) program (next code s) (world_of s) base 40 (behind m (range_written (layout_of code homes) at a b)) z m) same (range-result.nothing none))
+      (λ many.
+      ⊎_elim
+      (λ i.
+      let q : range_of s.region va vb ≡ Some (part s.region.bytes (va - first_address) vb) = range-inside s.region va vb many i.0 i.1 in
+      let same : part s.region.bytes (va - first_address) vb ≡ bs = cc in
+      subst (λ z. Comes (layout_of code homes) program (next code s) (world_of s) base 40 (behind m (range_written (layout_of code homes) at a b)) z m) same (range-result.inside many i.0 i.1))
+      (λ o. let q : range_of s.region va vb ≡ None = range-outside s.region va vb many o in let none : Some bs ≡ None = sym e ∙ q in cc)
+      (insides s.region va vb))
+      (cases_eq vb 0)
+
+  write-none : range_of s.region va vb ≡ None → Ends program BadAddress at 40 m
+  write-none e =
+      ⊎_elim (λ none. let q : range_of s.region va vb ≡ Some [] = range-none s.region va vb none in let no : Some [] ≡ None = sym q ∙ e in cc)
+      (λ many.
+      ⊎_elim
+      (λ i.
+      let q : range_of s.region va vb ≡ Some (part s.region.bytes (va - first_address) vb) = range-inside s.region va vb many i.0 i.1 in
+      let no : Some (part s.region.bytes (va - first_address) vb) ≡ None = sym q ∙ e in cc)
+      (λ o. range-result.outside many o) (insides s.region va vb))
+      (cases_eq vb 0)
+
+  write-below : is_negative vb ≡ true → Ends program BadAddress at 40 m
+  write-below h =
+      let large : 2 ^ 63 ≤ vb = leb-true (2 ^ 63) vb h in
+      let most : length s.region.bytes ≤ 67108864 = x.holds.lawful.sized.2 in
+      range-result.outside (λ z. omega (arith, z, large)) (⊎_elim (λ k. inl k) (λ k. inr (k, omega arith)) (cases_lt va first_address))
+
+write-step : (p : Program) (code : Tac) (homes : List (Option Home)) (at : Place) (a b : Operand) (s : tac.State) (program : List (Option Instr)) (base : ℕ) (m : State) →
+    StandsBefore p code homes (Write at a b) s program base m →
+    (is_negative (value_in s.here.temps b) ≡ true → Ends program BadAddress at 40 m) →
+    (range_of s.region (value_in s.here.temps a) (value_in s.here.temps b) ≡ None → Ends program BadAddress at 40 m) →
+    ((bs : List ℕ) → range_of s.region (value_in s.here.temps a) (value_in s.here.temps b) ≡ Some bs →
+    Comes (layout_of code homes) program (next code s) (world_of s) base 40 (behind m (range_written (layout_of code homes) at a b)) bs m) →
+    (range_of s.region (value_in s.here.temps a) (value_in s.here.temps b) ≡ None) ⊎ ((bs : List ℕ) × (range_of s.region (value_in s.here.temps a) (value_in s.here.temps b) ≡ Some bs)) →
+    Carried (layout_of code homes) (graph_of code) program base 40 (shape_of (layout_of code homes) (Write at a b)) s m (step p s)
+write-step p code homes at (Temp t) (Temp u) s program base m x below none goes o =
+    let e1 = x.function in
+    let e2 = x.in_function in
+    let e3 = x.in_block in
+    ⊎_elim
+    (λ e4. rw (e1, e2, e3) (rw e4 (by-test (λ moved. Carried (layout_of code homes) (graph_of code) program base 40 (shape_of (layout_of code homes) (Write at (Temp t) (Temp u))) s m moved) (is_negative (s.here.temps u)) _ _ (λ h. (refl, below h)) (λ h. (refl, none e4)))))
+    (λ q.
+    let e4 = q.1 in
+    rw (e1, e2, e3) (rw e4 (by-test (λ moved. Carried (layout_of code homes) (graph_of code) program base 40 (shape_of (layout_of code homes) (Write at (Temp t) (Temp u))) s m moved) (is_negative (s.here.temps u)) _ _ (λ h. (refl, below h)) (λ h. (q.0, refl, goes q.0 e4))))) o
+write-step p code homes at (Temp t) (Constant e) s program base m x below none goes o =
+    let e1 = x.function in
+    let e2 = x.in_function in
+    let e3 = x.in_block in
+    ⊎_elim
+    (λ e4. rw (e1, e2, e3) (rw e4 (by-test (λ moved. Carried (layout_of code homes) (graph_of code) program base 40 (shape_of (layout_of code homes) (Write at (Temp t) (Constant e))) s m moved) (is_negative e) _ _ (λ h. (refl, below h)) (λ h. (refl, none e4)))))
+    (λ q.
+    let e4 = q.1 in
+    rw (e1, e2, e3) (rw e4 (by-test (λ moved. Carried (layout_of code homes) (graph_of code) program base 40 (shape_of (layout_of code homes) (Write at (Temp t) (Constant e))) s m moved) (is_negative e) _ _ (λ h. (refl, below h)) (λ h. (q.0, refl, goes q.0 e4))))) o
+write-step p code homes at (Constant c) (Temp u) s program base m x below none goes o =
+    let e1 = x.function in
+    let e2 = x.in_function in
+    let e3 = x.in_block in
+    ⊎_elim
+    (λ e4. rw (e1, e2, e3) (rw e4 (by-test (λ moved. Carried (layout_of code homes) (graph_of code) program base 40 (shape_of (layout_of code homes) (Write at (Constant c) (Temp u))) s m moved) (is_negative (s.here.temps u)) _ _ (λ h. (refl, below h)) (λ h. (refl, none e4)))))
+    (λ q.
+    let e4 = q.1 in
+    rw (e1, e2, e3) (rw e4 (by-test (λ moved. Carried (layout_of code homes) (graph_of code) program base 40 (shape_of (layout_of code homes) (Write at (Constant c) (Temp u))) s m moved) (is_negative (s.here.temps u)) _ _ (λ h. (refl, below h)) (λ h. (q.0, refl, goes q.0 e4))))) o
+write-step p code homes at (Constant c) (Constant e) s program base m x below none goes o =
+    let e1 = x.function in
+    let e2 = x.in_function in
+    let e3 = x.in_block in
+    ⊎_elim
+    (λ e4. rw (e1, e2, e3) (rw e4 (by-test (λ moved. Carried (layout_of code homes) (graph_of code) program base 40 (shape_of (layout_of code homes) (Write at (Constant c) (Constant e))) s m moved) (is_negative e) _ _ (λ h. (refl, below h)) (λ h. (refl, none e4)))))
+    (λ q.
+    let e4 = q.1 in
+    rw (e1, e2, e3) (rw e4 (by-test (λ moved. Carried (layout_of code homes) (graph_of code) program base 40 (shape_of (layout_of code homes) (Write at (Constant c) (Constant e))) s m moved) (is_negative e) _ _ (λ h. (refl, below h)) (λ h. (q.0, refl, goes q.0 e4))))) o
+
+carry-write : (p : Program) (code : Tac) (homes : List (Option Home)) (at : Place) (a b : Operand) (s : tac.State) (program : List (Option Instr)) (base : ℕ) (m : State) →
+    StandsBefore p code homes (Write at a b) s program base m →
+    Carried (layout_of code homes) (graph_of code) program base 40 (shape_of (layout_of code homes) (Write at a b)) s m (step p s)
+carry-write p code homes at a b s program base m x =
+    write-step p code homes at a b s program base m x (write-below p code homes at a b s program base m x) (write-none p code homes at a b s program base m x)
+    (write-goes p code homes at a b s program base m x) (some-or-none (range_of s.region (value_in s.here.temps a) (value_in s.here.temps b)))
+
 pub instructions : InstructionsAreCarried
 instructions p code homes (Compute d op form a b) s program base m h x = carry-compute p code homes d op form a b s program base m x
 instructions p code homes (TestDivisor at a) s program base m h x = carry-test p code homes at a s program base m x
@@ -397,5 +522,5 @@ instructions p code homes (Clear n size) s program base m h x = carry-clear p co
 instructions p code homes (Call to at f arguments) s program base m h x = cc
 instructions p code homes (CallValue to at sig a arguments) s program base m h x = cc
 instructions p code homes (PutByte a) s program base m h x = carry-byte p code homes a s program base m x
-instructions p code homes (Write at a b) s program base m h x = cc
-instructions p code homes (Alloc d a) s program base m h x = cc
+instructions p code homes (Write at a b) s program base m h x = carry-write p code homes at a b s program base m x
+instructions p code homes (Alloc d a) s program base m h x = carry-alloc p code homes d a s program base m x

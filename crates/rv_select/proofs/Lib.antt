@@ -16,7 +16,9 @@ pub mod Stores
 pub mod Areas
 pub mod Clears
 pub mod Calm
-pub mod Outputs
+pub mod Printed
+pub mod Ranges
+pub mod Allocs
 pub mod Lives
 pub mod Carries
 pub mod Weights

@@ -5,7 +5,7 @@ use Rattle.std.proofs.lemmas.List.{length-append}
 use Rattle.tl_base.specs.declared.place.Place.{Place}
 use Rattle.rv_isa.specs.declared.instr.Instr.{Instr}
 use Rattle.rv_isa.specs.declared.instr.Instr.TheVariants as instrs
-use Rattle.rv_isa.specs.declared.operation.BranchCondition.TheVariants.{Ne}
+use Rattle.rv_isa.specs.declared.operation.BranchCondition.TheVariants.{Eq, Ne}
 use Rattle.rv_isa.specs.declared.operation.ImmediateOp.TheVariants.{Addi}
 use Rattle.terra_words.specs.declared.words.FaultKind.TheVariants.{BadAddress, DivZero}
 use Rattle.tac_form.specs.declared.tac.Operand.{Operand}
@@ -16,14 +16,14 @@ use Rattle.tac_form.specs.Flow.{bytes_of, width_of}
 use Rattle.rv_operators.specs.Codes.{x0, x5, x6, code_of, zero_immediate}
 use Rattle.rv_operators.proofs.Short.{code-short}
 use Rattle.rv_select.specs.Places.{Layout, area_offset, home_of}
-use Rattle.rv_select.specs.Shapes.{area_reached, bounds_tested, byte_taken, failed, framed, load_of, located, over, put_to, reached, store_of, taken, zeros}
+use Rattle.rv_select.specs.Shapes.{area_reached, bounds_tested, byte_taken, bytes_given, failed, framed, heap_aligned, limit_found, load_of, located, over, put_to, range_tested, reached, store_of, taken, write_call, x11, x12, zeros}
 use Rattle.rv_select.specs.Steps.{ShapesKeepWithin}
 use Rattle.rv_select.proofs.Frames.{framed-count}
 use Rattle.rv_select.proofs.Homes.{put-count, taken-count}
 use Rattle.rv_select.proofs.Faults.{failed-count}
 use Rattle.rv_select.proofs.Divisors.{located-count}
 use Rattle.rv_select.proofs.Clears.{zeros-count}
-use Rattle.rv_select.proofs.Outputs.{byte-count}
+use Rattle.rv_select.proofs.Printed.{byte-count}
 
 -- most words of two pieces of code
 both : (a b : List Instr) (n k : ℕ) → length a ≤ n → length b ≤ k → length (a ++ b) ≤ n + k
@@ -43,6 +43,9 @@ word-reached y at a size = both (taken y x5 a) (bounds_tested at size) 8 15 (tak
 
 store-part : (y : Layout) (i : Instr) (b : Operand) → length (taken y x6 b ++ i ∷ []) ≤ 9
 store-part y i b = both (taken y x6 b) (i ∷ []) 8 1 (taken-count y x6 b) (omega arith)
+
+range-count : (at : Place) → length (range_tested at) ≤ 16
+range-count at = let h : length (failed BadAddress at) ≤ 11 = failed-count BadAddress at in omega arith
 
 pub within : ShapesKeepWithin
 within y (Compute d op form a b) h =
@@ -84,5 +87,11 @@ within y (Clear n size) h =
 within y (Call to at f arguments) h = cc
 within y (CallValue to at sig a arguments) h = cc
 within y (PutByte a) h = more 11 14 _ (omega arith) (both (byte_taken y x5 a) _ 3 8 (byte-count y a) (omega arith))
-within y (Write at a b) h = cc
-within y (Alloc d a) h = cc
+within y (Write at a b) h =
+    more 36 40 _ (omega arith)
+    (both (taken y x11 a) _ 8 28 (taken-count y x11 a)
+    (both (taken y x12 b) (instrs.Branch Eq x12 x0 (over (range_tested at ++ write_call)) ∷ (range_tested at ++ write_call)) 8 20 (taken-count y x12 b)
+    (one-more (instrs.Branch Eq x12 x0 (over (range_tested at ++ write_call))) (range_tested at ++ write_call) 19
+    (both (range_tested at) write_call 16 3 (range-count at) (omega arith)))))
+within y (Alloc d a) h =
+    more 24 29 _ (omega arith) (both (taken y x5 a) (heap_aligned ++ (limit_found ++ (bytes_given ++ put_to (home_of y d)))) 8 16 (taken-count y x5 a) (omega (arith, put-count (home_of y d))))

@@ -7,8 +7,8 @@ use Rattle.rv_isa.specs.declared.instr.Instr.{Instr}
 use Rattle.rv_isa.specs.declared.instr.Instr.TheVariants.{Lui, Auipc, Jalr, Branch, Load, Store, RegisterImmediate, Shift, RegisterRegister, Ecall}
 use Rattle.rv_isa.specs.declared.operation.BranchCondition.{BranchCondition}
 use Rattle.rv_isa.specs.declared.operation.BranchCondition.TheVariants.{Eq, Ne, Ltu, Geu}
-use Rattle.rv_isa.specs.declared.operation.ImmediateOp.TheVariants.{Addi, Andi}
-use Rattle.rv_isa.specs.declared.operation.ShiftOp.TheVariants.{Srli}
+use Rattle.rv_isa.specs.declared.operation.ImmediateOp.TheVariants.{Addi}
+use Rattle.rv_isa.specs.declared.operation.ShiftOp.TheVariants.{Slli, Srli}
 use Rattle.rv_isa.specs.declared.operation.RegisterOp.TheVariants.{Add, Sub}
 use Rattle.rv_isa.specs.declared.operation.LoadOp.{LoadOp}
 use Rattle.rv_isa.specs.declared.operation.LoadOp.TheVariants.{Lb, Lh, Lw, Ld, Lbu, Lhu, Lwu}
@@ -288,10 +288,18 @@ range_tested at =
     ∷ Branch Geu x7 x12 (over (failed BadAddress at))
     ∷ failed BadAddress at
 
+abbrev pub range_call : Place → List Instr
+range_call at = Branch Eq x12 x0 (over (range_tested at ++ write_call)) ∷ (range_tested at ++ write_call)
+
 abbrev pub range_written : Layout → Place → Operand → Operand → List Instr
-range_written y at a b =
-    let test = range_tested at in
-    taken y x11 a ++ (taken y x12 b ++ (Branch Eq x12 x0 (over (test ++ write_call)) ∷ (test ++ write_call)))
+range_written y at a b = taken y x11 a ++ (taken y x12 b ++ range_call at)
+
+-- x6 gets the next multiple of 16 from the end of the heap on
+abbrev pub four : ShiftCount
+four = record { count = 4; in_range = lit≤ tt }
+
+abbrev pub heap_aligned : List Instr
+heap_aligned = RegisterImmediate Addi x6 x3 (immediate_of 15) ∷ Shift Srli x6 x6 four ∷ Shift Slli x6 x6 four ∷ []
 
 -- x7 gets the address at which the last quarter of the region begins
 abbrev pub two : ShiftCount
@@ -305,20 +313,22 @@ limit_found =
     ∷ RegisterRegister Sub x7 x4 x7
     ∷ []
 
--- Bytes of the heap: from the next multiple of 16 on, if as many are left there. A count below zero is larger than what is left.
-abbrev pub allocated : Layout → ℕ → Operand → List Instr
-allocated y d a =
-    taken y x5 a
-    ++ (RegisterImmediate Addi x6 x3 (immediate_of 15)
-    ∷ RegisterImmediate Andi x6 x6 (below_zero 15)
-    ∷ (limit_found
-    ++ (RegisterRegister Sub x7 x7 x6
+-- x5 gets the address in x6 if the bytes from there to x7 are as many as x5 says, and x3 what is behind them; and else zero
+abbrev pub bytes_given : List Instr
+bytes_given =
+    RegisterRegister Sub x7 x7 x6
     ∷ Branch Ltu x7 x5 (offset_of 16)
     ∷ RegisterRegister Add x3 x6 x5
     ∷ moved x5 x6
     ∷ Branch Eq x0 x0 (offset_of 8)
     ∷ moved x5 x0
-    ∷ put_to (home_of y d))))
+    ∷ []
+
+-- Bytes of the heap: from the next multiple of 16 on, if as many are left there. A count below zero is larger than what is left.
+abbrev pub allocated : Layout → ℕ → Operand → List Instr
+allocated y d a =
+    taken y x5 a
+    ++ (heap_aligned ++ (limit_found ++ (bytes_given ++ put_to (home_of y d))))
 
 -- the code of an instruction, and which have one so far
 abbrev pub shape_of : Layout → Instruction → List Instr
@@ -345,6 +355,8 @@ has_shape (instructions.Load d form spot) = true
 has_shape (instructions.Store spot size a) = true
 has_shape (instructions.Clear n size) = nat_le size most_moved
 has_shape (instructions.PutByte a) = true
+has_shape (instructions.Write at a b) = true
+has_shape (instructions.Alloc d a) = true
 has_shape _ = false
 
 -- A jump from an address to another, both below 2 ^ 30: how far it is, in 32 bits, in two parts.

@@ -285,11 +285,7 @@ fn slot_offset(slot: u64) -> Result<u64, NoMemory>
 }
 
 /// Where a byte of an area lies in the frame, in bytes. No memory has a frame of 2 ^ 62 bytes.
-pub(crate) fn area_offset(
-    homes: &[Option<Home>],
-    area: u64,
-    offset: u64,
-) -> Result<u64, NoMemory>
+pub(crate) fn area_offset(homes: &[Option<Home>], area: u64, offset: u64) -> Result<u64, NoMemory>
     ensures { IfOk result (λ at. at ≡ area_offset (with_homes homes.now) area + offset) }
 {
     let temps = homes.len() as u64;

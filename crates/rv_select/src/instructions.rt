@@ -7,10 +7,14 @@ ghost use Rattle.terra_words.specs.Words.{fault_number};
 ghost use Rattle.tac_form.specs.Flow.{bytes_of, width_of};
 ghost use Rattle.rv_operators.specs.Codes.{code_of, x5, x6, zero_immediate};
 ghost use Rattle.rv_select.specs.Places.{home_of, with_homes};
-ghost use Rattle.rv_select.specs.Shapes.{area_reached, bounds_tested, byte_put, byte_stored, byte_taken, byte_written, cleared, computed, copied, divisor_tested, failed, fault_call, branched_over, has_shape, load_of, loaded, located, place_number, put_to, reached, shape_of, small, store_of, stored, taken, write_call, zero_put, zeros};
+ghost use Rattle.rv_select.specs.Shapes.{area_reached, bounds_tested, cleared, computed, copied, divisor_tested, failed, fault_call, branched_over, has_shape, load_of, loaded, located, place_number, put_to, reached, shape_of, small, store_of, stored, taken, zero_put, zeros};
 
-use crate::emit::{X0, X2, X5, X6, area_offset, constant_words, push_constant, push_frame_address, push_frame_load, push_frame_store, push_moved, push_put, push_taken, put};
+use crate::emit::{
+    X0, X5, X6, area_offset, constant_words, push_constant, push_frame_address, push_frame_load,
+    push_frame_store, push_put, push_taken, put,
+};
 use crate::operands::{below_zero, immediate, offset, upper};
+use crate::outputs::{push_allocated, push_byte_put, push_range_written};
 use reg_alloc::Home;
 use rv_isa::{
     BranchCondition, Immediate, ImmediateOp, Instr, LoadOp, Register, RegisterOp, StoreOp,
@@ -21,26 +25,21 @@ use terra_words::{BinaryOperator, FaultKind, Width};
 use tl_base::{NoMemory, Place};
 
 /// The end of the region.
-const X4: Register = Register { number: 4 };
+pub(crate) const X4: Register = Register { number: 4 };
 /// The address of the frame in the region.
 const X8: Register = Register { number: 8 };
 
-const X10: Register = Register { number: 10 };
+pub(crate) const X10: Register = Register { number: 10 };
 
-const X11: Register = Register { number: 11 };
+pub(crate) const X11: Register = Register { number: 11 };
 
-const X17: Register = Register { number: 17 };
-
-const X12: Register = Register { number: 12 };
-
-/// The number of the machine's call that writes bytes.
-const WRITE_CALL: u64 = 64;
+pub(crate) const X17: Register = Register { number: 17 };
 
 /// The number of the machine's call that ends a run by a fault.
 const FAULT_CALL: u64 = 1024;
 
 /// Where the region begins.
-const REGION: u64 = 0x4000_0000;
+pub(crate) const REGION: u64 = 0x4000_0000;
 
 /// The words of an instruction.
 pub fn push_instruction(
@@ -62,6 +61,8 @@ pub fn push_instruction(
         Instruction::Store(spot, size, a) => push_stored(code, homes, *spot, *size, *a),
         Instruction::Clear(area, size) => push_cleared(code, homes, *area, *size),
         Instruction::PutByte(a) => push_byte_put(code, homes, *a),
+        Instruction::Write(at, a, b) => push_range_written(code, homes, *at, *a, *b),
+        Instruction::Alloc(temp, a) => push_allocated(code, homes, *temp, *a),
         _ => Ok(()),
     }
 }
@@ -119,7 +120,11 @@ fn push_operands(
 }
 
 /// x5 gets an operand.
-fn push_first(code: &mut Vec<u32>, homes: &[Option<Home>], a: Operand) -> Result<(), NoMemory>
+pub(crate) fn push_first(
+    code: &mut Vec<u32>,
+    homes: &[Option<Home>],
+    a: Operand,
+) -> Result<(), NoMemory>
     ensures { OnOk result (code.new.items ≡ code.old.items ++ map word_of (taken (with_homes homes.now) x5 a)) }
 {
     push_taken(code, homes, X5, a)
@@ -202,7 +207,7 @@ fn fault_number(kind: FaultKind) -> u64
 }
 
 /// A small number to a register.
-fn push_small(code: &mut Vec<u32>, rd: Register, number: u64) -> Result<(), NoMemory>
+pub(crate) fn push_small(code: &mut Vec<u32>, rd: Register, number: u64) -> Result<(), NoMemory>
     requires { number ≤ 2047 }
     ensures { OnOk result (code.new.items ≡ code.old.items ++ map word_of (small rd number)) }
 {
@@ -229,7 +234,7 @@ pub(crate) fn push_failed(code: &mut Vec<u32>, kind: FaultKind, at: Place) -> Re
 
 /// How many words `push_failed` takes.
 #[tactic(auto, using(crate::proofs::Faults::failed_words))]
-fn failed_words(kind: FaultKind, at: Place) -> u64
+pub(crate) fn failed_words(kind: FaultKind, at: Place) -> u64
     ensures words { result ≡ length (failed kind at) }
     ensures few { result ≤ 11 }
 {
@@ -237,7 +242,7 @@ fn failed_words(kind: FaultKind, at: Place) -> u64
 }
 
 /// A branch over the words by which the run ends.
-fn push_branch_over(
+pub(crate) fn push_branch_over(
     code: &mut Vec<u32>,
     condition: BranchCondition,
     rs1: Register,
@@ -516,78 +521,4 @@ fn push_zero(code: &mut Vec<u32>, at: u64) -> Result<(), NoMemory>
             offset: immediate(at),
         },
     )
-}
-
-/// One byte goes to the output.
-fn push_byte_put(code: &mut Vec<u32>, homes: &[Option<Home>], a: Operand) -> Result<(), NoMemory>
-    ensures { OnOk result (code.new.items ≡ code.old.items ++ map word_of (byte_put (with_homes homes.now) a)) }
-{
-    push_byte_taken(code, homes, a)?;
-    push_byte_written(code)
-}
-
-/// x5 gets an operand whose low byte alone matters.
-fn push_byte_taken(
-    code: &mut Vec<u32>,
-    homes: &[Option<Home>],
-    a: Operand,
-) -> Result<(), NoMemory>
-    ensures { OnOk result (code.new.items ≡ code.old.items ++ map word_of (byte_taken (with_homes homes.now) x5 a)) }
-{
-    match a {
-        Operand::Temp(_) => push_first(code, homes, a),
-        Operand::Constant(number) => push_constant(code, X5, number % 256),
-    }
-}
-
-/// The byte in x5 is written from the word of the return address, which x6 keeps meanwhile.
-fn push_byte_written(code: &mut Vec<u32>) -> Result<(), NoMemory>
-    ensures { OnOk result (code.new.items ≡ code.old.items ++ map word_of byte_written) }
-{
-    push_byte_stored(code)?;
-    push_moved(code, X11, X2)?;
-    push_small(code, X12, 1)?;
-    push_write_call(code)?;
-    put(
-        code,
-        Instr::Store {
-            op: StoreOp::Sd,
-            rs1: X2,
-            rs2: X6,
-            offset: Immediate { value: 0 },
-        },
-    )
-}
-
-/// x6 gets the word of the return address, whose first byte becomes that in x5.
-fn push_byte_stored(code: &mut Vec<u32>) -> Result<(), NoMemory>
-    ensures { OnOk result (code.new.items ≡ code.old.items ++ map word_of byte_stored) }
-{
-    put(
-        code,
-        Instr::Load {
-            op: LoadOp::Ld,
-            rd: X6,
-            rs1: X2,
-            offset: Immediate { value: 0 },
-        },
-    )?;
-    put(
-        code,
-        Instr::Store {
-            op: StoreOp::Sb,
-            rs1: X2,
-            rs2: X5,
-            offset: Immediate { value: 0 },
-        },
-    )
-}
-
-/// The call that writes x12 bytes from x11 on.
-fn push_write_call(code: &mut Vec<u32>) -> Result<(), NoMemory>
-    ensures { OnOk result (code.new.items ≡ code.old.items ++ map word_of write_call) }
-{
-    push_small(code, X10, 1)?;
-    push_small(code, X17, WRITE_CALL)?;
-    put(code, Instr::Ecall)
 }

@@ -10,6 +10,7 @@ mod emit;
 pub mod instructions;
 pub mod law;
 mod operands;
+mod outputs;
 
 pub use instructions::push_instruction;
 pub use law::{exits_are_carried, instructions_are_carried, shapes_keep_within};
