@@ -1,5 +1,5 @@
 -- The code of an instruction keeps within its weight.
-use Rattle.std.proofs.Common.{ℕ, ◌+◌, ◌/◌, ◌≤◌, List, [], ◌∷◌, ◌++◌, length, arith}
+use Rattle.std.proofs.Common.{◌≡◌, ℕ, ◌+◌, ◌*◌, ◌/◌, ◌≤◌, List, [], ◌∷◌, ◌++◌, length, refl, sym, ◌∙◌, arith}
 use Rattle.std.proofs.lemmas.Bool.{leb-true}
 use Rattle.std.proofs.lemmas.List.{length-append}
 use Rattle.tl_base.specs.declared.place.Place.{Place}
@@ -12,12 +12,13 @@ use Rattle.tac_form.specs.declared.tac.Operand.{Operand}
 use Rattle.tac_form.specs.declared.tac.Address.TheVariants.{Word, Frame}
 use Rattle.tac_form.specs.declared.tac.Spot.TheVariants as spots
 use Rattle.tac_form.specs.declared.tac.Instruction.TheVariants.{Alloc, Call, CallValue, Clear, Compute, Copy, Load, Locate, Move, PutByte, Store, TestDivisor, Write}
+use Rattle.tac_form.specs.declared.tac.Exit.TheVariants.{Branch, Fail, Jump, Return}
 use Rattle.tac_form.specs.Flow.{bytes_of, width_of}
 use Rattle.rv_operators.specs.Codes.{x0, x5, x6, code_of, zero_immediate}
 use Rattle.rv_operators.proofs.Short.{code-short}
 use Rattle.rv_select.specs.Places.{Layout, area_offset, home_of}
-use Rattle.rv_select.specs.Shapes.{area_reached, bounds_tested, byte_taken, bytes_given, failed, framed, heap_aligned, limit_found, load_of, located, over, put_to, range_tested, reached, store_of, taken, write_call, x11, x12, zeros}
-use Rattle.rv_select.specs.Steps.{ShapesKeepWithin}
+use Rattle.rv_select.specs.Shapes.{area_reached, bounds_tested, branch_jumps, byte_taken, bytes_given, failed, framed, heap_aligned, limit_found, load_of, located, over, put_to, range_tested, reached, store_of, taken, write_call, x11, x12, zeros}
+use Rattle.rv_select.specs.Steps.{ExitsKeepWithin, ShapesKeepWithin}
 use Rattle.rv_select.proofs.Frames.{framed-count}
 use Rattle.rv_select.proofs.Homes.{put-count, taken-count}
 use Rattle.rv_select.proofs.Faults.{failed-count}
@@ -95,3 +96,16 @@ within y (Write at a b) h =
     (both (range_tested at) write_call 16 3 (range-count at) (omega arith)))))
 within y (Alloc d a) h =
     more 24 29 _ (omega arith) (both (taken y x5 a) (heap_aligned ++ (limit_found ++ (bytes_given ++ put_to (home_of y d)))) 8 16 (taken-count y x5 a) (omega (arith, put-count (home_of y d))))
+
+-- exits
+branch-count : (y : Layout) (a : Operand) (at : ℕ) (starts : ℕ → ℕ) (first second : ℕ) → length (taken y x5 a ++ branch_jumps at starts first second) ≡ length (taken y x5 a) + 5
+branch-count y a at starts first second = length-append (taken y x5 a) (branch_jumps at starts first second)
+
+pub exits-within : ExitsKeepWithin
+exits-within y (Jump e) at other starts others h = (omega arith, refl)
+exits-within y (Branch a e f) at other starts others h = (
+  omega (arith, branch-count y a (at + 4 * length (taken y x5 a)) starts e.block f.block, taken-count y x5 a),
+  branch-count y a (at + 4 * length (taken y x5 a)) starts e.block f.block ∙ sym (branch-count y a (other + 4 * length (taken y x5 a)) others e.block f.block),
+)
+exits-within y (Return v) at other starts others h = cc
+exits-within y (Fail kind place) at other starts others h = (failed-count kind place, refl)

@@ -144,3 +144,9 @@ ExitsAreCarried =
     (p : Program) (code : Tac) (homes : List (Option Home)) (exit : Exit) (starts : ℕ → ℕ) (s : tac.State) (program : List (Option Instr)) (base : ℕ) (m : State) →
     IsTrue (has_exit_shape exit) → StandsAtExit p code homes exit starts s program base m →
     Left (layout_of code homes) (graph_of code) program base (exit_words exit) starts s m (step p s)
+
+-- The code of an exit has at most as many words as its weight, and as many wherever it and the blocks stand.
+abbrev pub ExitsKeepWithin : Type 0
+ExitsKeepWithin =
+    (y : Layout) (exit : Exit) (at other : ℕ) (starts others : ℕ → ℕ) → IsTrue (has_exit_shape exit) →
+    (length (exit_shape y at starts exit) ≤ exit_words exit) × (length (exit_shape y at starts exit) ≡ length (exit_shape y other others exit))

@@ -1,6 +1,6 @@
 // What the code of instructions promises. Each function does nothing, and its clause is a law.
 
-ghost use Rattle.rv_select.specs.Steps.{ExitsAreCarried, InstructionsAreCarried, ShapesKeepWithin};
+ghost use Rattle.rv_select.specs.Steps.{ExitsAreCarried, ExitsKeepWithin, InstructionsAreCarried, ShapesKeepWithin};
 
 /// The code of an instruction carries it out: from each state of the machine that holds what three-address code sees in a state, it
 /// comes to one that holds what three-address code sees a step later, in at least one and at most as many steps as the
@@ -12,6 +12,11 @@ pub fn instructions_are_carried()
 /// The code of an instruction has no more words than its weight.
 pub fn shapes_keep_within()
     ensures { ShapesKeepWithin }
+{}
+
+/// The code of an exit has no more words than its weight, and as many wherever it stands.
+pub fn exits_keep_within()
+    ensures { ExitsKeepWithin }
 {}
 
 /// The code of an exit that stays in its function, or that ends the run by a fault, carries it out.

@@ -13,7 +13,7 @@ mod operands;
 mod outputs;
 
 pub use instructions::push_instruction;
-pub use law::{exits_are_carried, instructions_are_carried, shapes_keep_within};
+pub use law::{exits_are_carried, exits_keep_within, instructions_are_carried, shapes_keep_within};
 
 #[cfg(test)]
 mod tests;
