@@ -23,4 +23,4 @@ pub mod Lives
 pub mod Carries
 pub mod Weights
 pub mod Jumps
-pub mod Exits
+pub mod Leaves

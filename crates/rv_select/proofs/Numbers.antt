@@ -1,8 +1,9 @@
 -- Numbers as operands, and the code that loads them.
-use Rattle.std.proofs.Common.{◌≡◌, ◌≢◌, ℕ, suc, ◌+◌, ◌-◌, ◌*◌, ◌/◌, ◌%◌, ◌^◌, ◌<◌, ◌≤◌, Bool, true, false, pos, negsuc, List, [], ◌∷◌, ◌++◌, length, refl, sym, ap, ◌∙◌, subst, ⊎_elim, arith}
+use Rattle.std.proofs.Common.{◌≡◌, ◌≢◌, ℕ, suc, ◌+◌, ◌-◌, ◌*◌, ◌/◌, ◌%◌, ◌^◌, ◌<◌, ◌≤◌, Bool, true, false, pos, negsuc, List, [], ◌∷◌, ◌++◌, length, map, refl, sym, ap, ◌∙◌, subst, ⊎_elim, arith}
 use Rattle.std.specs.Prelude.{if◌then◌else◌, nat_eq, nat_le, nat_lt, ◌&&◌}
-use Rattle.std.proofs.lemmas.List.{length-append}
+use Rattle.std.proofs.lemmas.List.{length-append, length-map}
 use Rattle.std.proofs.lemmas.Bool.{cases_Bool, cases_lt, le-leb, lt-leb, lt-ltb, le-ltb, eq-eqb, ne_eqb, eqb-true}
+use Rattle.rv_isa.specs.Table.{word_of}
 use Rattle.rv_isa.specs.declared.instr.Instr.{Instr}
 use Rattle.rv_isa.specs.declared.instr.Instr.TheVariants.{Lui, RegisterImmediate, Shift, Addiw}
 use Rattle.rv_isa.specs.declared.operation.ImmediateOp.TheVariants.{Addi}
@@ -238,3 +239,7 @@ short_test n h =
 pub small-count : (d : Register) (n : ℕ) → n < 2 ^ 31 → length (constant d n) ≤ 2
 small-count d n h =
     subst (λ b. length (if b then short_constant d n else long_constant d n) ≤ 2) (sym (eq-eqb (extended_word n) n (extended-small n h))) (short-count d n)
+
+-- how many words were added
+pub pushed_words : (old : List ℕ) (code : List Instr) → length (old ++ map word_of code) ≡ length old + length code
+pushed_words old code = length-append old (map word_of code) ∙ ap (λ n. length old + n) (length-map code word_of)

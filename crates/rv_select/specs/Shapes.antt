@@ -1,5 +1,5 @@
 -- Which instructions carry out those of three-address code that stay within a function.
-use Rattle.std.specs.Prelude.{◌≡◌, ℕ, suc, zero, ◌+◌, ◌-◌, ◌*◌, ◌/◌, ◌%◌, ◌^◌, pos, Bool, true, false, nat_eq, nat_le, if◌then◌else◌, List, [], ◌∷◌, ◌++◌, length}
+use Rattle.std.specs.Prelude.{◌≡◌, ℕ, suc, zero, ◌+◌, ◌-◌, ◌*◌, ◌/◌, ◌%◌, ◌^◌, pos, Bool, true, false, nat_eq, nat_le, if◌then◌else◌, List, [], ◌∷◌, ◌++◌, length, slice_get, unwrap_or}
 use Rattle.std.proofs.Common.{lit≤, subst, sym, refl, eqb→eq}
 use lib.Dec.{T}
 use Rattle.tl_base.specs.declared.place.Place.{Place}
@@ -367,9 +367,15 @@ abbrev pub jump : (from to : ℕ) → List Instr
 jump from to = Auipc x5 (upper_of (distance from to)) ∷ Jalr x0 x5 (lower_of (distance from to)) ∷ []
 
 -- The code of an exit that stands at an address, by the addresses of the blocks: a branch passes the jump to the second block.
+abbrev pub two_jumps : (at first second : ℕ) → List Instr
+two_jumps at first second = Branch Ne x5 x0 (offset_of 12) ∷ (jump (at + 4) second ++ jump (at + 12) first)
+
 abbrev pub branch_jumps : (at : ℕ) → (starts : ℕ → ℕ) → (first second : ℕ) → List Instr
-branch_jumps at starts first second =
-    Branch Ne x5 x0 (offset_of 12) ∷ (jump (at + 4) (starts second) ++ jump (at + 12) (starts first))
+branch_jumps at starts first second = two_jumps at (starts first) (starts second)
+
+-- where a block begins, by a list of all
+abbrev pub start_of : List ℕ → ℕ → ℕ
+start_of starts block = unwrap_or (slice_get starts block) 0
 
 abbrev pub exit_shape : Layout → (at : ℕ) → (starts : ℕ → ℕ) → Exit → List Instr
 exit_shape y at starts (exits.Jump e) = jump at (starts e.block)

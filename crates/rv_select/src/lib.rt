@@ -7,11 +7,13 @@
 #![tactic(auto)]
 
 mod emit;
+pub mod exits;
 pub mod instructions;
 pub mod law;
 mod operands;
 mod outputs;
 
+pub use exits::push_exit;
 pub use instructions::push_instruction;
 pub use law::{exits_are_carried, exits_keep_within, instructions_are_carried, shapes_keep_within};
 
