@@ -1,6 +1,6 @@
 -- Bytes of the heap.
-use Rattle.std.proofs.Common.{◌≡◌, ◌≢◌, ℕ, suc, ◌+◌, ◌-◌, ◌*◌, ◌/◌, ◌%◌, ◌^◌, ◌<◌, ◌≤◌, Bool, true, false, pos, negsuc, List, [], ◌∷◌, ◌++◌, length, take, drop, Option, Some, refl, sym, ap, ◌∙◌, subst, ⊎_elim, inl, inr, arith}
-use Rattle.std.specs.Prelude.{if◌then◌else◌, nat_le, nat_lt, ℤ}
+use Rattle.std.proofs.Common.{◌≡◌, ◌≢◌, ℕ, ◌+◌, ◌-◌, ◌*◌, ◌/◌, ◌%◌, ◌^◌, ◌<◌, ◌≤◌, true, false, pos, negsuc, List, [], ◌∷◌, ◌++◌, length, take, drop, Option, Some, refl, sym, ap, ◌∙◌, subst, ⊎_elim, arith}
+use Rattle.std.specs.Prelude.{if◌then◌else◌, nat_lt}
 use Rattle.std.proofs.lemmas.Bool.{cases_lt, le-leb, le-ltb, lt-leb, lt-ltb}
 use Rattle.rv_isa.specs.declared.instr.Instr.{Instr}
 use Rattle.rv_isa.specs.declared.instr.Instr.TheVariants.{Branch, Lui, RegisterImmediate, RegisterRegister, Shift}
@@ -11,7 +11,7 @@ use Rattle.rv_isa.specs.declared.operation.ShiftOp.TheVariants.{Slli, Srli}
 use Rattle.reg_alloc.specs.declared.assignment.Home.{Home}
 use Rattle.reg_alloc.specs.declared.assignment.Home.TheVariants as homes
 use Rattle.terra_memory.specs.Numbers.{number_of}
-use Rattle.terra_memory.specs.Region.{Contents, IsLawful, aligned, alloc_of, end_address, first_address, heap_limit}
+use Rattle.terra_memory.specs.Region.{Contents, aligned, alloc_of, first_address, heap_limit}
 use Rattle.terra_words.specs.Words.{signed}
 use Rattle.tac_form.specs.declared.tac.Operand.{Operand}
 use Rattle.rv_machine.specs.Word.{low, difference}

@@ -1,5 +1,5 @@
 -- Loads from areas and stores to them.
-use Rattle.std.proofs.Common.{◌≡◌, ◌≢◌, ℕ, suc, ◌+◌, ◌*◌, ◌^◌, ◌<◌, ◌≤◌, List, [], ◌∷◌, ◌++◌, length, take, drop, Option, refl, sym, ap, ◌∙◌, subst, ⊎_elim, inl, inr, arith}
+use Rattle.std.proofs.Common.{◌≡◌, ◌≢◌, ℕ, ◌+◌, ◌*◌, ◌^◌, ◌<◌, ◌≤◌, List, [], ◌∷◌, ◌++◌, length, take, drop, Option, refl, sym, ap, ◌∙◌, subst, ⊎_elim, inl, inr, arith}
 use Rattle.std.specs.Prelude.{if◌then◌else◌, ◌⊎◌}
 use Rattle.std.proofs.lemmas.Bool.{cases_eq, cases_lt, eq-eqb, ne_eqb}
 use Rattle.std.proofs.lemmas.List.{length-append, length-drop, length-take-le}
@@ -16,7 +16,7 @@ use Rattle.tac_form.specs.declared.tac.Size.{Size}
 use Rattle.tac_form.specs.declared.tac.Operand.{Operand}
 use Rattle.tac_form.specs.declared.tac.Spot.TheVariants as spots
 use Rattle.tac_form.specs.Flow.{bytes_of, put, width_of}
-use Rattle.tac_form.specs.Weights.{kept_bytes, most_moved}
+use Rattle.tac_form.specs.Weights.{most_moved}
 use Rattle.rv_machine.specs.Word.{low}
 use Rattle.rv_machine.specs.Memory.{load_value, load_width, place_of, store_width}
 use Rattle.rv_machine.specs.Machine.{State, GoesOn, act, at_with, loads, loads_from, stores, stores_to}
@@ -24,17 +24,17 @@ use Rattle.rv_operators.specs.Claims.{acts, then_on}
 use Rattle.rv_operators.specs.Codes.{x5, x6}
 use Rattle.rv_operators.specs.Runs.{AreStraight, Stands}
 use Rattle.rv_operators.proofs.Runs.{straight-both}
-use Rattle.rv_select.specs.Places.{AreBytes, Layout, World, HasFrame, Holds, Housed, IsHome, IsRead, Keeps, area_offset, frame_bytes, home_of, slot_offset, uses, value_in, word_at}
-use Rattle.rv_select.specs.Shapes.{framed, load_of, loaded, put_to, store_of, stored, taken}
+use Rattle.rv_select.specs.Places.{AreBytes, Layout, World, HasFrame, Holds, Housed, IsHome, IsRead, Keeps, area_offset, frame_bytes, home_of, slot_offset, value_in, word_at}
+use Rattle.rv_select.specs.Shapes.{framed, load_of, loaded, store_of, stored, taken}
 use Rattle.rv_select.specs.Steps.{AreFewer, Comes, Follows, behind, with_temp}
 use Rattle.rv_select.proofs.Claims.{with_area}
 use Rattle.rv_select.proofs.Bytes.{other-part, private-part}
 use Rattle.rv_select.proofs.Parts.{part-within, part-written, written-count}
-use Rattle.rv_select.proofs.Words.{drop-bytes, load-bytes, load-is, low-are-bytes, overwritten-bytes, size-range, store-bytes, take-bytes}
+use Rattle.rv_select.proofs.Words.{drop-bytes, load-bytes, load-is, low-are-bytes, overwritten-bytes, store-bytes, take-bytes}
 use Rattle.rv_select.proofs.Small.{wrapped-small}
-use Rattle.rv_select.proofs.Straight.{Loads, Scratch, behind-both, goes-both, loads-five, loads-six, low-below, low-first, scratch-both}
+use Rattle.rv_select.proofs.Straight.{Loads, Scratch, behind-both, goes-both, loads-five, loads-six, low-below, low-first}
 use Rattle.rv_select.proofs.Frames.{Reach, before-scratch, framed-count, framed-loads, framed-some, reach}
-use Rattle.rv_select.proofs.Ways.{Way, stands-back, straight-way}
+use Rattle.rv_select.proofs.Ways.{Way, straight-way}
 use Rattle.rv_select.proofs.Homes.{region-small, take-operand, taken-count}
 use Rattle.rv_select.proofs.Moves.{lasts-not, scratch-holds, straight-put, wide-size}
 

@@ -10,8 +10,7 @@ use Rattle.rv_isa.specs.Table.{word_of}
 use Rattle.terra_memory.specs.Numbers.{low_bytes, overwritten}
 use Rattle.terra_memory.proofs.Overwriting.{length-overwritten}
 use Rattle.tac_form.specs.Weights.{most_moved}
-use Rattle.rv_machine.specs.Word.{low, word}
-use Rattle.rv_machine.specs.Memory.{place_of}
+use Rattle.rv_machine.specs.Word.{low}
 use Rattle.rv_machine.specs.Machine.{State, GoesOn, act, stores, stores_to}
 use Rattle.rv_operators.specs.Claims.{acts, then_on}
 use Rattle.rv_operators.specs.Codes.{x0, x5}
@@ -30,7 +29,6 @@ use Rattle.rv_select.proofs.Straight.{Loads, behind-both, goes-both, loads-five,
 use Rattle.rv_select.proofs.Frames.{framed-address, framed-count, framed-some}
 use Rattle.rv_select.proofs.Ways.{straight-way}
 use Rattle.rv_select.proofs.Homes.{region-small}
-use Rattle.rv_select.proofs.Moves.{scratch-holds}
 use Rattle.rv_select.proofs.Areas.{AreaSet, Saves, area-comes, area-near, area-room, saved, then-saves}
 
 abbrev nulls : ℕ → List ℕ

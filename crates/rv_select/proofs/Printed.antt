@@ -1,43 +1,34 @@
 -- Bytes that go to the output.
-use Rattle.std.proofs.Common.{◌≡◌, ◌≢◌, ℕ, suc, ◌+◌, ◌-◌, ◌*◌, ◌%◌, ◌^◌, ◌<◌, ◌≤◌, Bool, true, false, not, List, [], ◌∷◌, ◌++◌, length, take, drop, Option, Some, None, refl, sym, ap, ◌∙◌, subst, ⊎_elim, inl, inr, arith}
-use Rattle.std.specs.Prelude.{if◌then◌else◌, nat_eq, nat_lt, ◌⊎◌}
-use Rattle.std.proofs.lemmas.Bool.{cases_lt, eq-eqb, le-ltb, lt-ltb, ne_eqb}
-use Rattle.std.proofs.lemmas.List.{length-append, length-drop, length-take-le}
-use Rattle.tl_base.specs.declared.place.Place.{Place}
+use Rattle.std.proofs.Common.{◌≡◌, ℕ, ◌+◌, ◌*◌, ◌%◌, ◌^◌, ◌<◌, ◌≤◌, List, [], ◌∷◌, ◌++◌, length, take, drop, Option, refl, sym, ap, ◌∙◌, subst, arith}
+use Rattle.std.proofs.lemmas.List.{length-drop, length-take-le}
 use Rattle.rv_isa.specs.declared.instr.Instr.{Instr}
-use Rattle.rv_isa.specs.declared.instr.Instr.TheVariants.{Branch, Ecall, Load, Lui, RegisterImmediate, RegisterRegister, Store}
-use Rattle.rv_isa.specs.declared.operation.BranchCondition.TheVariants.{Eq, Geu, Ltu}
+use Rattle.rv_isa.specs.declared.instr.Instr.TheVariants.{Ecall, Load, RegisterImmediate, Store}
 use Rattle.rv_isa.specs.declared.operation.ImmediateOp.TheVariants.{Addi}
 use Rattle.rv_isa.specs.declared.operation.LoadOp.TheVariants.{Ld}
-use Rattle.rv_isa.specs.declared.operation.RegisterOp.TheVariants.{Sub}
 use Rattle.rv_isa.specs.declared.operation.StoreOp.TheVariants.{Sb, Sd}
 use Rattle.terra_memory.specs.Numbers.{low_bytes, number_of, overwritten, part}
-use Rattle.terra_memory.specs.Region.{end_address, first_address}
 use Rattle.terra_memory.proofs.Overwriting.{length-overwritten, part-overwritten}
-use Rattle.terra_memory.proofs.Bytes.{length-low_bytes}
-use Rattle.terra_words.specs.declared.words.FaultKind.TheVariants.{BadAddress}
 use Rattle.tac_form.specs.declared.tac.Operand.{Operand}
 use Rattle.tac_form.specs.declared.tac.Operand.TheVariants.{Temp, Constant}
 use Rattle.rv_machine.specs.declared.memory.Place.TheVariants as places
 use Rattle.rv_machine.specs.Word.{low}
-use Rattle.rv_machine.specs.Memory.{place_of}
 use Rattle.rv_machine.specs.Machine.{GoesOn, State, Writes, act, at_with, loads, loads_from, returned, stores, stores_to}
 use Rattle.rv_operators.specs.Codes.{x0, x5, x6, zero_immediate}
 use Rattle.rv_operators.specs.Runs.{Stands}
 use Rattle.rv_select.specs.Numbers.{constant, immediate_of}
-use Rattle.rv_select.specs.Places.{AreBytes, Holds, Housed, IsRead, Layout, World, home_of, private_word, value_in}
-use Rattle.rv_select.specs.Shapes.{byte_put, byte_taken, byte_written, moved, taken, write_call, x2, x10, x11, x12, x17}
-use Rattle.rv_select.specs.Steps.{AreFewer, Comes, Ends, IsPlace, behind}
+use Rattle.rv_select.specs.Places.{AreBytes, Holds, Housed, IsRead, Layout, World, home_of, value_in}
+use Rattle.rv_select.specs.Shapes.{byte_put, byte_taken, byte_written, moved, x2, x10, x11, x12, x17}
+use Rattle.rv_select.specs.Steps.{AreFewer, Comes, behind}
 use Rattle.rv_select.proofs.Bytes.{private-part}
 use Rattle.rv_select.proofs.Parts.{rewritten, same-written}
 use Rattle.rv_select.proofs.Words.{drop-bytes, number-bytes, take-bytes}
-use Rattle.rv_select.proofs.Straight.{Loads, behind-both, loads-five, low-below, low-small, written-elsewhere}
+use Rattle.rv_select.proofs.Straight.{Loads, behind-both, loads-five, low-below, written-elsewhere}
 use Rattle.rv_select.proofs.Numbers.{constant-loads, small-count}
-use Rattle.rv_select.proofs.Ways.{Way, at_pc, scratch-near, stands-back, stands-front, step-way, straight-way, way-both}
+use Rattle.rv_select.proofs.Ways.{Way, scratch-near, stands-back, stands-front, step-way, straight-way, way-both}
 use Rattle.rv_select.proofs.Homes.{home-count, region-small, take-operand}
 use Rattle.rv_select.proofs.Faults.{small-load}
 use Rattle.rv_select.proofs.Areas.{saved}
-use Rattle.rv_select.proofs.Calm.{Calm, Wrote, calm-both, calm-comes, held-not, is_held, near-calm, then-wrote, write-act, wrote}
+use Rattle.rv_select.proofs.Calm.{Calm, Wrote, calm-both, calm-comes, held-not, near-calm, then-wrote, write-act, wrote}
 
 one-byte : (v : ℕ) → low_bytes 1 v ≡ v % 256 ∷ []
 unfolding low_bytes

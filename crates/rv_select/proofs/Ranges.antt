@@ -1,11 +1,11 @@
 -- Bytes of the region that go to the output.
-use Rattle.std.proofs.Common.{◌≡◌, ◌≢◌, ℕ, zero, suc, ◌+◌, ◌-◌, ◌*◌, ◌%◌, ◌^◌, ◌<◌, ◌≤◌, Bool, true, false, not, List, [], ◌∷◌, ◌++◌, length, Option, Some, None, refl, sym, ap, ◌∙◌, subst, ⊎_elim, inl, inr, arith}
+use Rattle.std.proofs.Common.{◌≡◌, ◌≢◌, ℕ, zero, suc, ◌+◌, ◌-◌, ◌*◌, ◌^◌, ◌<◌, ◌≤◌, true, false, not, List, [], ◌∷◌, ◌++◌, length, Option, Some, None, refl, sym, ap, ◌∙◌, subst, ⊎_elim, arith}
 use Rattle.std.specs.Prelude.{if◌then◌else◌, nat_eq, nat_lt, ◌⊎◌}
-use Rattle.std.proofs.lemmas.Bool.{cases_eq, cases_lt, eq-eqb, le-ltb, lt-ltb, ne_eqb}
+use Rattle.std.proofs.lemmas.Bool.{cases_lt, eq-eqb, le-ltb, lt-ltb, ne_eqb}
 use Rattle.std.proofs.lemmas.List.{append_assoc, length-append}
 use Rattle.tl_base.specs.declared.place.Place.{Place}
 use Rattle.rv_isa.specs.declared.instr.Instr.{Instr}
-use Rattle.rv_isa.specs.declared.instr.Instr.TheVariants.{Branch, Ecall, Lui, RegisterImmediate, RegisterRegister}
+use Rattle.rv_isa.specs.declared.instr.Instr.TheVariants.{Branch, Lui, RegisterImmediate, RegisterRegister}
 use Rattle.rv_isa.specs.declared.operation.BranchCondition.TheVariants.{Eq, Geu, Ltu}
 use Rattle.rv_isa.specs.declared.operation.ImmediateOp.TheVariants.{Addi}
 use Rattle.rv_isa.specs.declared.operation.RegisterOp.TheVariants.{Sub}
@@ -16,7 +16,7 @@ use Rattle.tac_form.specs.declared.tac.Operand.{Operand}
 use Rattle.rv_machine.specs.declared.memory.Place.TheVariants as places
 use Rattle.rv_machine.specs.Word.{low, difference}
 use Rattle.rv_machine.specs.Memory.{place_of}
-use Rattle.rv_machine.specs.Machine.{GoesOn, State, Writes, act, at_with, returned}
+use Rattle.rv_machine.specs.Machine.{GoesOn, State, Writes, at_with, returned}
 use Rattle.rv_operators.specs.Codes.{x0}
 use Rattle.rv_operators.specs.Runs.{Stands}
 use Rattle.rv_select.specs.Numbers.{immediate_of, upper_of}
@@ -27,9 +27,8 @@ use Rattle.rv_select.proofs.Straight.{Loads, behind-both, low-below, written-els
 use Rattle.rv_select.proofs.Ways.{Way, at_pc, near-pc, stands-back, stands-front, step-way, straight-way, way-both, way-none}
 use Rattle.rv_select.proofs.Homes.{take-operand, taken-count}
 use Rattle.rv_select.proofs.Faults.{branch-way, failed-count, fails, later-ends, small-load}
-use Rattle.rv_select.proofs.Moves.{value-small}
 use Rattle.rv_select.proofs.Regions.{end-small, inside-true, outside-false, region-place}
-use Rattle.rv_select.proofs.Calm.{Calm, Wrote, calm-both, calm-comes, calm-holds, calm-loads, calm-with, held-not, near-calm, then-wrote, way-wrote, write-act, wrote}
+use Rattle.rv_select.proofs.Calm.{Calm, Wrote, calm-both, calm-comes, calm-holds, calm-loads, held-not, near-calm, then-wrote, way-wrote, write-act, wrote}
 
 less : (x y : ℕ) → y ≤ x → x < 2 ^ 64 → difference x y ≡ x - y
 unfolding low difference
