@@ -13,6 +13,7 @@ pub mod Making
 pub mod Named
 pub mod Numbering
 pub mod Operands
+pub mod Passing
 pub mod Targeting
 pub mod Reading
 pub mod Turning

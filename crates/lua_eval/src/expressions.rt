@@ -56,7 +56,7 @@ pub fn node<'a>(
             }
             None => {
                 let globals = Value::Table(GLOBALS);
-                let step = read_named(
+                read_named(
                     frames,
                     heap,
                     budget,
@@ -64,8 +64,7 @@ pub fn node<'a>(
                     text.as_bytes(),
                     *place,
                     scope.call,
-                )?;
-                Ok(step)
+                )
             }
         },
         Node::Numeral(_, text) => Ok(Step::Return(End::One(numeral(text)))),
@@ -75,8 +74,7 @@ pub fn node<'a>(
             Ok(Step::Return(End::One(value)))
         }
         Node::Expression(place, expression) => {
-            let step = evaluate(tree, frames, heap, expression, node, *place, scope)?;
-            Ok(step)
+            evaluate(tree, frames, heap, expression, node, *place, scope)
         }
         Node::Statement(_, _) => Ok(Step::Return(End::One(Value::Nil))),
         Node::TerraExpression(_, _) => Ok(Step::Return(End::One(Value::Nil))),
@@ -235,16 +233,13 @@ pub fn with_value<'a>(
             Ok(Step::Return(End::Many(values)))
         }
         ValueFrame::Left(op, right, place, scope) => {
-            let step = with_left(frames, op, right, place, scope, value)?;
-            Ok(step)
+            with_left(frames, op, right, place, scope, value)
         }
         ValueFrame::Right(op, left, place, outer) => {
-            let step = operate(tree, frames, heap, budget, op, left, value, place, outer)?;
-            Ok(step)
+            operate(tree, frames, heap, budget, op, left, value, place, outer)
         }
         ValueFrame::Unary(op, place, outer) => {
-            let step = operate_one(tree, frames, heap, budget, op, value, place, outer)?;
-            Ok(step)
+            operate_one(tree, frames, heap, budget, op, value, place, outer)
         }
         ValueFrame::Answer(handler) => {
             let truth = value.is_true() != handler.negated;
@@ -256,11 +251,10 @@ pub fn with_value<'a>(
             Ok(Step::Enter(Job::Expression(key, scope)))
         }
         ValueFrame::Key(object, place, outer) => {
-            let step = read(frames, heap, budget, object, value, place, outer)?;
-            Ok(step)
+            read(frames, heap, budget, object, value, place, outer)
         }
         ValueFrame::Select(node, place, outer) => {
-            let step = read_named(
+            read_named(
                 frames,
                 heap,
                 budget,
@@ -268,8 +262,7 @@ pub fn with_value<'a>(
                 name(tree, node).as_bytes(),
                 place,
                 outer,
-            )?;
-            Ok(step)
+            )
         }
     }
 }
@@ -295,15 +288,14 @@ pub fn with_call<'a>(
         CallFrame::Function(arguments, place, scope) => {
             let none = Values::new(heap.allocator());
             let then = Then::Call(value, *place);
-            let step = list(
+            list(
                 tree, slots, frames, heap, budget, *arguments, *scope, none, then,
-            )?;
-            Ok(step)
+            )
         }
         CallFrame::Method(node, arguments, place, scope) => {
             let frame = CallFrame::MethodOf(copy(&value), *arguments, *place, *scope);
             frames.push(LuaFrame::One(OneFrame::Call(frame)))?;
-            let found = read_named(
+            read_named(
                 frames,
                 heap,
                 budget,
@@ -311,16 +303,14 @@ pub fn with_call<'a>(
                 name(tree, *node).as_bytes(),
                 *place,
                 scope.call,
-            )?;
-            Ok(found)
+            )
         }
         CallFrame::MethodOf(object, arguments, place, scope) => {
             let first = one(heap.allocator(), copy(object))?;
             let then = Then::Call(value, *place);
-            let step = list(
+            list(
                 tree, slots, frames, heap, budget, *arguments, *scope, first, then,
-            )?;
-            Ok(step)
+            )
         }
     }
 }

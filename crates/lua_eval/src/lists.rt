@@ -56,8 +56,7 @@ pub fn list<'a>(
 {
     match nodes.split_first() {
         None => {
-            let step = with_list(tree, slots, frames, heap, budget, scope, values, then)?;
-            Ok(step)
+            with_list(tree, slots, frames, heap, budget, scope, values, then)
         }
         Some((first, rest)) => {
             let frame = ListFrame {
@@ -66,8 +65,7 @@ pub fn list<'a>(
                 values,
                 then,
             };
-            let entered = item(frames, *first, frame)?;
-            Ok(entered)
+            item(frames, *first, frame)
         }
     }
 }
@@ -126,7 +124,7 @@ pub fn with_list<'a>(
 {
     match then {
         Then::Call(function, place) => {
-            let step = call(
+            call(
                 tree,
                 frames,
                 heap,
@@ -136,8 +134,7 @@ pub fn with_list<'a>(
                 values,
                 place,
                 scope.call,
-            )?;
-            Ok(step)
+            )
         }
         Then::Return => Ok(Step::Return(End::Returned(values, Values::new(heap.allocator())))),
         Then::Local(names) => {
@@ -146,17 +143,15 @@ pub fn with_list<'a>(
         }
         Then::Assign(targets, held) => {
             let left = targets.len() as u64;
-            let step = stores(
+            stores(
                 tree, slots, frames, heap, budget, targets, scope, held, values, left,
-            )?;
-            Ok(step)
+            )
         }
         Then::Listed(node, names, place) => {
             let values = values.as_slice();
-            let step = first_listed(
+            first_listed(
                 tree, frames, heap, budget, node, names, place, scope, values,
-            )?;
-            Ok(step)
+            )
         }
     }
 }

@@ -408,10 +408,9 @@ pub fn turn<'a>(
 {
     match tree.node(node) {
         Node::Statement(place, statement) => {
-            let step = turn_of(
+            turn_of(
                 tree, frames, heap, statement, node, *place, scope, turn, out,
-            )?;
-            Ok(step)
+            )
         }
         _ => Ok(Step::Return(End::Fell(out))),
     }
@@ -437,24 +436,20 @@ fn turn_of<'a>(
 {
     match turn {
         Loop::While => {
-            let step = while_turn(tree, frames, heap, statement, node, scope, out)?;
-            Ok(step)
+            while_turn(tree, frames, heap, statement, node, scope, out)
         }
         Loop::Repeat => {
-            let step = repeat_turn(tree, frames, heap, statement, node, scope, out)?;
-            Ok(step)
+            repeat_turn(tree, frames, heap, statement, node, scope, out)
         }
         Loop::Counted(at, limit, by) => {
-            let step = numeric_turn(
+            numeric_turn(
                 tree, frames, heap, statement, node, scope, at, limit, by, out,
-            )?;
-            Ok(step)
+            )
         }
         Loop::Listed(env, function, state, control) => {
-            let step = generic_turn(
+            generic_turn(
                 tree, frames, statement, node, place, scope, env, function, state, control, out,
-            )?;
-            Ok(step)
+            )
         }
     }
 }

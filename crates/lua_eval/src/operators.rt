@@ -156,7 +156,7 @@ fn arith<'a>(
     // A `?` gets no proof where the value holds a handler, here and below.
     match lua_ops::arith::arith(heap, op, first, second) {
         Ok(outcome) => {
-            let step = settle(
+            settle(
                 tree,
                 frames,
                 heap,
@@ -166,8 +166,7 @@ fn arith<'a>(
                 Some(b),
                 place,
                 outer,
-            )?;
-            Ok(step)
+            )
         }
         Err(lack) => Err(lack),
     }
@@ -299,8 +298,7 @@ fn compare<'a>(
     let second = copy(&b);
     match lua_ops::compare::compare(heap, op, first, second) {
         Ok(outcome) => {
-            let step = compared(tree, frames, heap, budget, outcome, a, b, place, outer)?;
-            Ok(step)
+            compared(tree, frames, heap, budget, outcome, a, b, place, outer)
         }
         Err(lack) => Err(lack),
     }
@@ -429,7 +427,7 @@ pub fn operate<'a>(
         heap.old budget.old frames.new.items step heap.new budget.new) }
     ensures kept { OnOk result (KeepsHeap heap.old heap.new) }
 {
-    let step = operate_by(
+    operate_by(
         tree,
         frames,
         heap,
@@ -439,8 +437,7 @@ pub fn operate<'a>(
         b,
         place,
         outer,
-    )?;
-    Ok(step)
+    )
 }
 
 #[tactic(auto, using(tl_base::proofs::Steps::pushes))]
@@ -462,21 +459,17 @@ fn operate_by<'a>(
 {
     match operation {
         Operation::Calculates(op) => {
-            let step = arith(tree, frames, heap, budget, op, a, b, place, outer)?;
-            Ok(step)
+            arith(tree, frames, heap, budget, op, a, b, place, outer)
         }
         Operation::Compares(op) => {
-            let step = compare(tree, frames, heap, budget, op, a, b, place, outer)?;
-            Ok(step)
+            compare(tree, frames, heap, budget, op, a, b, place, outer)
         }
         Operation::Joins => {
-            let step = concat(tree, frames, heap, budget, a, b, place, outer)?;
-            Ok(step)
+            concat(tree, frames, heap, budget, a, b, place, outer)
         }
         Operation::MakesType => {
             let args = two(heap.allocator(), a, b)?;
-            let step = ask(frames, LibFn::FunctionType, args, place, outer)?;
-            Ok(step)
+            ask(frames, LibFn::FunctionType, args, place, outer)
         }
         Operation::Nothing => Ok(Step::Return(End::One(Value::Nil))),
     }

@@ -171,10 +171,9 @@ pub fn statement<'a>(
 {
     match tree.node(node) {
         Node::Statement(place, statement) => {
-            let step = execute(
+            execute(
                 tree, slots, frames, heap, budget, statement, node, *place, scope,
-            )?;
-            Ok(step)
+            )
         }
         _ => Ok(Step::Return(End::Fell(Values::new(heap.allocator())))),
     }
@@ -201,28 +200,24 @@ fn execute<'a>(
 {
     match statement {
         Statement::Assign(all, values) => {
-            let step = assign(tree, slots, frames, heap, budget, all, values, scope)?;
-            Ok(step)
+            assign(tree, slots, frames, heap, budget, all, values, scope)
         }
         Statement::Call(call) => {
             frames.push(LuaFrame::All(AllFrame::Done))?;
             Ok(Step::Enter(Job::Expression(*call, scope)))
         }
         Statement::Do(inner) => {
-            let step = block(tree, frames, heap, *inner, scope)?;
-            Ok(step)
+            block(tree, frames, heap, *inner, scope)
         }
         Statement::While(condition, _) => {
-            let step = while_first(frames, heap, node, *condition, scope)?;
-            Ok(step)
+            while_first(frames, heap, node, *condition, scope)
         }
         Statement::Repeat(_, _) => {
             let none = Values::new(heap.allocator());
             Ok(Step::Enter(Job::Turn(node, scope, Loop::Repeat, none)))
         }
         Statement::If(list, otherwise) => {
-            let step = first_arm(tree, frames, heap, list, *otherwise, scope)?;
-            Ok(step)
+            first_arm(tree, frames, heap, list, *otherwise, scope)
         }
         Statement::NumericFor(_, first, limit, step, _) => {
             let frame = LoopFrame::Initial(node, *limit, *step, place, scope);
@@ -230,30 +225,25 @@ fn execute<'a>(
             Ok(Step::Enter(Job::Expression(*first, scope)))
         }
         Statement::GenericFor(names, values, _) => {
-            let step = generic_for(
+            generic_for(
                 tree, slots, frames, heap, budget, node, names, values, place, scope,
-            )?;
-            Ok(step)
+            )
         }
         Statement::Function(path, _) => {
-            let step = define_at(tree, frames, heap, *path, node, scope)?;
-            Ok(step)
+            define_at(tree, frames, heap, *path, node, scope)
         }
         Statement::LocalFunction(_, body) => {
-            let step = local_function(heap, *body, scope)?;
-            Ok(step)
+            local_function(heap, *body, scope)
         }
         Statement::Local(names, values) => {
-            let step = locals(tree, slots, frames, heap, budget, names, values, scope)?;
-            Ok(step)
+            locals(tree, slots, frames, heap, budget, names, values, scope)
         }
         Statement::Emit(value) => {
             frames.push(LuaFrame::One(OneFrame::Statement(StatementFrame::Emit)))?;
             Ok(Step::Enter(Job::Expression(*value, scope)))
         }
         Statement::Return(values) => {
-            let step = return_values(tree, slots, frames, heap, budget, values, scope)?;
-            Ok(step)
+            return_values(tree, slots, frames, heap, budget, values, scope)
         }
         Statement::Break => Ok(Step::Return(End::Broke(Values::new(heap.allocator())))),
         Statement::Terra(_, _)

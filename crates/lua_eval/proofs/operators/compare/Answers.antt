@@ -6,10 +6,11 @@ use Rattle.lua_ops.specs.Outcomes.{compare_outcome}
 use Rattle.lua_model.specs.Operators.{compared}
 use Rattle.lua_eval.proofs.Below.{moved}
 use Rattle.lua_eval.proofs.Operands.{value_is}
+use Rattle.lua_eval.proofs.Passing.{if-ok}
 use Rattle.lua_eval.proofs.operators.compare.Goals as goal
 
-pub returns-in_ok-step-in-Ok-clause-means : goal.returns-in_ok-step-in-Ok-clause-means
-returns-in_ok-step-in-Ok-clause-means c =
+pub returns-in-Ok-clause-means : goal.returns-in-Ok-clause-means
+returns-in-Ok-clause-means c =
     let a = c.args in
     let items = items_of a.tree.now in
     let outcome = c.in-Ok.outcome in
@@ -20,8 +21,8 @@ returns-in_ok-step-in-Ok-clause-means c =
     ap (λ (v : Value). compare_outcome a.heap.now a.op v a.b) (sym c.copy-first.ensures)
     ∙ ap (λ (v : Value). compare_outcome a.heap.now a.op first v) (sym c.copy-second.ensures) ∙ found in
     let heap : a.heap.now ≡ c.compare.new.heap = cc in
-    moved items a.frames.now.items c.compared.new.frames.items
+    if-ok c.compared.result c.compared.ensures.means (λ v it. moved items a.frames.now.items c.compared.new.frames.items
     (compared items (compare_outcome a.heap.now a.op a.a a.b) (a.a ∷ a.b ∷ []) a.place a.outer)
     (compared items outcome (a.a ∷ a.b ∷ []) a.place a.outer)
-    a.heap.now c.compare.new.heap c.compared.new.heap a.budget.now c.compared.new.budget c.in_ok-step-in-Ok.step
-    (ap (λ (o : Outcome). compared items o (a.a ∷ a.b ∷ []) a.place a.outer) is) heap c.in_ok-step-in-Ok.ensures.means
+    a.heap.now c.compare.new.heap c.compared.new.heap a.budget.now c.compared.new.budget v
+    (ap (λ (o : Outcome). compared items o (a.a ∷ a.b ∷ []) a.place a.outer) is) heap it)

@@ -5,17 +5,19 @@ use Rattle.lua_value.specs.declared.value.Value.{Value}
 use Rattle.lua_model.specs.Plans.{LuaPlan, give, on_one}
 use Rattle.lua_model.specs.Calls.{ask_library}
 use Rattle.lua_eval.proofs.Below.{moved}
+use Rattle.lua_eval.proofs.Passing.{if-ok}
 use Rattle.lua_eval.proofs.operators.operate_by.Goals as goal
 
-pub returns-in_ok-step-in-Compares-clause-means : goal.returns-in_ok-step-in-Compares-clause-means
-returns-in_ok-step-in-Compares-clause-means c = rw c.in-Compares.is c.in_ok-step-in-Compares.ensures.means
+pub returns-in-Compares-clause-means : goal.returns-in-Compares-clause-means
+returns-in-Compares-clause-means c =
+    rw c.in-Compares.is (if-ok c.compare.result c.compare.ensures.means (λ v it. it))
 
-pub returns-in_ok-step-in-MakesType-clause-means : goal.returns-in_ok-step-in-MakesType-clause-means
-returns-in_ok-step-in-MakesType-clause-means c =
+pub returns-in-MakesType-clause-means : goal.returns-in-MakesType-clause-means
+returns-in-MakesType-clause-means c =
     let a = c.args in
     let items = items_of a.tree.now in
     let plan : List Value → LuaPlan = λ vs. ask_library FunctionType vs a.place a.outer (λ r. on_one r give) in
-    rw c.in-MakesType.is (moved items a.frames.now.items c.ask.new.frames.items (plan (a.a ∷ a.b ∷ []))
-    (plan c.in_ok-args-in-MakesType.args) a.heap.now a.heap.now a.heap.now a.budget.now a.budget.now c.in_ok-step-in-MakesType.step
+    rw c.in-MakesType.is (if-ok c.ask.result c.ask.ensures.means (λ v it. moved items a.frames.now.items c.ask.new.frames.items (plan (a.a ∷ a.b ∷ []))
+    (plan c.in_ok-args-in-MakesType.args) a.heap.now a.heap.now a.heap.now a.budget.now a.budget.now v
     (ap plan (sym c.in_ok-args-in-MakesType.ensures)) refl
-    (c.in_ok-step-in-MakesType.ensures.means items a.heap.now a.budget.now))
+    (it items a.heap.now a.budget.now)))
