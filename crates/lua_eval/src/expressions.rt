@@ -1,17 +1,19 @@
 // Expressions (Lua 5.1 manual, section 2.5).
 
-ghost use Rattle.std.specs.Prelude.{◌≡◌, ℕ, IfOk, OnOk};
+ghost use Rattle.std.specs.Prelude.{◌≡◌, ℕ, IfSome, IfOk, OnOk};
+ghost use Rattle.tl_base.specs.declared.machine.Step.TheVariants.{Return};
 ghost use Rattle.tl_tree.specs.Arena.{items_of};
 ghost use Rattle.tl_tree.specs.Code.{Items};
 ghost use Rattle.tl_tree.specs.Nodes.{item_at};
-ghost use Rattle.lua_table.specs.LuaState.{LuaState};
 ghost use Rattle.lua_table.specs.Keeping.{KeepsHeap};
 ghost use Rattle.tl_tree.specs.Numbers.{value_of};
-ghost use Rattle.lua_model.specs.Plans.{whole};
+ghost use Rattle.lua_model.specs.declared.end.End.TheVariants.{One};
+ghost use Rattle.lua_model.specs.Plans.{whole, value_of};
+ghost use Rattle.lua_model.specs.Operators as operator_plans;
 ghost use Rattle.lua_model.specs.Expressions as plans;
 ghost use Rattle.lua_eval.specs.Slots.{ArePaths};
 ghost use Rattle.lua_eval.specs.Frames.{with_left, with_value, with_call};
-ghost use Rattle.lua_eval.specs.Steps.{Goes};
+ghost use Rattle.lua_eval.specs.Steps.{Goes, Does};
 
 use crate::cells::{local, values_from};
 use crate::code::name;
@@ -74,12 +76,37 @@ pub fn node<'a>(
             Ok(Step::Return(End::One(value)))
         }
         Node::Expression(place, expression) => {
-            evaluate(tree, frames, heap, expression, node, *place, scope)
+            evaluate(tree, slots, frames, heap, budget, expression, node, *place, scope)
         }
         Node::Statement(_, _) => Ok(Step::Return(End::One(Value::Nil))),
         Node::TerraExpression(_, _) => Ok(Step::Return(End::One(Value::Nil))),
         Node::TerraStatement(_, _) => Ok(Step::Return(End::One(Value::Nil))),
         Node::Piece(_) => Ok(Step::Return(End::One(Value::Nil))),
+    }
+}
+
+/// The value of an expression that takes no steps of its own, a local or a number, so that what asks for it can pay its
+/// unit and go on without a job and a frame; `None` for all others.
+pub fn at_once(
+    tree: &Tree<'_>,
+    slots: &Slots,
+    heap: &Heap,
+    node: NodeId,
+    scope: &Scope,
+) -> Option<Value>
+    requires { ArePaths (items_of tree.now) slots.now }
+    ensures { IfSome result (λ value. (left : ℕ) →
+        Does (items_of tree.now)
+        (plans.node_plan (items_of tree.now) (item_at (items_of tree.now) node) node scope.now)
+        heap.now left (Return (One value)) heap.now left) }
+{
+    match tree.node(node) {
+        Node::Name(_, _, _) => match slots.path(node) {
+            Some((depth, position)) => Some(local(heap, scope.env, depth, position)),
+            None => None,
+        },
+        Node::Numeral(_, text) => Some(numeral(text)),
+        _ => None,
     }
 }
 
@@ -98,17 +125,20 @@ fn numeral(text: &str) -> Value
 /// Evaluates an expression that is no name, number or text.
 fn evaluate<'a>(
     tree: &'a Tree<'a>,
+    slots: &Slots,
     frames: &mut Vec<LuaFrame<'a>>,
     heap: &mut Heap,
+    budget: &mut Budget,
     expression: &'a Expression,
     node: NodeId,
     place: Place,
     scope: Scope,
 ) -> Result<LuaStep, NoMemory>
-    ensures means { IfOk result (λ step. (left : ℕ) →
+    requires { ArePaths (items_of tree.now) slots.now }
+    ensures means { IfOk result (λ step.
         Goes (items_of tree.now) frames.old.items
         (plans.expression_plan (items_of tree.now) expression.now node place scope)
-        heap.old left frames.new.items step heap.new left) }
+        heap.old budget.old frames.new.items step heap.new budget.new) }
     ensures kept { OnOk result (KeepsHeap heap.old heap.new) }
 {
     match expression {
@@ -132,9 +162,7 @@ fn evaluate<'a>(
             Ok(step)
         }
         Expression::Binary(op, left, right) => {
-            let frame = ValueFrame::Left(*op, *right, place, scope);
-            frames.push(LuaFrame::One(OneFrame::Value(frame)))?;
-            Ok(Step::Enter(Job::Expression(*left, scope)))
+            binary(tree, slots, frames, heap, budget, *op, *left, *right, place, scope)
         }
         Expression::Unary(op, operand) => {
             let frame = ValueFrame::Unary(*op, place, scope.call);
@@ -176,17 +204,60 @@ fn evaluate<'a>(
 }
 
 #[tactic(auto, using(tl_base::proofs::Steps::pushes))]
+/// Evaluates an operator between two expressions.
+fn binary<'a>(
+    tree: &'a Tree<'a>,
+    slots: &Slots,
+    frames: &mut Vec<LuaFrame<'a>>,
+    heap: &mut Heap,
+    budget: &mut Budget,
+    op: BinaryOperator,
+    left: NodeId,
+    right: NodeId,
+    place: Place,
+    scope: Scope,
+) -> Result<LuaStep, NoMemory>
+    requires { ArePaths (items_of tree.now) slots.now }
+    ensures means { IfOk result (λ step.
+        Goes (items_of tree.now) frames.old.items
+        (operator_plans.binary_plan (items_of tree.now) op left right place scope)
+        heap.old budget.old frames.new.items step heap.new budget.new) }
+    ensures kept { OnOk result (KeepsHeap heap.old heap.new) }
+{
+    match at_once(tree, slots, heap, left, &scope) {
+        Some(value) => {
+            if !budget.pay(1) {
+                return Ok(Step::Spent);
+            }
+            with_left(tree, slots, frames, heap, budget, op, right, place, scope, value)
+        }
+        None => {
+            let frame = ValueFrame::Left(op, right, place, scope);
+            frames.push(LuaFrame::One(OneFrame::Value(frame)))?;
+            Ok(Step::Enter(Job::Expression(left, scope)))
+        }
+    }
+}
+
+#[tactic(auto, using(tl_base::proofs::Steps::pushes))]
 /// Goes on with the left operand of an operator.
 fn with_left<'a>(
+    tree: &'a Tree<'a>,
+    slots: &Slots,
     frames: &mut Vec<LuaFrame<'a>>,
+    heap: &mut Heap,
+    budget: &mut Budget,
     op: BinaryOperator,
     right: NodeId,
     place: Place,
     scope: Scope,
     value: Value,
 ) -> Result<LuaStep, NoMemory>
-    ensures means { IfOk result (λ step. (items : Items) (s : LuaState) (left : ℕ) →
-        Goes items frames.old.items (with_left items op right place scope value) s left frames.new.items step s left) }
+    requires { ArePaths (items_of tree.now) slots.now }
+    ensures means { IfOk result (λ step.
+        Goes (items_of tree.now) frames.old.items (with_left (items_of tree.now) op right place scope value)
+        heap.old budget.old frames.new.items step heap.new budget.new) }
+    ensures kept { OnOk result (KeepsHeap heap.old heap.new) }
 {
     match op {
         BinaryOperator::And => {
@@ -203,7 +274,39 @@ fn with_left<'a>(
             frames.push(LuaFrame::One(OneFrame::Value(ValueFrame::First)))?;
             Ok(Step::Enter(Job::Expression(right, scope)))
         }
-        _ => {
+        _ => right_operand(tree, slots, frames, heap, budget, op, right, place, scope, value),
+    }
+}
+
+#[tactic(auto, using(tl_base::proofs::Steps::pushes))]
+/// Evaluates the right operand of an operator whose left one decides nothing, and then what the operator gives.
+fn right_operand<'a>(
+    tree: &'a Tree<'a>,
+    slots: &Slots,
+    frames: &mut Vec<LuaFrame<'a>>,
+    heap: &mut Heap,
+    budget: &mut Budget,
+    op: BinaryOperator,
+    right: NodeId,
+    place: Place,
+    scope: Scope,
+    value: Value,
+) -> Result<LuaStep, NoMemory>
+    requires { ArePaths (items_of tree.now) slots.now }
+    ensures means { IfOk result (λ step.
+        Goes (items_of tree.now) frames.old.items
+        (value_of right scope (λ other. operator_plans.operate (items_of tree.now) op value other place scope.call))
+        heap.old budget.old frames.new.items step heap.new budget.new) }
+    ensures kept { OnOk result (KeepsHeap heap.old heap.new) }
+{
+    match at_once(tree, slots, heap, right, &scope) {
+        Some(other) => {
+            if !budget.pay(1) {
+                return Ok(Step::Spent);
+            }
+            operate(tree, frames, heap, budget, op, value, other, place, scope.call)
+        }
+        None => {
             let frame = ValueFrame::Right(op, value, place, scope.call);
             frames.push(LuaFrame::One(OneFrame::Value(frame)))?;
             Ok(Step::Enter(Job::Expression(right, scope)))
@@ -215,12 +318,14 @@ fn with_left<'a>(
 /// Goes on with an expression that waited for one value.
 pub fn with_value<'a>(
     tree: &'a Tree<'a>,
+    slots: &Slots,
     frames: &mut Vec<LuaFrame<'a>>,
     heap: &mut Heap,
     budget: &mut Budget,
     frame: ValueFrame,
     value: Value,
 ) -> Result<LuaStep, NoMemory>
+    requires { ArePaths (items_of tree.now) slots.now }
     ensures means { IfOk result (λ step.
         Goes (items_of tree.now) frames.old.items (with_value (items_of tree.now) frame value)
         heap.old budget.old frames.new.items step heap.new budget.new) }
@@ -233,7 +338,7 @@ pub fn with_value<'a>(
             Ok(Step::Return(End::Many(values)))
         }
         ValueFrame::Left(op, right, place, scope) => {
-            with_left(frames, op, right, place, scope, value)
+            with_left(tree, slots, frames, heap, budget, op, right, place, scope, value)
         }
         ValueFrame::Right(op, left, place, outer) => {
             operate(tree, frames, heap, budget, op, left, value, place, outer)

@@ -75,7 +75,7 @@ fn with_one<'a>(
 {
     match frame {
         OneFrame::Value(frame) => {
-            with_value(tree, frames, heap, budget, frame, value)
+            with_value(tree, slots, frames, heap, budget, frame, value)
         }
         OneFrame::Item(frame) => {
             let mut values = frame.values;
