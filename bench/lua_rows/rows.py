@@ -559,20 +559,9 @@ def tables(rng, first):
                 yield f"walk {number}", " ".join(f"{k} -> {v}" for k, v in table.items() if v != "nil")
 
 
-def by_hand():
-    for line in BY_HAND.strip().splitlines():
-        if line.startswith("--"):
-            continue
-        # the last ` =` parts the two, as operators may be `==`
-        row, _, answer = line.rpartition(" = ")
-        if not row:
-            row, answer = line.removesuffix(" ="), ""
-        yield row, answer
-
-
 def main():
     rng = random.Random(19)
-    rows = list(by_hand()) + list(arithmetic(rng)) + list(tables(rng, 7)) + texts.rows(rng, 11)
+    rows = list(texts.rows_in(BY_HAND)) + list(arithmetic(rng)) + list(tables(rng, 7)) + texts.rows(rng, 11)
     calls = [("begin_call", str(min(count, 200))) for count in range(1, 203)]
     rows += calls
     (CRATE / "stdin").write_text("".join(f"{row}\n" for row, _ in rows))

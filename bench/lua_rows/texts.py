@@ -315,13 +315,19 @@ def random_lists(rng, table):
         yield f"border {table}", str(size)
 
 
-def by_hand(first):
-    for line in BY_HAND.strip().splitlines():
+def rows_in(text):
+    """Yields the rows of a text with their answers, behind the last ` =`, as operators may be `==`."""
+    for line in text.strip().splitlines():
         if line.startswith("--"):
             continue
         row, _, answer = line.rpartition(" = ")
         if not row:
             row, answer = line.removesuffix(" ="), ""
+        yield row, answer
+
+
+def by_hand(first):
+    for row, answer in rows_in(BY_HAND):
         words = []
         for word in row.split(" "):
             words.append({"A": str(first), "B": str(first + 1), "C": str(first + 2)}.get(word, word))
