@@ -1,5 +1,5 @@
 -- What is promised of lowered code: that it runs as its terms do, at every count, and that machine code can be made of it.
-use Rattle.std.specs.Prelude.{◌≡◌, ℕ, ◌≤◌, ◌/◌, true, List, length, Some, option_map}
+use Rattle.std.specs.Prelude.{◌≡◌, ℕ, ◌<◌, ◌≤◌, ◌/◌, ◌^◌, true, List, length, Some, option_map}
 use Rattle.tl_base.specs.declared.ids.FnId.{FnId}
 use Rattle.terra_memory.specs.Region.{IsMemorySize}
 use Rattle.terra_words.specs.Runs.{Value, Run}
@@ -12,11 +12,10 @@ use Rattle.tac_form.specs.declared.tac.Tac.{Tac}
 use Rattle.tac_form.specs.Flow.{Program, TacRun}
 use Rattle.tac_form.specs.Weights.{Sized}
 use Rattle.tac_form.specs.Fits.{Counted, Fits}
-use Rattle.tac_lower.specs.Needs.{BodyNeeds}
 
--- every function of a store that can be called has what lowering needs, where these functions stand as values
-abbrev pub AreReady : Contents → List FnId → Type 0
-AreReady store entries = (f : FnId) (k : Callable) → callable_of store f ≡ Some k → BodyNeeds store entries k
+-- every function of a store that can be called is typed
+abbrev pub AreTyped : Contents → Type 0
+AreTyped store = (f : FnId) (k : Callable) → callable_of store f ≡ Some k → body_typed store k.body ≡ true
 
 -- a program has the code of each function, as lowering makes it
 abbrev pub AreLowered : (Contents → List FnId → Callable → Tac) → Contents → Program → Type 0
@@ -30,7 +29,7 @@ pub record HasRun (p : Program) (statics : List ℕ) (memory n : ℕ) (f : FnId)
 -- the code of a store's functions has the runs of their terms, at every count
 abbrev pub LoweringKeepsRuns : (Contents → List FnId → Callable → Tac) → Type 0
 LoweringKeepsRuns lowered =
-    (store : Contents) (p : Program) → AreTypes store.types → AreReady store p.entries → AreLowered lowered store p →
+    (store : Contents) (p : Program) → AreTypes store.types → AreTyped store → length p.entries < 2 ^ 32 → AreLowered lowered store p →
     (memory n : ℕ) (f : FnId) (k : Callable) (arguments : List Value) →
     IsMemorySize memory → length (static_bytes store) ≤ memory / 2 →
     callable_of store f ≡ Some k → AreValues store.types k.body.parameters arguments →
@@ -39,7 +38,8 @@ LoweringKeepsRuns lowered =
 -- each way round the flow graph of the code counts
 abbrev pub LoweredIsCounted : (Contents → List FnId → Callable → Tac) → Type 0
 LoweredIsCounted lowered =
-    (store : Contents) (entries : List FnId) (k : Callable) → BodyNeeds store entries k → Counted (lowered store entries k)
+    (store : Contents) (entries : List FnId) (k : Callable) → AreTypes store.types → length entries < 2 ^ 32 →
+    body_typed store k.body ≡ true → Counted (lowered store entries k)
 
 -- what each function's code keeps
 pub record IsGood (code : Tac) : Type 0 where
