@@ -58,9 +58,9 @@ sizes types t = by (slice_get types t.0) refl
     by None e = ap bytes_by (past-measure types t.0 (past types t.0 e))
 
 pub lowering_keeps_runs : LoweringKeepsRuns lowered
-lowering_keeps_runs store p types are few lowered_are memory n f k arguments size statics there values =
+lowering_keeps_runs store p types are few lowered_are memory n f k arguments size statics there narrow values =
     let boolean_is : form_at store.types boolean ≡ forms.Bool =
     subst (λ l. form_at l boolean ≡ forms.Bool) (sym types.opened.1) refl in
     let unit_is : form_at store.types unit ≡ forms.Unit = subst (λ l. form_at l unit ≡ forms.Unit) (sym types.opened.1) refl in
     has_run p store memory size.2 (sizes store.types) boolean_is unit_is lowered_are
-    (λ g j at. body-needs store types p.entries few j (are g j at)) n f k arguments size statics there values
+    (λ g j at. body-needs store types p.entries few j (are g j at)) n f k arguments size statics there narrow values

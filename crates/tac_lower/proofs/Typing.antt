@@ -2,7 +2,7 @@
 use Rattle.std.proofs.Common.{◌≡◌, ◌≢◌, ℕ, zero, suc, ◌+◌, ◌<◌, ◌≤◌, Bool, true, false, List, [], ◌∷◌, ◌++◌, length, map, Option, Some, None, refl, sym, ap, ◌∙◌, subst, arith}
 use Rattle.std.specs.Prelude.{◌^◌, ◌%◌, ◌-◌, not, ◌&&◌, ◌||◌, ◌⊎◌, nat_eq, nat_le, nat_lt, slice_get, unwrap_or, if◌then◌else◌}
 use mathlib.Core.Logic.{inl, inr}
-use Rattle.std.proofs.lemmas.Bool.{eqb-true, leb-true, leb-false, ltb-true, and_parts, or_cases}
+use Rattle.std.proofs.lemmas.Bool.{eqb-true, leb-true, leb-false, ltb-true, and_parts, and_from, or_cases}
 use Rattle.tl_base.specs.declared.place.Place.{Place}
 use Rattle.tl_base.specs.declared.ids.SymId.{SymId}
 use Rattle.tl_base.specs.declared.ids.TypeId.{TypeId}
@@ -20,6 +20,7 @@ use Rattle.terra_types.specs.declared.types.TypeForm.{TypeForm}
 use Rattle.terra_types.specs.declared.types.TypeForm.TheVariants as forms
 use Rattle.terra_types.specs.Opening.{AreTypes, boolean, unit, int64, uint8, rawstring}
 use Rattle.terra_types.specs.Layouts.{entries_in}
+use Rattle.terra_types.specs.Sizes.{size_of}
 use Rattle.terra_term.specs.declared.operators.Constant.{Constant}
 use Rattle.terra_term.specs.declared.operators.Constant.TheVariants as constants
 use Rattle.terra_term.specs.declared.operators.Operation.{Operation}
@@ -33,7 +34,7 @@ use Rattle.terra_term.specs.WellTyped.{Within, same, is_typed, are_typed, one_ty
 use Rattle.terra_meaning.specs.Values.{form_at, bytes_at, is_aggregate, target_of, IsValue}
 use Rattle.terra_meaning.specs.Frames.{Home, home_at, frame_of}
 use Rattle.terra_meaning.specs.Meaning.{Wanted, the_value, the_address, constant, position_of, types_of, type_at, in_expression, in_list, in_statement, in_block}
-use Rattle.tac_lower.specs.Lowering.{type_of_name}
+use Rattle.tac_lower.specs.Lowering.{type_of_name, are_narrow}
 use Rattle.tac_lower.specs.Needs.{HasNumber, IsWanted, IsValueWanted, IsWide, Begins, by_test, InScope, GoodHome, DeclaresWell, declared_names, names_after, names_after_one, is_comparison, BinaryNeeds, PrimitiveNeeds, NumberUnless, EntriesFit, CallNeeds, OperationNeeds, in_loop, in_let, Needs, NeedsAll, NeedsTargets, NeedsOne, NeedsBlock, BodyNeeds}
 use Rattle.tac_lower.proofs.Words.{width_by, wrapped-zero}
 use Rattle.tac_lower.proofs.Homes.{Homes, homes-of, declared-takes, declared-operation, HomesOf, halves, second-half, in-scope, behind-both}
@@ -472,14 +473,26 @@ module _ (store : Contents) (are : AreTypes store.types) (entries : List FnId) (
   primitive-needs primitives.Alloc [] of h = absurd (no h)
   primitive-needs primitives.Alloc (a ∷ b ∷ ts) of h = absurd (no h)
 
-  call-needs : (f : FnId) (ts : List TypeId) (of : TypeId) → typing.has_type ts of (callable_of store f) ≡ true → CallNeeds store f ts of
-  call-needs f ts of h = by (callable_of store f) refl h
+  usable-narrow : (ts : List TypeId) → typing.all_usable store ts ≡ true → are_narrow types ts ≡ true
+  usable-narrow [] h = refl
+  usable-narrow (t ∷ ts) h =
+      let p = and_parts (typing.is_usable store t) (typing.all_usable store ts) h in
+      and_from (nat_le (bytes_at types t) typing.widest) (are_narrow types ts) (by (size_of types t) p.0) (usable-narrow ts p.1)
+    where
+      by : (o : Option ℕ) → typing.small o ≡ true → nat_le (unwrap_or o 0) typing.widest ≡ true
+      by None e = absurd (no e)
+      by (Some n) e = e
+
+  call-needs : (f : FnId) (ts : List TypeId) (of : TypeId) → typing.all_usable store ts ≡ true →
+      typing.has_type ts of (callable_of store f) ≡ true → CallNeeds store f ts of
+  call-needs f ts of usable h = by (callable_of store f) refl h
     where
       by : (o : Option Callable) → callable_of store f ≡ o → typing.has_type ts of o ≡ true → CallNeeds store f ts of
       by None e h = absurd (no h)
       by (Some k) e h =
           let p = and_parts (are_same ts (types_of_names k.body.parameters)) (same of k.body.result) h in
-          (k, e, same-ids ts (types_of_names k.body.parameters) p.0 ∙ names-are k.body.parameters, sym (same-id of k.body.result p.1))
+          (k, e, same-ids ts (types_of_names k.body.parameters) p.0 ∙ names-are k.body.parameters, sym (same-id of k.body.result p.1),
+          usable-narrow ts usable)
 
   step-needs : (p i of : TypeId) → typing.step_typed store p i of ≡ true → IsWide types of
   step-needs p i of h =
@@ -497,34 +510,36 @@ module _ (store : Contents) (are : AreTypes store.types) (entries : List FnId) (
   not-empty (forms.Function ps r) h e none = absurd (no h)
   not-empty (forms.Struct n p l) h e none = absurd (no h)
 
-  operation-needs : (op : Operation) (ts : List TypeId) (of : TypeId) → typing.operation_typed store op ts of ≡ true →
+  operation-needs : (op : Operation) (ts : List TypeId) (of : TypeId) → typing.all_usable store ts ≡ true →
+      typing.operation_typed store op ts of ≡ true →
       OperationNeeds types (CallNeeds store) op ts of
-  operation-needs operations.Negate ts of h = integer-number (form_at types of) (and_parts _ (typing.is_integer store of) h).1
-  operation-needs operations.Not [] of h = absurd (no h)
-  operation-needs operations.Not (t ∷ ts) of h =
+  operation-needs operations.Negate ts of usable h = integer-number (form_at types of) (and_parts _ (typing.is_integer store of) h).1
+  operation-needs operations.Not [] of usable h = absurd (no h)
+  operation-needs operations.Not (t ∷ ts) of usable h =
       let p = three (typing.has_operands 1 (t ∷ ts)) (same t of) (typing.is_integer store of || same of boolean) h in
       (same-id t of p.1, not-needs of p.2)
-  operation-needs (operations.Binary op) ts of h =
+  operation-needs (operations.Binary op) ts of usable h =
       binary-needs op (type_at ts 0) (typing.second_type ts) of (and_parts (typing.has_operands 2 ts) _ h).1
-  operation-needs operations.StepForward ts of h =
+  operation-needs operations.StepForward ts of usable h =
       step-needs (typing.first_type ts) (typing.second_type ts) of (and_parts (typing.has_operands 2 ts) _ h).1
-  operation-needs operations.StepBack ts of h =
+  operation-needs operations.StepBack ts of usable h =
       step-needs (typing.first_type ts) (typing.second_type ts) of (and_parts (typing.has_operands 2 ts) _ h).1
-  operation-needs operations.Difference ts of h =
+  operation-needs operations.Difference ts of usable h =
       let p = five (typing.has_operands 2 ts) (same (typing.first_type ts) (typing.second_type ts))
       (typing.is_pointer store (typing.first_type ts)) (typing.is_sized store (typing.first_type ts)) (same of int64) h in
       (not-empty (form_at types (type_at ts 0)) p.2 p.3,
       λ x lt. value-by types of (forms.Integer Int64) x (int64-is of p.4) refl (int64-fits x lt))
-  operation-needs operations.Convert ts of h =
+  operation-needs operations.Convert ts of usable h =
       convert-needs (typing.first_type ts) of (and_parts (typing.has_operands 1 ts) _ h).1
-  operation-needs (operations.Extract offset) [] of h = absurd (no h)
-  operation-needs (operations.Extract offset) (t ∷ ts) of h = entry-fits t offset of (and_parts (typing.has_operands 1 (t ∷ ts)) _ h).1
-  operation-needs (operations.Call f) ts of h = call-needs f ts of h
-  operation-needs (operations.Primitive p) ts of h = primitive-needs p ts of h
-  operation-needs operations.CallValue [] of h =
+  operation-needs (operations.Extract offset) [] of usable h = absurd (no h)
+  operation-needs (operations.Extract offset) (t ∷ ts) of usable h = entry-fits t offset of (and_parts (typing.has_operands 1 (t ∷ ts)) _ h).1
+  operation-needs (operations.Call f) ts of usable h = call-needs f ts of usable h
+  operation-needs (operations.Primitive p) ts of usable h = primitive-needs p ts of h
+  operation-needs operations.CallValue [] of usable h =
       absurd (no (subst (λ f. typing.calls_in f [] of ≡ true) (unit-is unit refl) h))
-  operation-needs operations.CallValue (t ∷ ts) of h = callee-form (form_at types t) ts of h
-  operation-needs (operations.Construct offsets) ts of h =
+  operation-needs operations.CallValue (t ∷ ts) of usable h =
+      (callee-form (form_at types t) ts of h, usable-narrow ts (and_parts (typing.is_usable store t) (typing.all_usable store ts) usable).1)
+  operation-needs (operations.Construct offsets) ts of usable h =
       let p = three (typing.is_struct store of) (typing.is_usable store of) (typing.entries_typed store of offsets ts) h in
       (struct-aggregate (form_at types of) p.0, entries-fit of offsets ts p.2)
 
@@ -594,7 +609,7 @@ module _ (store : Contents) (are : AreTypes store.types) (entries : List FnId) (
           (value-asked want a,
           expressions-need es from w names r p.1
           (second-half types frame homes (operation_events at op) (list_events es) from (declared-operation at op) d),
-          operation-needs op (types_of es) of (subst (λ l. typing.operation_typed store op l of ≡ true) (types-are es) p.3))
+          operation-needs op (types_of es) of (subst (λ l. typing.all_usable store l ≡ true) (types-are es) p.2) (subst (λ l. typing.operation_typed store op l of ≡ true) (types-are es) p.3))
       expression-needs want (typed at of (Both x y)) from w names r a h d =
           let q = and_parts _ (same of boolean) h in
           let p = five (typing.is_placed at) (is_typed store w names x) (is_typed store w names y) (same (type_of x) boolean)

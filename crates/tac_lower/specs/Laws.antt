@@ -9,6 +9,7 @@ use Rattle.terra_term.specs.WellTyped.{body_typed}
 use Rattle.terra_meaning.specs.Values.{AreValues}
 use Rattle.terra_meaning.specs.Meaning.{meaning}
 use Rattle.tac_form.specs.declared.tac.Tac.{Tac}
+use Rattle.tac_lower.specs.Lowering.{are_narrow, parameter_types}
 use Rattle.tac_form.specs.Flow.{Program, TacRun}
 use Rattle.tac_form.specs.Weights.{Sized}
 use Rattle.tac_form.specs.Fits.{Counted, Fits}
@@ -26,13 +27,14 @@ pub record HasRun (p : Program) (statics : List ℕ) (memory n : ℕ) (f : FnId)
   pub runs : TacRun p statics memory n f arguments r
   pub alone : (q : Run) → TacRun p statics memory n f arguments q → q ≡ r
 
--- the code of a store's functions has the runs of their terms, at every count
+-- the code of a store's functions has the runs of their terms, at every count; parameters have at most the bytes that values have
 abbrev pub LoweringKeepsRuns : (Contents → List FnId → Callable → Tac) → Type 0
 LoweringKeepsRuns lowered =
     (store : Contents) (p : Program) → AreTypes store.types → AreTyped store → length p.entries < 2 ^ 32 → AreLowered lowered store p →
     (memory n : ℕ) (f : FnId) (k : Callable) (arguments : List Value) →
     IsMemorySize memory → length (static_bytes store) ≤ memory / 2 →
-    callable_of store f ≡ Some k → AreValues store.types k.body.parameters arguments →
+    callable_of store f ≡ Some k → are_narrow store.types (parameter_types k) ≡ true →
+    AreValues store.types k.body.parameters arguments →
     HasRun p (static_bytes store) memory n f arguments (meaning store p.entries memory n f arguments)
 
 -- each way round the flow graph of the code counts
