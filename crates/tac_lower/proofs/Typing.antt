@@ -41,16 +41,16 @@ use Rattle.tac_lower.proofs.Homes.{Homes, homes-of, declared-takes, declared-ope
 
 -- tests
 
-no : false ≡ true → ⊥
+pub no : false ≡ true → ⊥
 no e = grind (arith, e)
 
-three : (a b c : Bool) → (a && b && c) ≡ true → (a ≡ true) × (b ≡ true) × (c ≡ true)
+pub three : (a b c : Bool) → (a && b && c) ≡ true → (a ≡ true) × (b ≡ true) × (c ≡ true)
 three a b c h = let x = and_parts (a && b) c h in let y = and_parts a b x.0 in (y.0, y.1, x.1)
 
-four : (a b c d : Bool) → (a && b && c && d) ≡ true → (a ≡ true) × (b ≡ true) × (c ≡ true) × (d ≡ true)
+pub four : (a b c d : Bool) → (a && b && c && d) ≡ true → (a ≡ true) × (b ≡ true) × (c ≡ true) × (d ≡ true)
 four a b c d h = let x = and_parts (a && b && c) d h in let y = three a b c x.0 in (y.0, y.1, y.2, x.1)
 
-five : (a b c d e : Bool) → (a && b && c && d && e) ≡ true → (a ≡ true) × (b ≡ true) × (c ≡ true) × (d ≡ true) × (e ≡ true)
+pub five : (a b c d e : Bool) → (a && b && c && d && e) ≡ true → (a ≡ true) × (b ≡ true) × (c ≡ true) × (d ≡ true) × (e ≡ true)
 five a b c d e h = let x = and_parts (a && b && c && d) e h in let y = four a b c d x.0 in (y.0, y.1, y.2, y.3, x.1)
 
 -- ids
@@ -275,7 +275,7 @@ entries-aggregate (forms.Pointer s) offset t h = absurd (no h)
 entries-aggregate (forms.Array s n) offset t h = absurd (no h)
 entries-aggregate (forms.Function ps r) offset t h = absurd (no h)
 
-struct-aggregate : (f : TypeForm) → typing.struct_form f ≡ true → is_aggregate (f ∷ []) (record { 0 = 0 }) ≡ true
+pub struct-aggregate : (f : TypeForm) → typing.struct_form f ≡ true → is_aggregate (f ∷ []) (record { 0 = 0 }) ≡ true
 struct-aggregate (forms.Struct n p l) h = refl
 struct-aggregate (forms.Integer i) h = absurd (no h)
 struct-aggregate forms.Bool h = absurd (no h)
@@ -351,11 +351,11 @@ outside-let true h = absurd (no h)
 outside-let false h = refl
 
 -- what isn't asked for by its address
-abbrev Asked : Wanted → Bool → Type 0
+abbrev pub Asked : Wanted → Bool → Type 0
 Asked the_value b = Unit {0}
 Asked the_address b = b ≡ true
 
-value-asked : (want : Wanted) → Asked want false → IsValueWanted want
+pub value-asked : (want : Wanted) → Asked want false → IsValueWanted want
 value-asked the_value h = tt
 value-asked the_address h = absurd (no h)
 

@@ -43,6 +43,12 @@ LoweredIsCounted lowered =
     (store : Contents) (entries : List FnId) (k : Callable) → AreTypes store.types → length entries < 2 ^ 32 →
     body_typed store k.body ≡ true → Counted (lowered store entries k)
 
+-- machine code of the code keeps within what a function of so many typed nodes may take
+abbrev pub LoweredIsSized : (Contents → List FnId → Callable → Tac) → Type 0
+LoweredIsSized lowered =
+    (store : Contents) (entries : List FnId) (k : Callable) → AreTypes store.types → body_typed store k.body ≡ true →
+    Sized (lowered store entries k)
+
 -- what each function's code keeps
 pub record IsGood (code : Tac) : Type 0 where
   pub fits : Fits code

@@ -10,4 +10,4 @@
 
 pub mod law;
 
-pub use law::{lowered_code_is_counted, lowering_keeps_runs};
+pub use law::{lowered_code_is_counted, lowered_code_is_sized, lowering_keeps_runs};
