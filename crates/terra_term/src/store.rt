@@ -125,6 +125,7 @@ pub struct Store {
 
 // A node takes at most 64 bytes beside its lists, with the size that is kept of it.
 const _: () = prove!(size_of::<Term>() + size_of::<SizedNode>() <= 64);
+
 const _: () = prove!(size_of::<Typed>() + size_of::<SizedNode>() <= 64);
 
 impl Model for Store {
