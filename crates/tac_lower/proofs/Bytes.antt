@@ -1,6 +1,6 @@
 -- Lowered code of typed functions has at most 136 private bytes for each typed node, and 65,536 more.
-use Rattle.std.proofs.Common.{◌≡◌, ℕ, zero, suc, ◌+◌, ◌*◌, ◌<◌, ◌≤◌, ◌⊎◌, inl, inr, Bool, true, false, List, [], ◌∷◌, ◌++◌, length, map, Option, Some, None, refl, sym, ap, ◌∙◌, subst, arith, length-append}
-use Rattle.std.specs.Prelude.{◌^◌, ◌-◌, not, nat_eq, nat_lt, fold, if◌then◌else◌}
+use Rattle.std.proofs.Common.{◌≡◌, ℕ, suc, ◌+◌, ◌*◌, ◌≤◌, ◌⊎◌, inl, inr, Bool, true, false, List, [], ◌∷◌, length, map, Option, Some, None, refl, sym, ap, ◌∙◌, arith, length-append}
+use Rattle.std.specs.Prelude.{◌^◌, ◌-◌, not, nat_eq, fold, if◌then◌else◌}
 use Rattle.std.proofs.lemmas.Bool.{and_parts}
 use Rattle.tl_base.specs.declared.place.Place.{Place}
 use Rattle.tl_base.specs.declared.ids.TypeId.{TypeId}
@@ -10,12 +10,12 @@ use Rattle.terra_words.specs.declared.words.BinaryOperator.TheVariants as operat
 use Rattle.terra_words.specs.Words.{divides}
 use Rattle.terra_types.specs.declared.types.TypeForm.{TypeForm}
 use Rattle.terra_types.specs.declared.types.TypeForm.TheVariants as forms
-use Rattle.terra_types.specs.Opening.{AreTypes, boolean, unit}
+use Rattle.terra_types.specs.Opening.{AreTypes, boolean}
 use Rattle.terra_term.specs.declared.operators.Operation.{Operation}
 use Rattle.terra_term.specs.declared.operators.Operation.TheVariants as operations
 use Rattle.terra_term.specs.declared.lists.TypedName.{TypedName}
 use Rattle.terra_term.specs.TypedTerms.{Expression, typed, Constant', Variable, Global, Operate, Both, Either, Dereference, Select, Follow, Element, Index, Address, Decay, Let, Expressions, no_more, then_one, Statement, statement, Var, Assign, If, IfElse, While, Repeat, For, Do, Break, Finish, Return, Perform, Statements, done, and_then, type_of, place_of, is_place}
-use Rattle.terra_term.specs.Sizes.{typed_size, typed_list_size, typed_statement_size, typed_block_size, callee_size}
+use Rattle.terra_term.specs.Sizes.{typed_size, typed_list_size, typed_statement_size, typed_block_size}
 use Rattle.terra_term.specs.Stores.{Contents, Callable}
 use Rattle.terra_term.specs.Events.{declares_all, block_events, declared_in}
 use Rattle.terra_term.specs.WellTyped as typing
@@ -23,18 +23,15 @@ use Rattle.terra_term.specs.WellTyped.{Within, same, is_typed, are_typed, one_ty
 use Rattle.terra_meaning.specs.Values.{form_at, bytes_at, is_aggregate}
 use Rattle.terra_meaning.specs.Frames.{Home, by_value, in_frame, home_at, frame_of}
 use Rattle.terra_meaning.specs.Meaning.{Wanted, the_value, the_address, types_of, type_at, in_expression, in_list, in_statement, in_block}
-use Rattle.tac_form.specs.declared.tac.Number.{Number}
-use Rattle.tac_form.specs.declared.tac.Operand.{Operand}
 use Rattle.tac_form.specs.declared.tac.Operand.TheVariants.{Temp, Constant}
 use Rattle.tac_form.specs.declared.tac.Address.TheVariants as addresses
-use Rattle.tac_form.specs.declared.tac.Destination.{Destination}
 use Rattle.tac_form.specs.declared.tac.Destination.TheVariants as destinations
 use Rattle.tac_form.specs.declared.tac.Instruction.TheVariants.{TestDivisor, Move}
 use Rattle.tac_form.specs.declared.tac.Spot.{Spot}
 use Rattle.tac_form.specs.declared.tac.Spot.TheVariants as spots
 use Rattle.tac_form.specs.Weights.{private_bytes}
 use Rattle.tac_lower.specs.Pieces.{Used, nothing_used, with_temp, with_area, Piece, known, doing, then_piece, taken, Result, a_word, an_area, an_offset, no_word, word_of, address_of, word_at, result_at, rest, whole_word, number_of, is_bool, given, compute, copied, located, loaded_bit, loaded_area, loaded_word, loaded, stored_part, stored, placed, Holder, in_temp, at_offset, Holders, holder_of, Around, declare_at, declare, declare_all, first_of}
-use Rattle.tac_lower.specs.Lowering.{reached, variable, entry, element, extracted, constructed, call, call_value, signature_in, operation, target_at, aimed, Target, to_temp, to_place, assigned, assigned_all, Counting, counting, is_one, with_step, either_way, runs, piece, pieces, targets, one, all, around, received, code_of, unreached, are_narrow, parameter_types, lowered}
+use Rattle.tac_lower.specs.Lowering.{reached, variable, entry, element, extracted, constructed, call, call_value, signature_in, operation, target_at, aimed, Target, to_temp, to_place, assigned, assigned_all, Counting, counting, is_one, either_way, runs, piece, pieces, targets, one, all, around, received, code_of, unreached, are_narrow, parameter_types, lowered}
 use Rattle.tac_lower.specs.Needs.{GoodHome}
 use Rattle.tac_lower.proofs.Homes.{Homes, homes-of, halves}
 use Rattle.tac_lower.proofs.Typing.{no, three, four, five, struct-aggregate, Asked}
@@ -117,7 +114,8 @@ placed-bytes types of to (a_word o) u = by (nat_eq (bytes_at types of) 0)
     by false = let h = ap bytes (stored-same types of to (a_word o) u) in omega (arith, h)
 placed-bytes types of to (an_offset o) u = by (nat_eq (bytes_at types of) 0)
   where
-    by : (b : Bool) → bytes (if b then taken (λ t. tt {0}) (copied (Constant 0) u) else stored types of to (an_offset o) u).used ≤ bytes u + 8
+    by : (b : Bool) → bytes (if b then taken (λ t. tt {0}) (copied (Constant 0) u) else stored types of to (an_offset o) u).used ≤ bytes u
+        + 8
     by true = omega arith
     by false = let h = ap bytes (stored-same types of to (an_offset o) u) in omega (arith, h)
 
@@ -363,7 +361,8 @@ module _ (store : Contents) (entries : List FnId) (homes : List Home) where
         let p = piece c the_value e from scope u in
         let j = piece c the_value i (from + in_expression e) scope p.used in
         let n = element (bytes_at types of) (word_of p.result) (word_of j.result) j.used in
-        let x = expression-bytes the_value e from w names scope u 24 tt t.1 (inr (refl, plain-pointer (form_at types (type_of e)) of t.3)) in
+        let x = expression-bytes the_value e from w names scope u 24 tt t.1 (inr (refl, plain-pointer (form_at types (type_of e)) of t.3))
+        in
         let z = expression-bytes the_value i (from + in_expression e) w names scope p.used 0 tt t.2 (inl refl) in
         let v = reached-bytes types want at of n.result n.used m s in omega (arith, x, z, v)
     expression-bytes want (typed at of (Address e)) from w names scope u m a h s =
@@ -462,7 +461,8 @@ module _ (store : Contents) (entries : List FnId) (homes : List Home) where
         let b = block-bytes body (suc (from + in_list bounds)) (typing.in_a_loop w) (x ∷ names) d.result d.used t.3 in
         omega (arith, v, y, z, b)
     statement-bytes (statement at (Do body)) from w names scope u h =
-        let x = block-bytes body from w names scope u (and_parts (typing.is_placed at) (all_typed store w names body) h).1 in omega (arith, x)
+        let x = block-bytes body from w names scope u (and_parts (typing.is_placed at) (all_typed store w names body) h).1 in omega
+        (arith, x)
     statement-bytes (statement at Break) from w names scope u h = omega arith
     statement-bytes (statement at Finish) from w names scope u h = omega arith
     statement-bytes (statement at (Return e)) from w names scope u h =

@@ -169,7 +169,8 @@ module _ (z : Setting) (m : ℕ) (st : Contents) (homes : List Home) (turns : �
           good f kk there same a =
               let h = both (meaning.same_types ts kk.body.parameters) (nat_eq of.0 kk.body.result.0) same in
               call_runs z m st calls names scope u at of f kk (behind vs) there
-              (subst (λ l. are_narrow z.types l ≡ true) (types-same ts kk.body.parameters h.0) narrow) (sym (same-id of kk.body.result h.1)) b e
+              (subst (λ l. are_narrow z.types l ≡ true) (types-same ts kk.body.parameters h.0) narrow) (sym (same-id of kk.body.result
+              h.1)) b e
               (instruction b) q k s stood a
               (are-values z scope u kk.body.parameters ts (rest rs) (behind vs) k (types-same ts kk.body.parameters h.0) behind_mean)
               whole_ fine less

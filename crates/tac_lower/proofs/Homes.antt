@@ -1,26 +1,24 @@
 -- Homes of declarations: each lies within its function's frame, or is a value alone, as its type asks.
-use Rattle.std.proofs.Common.{◌≡◌, ℕ, zero, suc, ◌+◌, ◌*◌, ◌<◌, ◌≤◌, Bool, true, false, List, [], ◌∷◌, ◌++◌, length, map, Option, Some, None, refl, sym, ap, ◌∙◌, subst, arith, append-nil, length-append}
-use Rattle.std.specs.Prelude.{◌^◌, ◌||◌, nat_le, slice_get, unwrap_or, if◌then◌else◌}
+use Rattle.std.proofs.Common.{◌≡◌, ℕ, zero, suc, ◌+◌, ◌*◌, ◌<◌, ◌≤◌, Bool, true, false, List, [], ◌∷◌, ◌++◌, length, Option, Some, None, refl, sym, ap, ◌∙◌, subst, arith, append-nil, length-append}
+use Rattle.std.specs.Prelude.{◌||◌, nat_le, slice_get, unwrap_or, if◌then◌else◌}
 use Rattle.std.proofs.lemmas.Bool.{leb-true, or_parts}
 use Rattle.std.proofs.lemmas.Option.{none-some, same_Some}
 use Rattle.tl_base.specs.declared.place.Place.{Place}
 use Rattle.tl_base.specs.declared.ids.TypeId.{TypeId}
-use Rattle.terra_types.specs.declared.layout.Layout.{Layout}
 use Rattle.terra_types.specs.declared.measure.Measure.{Measure}
 use Rattle.terra_types.specs.declared.types.Integer.{Integer}
 use Rattle.terra_types.specs.declared.types.Integer.TheVariants.{Int8, Int16, Int32, Int64, Uint8, Uint16, Uint32, Uint64}
 use Rattle.terra_types.specs.declared.types.TypeForm.{TypeForm}
 use Rattle.terra_types.specs.declared.types.TypeForm.TheVariants as forms
 use Rattle.terra_types.specs.Opening.{AreTypes}
-use Rattle.terra_types.specs.Sizes.{Within, measure_of, measured, for_some, repeated, limited, largest_size, align_of, size_of, bytes_of}
+use Rattle.terra_types.specs.Sizes.{Within, measure_of, for_some, repeated, largest_size, align_of, bytes_of}
 use Rattle.terra_types.specs.Layouts.{rounded}
 use Rattle.terra_types.proofs.Growing.{array-measure, plain-measure, past-measure}
-use Rattle.terra_term.specs.declared.lists.TypedName.{TypedName}
 use Rattle.terra_term.specs.TypedTerms.{Expression, typed, Constant', Variable, Global, Operate, Both, Either, Dereference, Select, Follow, Element, Index, Address, Decay, Let, Body}
 use Rattle.terra_term.specs.declared.operators.Operation.{Operation}
 use Rattle.terra_term.specs.declared.operators.Operation.TheVariants as operations
-use Rattle.terra_term.specs.Events.{Event, Opens, Closes, Declares, Takes, Uses, Mentions, operation_events, takes, scope, body_events, declared_in, declares_all}
-use Rattle.terra_meaning.specs.Values.{form_at, bytes_at, is_aggregate}
+use Rattle.terra_term.specs.Events.{Event, Opens, Closes, Declares, Takes, Uses, Mentions, operation_events, takes, scope, body_events, declared_in}
+use Rattle.terra_meaning.specs.Values.{bytes_at, is_aggregate}
 use Rattle.terra_meaning.specs.Frames.{Home, by_value, in_frame, home_at, has, Frame, with_home, framed, frame_of, taken}
 use Rattle.tac_lower.specs.Needs.{GoodHome}
 
@@ -46,7 +44,8 @@ limited-within : (m : Measure) (b : Bool) → nat_le m.size largest_size ≡ b �
 limited-within m true e least most x h = subst Within (same_Some m x h) (leb-true m.size largest_size e, least, most)
 limited-within m false e least most x h = absurd (none-some x h)
 
-repeated-within : (n : ℕ) (o : Option Measure) → ((m : Measure) → o ≡ Some m → Within m) → (x : Measure) → for_some o (repeated n) ≡ Some x →
+repeated-within : (n : ℕ) (o : Option Measure) → ((m : Measure) → o ≡ Some m → Within m) → (x : Measure) → for_some o (repeated n) ≡ Some
+    x →
     Within x
 repeated-within n None within x h = absurd (none-some x h)
 repeated-within n (Some m) within x h =
@@ -69,9 +68,19 @@ module _ (types : List TypeForm) (are : AreTypes types) where
           plain (forms.Integer k) (record { size = bytes_of k; align = bytes_of k }) (plain-measure types i (forms.Integer k) refl at)
           (integer-within k)
       by (Some forms.Bool) at earlier =
-          plain forms.Bool (record { size = 1; align = 1 }) (plain-measure types i forms.Bool refl at) (omega arith, omega arith, omega arith)
+          plain forms.Bool (record { size = 1; align = 1 }) (plain-measure types i forms.Bool refl at) (
+            omega arith,
+            omega arith,
+            omega
+                arith,
+          )
       by (Some forms.Unit) at earlier =
-          plain forms.Unit (record { size = 0; align = 1 }) (plain-measure types i forms.Unit refl at) (omega arith, omega arith, omega arith)
+          plain forms.Unit (record { size = 0; align = 1 }) (plain-measure types i forms.Unit refl at) (
+            omega arith,
+            omega arith,
+            omega
+                arith,
+          )
       by (Some (forms.Pointer t)) at earlier =
           plain (forms.Pointer t) (record { size = 8; align = 8 }) (plain-measure types i (forms.Pointer t) refl at)
           (omega arith, omega arith, omega arith)
@@ -157,13 +166,15 @@ module _ (types : List TypeForm) (are : AreTypes types) (placed : List ℕ) wher
           ((o : ℕ) → Homes types (framed types placed (suc next) o ts).size (framed types placed (suc next) o ts).homes 0 ts) →
           Homes types (whole b).size (whole b).homes 0 (t ∷ ts)
       by true e more =
-          let f = framed types placed (suc next) (at + bytes_at types t) ts in
-          (frame-holds ts (suc next) (at + bytes_at types t),
-          behind types f.size (in_frame at) f.homes 0 ts (more (at + bytes_at types t)))
+          let f = framed types placed (suc next) (at + bytes_at types t) ts in (
+            frame-holds ts (suc next) (at + bytes_at types t),
+            behind types f.size (in_frame at) f.homes 0 ts (more (at + bytes_at types t)),
+          )
       by false e more =
-          let f = framed types placed (suc next) offset ts in
-          ((or_parts (is_aggregate types t) (has next placed) e).0,
-          behind types f.size by_value f.homes 0 ts (more offset))
+          let f = framed types placed (suc next) offset ts in (
+            (or_parts (is_aggregate types t) (has next placed) e).0,
+            behind types f.size by_value f.homes 0 ts (more offset),
+          )
 
 pub homes-of : (types : List TypeForm) (b : Body) → AreTypes types →
     Homes types (frame_of types b).size (frame_of types b).homes 0 (declared_in (body_events b))

@@ -49,7 +49,7 @@ sized-form (forms.Function params result) m e = ap bytes_by (e tt)
 sized-form (forms.Array t n) m e = tt
 sized-form (forms.Struct number place layout) m e = tt
 
-sizes : (types : List TypeForm) (t : TypeId) → SizedBy (form_at types t) (bytes_at types t)
+pub sizes : (types : List TypeForm) (t : TypeId) → SizedBy (form_at types t) (bytes_at types t)
 unfolding bytes_by
 sizes types t = by (slice_get types t.0) refl
   where

@@ -1,9 +1,8 @@
 -- What typing leaves has what lowering needs.
-use Rattle.std.proofs.Common.{◌≡◌, ◌≢◌, ℕ, zero, suc, ◌+◌, ◌<◌, ◌≤◌, Bool, true, false, List, [], ◌∷◌, ◌++◌, length, map, Option, Some, None, refl, sym, ap, ◌∙◌, subst, arith}
-use Rattle.std.specs.Prelude.{◌^◌, ◌%◌, ◌-◌, not, ◌&&◌, ◌||◌, ◌⊎◌, nat_eq, nat_le, nat_lt, slice_get, unwrap_or, if◌then◌else◌}
+use Rattle.std.proofs.Common.{◌≡◌, ℕ, suc, ◌+◌, ◌<◌, ◌≤◌, Bool, true, false, List, [], ◌∷◌, ◌++◌, length, map, Option, Some, None, refl, sym, ap, ◌∙◌, subst, arith}
+use Rattle.std.specs.Prelude.{◌^◌, ◌%◌, ◌-◌, not, ◌&&◌, ◌||◌, ◌⊎◌, nat_eq, nat_le, nat_lt, unwrap_or, if◌then◌else◌}
 use mathlib.Core.Logic.{inl, inr}
 use Rattle.std.proofs.lemmas.Bool.{eqb-true, leb-true, leb-false, ltb-true, and_parts, and_from, or_cases}
-use Rattle.tl_base.specs.declared.place.Place.{Place}
 use Rattle.tl_base.specs.declared.ids.SymId.{SymId}
 use Rattle.tl_base.specs.declared.ids.TypeId.{TypeId}
 use Rattle.tl_base.specs.declared.ids.FnId.{FnId}
@@ -13,7 +12,6 @@ use Rattle.terra_words.specs.declared.words.BinaryOperator.{BinaryOperator}
 use Rattle.terra_words.specs.declared.words.BinaryOperator.TheVariants as operators
 use Rattle.terra_words.specs.Words.{wrapped, flag}
 use Rattle.terra_words.specs.Runs.{word}
-use Rattle.terra_types.specs.declared.layout.Laid.{Laid}
 use Rattle.terra_types.specs.declared.types.Integer.{Integer}
 use Rattle.terra_types.specs.declared.types.Integer.TheVariants.{Int8, Int16, Int32, Int64, Uint8, Uint16, Uint32, Uint64}
 use Rattle.terra_types.specs.declared.types.TypeForm.{TypeForm}
@@ -26,18 +24,18 @@ use Rattle.terra_term.specs.declared.operators.Constant.TheVariants as constants
 use Rattle.terra_term.specs.declared.operators.Operation.{Operation}
 use Rattle.terra_term.specs.declared.operators.Operation.TheVariants as operations
 use Rattle.terra_term.specs.declared.lists.TypedName.{TypedName}
-use Rattle.terra_term.specs.TypedTerms.{Expression, typed, Constant', Variable, Global, Operate, Both, Either, Dereference, Select, Follow, Element, Index, Address, Decay, Let, Expressions, no_more, then_one, Statement, statement, Var, Assign, If, IfElse, While, Repeat, For, Do, Break, Finish, Return, Perform, Statements, done, and_then, Body, type_of, is_place}
+use Rattle.terra_term.specs.TypedTerms.{Expression, typed, Constant', Variable, Global, Operate, Both, Either, Dereference, Select, Follow, Element, Index, Address, Decay, Let, Expressions, no_more, then_one, Statement, statement, Var, Assign, If, IfElse, While, Repeat, For, Do, Break, Finish, Return, Perform, Statements, done, and_then, type_of, is_place}
 use Rattle.terra_term.specs.Stores.{Contents, Callable, callable_of}
 use Rattle.terra_term.specs.Events.{events_of, list_events, doing_events, block_events, operation_events, takes, declares, declares_all, scope, declared_in}
 use Rattle.terra_term.specs.WellTyped as typing
 use Rattle.terra_term.specs.WellTyped.{Within, same, is_typed, are_typed, one_typed, all_typed, body_typed, are_same, types_in, types_of_names, with_names, after_one, after_all}
 use Rattle.terra_meaning.specs.Values.{form_at, bytes_at, is_aggregate, target_of, IsValue}
-use Rattle.terra_meaning.specs.Frames.{Home, home_at, frame_of}
+use Rattle.terra_meaning.specs.Frames.{Home, frame_of}
 use Rattle.terra_meaning.specs.Meaning.{Wanted, the_value, the_address, constant, position_of, types_of, type_at, in_expression, in_list, in_statement, in_block}
 use Rattle.tac_lower.specs.Lowering.{type_of_name, are_narrow}
-use Rattle.tac_lower.specs.Needs.{HasNumber, IsWanted, IsValueWanted, IsWide, Begins, by_test, InScope, GoodHome, DeclaresWell, declared_names, names_after, names_after_one, is_comparison, BinaryNeeds, PrimitiveNeeds, NumberUnless, EntriesFit, CallNeeds, OperationNeeds, in_loop, in_let, Needs, NeedsAll, NeedsTargets, NeedsOne, NeedsBlock, BodyNeeds}
+use Rattle.tac_lower.specs.Needs.{HasNumber, IsWanted, IsValueWanted, IsWide, Begins, by_test, InScope, DeclaresWell, declared_names, names_after, names_after_one, is_comparison, BinaryNeeds, PrimitiveNeeds, NumberUnless, EntriesFit, CallNeeds, OperationNeeds, in_loop, Needs, NeedsAll, NeedsTargets, NeedsOne, NeedsBlock, BodyNeeds}
 use Rattle.tac_lower.proofs.Words.{width_by, wrapped-zero}
-use Rattle.tac_lower.proofs.Homes.{Homes, homes-of, declared-takes, declared-operation, HomesOf, halves, second-half, in-scope, behind-both}
+use Rattle.tac_lower.proofs.Homes.{Homes, homes-of, declared-takes, declared-operation, halves, second-half, in-scope, behind-both}
 
 -- tests
 
@@ -102,7 +100,8 @@ in-names : (x : SymId) (of : TypeId) (names : List TypedName) → typing.in_scop
 in-names x of [] h = absurd (no h)
 in-names x of (y ∷ ys) h = by (nat_eq x.0 y.symbol.0) (λ e. in-names x of ys e) h
   where
-    by : (b : Bool) → (typing.in_scope x of ys ≡ true → InScope x of ys) → (if b then same of y.of else typing.in_scope x of ys) ≡ true → by_test b (of ≡ y.of) (InScope x of ys)
+    by : (b : Bool) → (typing.in_scope x of ys ≡ true → InScope x of ys) → (if b then same of y.of else typing.in_scope x of ys) ≡ true →
+        by_test b (of ≡ y.of) (InScope x of ys)
     by true more e = same-id of y.of e
     by false more e = more e
 
@@ -321,7 +320,8 @@ conversion : (n a i b p c d e : Bool) →
 conversion n a true b p c d e h f = inl refl
 conversion n a false b true c d e h f = inr refl
 conversion n a false b false c d e h f =
-    absurd (first (or_cases _ _ (and_parts n ((a && (false || (b || false))) || ((c && false) || ((d && (false || false)) || (e && false)))) h).1))
+    absurd (first (or_cases _ _ (and_parts n ((a && (false || (b || false))) || ((c && false) || ((d && (false || false)) || (e &&
+    false)))) h).1))
   where
     wrong : b ≡ true → ⊥
     wrong t = no (sym f ∙ t)
@@ -490,9 +490,13 @@ module _ (store : Contents) (are : AreTypes store.types) (entries : List FnId) (
       by : (o : Option Callable) → callable_of store f ≡ o → typing.has_type ts of o ≡ true → CallNeeds store f ts of
       by None e h = absurd (no h)
       by (Some k) e h =
-          let p = and_parts (are_same ts (types_of_names k.body.parameters)) (same of k.body.result) h in
-          (k, e, same-ids ts (types_of_names k.body.parameters) p.0 ∙ names-are k.body.parameters, sym (same-id of k.body.result p.1),
-          usable-narrow ts usable)
+          let p = and_parts (are_same ts (types_of_names k.body.parameters)) (same of k.body.result) h in (
+            k,
+            e,
+            same-ids ts (types_of_names k.body.parameters) p.0 ∙ names-are k.body.parameters,
+            sym (same-id of k.body.result p.1),
+            usable-narrow ts usable,
+          )
 
   step-needs : (p i of : TypeId) → typing.step_typed store p i of ≡ true → IsWide types of
   step-needs p i of h =
@@ -526,13 +530,15 @@ module _ (store : Contents) (are : AreTypes store.types) (entries : List FnId) (
       step-needs (typing.first_type ts) (typing.second_type ts) of (and_parts (typing.has_operands 2 ts) _ h).1
   operation-needs operations.Difference ts of usable h =
       let p = five (typing.has_operands 2 ts) (same (typing.first_type ts) (typing.second_type ts))
-      (typing.is_pointer store (typing.first_type ts)) (typing.is_sized store (typing.first_type ts)) (same of int64) h in
-      (not-empty (form_at types (type_at ts 0)) p.2 p.3,
-      λ x lt. value-by types of (forms.Integer Int64) x (int64-is of p.4) refl (int64-fits x lt))
+      (typing.is_pointer store (typing.first_type ts)) (typing.is_sized store (typing.first_type ts)) (same of int64) h in (
+        not-empty (form_at types (type_at ts 0)) p.2 p.3,
+        λ x lt. value-by types of (forms.Integer Int64) x (int64-is of p.4) refl (int64-fits x lt),
+      )
   operation-needs operations.Convert ts of usable h =
       convert-needs (typing.first_type ts) of (and_parts (typing.has_operands 1 ts) _ h).1
   operation-needs (operations.Extract offset) [] of usable h = absurd (no h)
-  operation-needs (operations.Extract offset) (t ∷ ts) of usable h = entry-fits t offset of (and_parts (typing.has_operands 1 (t ∷ ts)) _ h).1
+  operation-needs (operations.Extract offset) (t ∷ ts) of usable h = entry-fits t offset of (and_parts (typing.has_operands 1 (t ∷ ts)) _
+      h).1
   operation-needs (operations.Call f) ts of usable h = call-needs f ts of usable h
   operation-needs (operations.Primitive p) ts of usable h = primitive-needs p ts of h
   operation-needs operations.CallValue [] of usable h =
@@ -605,31 +611,39 @@ module _ (store : Contents) (are : AreTypes store.types) (entries : List FnId) (
           ltb-true address (2 ^ 64) (three (typing.is_placed at) (typing.has_layout store of) (nat_lt address (2 ^ 64)) h).2
       expression-needs want (typed at of (Operate op es)) from w names r a h d =
           let p = four (typing.is_placed at) (are_typed store w names es) (typing.all_usable store (types_in es))
-          (typing.operation_typed store op (types_in es) of) h in
-          (value-asked want a,
-          expressions-need es from w names r p.1
-          (second-half types frame homes (operation_events at op) (list_events es) from (declared-operation at op) d),
-          operation-needs op (types_of es) of (subst (λ l. typing.all_usable store l ≡ true) (types-are es) p.2) (subst (λ l. typing.operation_typed store op l of ≡ true) (types-are es) p.3))
+          (typing.operation_typed store op (types_in es) of) h in (
+            value-asked want a,
+            expressions-need es from w names r p.1
+                (second-half types frame homes (operation_events at op) (list_events es) from (declared-operation at op) d),
+            operation-needs op (types_of es) of (subst (λ l. typing.all_usable store l ≡ true) (types-are es) p.2) (subst (λ l.
+                typing.operation_typed store op l of ≡ true) (types-are es) p.3),
+          )
       expression-needs want (typed at of (Both x y)) from w names r a h d =
           let q = and_parts _ (same of boolean) h in
           let p = five (typing.is_placed at) (is_typed store w names x) (is_typed store w names y) (same (type_of x) boolean)
           (same (type_of y) boolean) q.0 in
           let s = halves types frame homes (events_of x) (events_of y) from d in
-          let is = same-id of boolean q.1 in
-          (value-asked want a,
-          expression-needs the_value x from w names r tt p.1 s.0,
-          expression-needs the_value y (from + in_expression x) w names r tt p.2 s.1,
-          same-id (type_of x) boolean p.3 ∙ sym is, same-id (type_of y) boolean p.4 ∙ sym is, plain-boolean of q.1)
+          let is = same-id of boolean q.1 in (
+            value-asked want a,
+            expression-needs the_value x from w names r tt p.1 s.0,
+            expression-needs the_value y (from + in_expression x) w names r tt p.2 s.1,
+            same-id (type_of x) boolean p.3 ∙ sym is,
+            same-id (type_of y) boolean p.4 ∙ sym is,
+            plain-boolean of q.1,
+          )
       expression-needs want (typed at of (Either x y)) from w names r a h d =
           let q = and_parts _ (same of boolean) h in
           let p = five (typing.is_placed at) (is_typed store w names x) (is_typed store w names y) (same (type_of x) boolean)
           (same (type_of y) boolean) q.0 in
           let s = halves types frame homes (events_of x) (events_of y) from d in
-          let is = same-id of boolean q.1 in
-          (value-asked want a,
-          expression-needs the_value x from w names r tt p.1 s.0,
-          expression-needs the_value y (from + in_expression x) w names r tt p.2 s.1,
-          same-id (type_of x) boolean p.3 ∙ sym is, same-id (type_of y) boolean p.4 ∙ sym is, boolean-is of q.1)
+          let is = same-id of boolean q.1 in (
+            value-asked want a,
+            expression-needs the_value x from w names r tt p.1 s.0,
+            expression-needs the_value y (from + in_expression x) w names r tt p.2 s.1,
+            same-id (type_of x) boolean p.3 ∙ sym is,
+            same-id (type_of y) boolean p.4 ∙ sym is,
+            boolean-is of q.1,
+          )
       expression-needs want (typed at of (Dereference e)) from w names r a h d =
           expression-needs the_value e from w names r tt
           (three (typing.is_placed at) (is_typed store w names e) (typing.points_to store (type_of e) of) h).1 d
@@ -644,21 +658,24 @@ module _ (store : Contents) (are : AreTypes store.types) (entries : List FnId) (
           let q1 = and_parts _ (typing.is_integer store (type_of i)) q.0 in
           let p = five (typing.is_placed at) (is_typed store w names e) (is_typed store w names i) (is_place e)
           (typing.is_array_of store (type_of e) of) q1.0 in
-          let s = halves types frame homes (events_of e) (events_of i) from d in
-          (expression-needs the_address e from w names r p.3 p.1 s.0,
-          expression-needs the_value i (from + in_expression e) w names r tt p.2 s.1)
+          let s = halves types frame homes (events_of e) (events_of i) from d in (
+            expression-needs the_address e from w names r p.3 p.1 s.0,
+            expression-needs the_value i (from + in_expression e) w names r tt p.2 s.1,
+          )
       expression-needs want (typed at of (Index e i)) from w names r a h d =
           let q = and_parts _ (typing.has_layout store of) h in
           let p = five (typing.is_placed at) (is_typed store w names e) (is_typed store w names i) (typing.points_to store (type_of e) of)
           (typing.is_integer store (type_of i)) q.0 in
-          let s = halves types frame homes (events_of e) (events_of i) from d in
-          (expression-needs the_value e from w names r tt p.1 s.0,
-          expression-needs the_value i (from + in_expression e) w names r tt p.2 s.1)
+          let s = halves types frame homes (events_of e) (events_of i) from d in (
+            expression-needs the_value e from w names r tt p.1 s.0,
+            expression-needs the_value i (from + in_expression e) w names r tt p.2 s.1,
+          )
       expression-needs want (typed at of (Address e)) from w names r a h d =
-          let p = four (typing.is_placed at) (is_typed store w names e) (is_place e) (typing.points_to store of (type_of e)) h in
-          (expression-needs the_address e from w names r p.2 p.1
-          (second-half types frame homes (takes e) (events_of e) from (declared-takes e) d),
-          wanted-address want of a (points-pointer (form_at types of) (type_of e) p.3))
+          let p = four (typing.is_placed at) (is_typed store w names e) (is_place e) (typing.points_to store of (type_of e)) h in (
+            expression-needs the_address e from w names r p.2 p.1
+                (second-half types frame homes (takes e) (events_of e) from (declared-takes e) d),
+            wanted-address want of a (points-pointer (form_at types of) (type_of e) p.3),
+          )
       expression-needs want (typed at of (Decay e)) from w names r a h d =
           let p = five (typing.is_placed at) (is_typed store w names e) (is_place e) (typing.is_pointer store of)
           (typing.is_array_of store (type_of e) (typing.target_in (form_at types of))) h in
@@ -667,13 +684,15 @@ module _ (store : Contents) (are : AreTypes store.types) (entries : List FnId) (
           let p = five (typing.is_placed at) (all_typed store (typing.in_a_let w) names block) (is_typed store w (after_all block names) e)
           (same (type_of e) of) (typing.is_usable store of) h in
           let s = halves types frame homes (block_events block) (events_of e) from
-          (in-scope types frame homes (block_events block ++ events_of e) from d) in
-          (value-asked want a,
-          subst (λ t. NeedsBlock types frame entries homes outside Ops (record { result = t; in_loop = false; in_let = true }) names from block) r
-          (block-needs block from (typing.in_a_let w) names r p.1 s.0),
-          subst (λ l. Needs types frame entries homes outside Ops the_value l (from + in_block block) e) (after-all block names)
-          (expression-needs the_value e (from + in_block block) w (after_all block names) r tt p.2 s.1),
-          same-id (type_of e) of p.3)
+          (in-scope types frame homes (block_events block ++ events_of e) from d) in (
+            value-asked want a,
+            subst (λ t. NeedsBlock types frame entries homes outside Ops (record { result = t; in_loop = false; in_let = true }) names
+                from block) r
+                (block-needs block from (typing.in_a_let w) names r p.1 s.0),
+            subst (λ l. Needs types frame entries homes outside Ops the_value l (from + in_block block) e) (after-all block names)
+                (expression-needs the_value e (from + in_block block) w (after_all block names) r tt p.2 s.1),
+            same-id (type_of e) of p.3,
+          )
 
       expressions-need : (es : Expressions) (from : ℕ) (w : Within) (names : List TypedName) → w.result ≡ outside.result →
           are_typed store w names es ≡ true → At from (declared_in (list_events es)) →
@@ -705,51 +724,63 @@ module _ (store : Contents) (are : AreTypes store.types) (entries : List FnId) (
           let q = and_parts _ (typing.all_usable store (types_in values)) h in
           let p = five (typing.is_placed at) (are_typed store w names values) (are_typed store w names places) (typing.places_in places)
           (are_same (types_in places) (types_in values)) q.0 in
-          let s = halves types frame homes (list_events values) (list_events places) from d in
-          (expressions-need values from w names r p.1 s.0,
-          targets-need places (from + in_list values) w names r p.2 p.3 s.1,
-          sym (types-are places) ∙ same-ids (types_in places) (types_in values) p.4 ∙ types-are values)
+          let s = halves types frame homes (list_events values) (list_events places) from d in (
+            expressions-need values from w names r p.1 s.0,
+            targets-need places (from + in_list values) w names r p.2 p.3 s.1,
+            sym (types-are places) ∙ same-ids (types_in places) (types_in values) p.4 ∙ types-are values,
+          )
       statement-needs (statement at (If test block)) from w names r h d =
-          let p = four (typing.is_placed at) (is_typed store w names test) (same (type_of test) boolean) (all_typed store w names block) h in
-          let s = halves types frame homes (events_of test) (scope (block_events block)) from d in
-          (expression-needs the_value test from w names r tt p.1 s.0,
-          block-needs block (from + in_expression test) w names r p.3
-          (in-scope types frame homes (block_events block) (from + in_expression test) s.1))
+          let p = four (typing.is_placed at) (is_typed store w names test) (same (type_of test) boolean) (all_typed store w names block) h
+          in
+          let s = halves types frame homes (events_of test) (scope (block_events block)) from d in (
+            expression-needs the_value test from w names r tt p.1 s.0,
+            block-needs block (from + in_expression test) w names r p.3
+                (in-scope types frame homes (block_events block) (from + in_expression test) s.1),
+          )
       statement-needs (statement at (IfElse test block other)) from w names r h d =
           let p = five (typing.is_placed at) (is_typed store w names test) (same (type_of test) boolean) (all_typed store w names block)
           (all_typed store w names other) h in
           let k = from + in_expression test in
           let s0 = halves types frame homes (events_of test ++ scope (block_events block)) (scope (block_events other)) from d in
-          let s = halves types frame homes (events_of test) (scope (block_events block)) from s0.0 in
-          (expression-needs the_value test from w names r tt p.1 s.0,
-          block-needs block k w names r p.3 (in-scope types frame homes (block_events block) k s.1),
-          block-needs other (k + in_block block) w names r p.4
-          (in-scope types frame homes (block_events other) (k + in_block block)
-          (subst (λ j. At j (declared_in (scope (block_events other)))) (behind-both (events_of test) (block_events block) from) s0.1)))
+          let s = halves types frame homes (events_of test) (scope (block_events block)) from s0.0 in (
+            expression-needs the_value test from w names r tt p.1 s.0,
+            block-needs block k w names r p.3 (in-scope types frame homes (block_events block) k s.1),
+            block-needs other (k + in_block block) w names r p.4
+                (in-scope types frame homes (block_events other) (k + in_block block)
+                (subst (λ j. At j (declared_in (scope (block_events other)))) (behind-both (events_of test) (block_events block) from)
+                s0.1)),
+          )
       statement-needs (statement at (While test body)) from w names r h d =
           let p = four (typing.is_placed at) (is_typed store w names test) (same (type_of test) boolean)
           (all_typed store (typing.in_a_loop w) names body) h in
-          let s = halves types frame homes (events_of test) (scope (block_events body)) from d in
-          (expression-needs the_value test from w names r tt p.1 s.0,
-          block-needs body (from + in_expression test) (in_loop w) names r p.3
-          (in-scope types frame homes (block_events body) (from + in_expression test) s.1))
+          let s = halves types frame homes (events_of test) (scope (block_events body)) from d in (
+            expression-needs the_value test from w names r tt p.1 s.0,
+            block-needs body (from + in_expression test) (in_loop w) names r p.3
+                (in-scope types frame homes (block_events body) (from + in_expression test) s.1),
+          )
       statement-needs (statement at (Repeat body test)) from w names r h d =
-          let p = four (typing.is_placed at) (all_typed store (typing.in_a_loop w) names body) (is_typed store w (after_all body names) test)
+          let p = four (typing.is_placed at) (all_typed store (typing.in_a_loop w) names body) (is_typed store w (after_all body names)
+          test)
           (same (type_of test) boolean) h in
           let s = halves types frame homes (block_events body) (events_of test) from
-          (in-scope types frame homes (block_events body ++ events_of test) from d) in
-          (block-needs body from (in_loop w) names r p.1 s.0,
-          subst (λ l. Needs types frame entries homes outside Ops the_value l (from + in_block body) test) (after-all body names)
-          (expression-needs the_value test (from + in_block body) w (after_all body names) r tt p.2 s.1))
+          (in-scope types frame homes (block_events body ++ events_of test) from d) in (
+            block-needs body from (in_loop w) names r p.1 s.0,
+            subst (λ l. Needs types frame entries homes outside Ops the_value l (from + in_block body) test) (after-all body names)
+                (expression-needs the_value test (from + in_block body) w (after_all body names) r tt p.2 s.1),
+          )
       statement-needs (statement at (For x bounds body)) from w names r h d =
           let p = four (typing.is_placed at) (are_typed store w names bounds) (typing.are_bounds store x.of (types_in bounds))
           (all_typed store (typing.in_a_loop w) (x ∷ names) body) h in
           let s = halves types frame homes (list_events bounds) (scope (declares x ++ block_events body)) from d in
           let k = from + in_list bounds in
           let s1 = in-scope types frame homes (declares x ++ block_events body) k s.1 in
-          let b = for-begins x.of (types_of bounds) (subst (λ l. typing.are_bounds store x.of l ≡ true) (types-are bounds) p.2) in
-          (expressions-need bounds from w names r p.1 s.0, b.1, b.0, s1.0,
-          block-needs body (suc k) (in_loop w) (x ∷ names) r p.3 s1.1)
+          let b = for-begins x.of (types_of bounds) (subst (λ l. typing.are_bounds store x.of l ≡ true) (types-are bounds) p.2) in (
+            expressions-need bounds from w names r p.1 s.0,
+            b.1,
+            b.0,
+            s1.0,
+            block-needs body (suc k) (in_loop w) (x ∷ names) r p.3 s1.1,
+          )
       statement-needs (statement at (Do body)) from w names r h d =
           block-needs body from w names r (and_parts (typing.is_placed at) (all_typed store w names body) h).1
           (in-scope types frame homes (block_events body) from d)
@@ -770,10 +801,11 @@ module _ (store : Contents) (are : AreTypes store.types) (entries : List FnId) (
       block-needs done from w names r h d = tt
       block-needs (and_then s ss) from w names r h d =
           let p = and_parts (one_typed store w names s) (all_typed store w (after_one s names) ss) h in
-          let q = halves types frame homes (doing_events s) (block_events ss) from d in
-          (statement-needs s from w names r p.0 q.0,
-          subst (λ l. NeedsBlock types frame entries homes outside Ops w l (from + in_statement s) ss) (after-one s names)
-          (block-needs ss (from + in_statement s) w (after_one s names) r p.1 q.1))
+          let q = halves types frame homes (doing_events s) (block_events ss) from d in (
+            statement-needs s from w names r p.0 q.0,
+            subst (λ l. NeedsBlock types frame entries homes outside Ops w l (from + in_statement s) ss) (after-one s names)
+                (block-needs ss (from + in_statement s) w (after_one s names) r p.1 q.1),
+          )
 
   -- what typing leaves has what lowering needs
   pub body-needs : (k : Callable) → body_typed store k.body ≡ true → BodyNeeds store entries k
@@ -782,10 +814,13 @@ module _ (store : Contents) (are : AreTypes store.types) (entries : List FnId) (
       let f = frame_of types b in
       let w : Within = record { result = b.result; in_loop = false; in_let = false } in
       let p = and_parts (typing.names_laid_out store b.parameters) (all_typed store w (with_names b.parameters []) b.body) h in
-      let s = halves types f.size f.homes (declares_all b.parameters) (block_events b.body) 0 (homes-of types b are) in
-      (declares-with f.size f.homes w b.parameters (map type_of_name b.parameters) 0 s.0 refl,
-      subst (λ l. NeedsBlock types f.size entries f.homes w (OperationNeeds types (CallNeeds store)) w l (length b.parameters) b.body)
-      (with-names b.parameters [])
-      (subst (λ k0. NeedsBlock types f.size entries f.homes w (OperationNeeds types (CallNeeds store)) w (with_names b.parameters []) k0 b.body)
-      (declared-count b.parameters)
-      (block-needs f.size f.homes w b.body (0 + length (declared_in (declares_all b.parameters))) w (with_names b.parameters []) refl p.1 s.1)))
+      let s = halves types f.size f.homes (declares_all b.parameters) (block_events b.body) 0 (homes-of types b are) in (
+        declares-with f.size f.homes w b.parameters (map type_of_name b.parameters) 0 s.0 refl,
+        subst (λ l. NeedsBlock types f.size entries f.homes w (OperationNeeds types (CallNeeds store)) w l (length b.parameters) b.body)
+            (with-names b.parameters [])
+            (subst (λ k0. NeedsBlock types f.size entries f.homes w (OperationNeeds types (CallNeeds store)) w (with_names b.parameters
+            []) k0 b.body)
+            (declared-count b.parameters)
+            (block-needs f.size f.homes w b.body (0 + length (declared_in (declares_all b.parameters))) w (with_names b.parameters [])
+            refl p.1 s.1)),
+      )

@@ -1,5 +1,5 @@
 -- Lowered code has at most 250 words for each typed node, with the fixed part of its function.
-use Rattle.std.proofs.Common.{◌≡◌, ℕ, zero, suc, ◌+◌, ◌*◌, ◌<◌, ◌≤◌, Bool, true, false, List, [], ◌∷◌, ◌++◌, length, map, Option, Some, None, refl, sym, ap, ◌∙◌, subst, arith, length-append}
+use Rattle.std.proofs.Common.{◌≡◌, ℕ, suc, ◌+◌, ◌*◌, ◌≤◌, Bool, true, false, List, [], ◌∷◌, ◌++◌, length, map, Option, Some, None, refl, ap, arith}
 use Rattle.std.specs.Prelude.{◌^◌, ◌-◌, nat_eq, fold, sum_by, if◌then◌else◌}
 use Rattle.tl_base.specs.declared.place.Place.{Place}
 use Rattle.tl_base.specs.declared.ids.TypeId.{TypeId}
@@ -14,7 +14,7 @@ use Rattle.terra_term.specs.declared.operators.Operation.{Operation}
 use Rattle.terra_term.specs.declared.operators.Operation.TheVariants as operations
 use Rattle.terra_term.specs.declared.lists.TypedName.{TypedName}
 use Rattle.terra_term.specs.TypedTerms.{Expression, typed, Constant', Variable, Global, Operate, Both, Either, Dereference, Select, Follow, Element, Index, Address, Decay, Let, Expressions, no_more, then_one, Statement, statement, Var, Assign, If, IfElse, While, Repeat, For, Do, Break, Finish, Return, Perform, Statements, done, and_then, type_of, place_of}
-use Rattle.terra_term.specs.Sizes.{typed_size, typed_list_size, typed_statement_size, typed_block_size, body_size, callee_size}
+use Rattle.terra_term.specs.Sizes.{typed_size, typed_list_size, typed_statement_size, typed_block_size}
 use Rattle.terra_term.specs.Stores.{Contents, Callable}
 use Rattle.terra_meaning.specs.Values.{form_at, bytes_at, is_aggregate}
 use Rattle.terra_meaning.specs.Frames.{Home, by_value, in_frame, home_at}
@@ -26,16 +26,15 @@ use Rattle.tac_form.specs.declared.tac.Address.TheVariants as addresses
 use Rattle.tac_form.specs.declared.tac.Size.{Size}
 use Rattle.tac_form.specs.declared.tac.Destination.{Destination}
 use Rattle.tac_form.specs.declared.tac.Destination.TheVariants as destinations
-use Rattle.tac_form.specs.declared.tac.Instruction.{Instruction}
 use Rattle.tac_form.specs.declared.tac.Instruction.TheVariants.{Compute, TestDivisor, Copy, Load, Store, Move}
 use Rattle.tac_form.specs.declared.tac.Spot.{Spot}
 use Rattle.tac_form.specs.declared.tac.Spot.TheVariants as spots
 use Rattle.tac_form.specs.declared.tac.Block.{Block}
 use Rattle.tac_form.specs.declared.tac.Tac.{Tac}
-use Rattle.tac_form.specs.Weights.{words_of, exit_words, block_words, code_words, entered_words}
+use Rattle.tac_form.specs.Weights.{words_of, exit_words, block_words, code_words}
 use Rattle.tac_lower.specs.Items.{Item, does, ends, Ending, skips, tests, repeats, repeats_unless, leaves, gives, fails, count_ends, loop_of, exit_of, Draft, empty_draft, with_item, with_items, blocks_of}
 use Rattle.tac_lower.specs.Pieces.{Used, nothing_used, with_temp, with_area, Piece, known, doing, then_piece, taken, Result, a_word, an_area, an_offset, no_word, word_of, part_of, parts_of, address_of, word_at, result_at, rest, whole_word, number_of, is_bool, given, compute, copied, located, loaded_bit, loaded_area, loaded_word, loaded, stored_part, stored, placed, Holder, in_temp, at_offset, Holders, holder_of, Around, declare_at, declare, declare_all, first_of}
-use Rattle.tac_lower.specs.Lowering.{reached, variable, entry, element, extracted, constructed, call, call_value, signature_in, operation, target_at, aimed, Target, to_temp, to_place, assigned, assigned_all, passed_over, choice, Counting, counting, is_one, with_step, either_way, runs, counted_on, while_loop, repeat_loop, piece, pieces, targets, one, all, around, ending, received, code_of, unreached, are_narrow, parameter_types, lowered}
+use Rattle.tac_lower.specs.Lowering.{reached, variable, entry, element, extracted, constructed, call, call_value, signature_in, operation, target_at, aimed, Target, to_temp, to_place, assigned, assigned_all, passed_over, choice, Counting, counting, is_one, either_way, runs, counted_on, while_loop, piece, pieces, targets, one, all, around, ending, received, code_of, unreached, are_narrow, parameter_types, lowered}
 
 -- sums
 
@@ -233,7 +232,8 @@ constructed-words types area (o ∷ os) (t ∷ ts) (v ∷ vs) u =
     let h = both p.code (constructed types area os ts vs p.used).code 63 (63 * length vs) (stored-words types t (spots.Area area o) v u)
     (constructed-words types area os ts vs p.used) in omega (arith, h)
 
-extracted-words : (types : List TypeForm) (of : TypeId) (offset : ℕ) (r : Result) (u : Used) → weigh (extracted types of offset r u).code ≤ 63
+extracted-words : (types : List TypeForm) (of : TypeId) (offset : ℕ) (r : Result) (u : Used) → weigh (extracted types of offset r u).code
+    ≤ 63
 extracted-words types of offset (an_area n) u = loaded-words types of (spots.Area n offset) u
 extracted-words types of offset (a_word o) u = omega arith
 extracted-words types of offset (an_offset o) u = omega arith
@@ -329,7 +329,8 @@ assigned-words types (then_one e es) (to_place r ∷ ps) vs u =
 
 -- the test of a `for`: a step that isn't 1 has an expression of its own
 
-runs-words : (number : Number) (vs : List Result) (value : ℕ) (u : Used) → weigh (runs (counting number vs value) u).code ≤ 34 + 63 * length vs
+runs-words : (number : Number) (vs : List Result) (value : ℕ) (u : Used) → weigh (runs (counting number vs value) u).code ≤ 34 + 63 *
+    length vs
 runs-words number [] value u = omega arith
 runs-words number (a ∷ []) value u = omega arith
 runs-words number (a ∷ b ∷ []) value u = omega arith

@@ -5,6 +5,7 @@ use Rattle.terra_memory.specs.Region.{IsMemorySize}
 use Rattle.terra_words.specs.Runs.{Value, Run}
 use Rattle.terra_types.specs.Opening.{AreTypes}
 use Rattle.terra_term.specs.Stores.{Callable, Contents, callable_of, static_bytes}
+use Rattle.terra_term.specs.Sizes.{body_size}
 use Rattle.terra_term.specs.WellTyped.{body_typed}
 use Rattle.terra_meaning.specs.Values.{AreValues}
 use Rattle.terra_meaning.specs.Meaning.{meaning}
@@ -12,7 +13,7 @@ use Rattle.tac_form.specs.declared.tac.Tac.{Tac}
 use Rattle.tac_lower.specs.Lowering.{are_narrow, parameter_types}
 use Rattle.tac_form.specs.Flow.{Program, TacRun}
 use Rattle.tac_form.specs.Weights.{Sized}
-use Rattle.tac_form.specs.Fits.{Counted, Fits}
+use Rattle.tac_form.specs.Fits.{Counted, Fits, most_nodes, place_fits}
 
 -- every function of a store that can be called is typed
 abbrev pub AreTyped : Contents → Type 0
@@ -57,5 +58,6 @@ pub record IsGood (code : Tac) : Type 0 where
 
 abbrev pub LoweredIsGood : (Contents → List FnId → Callable → Tac) → Type 0
 LoweredIsGood lowered =
-    (store : Contents) (entries : List FnId) (k : Callable) → body_typed store k.body ≡ true →
+    (store : Contents) (entries : List FnId) (k : Callable) → AreTypes store.types → length entries < 2 ^ 32 →
+    place_fits k.at ≡ true → (body_size k.body).nodes ≤ most_nodes → body_typed store k.body ≡ true →
     IsGood (lowered store entries k)

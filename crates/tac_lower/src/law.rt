@@ -4,8 +4,8 @@ ghost use Rattle.tac_lower.specs.Laws.{LoweredIsCounted, LoweredIsSized, Lowerin
 ghost use Rattle.tac_lower.specs.Lowering.{lowered};
 
 /// The code of a store's functions has the runs that their typed terms mean, and no others, at every count: the same value or
-/// fault, at the same place, with the same output, and the need of more at the same counts. The functions' terms have what
-/// typing keeps (`specs/Needs.antt`).
+/// fault, at the same place, with the same output, and the need of more at the same counts. The functions' terms are typed, and
+/// each parameter of the function that runs has at most 128 bytes, as values have.
 pub fn lowering_keeps_runs()
     ensures { LoweringKeepsRuns lowered }
 {}
