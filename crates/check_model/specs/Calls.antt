@@ -158,9 +158,9 @@ call_primitive PutByte os at fitting source site = call_by PutByte (uint8 ∷ []
 call_primitive Write os at fitting source site = pointing uint8 (λ p. call_by Write (p ∷ int64 ∷ []) unit os at fitting source site)
 call_primitive Alloc os at fitting source site = pointing uint8 (λ p. call_by Alloc (int64 ∷ []) p os at fitting source site)
 
-abbrev cast : TypeId → List Operand → Place → Site → BodyPlan
-cast to (o ∷ []) at site = operand o site (λ m. convert Explicit m to site give)
-cast to _ at site = refuse WrongCount at site
+abbrev cast : TypeId → List Operand → Place → TermId → Site → BodyPlan
+cast to (o ∷ []) at source site = operand o site (λ m. convert Explicit m to site (λ r. Give (ends.Made r.id source)))
+cast to _ at source site = refuse WrongCount at site
 
 abbrev size_constant : TypeId → Place → TermId → Site → BodyPlan
 size_constant t at source site =
@@ -196,7 +196,7 @@ abbrev pub call_named : StageState → expressions.Expression → List Operand �
 call_named w (e.Function f) os at fitting source site = call_function w f (function_at w f) os at fitting source site
 call_named w (e.Primitive p) os at fitting source site = call_primitive p os at fitting source site
 call_named w (e.Macro m) os at fitting source site = call_macro (values.Closure (macro_at w.heap m)) os at site
-call_named w (e.Type t) os at fitting source site = cast t os at site
+call_named w (e.Type t) os at fitting source site = cast t os at source site
 call_named w e.SizeOf os at fitting source site = call_size os at source site
 call_named w _ os at fitting source site = refuse NotCallable at site
 

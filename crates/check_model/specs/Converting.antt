@@ -16,7 +16,7 @@ use Rattle.terra_term.specs.WellTyped.{pointer_form, points_in}
 use Rattle.check_cast.specs.Conversions.{implicit, explicit}
 use Rattle.exotype.specs.World.{StageState}
 use Rattle.check_model.specs.declared.site.Site.{Site}
-use Rattle.check_model.specs.Typing.{Made, form_in, is_nil_form, is_place_form}
+use Rattle.check_model.specs.Typing.{Made, form_in, is_nil_made, is_place_form}
 use Rattle.check_model.specs.Structs.{metamethod_of_either}
 use Rattle.check_model.specs.Plans.{BodyPlan, reading, refuse, make, as_value, calling, quoting, in_place}
 
@@ -49,7 +49,7 @@ is_same _ = false
 
 -- `nil` takes the type of any pointer
 abbrev takes_type : StageState → Made → TypeId → Bool
-takes_type w m to = is_nil_form m.form && pointer_form (form_in w to)
+takes_type w m to = is_nil_made w m && pointer_form (form_in w to)
 
 abbrev converted : Conv → StageState → Made → TypeId → Site → (Made → BodyPlan) → BodyPlan
 converted c w m to site go =

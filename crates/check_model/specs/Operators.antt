@@ -22,7 +22,7 @@ use Rattle.terra_term.specs.WellTyped.{struct_form}
 use Rattle.check_cast.specs.Conversions.{meet}
 use Rattle.exotype.specs.World.{StageState}
 use Rattle.check_model.specs.declared.site.Site.{Site}
-use Rattle.check_model.specs.Typing.{Made, form_in, is_nil_form, is_place_form, bytes_in}
+use Rattle.check_model.specs.Typing.{Made, form_in, is_nil_made, is_place_form, bytes_in}
 use Rattle.check_model.specs.Structs.{metamethod, metamethod_of_either}
 use Rattle.check_model.specs.Plans.{BodyPlan, reading, make, gives, refuse, laid_out, pointing, ready}
 use Rattle.check_model.specs.Converting.{Implicit, convert}
@@ -114,14 +114,13 @@ abbrev at_type : TypeId → BinaryOperator → (of : TypeId) → Made → Made �
 at_type m op of a b at source site =
     convert Implicit a m site (λ x. convert Implicit b m site (λ y. both op of x y at source))
 
--- two pointers, of which a `nil` takes the other one's type
-abbrev retyped : Made → Made → (Made → BodyPlan) → BodyPlan
-retyped m other go =
-    if is_nil_form m.form && not (is_nil_form other.form) then make m.source m.at other.of (te.Constant constants.Nil) go else go m
+-- of two pointers a `nil` takes the other one's type
+abbrev retyped : StageState → Made → Made → (Made → BodyPlan) → BodyPlan
+retyped w m other go =
+    if is_nil_made w m && not (same_type m.of other.of) then make m.source m.at other.of (te.Constant constants.Nil) go else go m
 
 abbrev same_pointers : BinaryOperator → Made → Made → Place → TermId → Site → BodyPlan
-same_pointers op a b at source site =
-    if same_type a.of b.of || (is_nil_form a.form && is_nil_form b.form) then both op boolean a b at source else refuse BadOperand at site
+same_pointers op a b at source site = if same_type a.of b.of then both op boolean a b at source else refuse BadOperand at site
 
 abbrev meeting : StageState → Made → Made → TypeId
 meeting w a b = unwrap_or (meet w.store.types a.of b.of) a.of
@@ -133,7 +132,7 @@ by_rule Shifts w op a b at source site = both op a.of a b at source
 by_rule Tells w op a b at source site = both op boolean a b at source
 by_rule Ands w op a b at source site = gives source at boolean (te.Both a.id b.id)
 by_rule Ors w op a b at source site = gives source at boolean (te.Either a.id b.id)
-by_rule Addresses w op a b at source site = retyped a b (λ x. retyped b x (λ y. same_pointers op x y at source site))
+by_rule Addresses w op a b at source site = retyped w a b (λ x. retyped w b x (λ y. same_pointers op x y at source site))
 by_rule (Moves t step) w op a b at source site = laid_out t at site (gives source at a.of (te.Operate step (a.id ∷ b.id ∷ [])))
 by_rule (Differs t) w op a b at source site =
     if same_type a.of b.of

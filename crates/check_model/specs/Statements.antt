@@ -20,7 +20,7 @@ use Rattle.terra_term.specs.WellTyped.{integer_form}
 use Rattle.check_cast.specs.Conversions.{meet}
 use Rattle.exotype.specs.World.{StageState}
 use Rattle.check_model.specs.declared.site.Site.{Site}
-use Rattle.check_model.specs.Typing.{Made, form_in, is_place_form, is_nil_form, with_variable, with_variables}
+use Rattle.check_model.specs.Typing.{Made, form_in, is_place_form, is_nil_made, with_variable, with_variables}
 use Rattle.check_model.specs.Plans.{BodyPlan, reading, refuse, states, typing, laid_out, as_value, ids_of, leaving}
 use Rattle.check_model.specs.Converting.{Implicit, convert}
 use Rattle.check_model.specs.Expressions.{statements}
@@ -43,7 +43,7 @@ condition t site go = typing t site (λ m. if same_type m.of boolean then go m e
 -- types the values of names, each of which has its type then
 abbrev value_for : Option TypeId → Made → Site → (TypeId → Made → BodyPlan) → BodyPlan
 value_for (Some t) m site go = convert Implicit m t site (go t)
-value_for None m site go = if is_nil_form m.form then refuse Mismatch m.at site else as_value m site (go m.of m)
+value_for None m site go = reading (λ w. if is_nil_made w m then refuse Mismatch m.at site else as_value m site (go m.of m))
 
 abbrev values_for : List VarName → List TermId → Site → List VarName → List TermId → (List VarName → List TermId → BodyPlan) → BodyPlan
 values_for [] values site names ids go = go names ids

@@ -87,9 +87,13 @@ made_in _ id source = record { id = id; source = source; at = nowhere; of = raws
 abbrev pub made_at : StageState → (id source : TermId) → Made
 made_at w id source = made_in (slice_get w.store.typed id.0) id source
 
-abbrev pub is_nil_form : TypedExpression → Bool
-is_nil_form (te.Constant constants.Nil) = true
-is_nil_form _ = false
+abbrev is_nil_term : Option Term → Bool
+is_nil_term (Some (kinds.Expression at e.Nil)) = true
+is_nil_term _ = false
+
+-- What was typed from the term `nil` takes the type that a rule gives it. A cast of it is another term.
+abbrev pub is_nil_made : StageState → Made → Bool
+is_nil_made w m = is_nil_term (slice_get w.store.terms m.source.0)
 
 -- which expressions are places
 abbrev pub is_place_form : TypedExpression → Bool
