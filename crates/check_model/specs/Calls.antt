@@ -105,7 +105,14 @@ abbrev result_in_state : StageState → Option Function → KnownResult
 result_in_state w (Some g) = known_result w g g.state
 result_in_state w None = NotYet
 
--- the same by the function's number
+abbrev parameters_in_state : StageState → Option Function → Option (List TypeId)
+parameters_in_state w (Some g) = parameter_types w g g.state
+parameters_in_state w None = None
+
+-- both by the function's number
+abbrev pub parameters_of : StageState → FnId → Option (List TypeId)
+parameters_of w f = parameters_in_state w (function_at w f)
+
 abbrev pub result_of : StageState → FnId → KnownResult
 result_of w f = result_in_state w (function_at w f)
 

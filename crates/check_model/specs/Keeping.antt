@@ -1,5 +1,5 @@
 -- What each turn keeps of the world, and which answers fit.
-use Rattle.std.specs.Prelude.{◌≡◌, ◌≤◌, Bool, true, false, List, ◌++◌, ◌∷◌, is_some}
+use Rattle.std.specs.Prelude.{◌≡◌, ◌≤◌, Bool, true, false, List, ◌++◌, ◌∷◌, is_some, Some}
 use Rattle.tl_base.specs.declared.ids.FnId.{FnId}
 use Rattle.tl_base.specs.declared.ids.TermId.{TermId}
 use Rattle.tl_base.specs.declared.ids.TypeId.{TypeId}
@@ -20,7 +20,7 @@ use Rattle.check_model.specs.declared.question.CheckAnswer.{CheckAnswer}
 use Rattle.check_model.specs.declared.question.CheckAnswer.TheVariants as answers
 use Rattle.check_model.specs.declared.end.BodyEnd.{BodyEnd}
 use Rattle.check_model.specs.Typing.{TypingState, form_in, is_aggregate_form}
-use Rattle.check_model.specs.Calls.{Is, result_of}
+use Rattle.check_model.specs.Calls.{Is, parameters_of, result_of}
 use Rattle.check_model.specs.Bodies.{BodyGiven, body}
 
 -- ---- what each turn keeps
@@ -32,7 +32,7 @@ StaysKnown (known.Refused kind) after = after ≡ known.Refused kind
 StaysKnown _ after = Unit {0}
 
 -- nodes, quotes and statics have their places for ever; a type keeps what it is, and a layout that is settled; a function keeps its term,
--- its typed term and its refusal; and a property that was answered keeps its answer
+-- its typed term and its refusal, and its type once that is known; and a property that was answered keeps its answer
 pub record Keeps (before after : StageState) : Type 0 where
   pub terms : AreKept before.store.terms after.store.terms
   pub typed : AreKept before.store.typed after.store.typed
@@ -40,6 +40,8 @@ pub record Keeps (before after : StageState) : Type 0 where
   pub statics : AreKept before.store.statics after.store.statics
   pub types : KeepsTypes before.store.types after.store.types
   pub functions : AllStay before.store after.store
+  pub parameters : (f : FnId) (ps : List TypeId) → parameters_of before f ≡ Some ps → parameters_of after f ≡ Some ps
+  pub results : (f : FnId) (t : TypeId) → result_of before f ≡ Is t → result_of after f ≡ Is t
   pub known : (p : Property) → StaysKnown (known_of before.kept p) (known_of after.kept p)
 
 -- ---- which answers fit

@@ -1,12 +1,13 @@
 -- That typing leaves typed terms: each body that is typed passes the test of typed terms. A body may call a function that isn't typed
 -- yet, or isn't even defined, where its type is written. So the test is made with the functions as they are foreseen; where all that
 -- a body reaches is typed, as behind a check, these are the functions as they are.
-use Rattle.std.specs.Prelude.{◌≡◌, ℕ, Bool, true, false, List, [], ◌∷◌, ◌++◌, length, Option, Some, None, slice_get, if◌then◌else◌}
+use Rattle.std.specs.Prelude.{◌≡◌, ℕ, ◌<◌, ◌≤◌, ◌^◌, ◌||◌, Bool, true, false, List, [], ◌∷◌, ◌++◌, length, Option, Some, None, slice_get, if◌then◌else◌}
 use Rattle.tl_base.specs.declared.ids.FnId.{FnId}
 use Rattle.tl_base.specs.declared.ids.TermId.{TermId}
 use Rattle.tl_base.specs.declared.ids.TypeId.{TypeId}
 use Rattle.tl_base.specs.Layer.{State, Ended}
-use Rattle.terra_types.specs.Opening.{AreTypes, unit, rawstring}
+use Rattle.terra_types.specs.Opening.{AreTypes, boolean, unit, rawstring}
+use Rattle.terra_types.specs.Making.{same_type}
 use Rattle.terra_term.specs.declared.lists.TypedName.{TypedName}
 use Rattle.terra_term.specs.declared.store.Function.{Function}
 use Rattle.terra_term.specs.declared.store.FunctionState.{FunctionState}
@@ -14,15 +15,28 @@ use Rattle.terra_term.specs.declared.store.FunctionState.TheVariants as standing
 use Rattle.terra_term.specs.declared.store.Quote.{Quote}
 use Rattle.terra_term.specs.declared.store.Quote.TheVariants as quotes
 use Rattle.terra_term.specs.declared.store.TerraGlobal.{TerraGlobal}
+use Rattle.terra_term.specs.declared.store.TerraConstant.{TerraConstant}
+use Rattle.terra_term.specs.declared.store.Static.{Static}
+use Rattle.terra_term.specs.declared.lists.Parameter.{Parameter}
+use Rattle.terra_term.specs.declared.lists.VarName.{VarName}
 use Rattle.terra_term.specs.declared.term.Term.{Term}
 use Rattle.terra_term.specs.declared.term.Term.TheVariants as kinds
+use Rattle.terra_term.specs.declared.term.Expression.{Expression}
 use Rattle.terra_term.specs.declared.term.Expression.TheVariants as e
+use Rattle.terra_term.specs.declared.term.Statement.{Statement}
+use Rattle.terra_term.specs.declared.term.Statement.TheVariants as s
 use Rattle.terra_term.specs.declared.operators.Constant.TheVariants as constants
 use Rattle.terra_term.specs.Planted.{typed_at, typed_trees}
 use Rattle.terra_term.specs.Stores.{Contents, contents_of}
 use Rattle.terra_term.specs.TypedTerms as typed
 use Rattle.terra_term.specs.WellTyped.{Within, Scope, is_typed, body_typed, is_placed, constant_typed, has_layout}
+use Rattle.lua_value.specs.declared.value.Value.{Value}
+use Rattle.lua_value.specs.declared.value.Value.TheVariants as values
+use Rattle.lua_table.specs.declared.table.HeldTable.{HeldTable}
 use Rattle.exotype.specs.World.{StageState}
+use Rattle.exotype.specs.Types.{is_type}
+use Rattle.check_model.specs.declared.question.CheckAnswer.{CheckAnswer}
+use Rattle.check_model.specs.declared.question.CheckAnswer.TheVariants as answers
 use Rattle.check_model.specs.declared.end.BodyEnd.{BodyEnd}
 use Rattle.check_model.specs.Typing.{TypingState, function_at}
 use Rattle.check_model.specs.Calls.{KnownResult, Is, known_result, parameter_types}
@@ -88,31 +102,71 @@ abbrev QuoteIsSound : StageState → Quote → Type 0
 QuoteIsSound w (quotes.Typed source made) = IsTypedSomewhere w made
 QuoteIsSound w _ = Unit {0}
 
--- a specialised node has a place of a text, and a constant the bits of its type
+-- a type that is named is there
+abbrev IsThere : StageState → TypeId → Type 0
+IsThere w t = is_type w.store.types t ≡ true
+
+abbrev IsThereIfAny : StageState → Option TypeId → Type 0
+IsThereIfAny w (Some t) = IsThere w t
+IsThereIfAny w None = Unit {0}
+
+abbrev ParametersAreThere : StageState → List Parameter → Type 0
+ParametersAreThere w [] = Unit {0}
+ParametersAreThere w (p ∷ ps) = IsThere w p.of × ParametersAreThere w ps
+
+abbrev NamesAreThere : StageState → List VarName → Type 0
+NamesAreThere w [] = Unit {0}
+NamesAreThere w (n ∷ ns) = IsThereIfAny w n.of × NamesAreThere w ns
+
+abbrev ExpressionIsSound : StageState → Expression → Type 0
+ExpressionIsSound w (e.Number bits of) = constant_typed (foreseen w) of (constants.Number bits) ≡ true
+ExpressionIsSound w (e.Static address) = constant_typed (foreseen w) rawstring (constants.Static address) ≡ true
+ExpressionIsSound w (e.Type t) = IsThere w t
+ExpressionIsSound w (e.Typed source made) = IsTypedSomewhere w made
+ExpressionIsSound w x = Unit {0}
+
+abbrev StatementIsSound : StageState → Statement → Type 0
+StatementIsSound w (s.Var names values) = NamesAreThere w names
+StatementIsSound w x = Unit {0}
+
+-- a specialised node has a place of a text, a constant the bits of its type, and types that are named are there
 abbrev TermIsSound : StageState → Term → Type 0
-TermIsSound w (kinds.Expression at (e.Number bits of)) =
-    (is_placed at ≡ true) × (constant_typed (foreseen w) of (constants.Number bits) ≡ true)
-TermIsSound w (kinds.Expression at (e.Static address)) =
-    (is_placed at ≡ true) × (constant_typed (foreseen w) rawstring (constants.Static address) ≡ true)
-TermIsSound w (kinds.Expression at (e.Typed source made)) = IsTypedSomewhere w made
-TermIsSound w (kinds.Expression at x) = is_placed at ≡ true
-TermIsSound w (kinds.Statement at s) = is_placed at ≡ true
-TermIsSound w (kinds.Function params result body) = Unit {0}
+TermIsSound w (kinds.Expression at x) = (is_placed at ≡ true) × ExpressionIsSound w x
+TermIsSound w (kinds.Statement at x) = (is_placed at ≡ true) × StatementIsSound w x
+TermIsSound w (kinds.Function params result body) = ParametersAreThere w params × IsThereIfAny w result
+
+-- a constant of another type than bool has bits of its type
+abbrev ConstantIsSound : StageState → TerraConstant → Type 0
+ConstantIsSound w c = (same_type c.of boolean || constant_typed (foreseen w) c.of (constants.Number c.value)) ≡ true
+
+abbrev ValueIsSound : StageState → Value → Type 0
+ValueIsSound w (values.TerraType t) = IsThere w t
+ValueIsSound w v = Unit {0}
 
 pub record IsSound (w : StageState) : Type 0 where
   pub types : AreTypes w.store.types
+  pub memory : w.memory ≤ 67108864
   pub bodies : (f : FnId) (t made : TermId) (b : typed.Body) (g : Function) → function_at w f ≡ Some g → g.state ≡ standing.Typed t made →
       typed_body w made ≡ Some b → body_typed (foreseen w) b ≡ true
-  pub quotes : (i : ℕ) (q : Quote) → slice_get w.store.quotes i ≡ Some q → QuoteIsSound w q
+  pub functions : (f : FnId) (g : Function) → function_at w f ≡ Some g → (is_placed g.place ≡ true) × IsThereIfAny w g.declared
   pub terms : (i : ℕ) (t : Term) → slice_get w.store.terms i ≡ Some t → TermIsSound w t
-  pub globals : (i : ℕ) (g : TerraGlobal) → slice_get w.store.globals i ≡ Some g → has_layout (foreseen w) g.of ≡ true
+  pub quotes : (i : ℕ) (q : Quote) → slice_get w.store.quotes i ≡ Some q → QuoteIsSound w q
+  pub globals : (i : ℕ) (g : TerraGlobal) → slice_get w.store.globals i ≡ Some g → (has_layout (foreseen w) g.of ≡ true) × (g.address < 2 ^ 64)
+  pub constants : (i : ℕ) (c : TerraConstant) → slice_get w.store.constants i ≡ Some c → ConstantIsSound w c
+  pub statics : (i : ℕ) (x : Static) → slice_get w.store.statics i ≡ Some x → x.address < 2 ^ 64
+  pub tables : (i j : ℕ) (table : HeldTable) (pair : Value × Value) → slice_get w.heap.tables i ≡ Some table →
+      slice_get table.table j ≡ Some pair → ValueIsSound w pair.1
+
+abbrev AnswerIsSound : StageState → CheckAnswer → Type 0
+AnswerIsSound w (answers.Values vs) = (i : ℕ) (v : Value) → slice_get vs i ≡ Some v → ValueIsSound w v
+AnswerIsSound w a = Unit {0}
 
 abbrev AreSound : List BodyGiven → Type 0
 AreSound [] = Unit {0}
-AreSound (a ∷ more) = IsSound a.state.world.stage × AreSound more
+AreSound (a ∷ more) = IsSound a.state.world.stage × AnswerIsSound a.state.world.stage a.answer × AreSound more
 
 -- The law: where a body begins in such a world, and each answer fits and is given in such a world, it ends in such a world.
 abbrev pub KeepsSound : Type 0
 KeepsSound =
-    (f : FnId) (first : BodyGiven) (later : List BodyGiven) (end : BodyEnd) (s : State TypingState) →
-    AllFollow f first later → AreSound (first ∷ later) → body f first later ≡ Ended end s → IsSound s.world.stage
+    (f : FnId) (first : BodyGiven) (later : List BodyGiven) (end : BodyEnd) (after : State TypingState) →
+    AllFollow f first later → AreSound (first ∷ later) → body f first later ≡ Ended end after → IsSound after.world.stage
