@@ -27,7 +27,7 @@ use Rattle.check_model.specs.Typing.{function_at}
 abbrev pub CheckPlan : Type 0
 CheckPlan = Plan CheckJob StageState CheckQuestion CheckAnswer CheckEnd
 
-abbrev was_reached : FnId → List Reached → Bool
+abbrev pub was_reached : FnId → List Reached → Bool
 was_reached f [] = false
 was_reached f (r ∷ rs) = (f.0 == r.function.0) || was_reached f rs
 
@@ -50,12 +50,16 @@ abbrev mentions_in_state : StageState → Option Function → List (Place × FnI
 mentions_in_state w (Some g) = typed_mentions w g.state
 mentions_in_state w None = []
 
+-- the functions that a typed function mentions, in order, and where
+abbrev pub mentions_at : StageState → FnId → List (Place × FnId)
+mentions_at w f = mentions_in_state w (function_at w f)
+
 abbrev take_next : List Reached → ℕ → CheckPlan
 take_next queue i = if nat_lt i (length queue) then Do (Take queue i) Give else Give ends.Done
 
 -- goes on behind a function that is typed
 abbrev past : List Reached → ℕ → FnId → CheckPlan
-past queue i f = Read (λ w. take_next (with_mentions queue f (mentions_in_state w (function_at w f))) (i + 1))
+past queue i f = Read (λ w. take_next (with_mentions queue f (mentions_at w f)) (i + 1))
 
 -- a refusal at the first call that reached a function, or at its own place
 abbrev refused_at : RefusalKind → Reached → Option (Place × FnId) → Place → CheckPlan

@@ -7,7 +7,7 @@ use Rattle.tl_base.specs.Layer.{State, Seen, Ended, SpentAt, Asks}
 use Rattle.terra_types.specs.Keeping.{KeepsTypes}
 use Rattle.terra_types.specs.Sizes.{size_of}
 use Rattle.terra_term.specs.Keeping.{AllStay, AreKept}
-use Rattle.terra_term.specs.Held.{state_of}
+use Rattle.terra_term.specs.Held.{state_of, typed_in}
 use Rattle.terra_term.specs.declared.store.FunctionState.TheVariants as standing
 use Rattle.exotype.specs.World.{StageState}
 use Rattle.exotype.specs.Properties.{known_of}
@@ -18,10 +18,14 @@ use Rattle.check_model.specs.declared.question.BodyQuestion.{BodyQuestion}
 use Rattle.check_model.specs.declared.question.BodyQuestion.TheVariants.{CallLua, ResultOf, LayoutOf}
 use Rattle.check_model.specs.declared.question.CheckAnswer.{CheckAnswer}
 use Rattle.check_model.specs.declared.question.CheckAnswer.TheVariants as answers
+use Rattle.check_model.specs.declared.question.CheckQuestion.{CheckQuestion}
+use Rattle.check_model.specs.declared.question.CheckQuestion.TheVariants as asked_for
 use Rattle.check_model.specs.declared.end.BodyEnd.{BodyEnd}
+use Rattle.check_model.specs.declared.end.CheckEnd.{CheckEnd}
 use Rattle.check_model.specs.Typing.{TypingState, form_in, is_aggregate_form}
 use Rattle.check_model.specs.Calls.{Is, parameters_of, result_of}
 use Rattle.check_model.specs.Bodies.{BodyGiven, body}
+use Rattle.check_model.specs.Checks.{CheckGiven, check}
 
 -- ---- what each turn keeps
 
@@ -83,3 +87,27 @@ FollowsSeen (SpentAt s) next = Unit {0}
 abbrev pub AllFollow : FnId → BodyGiven → List BodyGiven → Type 0
 AllFollow f first later =
     (before after : List BodyGiven) (next : BodyGiven) → later ≡ before ++ next ∷ after → FollowsSeen (body f first before) next
+
+-- the same of a check: where a body is done, its function is typed
+abbrev pub HasBody : StageState → CheckQuestion → Type 0
+HasBody w (asked_for.Body f) = (made : TermId) × (typed_in (state_of w.store f) ≡ Some made)
+
+abbrev pub ChecksAnswer : CheckQuestion → CheckAnswer → StageState → Type 0
+ChecksAnswer question answers.Done w = HasBody w question
+ChecksAnswer question (answers.Refused why) w = Unit {0}
+ChecksAnswer question _ w = ⊥
+
+pub record FollowsCheck (question : CheckQuestion) (s : State StageState) (next : CheckGiven) : Type 0 where
+  pub answers : ChecksAnswer question next.answer next.state.world
+  pub keeps : Keeps s.world next.state.world
+  pub progress : StaysInProgress s.world next.state.world
+  pub left : next.state.left ≤ s.left
+
+abbrev pub FollowsCheckSeen : Seen StageState CheckQuestion CheckEnd → CheckGiven → Type 0
+FollowsCheckSeen (Asks question s) next = FollowsCheck question s next
+FollowsCheckSeen (Ended end s) next = Unit {0}
+FollowsCheckSeen (SpentAt s) next = Unit {0}
+
+abbrev pub AllFollowCheck : FnId → CheckGiven → List CheckGiven → Type 0
+AllFollowCheck f first later =
+    (before after : List CheckGiven) (next : CheckGiven) → later ≡ before ++ next ∷ after → FollowsCheckSeen (check f first before) next

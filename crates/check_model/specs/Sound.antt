@@ -2,6 +2,7 @@
 -- yet, or isn't even defined, where its type is written. So the test is made with the functions as they are foreseen; where all that
 -- a body reaches is typed, as behind a check, these are the functions as they are.
 use Rattle.std.specs.Prelude.{◌≡◌, ℕ, ◌<◌, ◌≤◌, ◌^◌, ◌||◌, Bool, true, false, List, [], ◌∷◌, ◌++◌, length, Option, Some, None, slice_get, if◌then◌else◌}
+use Rattle.tl_base.specs.declared.place.Place.{Place}
 use Rattle.tl_base.specs.declared.ids.FnId.{FnId}
 use Rattle.tl_base.specs.declared.ids.TermId.{TermId}
 use Rattle.tl_base.specs.declared.ids.TypeId.{TypeId}
@@ -27,7 +28,7 @@ use Rattle.terra_term.specs.declared.term.Statement.{Statement}
 use Rattle.terra_term.specs.declared.term.Statement.TheVariants as s
 use Rattle.terra_term.specs.declared.operators.Constant.TheVariants as constants
 use Rattle.terra_term.specs.Planted.{typed_at, typed_trees}
-use Rattle.terra_term.specs.Stores.{Contents, contents_of}
+use Rattle.terra_term.specs.Stores.{Contents, Callable, contents_of, callable_of}
 use Rattle.terra_term.specs.TypedTerms as typed
 use Rattle.terra_term.specs.WellTyped.{Within, Scope, is_typed, body_typed, is_placed, constant_typed, has_layout}
 use Rattle.lua_value.specs.declared.value.Value.{Value}
@@ -40,7 +41,10 @@ use Rattle.check_model.specs.declared.question.CheckAnswer.TheVariants as answer
 use Rattle.check_model.specs.declared.end.BodyEnd.{BodyEnd}
 use Rattle.check_model.specs.Typing.{TypingState, function_at}
 use Rattle.check_model.specs.Calls.{KnownResult, Is, known_result, parameter_types}
-use Rattle.check_model.specs.Keeping.{AllFollow}
+use Rattle.check_model.specs.Keeping.{AllFollow, AllFollowCheck}
+use Rattle.check_model.specs.Checks.{CheckGiven, check, was_reached, mentions_at}
+use Rattle.check_model.specs.declared.job.Reached.{Reached}
+use Rattle.check_model.specs.declared.end.CheckEnd.TheVariants as check_ends
 use Rattle.check_model.specs.Bodies.{BodyGiven, body}
 
 -- ---- functions as they are foreseen
@@ -170,3 +174,22 @@ abbrev pub KeepsSound : Type 0
 KeepsSound =
     (f : FnId) (first : BodyGiven) (later : List BodyGiven) (end : BodyEnd) (after : State TypingState) →
     AllFollow f first later → AreSound (first ∷ later) → body f first later ≡ Ended end after → IsSound after.world.stage
+
+-- ---- behind a check
+
+abbrev ChecksAreSound : List CheckGiven → Type 0
+ChecksAreSound [] = Unit {0}
+ChecksAreSound (a ∷ more) = IsSound a.state.world × ChecksAreSound more
+
+-- a function can be called, its body passes the test with the functions as they are, and what it mentions was reached
+pub record IsReady (w : StageState) (queue : List Reached) (f : FnId) : Type 0 where
+  pub callable : (k : Callable) × (callable_of (contents_of w.store) f ≡ Some k) × (body_typed (contents_of w.store) k.body ≡ true)
+  pub reached : (i : ℕ) (m : Place × FnId) → slice_get (mentions_at w f) i ≡ Some m → was_reached m.1 queue ≡ true
+
+-- The law: where a check is done that went through such worlds, so are the function and all that it reaches. This is what the code of
+-- functions, and their runs, rest on.
+abbrev pub LeavesReady : Type 0
+LeavesReady =
+    (f : FnId) (first : CheckGiven) (later : List CheckGiven) (after : State StageState) →
+    AllFollowCheck f first later → ChecksAreSound (first ∷ later) → check f first later ≡ Ended check_ends.Done after →
+    (queue : List Reached) × (was_reached f queue ≡ true) × ((g : FnId) → was_reached g queue ≡ true → IsReady after.world queue g)
