@@ -159,4 +159,5 @@ pub as_value_then :
 as_value_then f m site p p2 k passes each =
     laid_out_then f m.of m.at site (reading (λ w. if is_wide w m.of then refuse TooWide m.at site else p))
     (reading (λ w. if is_wide w m.of then refuse TooWide m.at site else p2)) k passes
-    (λ s l. if_then f (is_wide s.world.stage m.of) (refuse TooWide m.at site) p (refuse TooWide m.at site) p2 k (passes TooWide m.at site) each s l)
+    (λ s l. if_then f (is_wide s.world.stage m.of) (refuse TooWide m.at site) p (refuse TooWide m.at site) p2 k
+    (passes TooWide m.at site) each s l)

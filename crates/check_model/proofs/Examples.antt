@@ -10,6 +10,7 @@ use Rattle.terra_types.specs.declared.types.TypeForm.TheVariants as forms
 use Rattle.terra_types.specs.Opening.{opening_types, int32, boolean, unit}
 use Rattle.terra_words.specs.declared.words.BinaryOperator.TheVariants as operators
 use Rattle.terra_term.specs.declared.refusal.RefusalKind.TheVariants.{Mismatch, Undefined}
+use Rattle.terra_term.specs.declared.store.Function.{Function}
 use Rattle.terra_term.specs.declared.store.FunctionState.{FunctionState}
 use Rattle.terra_term.specs.declared.store.FunctionState.TheVariants as standing
 use Rattle.terra_term.specs.declared.operators.Constant.TheVariants as constants
@@ -46,11 +47,14 @@ t n = record { 0 = n }
 abbrev f : ℕ → FnId
 f n = record { 0 = n }
 
+abbrev one : FunctionState → Function
+one standing = record { place = at 1 1; declared = None; state = standing }
+
 -- one function, with its term and what was typed
 abbrev stage : List Term → FunctionState → List Typed → StageState
 stage terms standing typed =
     let w = opening opening_types 65536 in
-    with_store w (record w.store { functions = record { place = at 1 1; declared = None; state = standing } ∷ []; terms = terms; typed = typed })
+    with_store w (record w.store { functions = one standing ∷ []; terms = terms; typed = typed })
 
 abbrev world : List Term → FunctionState → List Typed → TypingState
 world terms standing typed = record { stage = stage terms standing typed; variables = [] }
@@ -96,8 +100,9 @@ refuses_five = refl
 -- terra f() : bool return [&int](nil) == nil end
 abbrev compared : List Term
 compared =
-    kinds.Expression (at 1 5) e.Nil ∷ kinds.Expression (at 1 3) (e.Type (record { 0 = 11 })) ∷ kinds.Expression (at 1 4) (e.Call (t 1) (t 0 ∷ []))
-    ∷ kinds.Expression (at 1 7) e.Nil ∷ kinds.Expression (at 1 6) (e.Binary operators.Equal (t 2) (t 3)) ∷ kinds.Statement (at 1 2) (s.Return (t 4 ∷ []))
+    kinds.Expression (at 1 5) e.Nil ∷ kinds.Expression (at 1 3) (e.Type (record { 0 = 11 }))
+    ∷ kinds.Expression (at 1 4) (e.Call (t 1) (t 0 ∷ [])) ∷ kinds.Expression (at 1 7) e.Nil
+    ∷ kinds.Expression (at 1 6) (e.Binary operators.Equal (t 2) (t 3)) ∷ kinds.Statement (at 1 2) (s.Return (t 4 ∷ []))
     ∷ kinds.Function [] (Some boolean) (t 5 ∷ []) ∷ []
 
 abbrev with_pointers : TypingState → TypingState
@@ -126,6 +131,7 @@ asks_for_the_body = refl
 
 refuses_what_is_undefined :
     check (f 0) (given Go (stage nothing standing.Undefined []) 3) []
-    ≡ Ended (check_ends.Refused (record { kind = Undefined; place = at 1 1; function = f 0 })) (state (stage nothing standing.Undefined []) 2)
+    ≡ Ended (check_ends.Refused (record { kind = Undefined; place = at 1 1; function = f 0 }))
+    (state (stage nothing standing.Undefined []) 2)
 unfolding run_within run_job
 refuses_what_is_undefined = refl

@@ -155,7 +155,8 @@ pub record IsSound (w : StageState) : Type 0 where
   pub functions : (f : FnId) (g : Function) → function_at w f ≡ Some g → (is_placed g.place ≡ true) × IsThereIfAny w g.declared
   pub terms : (i : ℕ) (t : Term) → slice_get w.store.terms i ≡ Some t → TermIsSound w t
   pub quotes : (i : ℕ) (q : Quote) → slice_get w.store.quotes i ≡ Some q → QuoteIsSound w q
-  pub globals : (i : ℕ) (g : TerraGlobal) → slice_get w.store.globals i ≡ Some g → (has_layout (foreseen w) g.of ≡ true) × (g.address < 2 ^ 64)
+  pub globals : (i : ℕ) (g : TerraGlobal) → slice_get w.store.globals i ≡ Some g →
+      (has_layout (foreseen w) g.of ≡ true) × (g.address < 2 ^ 64)
   pub constants : (i : ℕ) (c : TerraConstant) → slice_get w.store.constants i ≡ Some c → ConstantIsSound w c
   pub statics : (i : ℕ) (x : Static) → slice_get w.store.statics i ≡ Some x → x.address < 2 ^ 64
   pub tables : (i j : ℕ) (table : HeldTable) (pair : Value × Value) → slice_get w.heap.tables i ≡ Some table →
