@@ -24,3 +24,11 @@ pub mod Carries
 pub mod Weights
 pub mod Jumps
 pub mod Leaves
+pub mod Kept
+pub mod Enters
+pub mod Passes
+pub mod Quits
+pub mod Callings
+pub mod Receives
+pub mod Returns
+pub mod Entrances

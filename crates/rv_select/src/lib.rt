@@ -15,7 +15,10 @@ mod outputs;
 
 pub use exits::push_exit;
 pub use instructions::push_instruction;
-pub use law::{exits_are_carried, exits_keep_within, instructions_are_carried, shapes_keep_within};
+pub use law::{
+    calls_are_begun, exits_are_carried, exits_keep_within, functions_are_entered,
+    functions_are_left, instructions_are_carried, parameters_are_received, shapes_keep_within,
+};
 
 #[cfg(test)]
 mod tests;
