@@ -227,7 +227,7 @@ pub used-count : (b : Bool) (i : Instr) (is : List Instr) (n : ℕ) → length i
 used-count true i is n h = omega arith
 used-count false i is n h = omega arith
 
-saved-count : (y : Layout) (n x : ℕ) → length (saved y n x) ≤ n
+pub saved-count : (y : Layout) (n x : ℕ) → length (saved y n x) ≤ n
 saved-count y zero x = omega arith
 saved-count y (suc n) x = used-count (uses y x) (Store Sd x2 (register_of x) (immediate_of (kept_offset x))) (saved y n (x + 1)) n (saved-count y n (x + 1))
 

@@ -57,8 +57,7 @@ both-entered program y bytes frame top placed size at m h p t =
 pub functions-entered : FunctionsAreEntered
 functions-entered program y bytes frame top placed size at m h =
     let most : size ≤ 67108864 = h.region_is in
-    let placed-small : placed < 2 ^ 63 = omega (arith, h.below) in
-    (
+    let placed-small : placed < 2 ^ 63 = omega (arith, h.below) in (
       λ less. more-ends program _ at 17 36 m (omega arith)
           (tests.refuses program m frame size placed (frames_taken y bytes) h.pc h.small h.limit most h.placed_is placed-small h.stands at h.place less),
       λ fits. passed (tests.passes program m frame size placed (frames_taken y bytes) h.pc h.small h.limit most h.placed_is placed-small h.stands fits) fits,
@@ -79,8 +78,7 @@ calls-begun code homes block step program w base at ps m right p fits there =
     let y : Layout = layout_of code homes in
     let Used : ℕ → Type 0 = InUse (graph_of code) block step in
     let h : Housed y Used = housed code homes block step right in
-    let all : Stands program m.pc (call_begun y at ps ++ []) = subst (λ z. Stands program m.pc z) (sym (append-nil (call_begun y at ps))) there in
-    (
+    let all : Stands program m.pc (call_begun y at ps ++ []) = subst (λ z. Stands program m.pc z) (sym (append-nil (call_begun y at ps))) there in (
       λ deep. too-deep program y Used w base at ps [] m p h fits all deep,
       λ shallow reads room. made (begins program y Used w base at ps [] m p h fits all shallow reads room),
     )

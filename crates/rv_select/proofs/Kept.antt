@@ -125,8 +125,7 @@ save-one : (y : Layout) (x base : ℕ) (m : State) (used : Bool) → m.pc < 2 ^ 
 save-one y x base m false p e l u room most small = (m, stored-none (base + kept_offset x) (base + kept_offset (x + 1)) m p, λ z. cc)
 save-one y x base m true p e l u room most small =
     let value : value_at m (register_of x) ≡ m.registers x = register-value m (register_of x) x (register-is x (omega arith)) (λ z. omega (arith, z)) in
-    let end : base + kept_offset x + 8 ≡ base + kept_offset (x + 1) = omega arith in
-    (
+    let end : base + kept_offset x + 8 ≡ base + kept_offset (x + 1) = omega arith in (
       word_stored m (base + kept_offset x) (m.registers x),
       subst (λ z. Stored (Store Sd x2 (register_of x) (immediate_of (kept_offset x)) ∷ []) (base + kept_offset x) z m (word_stored m (base + kept_offset x) (m.registers x))) end
           (stored-one m x2 (register_of x) (immediate_of (kept_offset x)) (base + kept_offset x) (m.registers x) (kept-address m base x e l u room most) value small (omega arith)),
@@ -186,8 +185,7 @@ put-back-one : (y : Layout) (x base : ℕ) (m : State) (used : Bool) → uses y 
 put-back-one y x base m false is p e l u room most small = (m, refl, low-here m.pc p, λ z. cc, λ z. refl, λ r o. refl, refl, refl, refl)
 put-back-one y x base m true is p e l u room most small =
     let number : (register_of x).number ≡ x = register-is x (omega arith) in
-    let v : ℕ = private_word m (base + kept_offset x) in
-    (
+    let v : ℕ = private_word m (base + kept_offset x) in (
       at_with m (low (m.pc + 4)) x v,
       ap (λ k. then_on k (λ t. GoesOn t))
           (load-word m (register_of x) x2 (immediate_of (kept_offset x)) (base + kept_offset x) (kept-address m base x e l u room most) small (omega arith)

@@ -32,3 +32,4 @@ pub mod Callings
 pub mod Receives
 pub mod Returns
 pub mod Entrances
+pub mod Within

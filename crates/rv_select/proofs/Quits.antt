@@ -38,7 +38,7 @@ pub record Quit (program : List (Option Instr)) (y : Layout) (bytes base over li
   pub region : after.region ≡ m.region
   pub private : after.private ≡ m.private
 
-put-back-count : (y : Layout) (n x : ℕ) → length (put_back y n x) ≤ n
+pub put-back-count : (y : Layout) (n x : ℕ) → length (put_back y n x) ≤ n
 put-back-count y zero x = omega arith
 put-back-count y (suc n) x = used-count (uses y x) (Load Ld (register_of x) x2 (immediate_of (kept_offset x))) (put_back y n (x + 1)) n (put-back-count y n (x + 1))
 

@@ -61,7 +61,7 @@ words-keep y base last [] vs m n k l h = tt
 words-keep y base last (d ∷ ds) [] m n k l h = tt
 words-keep y base last (d ∷ ds) (v ∷ vs) m n k l h =
     let same : private_word n (base + (last + 8 * length ds)) ≡ private_word m (base + (last + 8 * length ds)) =
-        ap number_of (k.outside (base + (last + 8 * length ds)) 8 (omega arith) (inr (omega (arith, l)))) in
+    ap number_of (k.outside (base + (last + 8 * length ds)) 8 (omega arith) (inr (omega (arith, l)))) in
     (subst (λ z. IsWordOf v z) (sym same) h.0, words-keep y base last ds vs m n k l h.1)
 
 housed-fewer : (y : Layout) (U V : ℕ → Type 0) → ((t : ℕ) → V t → U t) → Housed y U → Housed y V
@@ -126,19 +126,19 @@ receives program y code sizes U Used Fin base last depth region (Temp d ∷ ds) 
     let w : World = seen a region depth in
     let Next : ℕ → Type 0 = λ t. (t ≡ d) ⊎ Used t in
     let in-u : (t : ℕ) → Next t → U t =
-        λ t u. ⊎_elim (λ e. goes t (or-first (nat_eq d t) (list_any (goes_to t) ds) (eq-eqb d t (sym e)))) (λ o. sub t o) u in
+    λ t u. ⊎_elim (λ e. goes t (or-first (nat_eq d t) (list_any (goes_to t) ds) (eq-eqb d t (sym e)))) (λ o. sub t o) u in
     let all : Stands program m.pc ((A ++ B) ++ (C ++ rest)) = subst (λ z. Stands program m.pc z) (append_assoc (A ++ B) C rest) there in
     let l : Loads 5 A m (private_word m (base + at)) =
-        word-loads base at m p.pc p.frame.pointer (omega (arith, room)) p.frame.private (region-small y Used w base m p) in
+    word-loads base at m p.pc p.frame.pointer (omega (arith, room)) p.frame.private (region-small y Used w base m p) in
     let one : Comes y program Next (with_temp w d x) base 6 (low (m.pc + 4 * length (A ++ B))) [] m =
-        straight-put y Used Next w base d x 6 A program m l.after p (housed-fewer y U Used sub h) (housed-fewer y U Next in-u h) (inl refl) (λ t u. u)
-        (loads-five A m (private_word m (base + at)) l) (l.gives ∙ words.0.0) words.0.1 (omega (arith, framed-count (λ r far. Load Ld x5 r far) at)) (stands-front program m.pc (A ++ B) (C ++ rest) all) in
+    straight-put y Used Next w base d x 6 A program m l.after p (housed-fewer y U Used sub h) (housed-fewer y U Next in-u h) (inl refl) (λ t u. u)
+    (loads-five A m (private_word m (base + at)) l) (l.gives ∙ words.0.0) words.0.1 (omega (arith, framed-count (λ r far. Load Ld x5 r far) at)) (stands-front program m.pc (A ++ B) (C ++ rest) all) in
     let t : State = one.after in
     let after-t : Stands program t.pc (C ++ rest) = subst (λ q. Stands program q (C ++ rest)) (sym one.at) (stands-back program m.pc (A ++ B) (C ++ rest) p.pc all) in
     let more : GotAll program y Fin (seen (takes_all ds vs (takes (Temp d) (word x) a)) region depth) base (6 * length ds) C rest t =
-        receives program y code sizes U Next Fin base last depth region ds vs (takes (Temp d) (word x) a) rest t after-t one.holds h in-u
-        (λ s e. goes s (or-second (nat_eq d s) (list_any (goes_to s) ds) e)) (λ s u. split-any s d ds (Used s) (fin s u)) are accepts
-        (words-keep y base last ds vs m t one.keeps within words.1) within (subst (λ z. base + (last + 8 * length ds) ≤ z) (sym one.keeps.long) (omega (arith, room))) in
+    receives program y code sizes U Next Fin base last depth region ds vs (takes (Temp d) (word x) a) rest t after-t one.holds h in-u
+    (λ s e. goes s (or-second (nat_eq d s) (list_any (goes_to s) ds) e)) (λ s u. split-any s d ds (Used s) (fin s u)) are accepts
+    (words-keep y base last ds vs m t one.keeps within words.1) within (subst (λ z. base + (last + 8 * length ds) ≤ z) (sym one.keeps.long) (omega (arith, room))) in
     record {
       steps = one.steps + more.steps;
       after = more.after;

@@ -1,6 +1,7 @@
 -- What the code that enters and leaves functions promises.
 use Rattle.std.specs.Prelude.{◌≡◌, ◌≢◌, ℕ, Bool, IsTrue, [], ◌∷◌, suc, ◌+◌, ◌-◌, ◌*◌, ◌/◌, ◌%◌, ◌^◌, ◌<◌, ◌≤◌, true, false, List, length, take, drop, Option, Some, slice_get, if◌then◌else◌, ◌⊎◌}
 use Rattle.std.specs.List.{list_all}
+use Rattle.tl_base.specs.declared.ids.FnId.{FnId}
 use Rattle.tl_base.specs.declared.place.Place.{Place}
 use Rattle.rv_isa.specs.declared.instr.Instr.{Instr}
 use Rattle.terra_words.specs.declared.words.FaultKind.TheVariants.{CallDepth, StackFull}
@@ -13,6 +14,9 @@ use Rattle.terra_memory.specs.Region.{Contents}
 use Rattle.terra_words.specs.Runs.{Value, word, bytes}
 use Rattle.tac_form.specs.declared.tac.Destination.{Destination}
 use Rattle.tac_form.specs.declared.tac.Destination.TheVariants.{Temp, Area}
+use Rattle.tac_form.specs.declared.tac.Exit.TheVariants.{Return}
+use Rattle.tac_form.specs.declared.tac.Instruction.TheVariants.{Call}
+use Rattle.tac_form.specs.Weights.{entered_words, exit_words, words_of}
 use Rattle.tac_form.specs.Flow.{Activation, accepts_all, takes_all}
 use Rattle.tac_form.specs.Fits.{Fits}
 use Rattle.tac_form.specs.Graph.{graph_of}
@@ -23,8 +27,8 @@ use Rattle.rv_operators.specs.Runs.{Stands}
 use Rattle.rv_select.specs.Places.{AreBytes, Holds, IsRead, Keeps, Layout, World, area_offset, frame_bytes, layout_of, private_word, uses, value_in}
 use Rattle.rv_select.specs.Shapes.{place_number}
 use Rattle.rv_select.specs.Steps.{Ends}
-use Rattle.rv_select.specs.Entering.{entered, kept_offset, left, received, words_offset}
-use Rattle.rv_select.specs.Calls.{call_begun, returned}
+use Rattle.rv_select.specs.Entering.{begun, entered, kept_offset, left, received, words_offset}
+use Rattle.rv_select.specs.Calls.{call_begun, called, returned}
 
 -- what is passed: a word, or the address of an area
 abbrev pub part_value : Layout → (base : ℕ) → World → Part → ℕ
@@ -182,3 +186,17 @@ ParametersAreReceived =
     HasWords base (words_offset y) code.parameters values m → base + frame_bytes y ≤ length m.private →
     Received program (without_words y) (InUse (graph_of code) 0 0) (seen (takes_all code.parameters values a) region depth) base (6 * length code.parameters)
     (low (m.pc + 4 * length (received y code.areas (words_offset y) code.parameters))) m
+
+-- The code that begins a function as the entry, enters it by a call and leaves it has no more words than its weight, and so has that of a
+-- return.
+abbrev pub FramesKeepWithin : Type 0
+FramesKeepWithin =
+    (code : Tac) (y : Layout) (bytes at last : ℕ) (v : Part) →
+    (length (begun code) + (length (entered y bytes code.frame) + length (left y bytes code.frame)) ≤ entered_words) ×
+    (length (returned y at last v) ≤ exit_words (Return v))
+
+-- The code of a call that gives a word has no more words than its weight.
+abbrev pub CallsKeepWithin : Type 0
+CallsKeepWithin =
+    (y : Layout) (sizes : List ℕ) (places : FnId → ℕ) (at d : ℕ) (place : Place) (f : FnId) (arguments : List Part) →
+    length (called y sizes places at (Temp d) place f arguments) ≤ words_of (Call (Temp d) place f arguments)

@@ -1,6 +1,6 @@
 // What the code of instructions promises. Each function does nothing, and its clause is a law.
 
-ghost use Rattle.rv_select.specs.Frames.{CallsAreBegun, FunctionsAreEntered, FunctionsAreLeft, ParametersAreReceived};
+ghost use Rattle.rv_select.specs.Frames.{CallsAreBegun, CallsKeepWithin, FramesKeepWithin, FunctionsAreEntered, FunctionsAreLeft, ParametersAreReceived};
 ghost use Rattle.rv_select.specs.Steps.{ExitsAreCarried, ExitsKeepWithin, InstructionsAreCarried, ShapesKeepWithin};
 
 /// The code of an instruction carries it out: from each state of the machine that holds what three-address code sees in a state, it
@@ -44,4 +44,14 @@ pub fn functions_are_left()
 /// The words that are passed to a function go where it takes them.
 pub fn parameters_are_received()
     ensures { ParametersAreReceived }
+{}
+
+/// The code that begins, enters and leaves a function has no more words than its weight, nor has that of a return.
+pub fn frames_keep_within()
+    ensures { FramesKeepWithin }
+{}
+
+/// The code of a call that gives a word has no more words than its weight.
+pub fn calls_keep_within()
+    ensures { CallsKeepWithin }
 {}

@@ -16,8 +16,9 @@ mod outputs;
 pub use exits::push_exit;
 pub use instructions::push_instruction;
 pub use law::{
-    calls_are_begun, exits_are_carried, exits_keep_within, functions_are_entered,
-    functions_are_left, instructions_are_carried, parameters_are_received, shapes_keep_within,
+    calls_are_begun, calls_keep_within, exits_are_carried, exits_keep_within, frames_keep_within,
+    functions_are_entered, functions_are_left, instructions_are_carried, parameters_are_received,
+    shapes_keep_within,
 };
 
 #[cfg(test)]
