@@ -58,9 +58,10 @@ pub record Enters (program : List (Option Instr)) (y : Layout) (base under targe
   pub link : private_word after base ≡ low (m.registers 1)
   pub kept : (r : ℕ) → 18 ≤ r → r < 28 → uses y r ≡ true → private_word after (base + kept_offset r) ≡ low (m.registers r)
 
--- Where the code of entering a function stands: x2 is the end of the caller's frame, x4 that of the region, x8 the caller's frame in the region, and
--- x11 the place of the call.
-pub record BeforeEntering (program : List (Option Instr)) (y : Layout) (bytes frame top placed size : ℕ) (at : Place) (m : State) : Type 0 where
+-- Where the code of entering a function stands: x2 is the end of the caller's frame, x4 that of the region, x8 the caller's frame
+-- in the region, and x11 the place of the call.
+pub record BeforeEntering (program : List (Option Instr)) (y : Layout) (bytes frame top placed size : ℕ) (at : Place)
+    (m : State) : Type 0 where
   pub stands : Stands program m.pc (entered y bytes frame)
   pub pc : m.pc < 2 ^ 64
   pub pointer : m.registers 2 ≡ 2 ^ 32 + top
@@ -76,18 +77,20 @@ pub record BeforeEntering (program : List (Option Instr)) (y : Layout) (bytes fr
   pub least : 88 ≤ bytes
   pub room : bytes ≤ top
 
--- The last quarter of the region is the data stack's. A function whose frame has no room there ends the run by a fault at the place of its call,
--- and any other is entered.
+-- The last quarter of the region is the data stack's. A function whose frame has no room there ends the run by a fault at the place
+-- of its call, and any other is entered.
 abbrev pub FunctionsAreEntered : Type 0
 FunctionsAreEntered =
     (program : List (Option Instr)) (y : Layout) (bytes frame top placed size : ℕ) (at : Place) (m : State) →
     BeforeEntering program y bytes frame top placed size at m →
     (placed < 2 ^ 30 + size - size / 4 + frame → Ends program StackFull at 36 m) ×
-    (2 ^ 30 + size - size / 4 + frame ≤ placed → Enters program y (top - bytes) (placed - frame) (low (m.pc + 4 * length (entered y bytes frame))) m)
+    (2 ^ 30 + size - size / 4 + frame ≤ placed →
+    Enters program y (top - bytes) (placed - frame) (low (m.pc + 4 * length (entered y bytes frame))) m)
 
--- A call has come to its jump: the words of all that it passes lie below the frame, the first uppermost, one more call waits, and x11 is the
--- place of the call. The caller's frame and all above it are as they were.
-pub record Calls (program : List (Option Instr)) (y : Layout) (base : ℕ) (w : World) (at : Place) (ps : List Part) (m : State) : Type 0 where
+-- A call has come to its jump: the words of all that it passes lie below the frame, the first uppermost, one more call waits, and
+-- x11 is the place of the call. The caller's frame and all above it are as they were.
+pub record Calls (program : List (Option Instr)) (y : Layout) (base : ℕ) (w : World) (at : Place) (ps : List Part)
+    (m : State) : Type 0 where
   pub steps : ℕ
   pub after : State
   pub few : steps ≤ 11 + 11 * length ps
@@ -102,19 +105,21 @@ pub record Calls (program : List (Option Instr)) (y : Layout) (base : ℕ) (w : 
   pub above : (at k : ℕ) → base ≤ at → take k (drop at after.private) ≡ take k (drop at m.private)
   pub words : (k : ℕ) (p : Part) → slice_get ps k ≡ Some p → private_word after (base - 8 * (k + 1)) ≡ part_value y base w p
 
--- A call where 511 calls wait already ends the run by a fault at its place, before it passes anything, and any other comes to its jump where there
--- is room for what it passes.
+-- A call where 511 calls wait already ends the run by a fault at its place, before it passes anything, and any other comes to its
+-- jump where there is room for what it passes.
 abbrev pub CallsAreBegun : Type 0
 CallsAreBegun =
-    (code : Tac) (homes : List (Option Home)) (block step : ℕ) (program : List (Option Instr)) (w : World) (base : ℕ) (at : Place) (ps : List Part) (m : State) →
+    (code : Tac) (homes : List (Option Home)) (block step : ℕ) (program : List (Option Instr)) (w : World) (base : ℕ) (at : Place)
+    (ps : List Part) (m : State) →
     let y : Layout = layout_of code homes in
     let Used : ℕ → Type 0 = InUse (graph_of code) block step in
     IsRight code homes → Holds y Used w base m → place_number at < 2 ^ 64 → Stands program m.pc (call_begun y at ps) →
     (511 ≤ w.depth → Ends program CallDepth at 13 m) ×
-    (w.depth < 511 → ((k : ℕ) (p : Part) → slice_get ps k ≡ Some p → IsPartRead y Used p) → 8 * length ps ≤ base → Calls program y base w at ps m)
+    (w.depth < 511 → ((k : ℕ) (p : Part) → slice_get ps k ≡ Some p → IsPartRead y Used p) → 8 * length ps ≤ base →
+    Calls program y base w at ps m)
 
--- A function is left: x10 has its result, and the machine goes on at the return address, with the caller's frames, and its registers as the function
--- found them.
+-- A function is left: x10 has its result, and the machine goes on at the return address, with the caller's frames, and its
+-- registers as the function found them.
 pub record Returns (program : List (Option Instr)) (y : Layout) (base over link v : ℕ) (m : State) : Type 0 where
   pub steps : ℕ
   pub after : State
@@ -128,17 +133,21 @@ pub record Returns (program : List (Option Instr)) (y : Layout) (base over link 
   pub heap : after.registers 3 ≡ m.registers 3
   pub limit : after.registers 4 ≡ m.registers 4
   pub waiting : after.registers 28 ≡ m.registers 28
-  pub registers : (r : ℕ) → 18 ≤ r → r < 28 → after.registers r ≡ (if uses y r then private_word m (base + kept_offset r) else m.registers r)
+  pub registers : (r : ℕ) → 18 ≤ r → r < 28 →
+      after.registers r ≡ (if uses y r then private_word m (base + kept_offset r) else m.registers r)
   pub region : after.region ≡ m.region
   pub private : after.private ≡ m.private
 
 abbrev pub FunctionsAreLeft : Type 0
 FunctionsAreLeft =
-    (code : Tac) (homes : List (Option Home)) (block step : ℕ) (program : List (Option Instr)) (w : World) (base frame last link : ℕ) (v : Part) (m : State) →
+    (code : Tac) (homes : List (Option Home)) (block step : ℕ) (program : List (Option Instr)) (w : World) (base frame last link : ℕ)
+    (v : Part) (m : State) →
     let y : Layout = layout_of code homes in
     let Used : ℕ → Type 0 = InUse (graph_of code) block step in
-    IsRight code homes → Holds y Used w base m → IsPartRead y Used v → m.pc + 256 ≤ 2 ^ 30 → last < 2 ^ 30 → last % 2 ≡ 0 → w.placed + frame < 2 ^ 63 →
-    private_word m base ≡ link → link % 2 ≡ 0 → link < 2 ^ 64 → Stands program m.pc (returned y m.pc last v) → Stands program last (left y (frame_bytes y) frame) →
+    IsRight code homes → Holds y Used w base m → IsPartRead y Used v → m.pc + 256 ≤ 2 ^ 30 → last < 2 ^ 30 → last % 2 ≡ 0 →
+    w.placed + frame < 2 ^ 63 →
+    private_word m base ≡ link → link % 2 ≡ 0 → link < 2 ^ 64 → Stands program m.pc (returned y m.pc last v) →
+    Stands program last (left y (frame_bytes y) frame) →
     Returns program y base (w.placed + frame) link (part_value y base w v) m
 
 -- what three-address code sees of an activation
@@ -166,7 +175,8 @@ abbrev pub without_words : Layout → Layout
 without_words y = record y { parameters = 0 }
 
 -- The machine comes behind the code that takes the parameters, and holds what three-address code sees where the function begins.
-pub record Received (program : List (Option Instr)) (y : Layout) (Used : ℕ → Type 0) (w : World) (base most target : ℕ) (m : State) : Type 0 where
+pub record Received (program : List (Option Instr)) (y : Layout) (Used : ℕ → Type 0) (w : World) (base most target : ℕ)
+    (m : State) : Type 0 where
   pub steps : ℕ
   pub after : State
   pub few : steps ≤ most
@@ -179,12 +189,15 @@ pub record Received (program : List (Option Instr)) (y : Layout) (Used : ℕ →
 -- the function begins stands at its home.
 abbrev pub ParametersAreReceived : Type 0
 ParametersAreReceived =
-    (code : Tac) (homes : List (Option Home)) (program : List (Option Instr)) (values : List Value) (a : Activation) (region : Contents) (depth base : ℕ) (m : State) →
+    (code : Tac) (homes : List (Option Home)) (program : List (Option Instr)) (values : List Value) (a : Activation) (region : Contents)
+    (depth base : ℕ) (m : State) →
     let y : Layout = layout_of code homes in
     Fits code → IsRight code homes → IsTrue (list_all is_word code.parameters) → IsTrue (accepts_all code code.parameters values) →
-    Stands program m.pc (received y code.areas (words_offset y) code.parameters) → Holds (without_words y) (λ t. ⊥) (seen a region depth) base m →
+    Stands program m.pc (received y code.areas (words_offset y) code.parameters) →
+    Holds (without_words y) (λ t. ⊥) (seen a region depth) base m →
     HasWords base (words_offset y) code.parameters values m → base + frame_bytes y ≤ length m.private →
-    Received program (without_words y) (InUse (graph_of code) 0 0) (seen (takes_all code.parameters values a) region depth) base (6 * length code.parameters)
+    Received program (without_words y) (InUse (graph_of code) 0 0) (seen (takes_all code.parameters values a) region depth) base
+    (6 * length code.parameters)
     (low (m.pc + 4 * length (received y code.areas (words_offset y) code.parameters))) m
 
 -- The code that begins a function as the entry, enters it by a call and leaves it has no more words than its weight, and so has that of a
