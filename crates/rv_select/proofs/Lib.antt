@@ -19,6 +19,8 @@ pub mod Calm
 pub mod Printed
 pub mod Ranges
 pub mod Allocs
+pub mod Transfers
+pub mod Transports
 pub mod Lives
 pub mod Carries
 pub mod Weights

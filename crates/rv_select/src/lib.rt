@@ -10,6 +10,7 @@ mod emit;
 pub mod exits;
 pub mod instructions;
 pub mod law;
+mod moving;
 mod operands;
 mod outputs;
 
