@@ -26,3 +26,4 @@ pub mod Carries
 pub mod Weights
 pub mod Jumps
 pub mod Leaves
+pub mod Compares

@@ -6,3 +6,5 @@ pub mod Numbers
 pub mod Shapes
 -- What these instructions promise.
 pub mod Steps
+-- A comparison and its branch as one.
+pub mod Compared

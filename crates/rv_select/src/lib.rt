@@ -6,6 +6,7 @@
 //! holds afterwards what three-address code sees then. The laws of `law` have that of each instruction.
 #![tactic(auto)]
 
+pub mod compared;
 mod emit;
 pub mod exits;
 pub mod instructions;
@@ -14,9 +15,13 @@ mod moving;
 mod operands;
 mod outputs;
 
+pub use compared::push_compared;
 pub use exits::push_exit;
 pub use instructions::push_instruction;
-pub use law::{exits_are_carried, exits_keep_within, instructions_are_carried, shapes_keep_within};
+pub use law::{
+    compares_are_carried, compares_keep_within, exits_are_carried, exits_keep_within,
+    instructions_are_carried, shapes_keep_within,
+};
 
 #[cfg(test)]
 mod tests;
