@@ -19,6 +19,8 @@ pub mod Calm
 pub mod Printed
 pub mod Ranges
 pub mod Allocs
+pub mod Transfers
+pub mod Transports
 pub mod Lives
 pub mod Carries
 pub mod Weights
@@ -33,3 +35,4 @@ pub mod Receives
 pub mod Returns
 pub mod Entrances
 pub mod Within
+pub mod Compares

@@ -12,3 +12,5 @@ pub mod Entering
 pub mod Calls
 -- What the code that enters and leaves functions promises.
 pub mod Frames
+-- A comparison and its branch as one.
+pub mod Compared

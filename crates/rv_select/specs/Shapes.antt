@@ -358,6 +358,7 @@ has_shape (instructions.Copy d a) = true
 has_shape (instructions.Locate d offset) = true
 has_shape (instructions.Load d form spot) = true
 has_shape (instructions.Store spot size a) = true
+has_shape (instructions.Move to from size) = nat_le size most_moved
 has_shape (instructions.Clear n size) = nat_le size most_moved
 has_shape (instructions.PutByte a) = true
 has_shape (instructions.Write at a b) = true

@@ -1,5 +1,6 @@
 // What the code of instructions promises. Each function does nothing, and its clause is a law.
 
+ghost use Rattle.rv_select.specs.Compared.{ComparesAreCarried, ComparesKeepWithin};
 ghost use Rattle.rv_select.specs.Frames.{CallsAreBegun, CallsKeepWithin, FramesKeepWithin, FunctionsAreEntered, FunctionsAreLeft, ParametersAreReceived};
 ghost use Rattle.rv_select.specs.Steps.{ExitsAreCarried, ExitsKeepWithin, InstructionsAreCarried, ShapesKeepWithin};
 
@@ -54,4 +55,14 @@ pub fn frames_keep_within()
 /// The code of a call that gives a word has no more words than its weight.
 pub fn calls_keep_within()
     ensures { CallsKeepWithin }
+{}
+
+/// The code of a comparison and the branch on its result carries out both.
+pub fn compares_are_carried()
+    ensures { ComparesAreCarried }
+{}
+
+/// It has fewer words than the two, and as many wherever it stands.
+pub fn compares_keep_within()
+    ensures { ComparesKeepWithin }
 {}
