@@ -10,6 +10,7 @@ use Rattle.tl_base.specs.declared.ids.SymId.{SymId}
 use Rattle.tl_base.specs.declared.ids.TypeId.{TypeId}
 use Rattle.terra_words.specs.declared.words.BinaryOperator.{BinaryOperator}
 use Rattle.terra_words.specs.declared.words.BinaryOperator.TheVariants as operators
+use Rattle.terra_words.specs.Words.{divides}
 use Rattle.terra_types.specs.declared.types.Integer.TheVariants.{Int8, Int16, Int32, Int64, Uint8, Uint16, Uint32, Uint64}
 use Rattle.terra_types.specs.declared.types.TypeForm.{TypeForm}
 use Rattle.terra_types.specs.declared.types.TypeForm.TheVariants as forms
@@ -22,7 +23,7 @@ use Rattle.tac_form.specs.declared.tac.Operand.{Operand}
 use Rattle.tac_form.specs.declared.tac.Operand.TheVariants.{Temp, Constant}
 use Rattle.tac_form.specs.declared.tac.Address.TheVariants as addresses
 use Rattle.tac_form.specs.declared.tac.Instruction.{Instruction}
-use Rattle.tac_form.specs.declared.tac.Instruction.TheVariants.{Compute, Copy, Locate, Load, Store, Move}
+use Rattle.tac_form.specs.declared.tac.Instruction.TheVariants.{Compute, TestDivisor, Copy, Locate, Load, Store, Move}
 use Rattle.tac_form.specs.declared.tac.Spot.{Spot}
 use Rattle.tac_form.specs.declared.tac.Spot.TheVariants as spots
 use Rattle.tac_form.specs.declared.tac.Tac.{Tac}
@@ -30,10 +31,10 @@ use Rattle.tac_form.specs.Flow as flow
 use Rattle.tac_form.specs.Flow.{area_size}
 use Rattle.tac_form.specs.Fits.{operand_fits, place_fits, area_there, part_fits, spot_fits, are_apart, instruction_fits}
 use Rattle.tac_lower.specs.Items.{Item, does, ends, Ending, skips, tests, repeats, repeats_unless, leaves, gives, fails, count_ends, loop_of}
-use Rattle.tac_lower.specs.Pieces.{Used, with_temp, with_area, Piece, known, doing, following, then_piece, taken, Result, a_word, an_area, an_offset, no_word, word_of, part_of, address_of, whole_word, number_in, number_of, is_bool, compute, copied, located, loaded_bit, loaded_number, loaded_area, loaded_word, loaded, stored_part, stored, placed, declare_at, parts_of, word_at, Holder, in_temp, at_offset, Holders, holder_of, Bound}
-use Rattle.tac_lower.specs.Lowering.{reached, variable, entry, element}
+use Rattle.tac_lower.specs.Pieces.{Used, with_temp, with_area, Piece, known, doing, following, then_piece, taken, Result, a_word, an_area, an_offset, no_word, word_of, part_of, address_of, whole_word, long, number_in, number_of, is_bool, compute, copied, located, loaded_bit, loaded_number, loaded_area, loaded_word, loaded, stored_part, stored, placed, declare_at, parts_of, word_at, Holder, in_temp, at_offset, Holders, holder_of, Bound}
+use Rattle.tac_lower.specs.Lowering.{reached, variable, entry, element, binary, difference, extracted, constructed}
 use Rattle.terra_meaning.specs.Frames.{Home, by_value, in_frame}
-use Rattle.tac_lower.specs.Needs.{GoodHome}
+use Rattle.tac_lower.specs.Needs.{GoodHome, HasNumber, IsWide, EntriesFit}
 use Rattle.tac_lower.proofs.Standing.{SizedBy, Grown}
 use Rattle.tac_lower.proofs.Simulates.{grown-none, grown-then}
 use Rattle.tac_lower.proofs.Writes.{grown-temp, grown-area}
@@ -536,3 +537,100 @@ module _ (types : List TypeForm) (tac : Tac) where
   parts-fit (t ∷ ts) v [] h = absurd h
   parts-fit (t ∷ ts) v (r ∷ rs) h =
       and_from (part_fits tac (part_of r)) (list_all (part_fits tac) (parts_of rs)) (part-ok t v r h.0) (parts-fit ts v rs h.1)
+
+  -- operations
+
+  pub doing-ok : {A : Type 0} {P : Type 0} (S : A → Type 0) (a : A) (i : Instruction) (u : Used) → (P → instruction_fits tac i ≡ true) →
+      (P → S a) → Ok P u (doing a i u) S
+  doing-ok S a i u x y = record { grown = grown-none u; fine = λ h g. one-fits i (x h); result = λ h g. y h }
+
+  number-plain : (f : TypeForm) → HasNumber f → is_aggregate (f ∷ []) (record { 0 = 0 }) ≡ false
+  number-plain (forms.Integer i) h = refl
+  number-plain (forms.Pointer t) h = refl
+  number-plain (forms.Function ps r) h = refl
+  number-plain forms.Bool h = absurd h
+  number-plain forms.Unit h = absurd h
+  number-plain (forms.Array t m) h = absurd h
+  number-plain (forms.Struct m q l) h = absurd h
+
+  wide-plain : (t : TypeId) → IsWide types t → is_aggregate types t ≡ false
+  wide-plain t h = (h 0 (omega arith)).0
+
+  -- two operators, the second over what the first gives
+  twice-ok : {P : Type 0} (t : TypeId) (op other : BinaryOperator) (form : Number) (a b x : Operand) (u : Used) →
+      is_aggregate types t ≡ false → (P → operand_fits tac a ≡ true) → (P → operand_fits tac b ≡ true) → (P → operand_fits tac x ≡ true) →
+      Ok P u (then_piece (compute op form a b u) (λ r u'. compute other form x (word_of r) u')) (Gives the_value t (with_temp (with_temp u)))
+  twice-ok t op other form a b x u plain ha hb hx =
+      then-ok {R = λ r. operand_fits tac (word_of r) ≡ true} (compute op form a b u) (compute other form x (Temp u.temps) (with_temp u))
+      (compute-ok (λ r. operand_fits tac (word_of r) ≡ true) op form a b u ha hb (λ o f. f))
+      (compute-ok (Gives the_value t (with_temp (with_temp u))) other form x (Temp u.temps) (with_temp u) (λ h. hx h.0) (λ h. h.1)
+      (λ o f. (f, plain)))
+
+  apart-ok-ok : {P : Type 0} (t : TypeId) (x y : Operand) (size : ℕ) (u : Used) → size < 2 ^ 64 → is_aggregate types t ≡ false →
+      (P → operand_fits tac x ≡ true) → (P → operand_fits tac y ≡ true) →
+      Ok P u (difference size x y u) (Gives the_value t (with_temp (with_temp u)))
+  apart-ok-ok t x y size u small plain hx hy =
+      then-ok {R = λ r. operand_fits tac (word_of r) ≡ true} (compute operators.Subtract (long true) x y u)
+      (compute operators.Divide (long true) (Temp u.temps) (Constant size) (with_temp u))
+      (compute-ok (λ r. operand_fits tac (word_of r) ≡ true) operators.Subtract (long true) x y u hx hy (λ o f. f))
+      (compute-ok (Gives the_value t (with_temp (with_temp u))) operators.Divide (long true) (Temp u.temps) (Constant size) (with_temp u)
+      (λ h. h.1) (λ h. lt-ltb size (2 ^ 64) small) (λ o f. (f, plain)))
+
+  pub binary-ok : {P : Type 0} (at : Place) (t : TypeId) (form : Number) (op : BinaryOperator) (x y : Operand) (u : Used) →
+      place_fits at ≡ true → is_aggregate types t ≡ false → (P → operand_fits tac x ≡ true) → (P → operand_fits tac y ≡ true) →
+      Ok P u (binary at form op x y u) (Gives the_value t (with_temp u))
+  binary-ok {P = P} at t form op x y u place plain hx hy = by (divides op)
+    where
+      by : (b : Bool) → Ok P u (then_piece (if b then doing (tt {0}) (TestDivisor at y) u else known (tt {0}) u)
+          (λ t1 u'. compute op form x y u')) (Gives the_value t (with_temp u))
+      by true =
+          then-ok {R = λ b. Unit {0}} (doing (tt {0}) (TestDivisor at y) u) (compute op form x y u)
+          (doing-ok (λ b. Unit {0}) tt (TestDivisor at y) u (λ h. and_from (place_fits at) (operand_fits tac y) place (hy h)) (λ h. tt))
+          (compute-ok (Gives the_value t (with_temp u)) op form x y u (λ h. hx h.0) (λ h. hy h.0) (λ o f. (f, plain)))
+      by false = compute-ok (Gives the_value t (with_temp u)) op form x y u hx hy (λ o f. (f, plain))
+
+  pub extracted-ok : {P : Type 0} (s t : TypeId) (offset : ℕ) (r : Result) (u : Used) → bytes_at types t ≤ 128 →
+      is_aggregate types s ≡ true → offset + bytes_at types t ≤ bytes_at types s → (P → Gives the_value s u r) →
+      Ok P u (extracted types t offset r u) (Gives the_value t (extracted types t offset r u).used)
+  extracted-ok s t offset (an_area n) u narrow agg fits x =
+      loaded-ok t (spots.Area n offset) u narrow
+      (λ h. let v = x h in let e = v.2 in (v.0, v.1, omega (arith, e, fits)))
+  extracted-ok s t offset (a_word o) u narrow agg fits x = record {
+    grown = grown-none u;
+    fine = λ h g. none-fits;
+    result = λ h g. let bad : true ≡ false = sym agg ∙ (x h).1 in absurd (grind (arith, bad));
+  }
+  extracted-ok s t offset (an_offset o) u narrow agg fits x =
+      record { grown = grown-none u; fine = λ h g. none-fits; result = λ h g. absurd (x h) }
+
+  -- the entries of a struct go to its area, which is none of theirs
+
+  abbrev pub NarrowAll : List TypeId → Type 0
+  NarrowAll [] = Unit {0}
+  NarrowAll (t ∷ ts) = (bytes_at types t ≤ 128) × NarrowAll ts
+
+  pub constructed-ok : {P : Type 0} (u w : Used) (size : ℕ) (os : List ℕ) (ts : List TypeId) (rs : List Result) → NarrowAll ts →
+      EntriesFit types size os ts → length u.areas < length w.areas → Grown u w →
+      (P → (length u.areas < length tac.areas) × (area_size tac (length u.areas) ≡ size)) → (P → AllGive ts u rs) →
+      Ok P w (constructed types (length u.areas) os ts rs w) (λ b. Unit {0})
+  constructed-ok u w size [] ts rs narrow fits lt g there x = known-ok (λ b. Unit {0}) tt w (λ h. tt)
+  constructed-ok u w size (o ∷ os) [] rs narrow fits lt g there x = known-ok (λ b. Unit {0}) tt w (λ h. tt)
+  constructed-ok u w size (o ∷ os) (t ∷ ts) [] narrow fits lt g there x = known-ok (λ b. Unit {0}) tt w (λ h. tt)
+  constructed-ok {P = P} u w size (o ∷ os) (t ∷ ts) (r ∷ rs) narrow fits lt g there x =
+      let p = stored types t (spots.Area (length u.areas) o) r w in
+      let first = stored-ok t (spots.Area (length u.areas) o) r w w narrow.0
+          (λ h. let e = (there h).1 in let f = fits.0 in (lt, (there h).0, omega (arith, e, f)))
+          (λ h. gives-later the_value t u w r g (x h).0)
+          (λ h n e. apart r (x h).0 n e) in
+      then-ok {R = λ b. Unit {0}} p (constructed types (length u.areas) os ts rs p.used) first
+      (constructed-ok u p.used size os ts rs narrow.1 fits.1
+      (let c = grown-count w p.used first.grown in omega (arith, c, lt)) (grown-then u w p.used g first.grown) (λ h. there h.0)
+      (λ h. (x h.0).1))
+    where
+      apart : (q : Result) → Gives the_value t u q → (n : ℕ) → q ≡ an_area n → are_apart (spots.Area (length u.areas) o) (spots.Area n 0) ≡ true
+      apart (an_area m) h n e =
+          let lt1 = h.0 in
+          let same : m ≡ n = grind (arith, e) in
+          not_from_false (nat_eq (length u.areas) n) (ne_eqb (length u.areas) n (λ f. let z : ⊥ = absurd (omega (arith, lt1, f, same)) in z))
+      apart (a_word a) h n e = absurd (grind (arith, e))
+      apart (an_offset a) h n e = absurd (grind (arith, e))
