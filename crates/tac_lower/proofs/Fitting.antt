@@ -15,15 +15,24 @@ use Rattle.terra_types.specs.declared.types.Integer.TheVariants.{Int8, Int16, In
 use Rattle.terra_types.specs.declared.types.TypeForm.{TypeForm}
 use Rattle.terra_types.specs.declared.types.TypeForm.TheVariants as forms
 use Rattle.terra_term.specs.declared.lists.TypedName.{TypedName}
+use Rattle.tl_base.specs.declared.ids.FnId.{FnId}
+use Rattle.terra_types.specs.Opening.{AreTypes, boolean}
+use Rattle.terra_types.specs.Sizes.{size_of}
+use Rattle.terra_term.specs.Stores.{Contents}
+use Rattle.terra_term.specs.declared.operators.Operation.{Operation}
+use Rattle.terra_term.specs.declared.operators.Operation.TheVariants as operations
+use Rattle.tac_form.specs.declared.tac.Destination.{Destination}
+use Rattle.tac_form.specs.declared.tac.Destination.TheVariants as destinations
+use Rattle.tac_form.specs.declared.tac.Signature.{Signature}
 use Rattle.terra_term.specs.WellTyped as typing
 use Rattle.terra_meaning.specs.Values.{form_at, bytes_at, is_aggregate}
-use Rattle.terra_meaning.specs.Meaning.{Wanted, the_value, the_address}
+use Rattle.terra_meaning.specs.Meaning.{Wanted, the_value, the_address, type_at}
 use Rattle.tac_form.specs.declared.tac.Number.{Number}
 use Rattle.tac_form.specs.declared.tac.Operand.{Operand}
 use Rattle.tac_form.specs.declared.tac.Operand.TheVariants.{Temp, Constant}
 use Rattle.tac_form.specs.declared.tac.Address.TheVariants as addresses
 use Rattle.tac_form.specs.declared.tac.Instruction.{Instruction}
-use Rattle.tac_form.specs.declared.tac.Instruction.TheVariants.{Compute, TestDivisor, Copy, Locate, Load, Store, Move}
+use Rattle.tac_form.specs.declared.tac.Instruction.TheVariants.{Compute, TestDivisor, Copy, Locate, Load, Store, Move, Clear, Call, CallValue}
 use Rattle.tac_form.specs.declared.tac.Spot.{Spot}
 use Rattle.tac_form.specs.declared.tac.Spot.TheVariants as spots
 use Rattle.tac_form.specs.declared.tac.Tac.{Tac}
@@ -31,15 +40,16 @@ use Rattle.tac_form.specs.Flow as flow
 use Rattle.tac_form.specs.Flow.{area_size}
 use Rattle.tac_form.specs.Fits.{operand_fits, place_fits, area_there, part_fits, spot_fits, are_apart, instruction_fits}
 use Rattle.tac_lower.specs.Items.{Item, does, ends, Ending, skips, tests, repeats, repeats_unless, leaves, gives, fails, count_ends, loop_of}
-use Rattle.tac_lower.specs.Pieces.{Used, with_temp, with_area, Piece, known, doing, following, then_piece, taken, Result, a_word, an_area, an_offset, no_word, word_of, part_of, address_of, whole_word, long, number_in, number_of, is_bool, compute, copied, located, loaded_bit, loaded_number, loaded_area, loaded_word, loaded, stored_part, stored, placed, declare_at, parts_of, word_at, Holder, in_temp, at_offset, Holders, holder_of, Bound}
-use Rattle.tac_lower.specs.Lowering.{reached, variable, entry, element, binary, difference, extracted, constructed}
+use Rattle.tac_lower.specs.Pieces.{Used, with_temp, with_area, Piece, known, doing, following, then_piece, taken, Result, a_word, an_area, an_offset, no_word, word_of, part_of, address_of, whole_word, long, number_in, number_of, is_bool, compute, copied, located, loaded_bit, loaded_number, loaded_area, loaded_word, loaded, stored_part, stored, placed, declare_at, parts_of, word_at, result_at, rest, Around, Holder, in_temp, at_offset, Holders, holder_of, Bound}
+use Rattle.tac_lower.specs.Lowering.{reached, variable, entry, element, binary, difference, extracted, constructed, operation, call, call_value, signature_in}
 use Rattle.terra_meaning.specs.Frames.{Home, by_value, in_frame}
-use Rattle.tac_lower.specs.Needs.{GoodHome, HasNumber, IsWide, EntriesFit}
+use Rattle.tac_lower.specs.Needs.{GoodHome, HasNumber, IsWide, EntriesFit, NumberUnless, BinaryNeeds}
 use Rattle.tac_lower.proofs.Standing.{SizedBy, Grown}
 use Rattle.tac_lower.proofs.Simulates.{grown-none, grown-then}
 use Rattle.tac_lower.proofs.Writes.{grown-temp, grown-area}
 use Rattle.tac_lower.proofs.Keeps.{sizes}
-use Rattle.tac_lower.proofs.Typing.{no, same-id}
+use Rattle.tac_lower.proofs.Homes.{sized}
+use Rattle.tac_lower.proofs.Typing.{no, same-id, plain-boolean}
 
 pub count-append : (a b : List Item) → count_ends (a ++ b) ≡ count_ends a + count_ends b
 count-append [] b = omega arith
@@ -634,3 +644,163 @@ module _ (types : List TypeForm) (tac : Tac) where
           not_from_false (nat_eq (length u.areas) n) (ne_eqb (length u.areas) n (λ f. let z : ⊥ = absurd (omega (arith, lt1, f, same)) in z))
       apart (a_word a) h n e = absurd (grind (arith, e))
       apart (an_offset a) h n e = absurd (grind (arith, e))
+
+  pub weak-ok : {A : Type 0} {P Q : Type 0} {R : A → Type 0} (p : Piece A) (u : Used) → Ok P u p R → (Q → P) → Ok Q u p R
+  weak-ok p u x f = record { grown = x.grown; fine = λ h g. x.fine (f h) g; result = λ h g. x.result (f h) g }
+
+  module _ (st : Contents) (are : AreTypes types) (entries : List FnId) (few : length entries < 2 ^ 32) (homes : List Home) where
+    abbrev store : Contents
+    store = record st { types = types }
+
+    abbrev c : Around
+    c = record { store = store; entries = entries; homes = homes }
+
+    small-size : (t : TypeId) → bytes_at types t < 2 ^ 64
+    small-size t = let h = sized types are t in omega (arith, h)
+
+    unless-plain : (t : TypeId) → NumberUnless types (nat_eq t.0 boolean.0) t → is_aggregate types t ≡ false
+    unless-plain t h = by (nat_eq t.0 boolean.0) refl h
+      where
+        by : (b : Bool) → nat_eq t.0 boolean.0 ≡ b → NumberUnless types b t → is_aggregate types t ≡ false
+        by true e n = plain-boolean store are entries few t e
+        by false e n = number-plain (form_at types t) n
+
+    binary-plain : (b : Bool) (first t : TypeId) → BinaryNeeds types b first t → is_aggregate types t ≡ false
+    binary-plain true first t h = subst (λ g. is_aggregate (g ∷ []) (record { 0 = 0 }) ≡ false) (sym h) refl
+    binary-plain false first t h = subst (λ k. is_aggregate types k ≡ false) h.1 (number-plain (form_at types first) h.0)
+
+    usable-small : (t : TypeId) → typing.is_usable store t ≡ true → bytes_at types t ≤ 128
+    usable-small t h = by (size_of types t) h
+      where
+        by : (o : Option ℕ) → typing.small o ≡ true → unwrap_or o 0 ≤ 128
+        by None e = absurd (no e)
+        by (Some n) e = leb-true n 128 e
+
+    usable-all : (ts : List TypeId) → typing.all_usable store ts ≡ true → NarrowAll ts
+    usable-all [] h = tt
+    usable-all (t ∷ ts) h =
+        let p = and_parts (typing.is_usable store t) (typing.all_usable store ts) h in (usable-small t p.0, usable-all ts p.1)
+
+    rest-give : (t : TypeId) (ts : List TypeId) (v : Used) (rs : List Result) → AllGive (t ∷ ts) v rs → AllGive ts v (rest rs)
+    rest-give t ts v [] h = absurd h
+    rest-give t ts v (r ∷ rs) h = h.1
+
+    first-gives : (t : TypeId) (ts : List TypeId) (v : Used) (rs : List Result) → AllGive (t ∷ ts) v rs →
+        Gives the_value t v (result_at rs 0)
+    first-gives t ts v [] h = absurd h
+    first-gives t ts v (r ∷ rs) h = h.0
+
+    module _ {P : Type 0} (at : Place) (t : TypeId) (ts : List TypeId) (rs : List Result) (u : Used) (place : place_fits at ≡ true)
+        (narrow : bytes_at types t ≤ 128) (usable : typing.all_usable store ts ≡ true) (x : P → AllGive ts u rs) where
+      abbrev Fit : Operation → Type 0
+      Fit op = Ok P u (operation c at t op ts rs u) (Gives the_value t (operation c at t op ts rs u).used)
+
+      abbrev W : Result → Type 0
+      W = Gives the_value t (with_temp u)
+
+      word : (i : ℕ) → P → operand_fits tac (word_at rs i) ≡ true
+      word i h = words-fit ts u rs i (x h)
+
+      not-ok : is_aggregate types t ≡ false → Fit operations.Not
+      not-ok plain = by (nat_eq t.0 boolean.0)
+        where
+          by : (b : Bool) → Ok P u (if b then compute operators.Xor whole_word (word_at rs 0) (Constant 1) u
+              else compute operators.Xor (number_of types t) (word_at rs 0) (Constant (2 ^ 64 - 1)) u)
+              (Gives the_value t (if b then compute operators.Xor whole_word (word_at rs 0) (Constant 1) u
+              else compute operators.Xor (number_of types t) (word_at rs 0) (Constant (2 ^ 64 - 1)) u).used)
+          by true = compute-ok W operators.Xor whole_word (word_at rs 0) (Constant 1) u (word 0) (λ h. refl) (λ o f. (f, plain))
+          by false =
+              compute-ok W operators.Xor (number_of types t) (word_at rs 0) (Constant (2 ^ 64 - 1)) u (word 0) (λ h. refl)
+              (λ o f. (f, plain))
+
+      convert-ok : is_aggregate types t ≡ false → Fit operations.Convert
+      convert-ok plain = by (nat_eq t.0 boolean.0)
+        where
+          by : (b : Bool) → Ok P u (if b then compute operators.NotEqual whole_word (word_at rs 0) (Constant 0) u
+              else compute operators.Add (number_of types t) (word_at rs 0) (Constant 0) u)
+              (Gives the_value t (if b then compute operators.NotEqual whole_word (word_at rs 0) (Constant 0) u
+              else compute operators.Add (number_of types t) (word_at rs 0) (Constant 0) u).used)
+          by true = compute-ok W operators.NotEqual whole_word (word_at rs 0) (Constant 0) u (word 0) (λ h. refl) (λ o f. (f, plain))
+          by false = compute-ok W operators.Add (number_of types t) (word_at rs 0) (Constant 0) u (word 0) (λ h. refl) (λ o f. (f, plain))
+
+      abbrev goes : Bool → Piece Destination
+      goes b = if b then known (destinations.Area (length u.areas)) (with_area (bytes_at types t) u)
+          else known (destinations.Temp u.temps) (with_temp u)
+
+      call-ok : (f : FnId) → Fit (operations.Call f)
+      call-ok f = by (is_aggregate types t) refl
+        where
+          by : (b : Bool) → is_aggregate types t ≡ b → Ok P u (then_piece (goes b) (λ to u'. call at f rs to u'))
+              (Gives the_value t (then_piece (goes b) (λ to u'. call at f rs to u')).used)
+          by true e = record {
+            grown = grown-area (bytes_at types t) u;
+            fine = λ h g. one-fits (Call (destinations.Area (length u.areas)) at f (parts_of rs))
+                (and_from (area_there tac (length u.areas) && place_fits at) (list_all (part_fits tac) (parts_of rs))
+                (and_from (area_there tac (length u.areas)) (place_fits at)
+                (lt-ltb (length u.areas) (length tac.areas) (area-in (bytes_at types t) u g)) place)
+                (parts-fit ts u rs (x h)));
+            result = λ h g. new-area t u g;
+          }
+          by false e = record {
+            grown = grown-temp u;
+            fine = λ h g. one-fits (Call (destinations.Temp u.temps) at f (parts_of rs))
+                (and_from (nat_lt u.temps tac.temps && place_fits at) (list_all (part_fits tac) (parts_of rs))
+                (and_from (nat_lt u.temps tac.temps) (place_fits at) (own-temp u g) place) (parts-fit ts u rs (x h)));
+            result = λ h g. (own-temp u g, e);
+          }
+
+      value-call-ok : (P → list_all (part_fits tac) (parts_of (rest rs)) ≡ true) → Fit operations.CallValue
+      value-call-ok parts = by (is_aggregate types t) refl
+        where
+          sig : Signature
+          sig = signature_in (form_at types (type_at ts 0))
+
+          by : (b : Bool) → is_aggregate types t ≡ b →
+              Ok P u (then_piece (goes b) (λ to u'. call_value at (signature_in (form_at types (type_at ts 0))) rs to u'))
+              (Gives the_value t (then_piece (goes b) (λ to u'. call_value at (signature_in (form_at types (type_at ts 0))) rs to u')).used)
+          by true e = record {
+            grown = grown-area (bytes_at types t) u;
+            fine = λ h g. one-fits (CallValue (destinations.Area (length u.areas)) at sig (word_at rs 0) (parts_of (rest rs)))
+                (and_from (area_there tac (length u.areas) && place_fits at && operand_fits tac (word_at rs 0))
+                (list_all (part_fits tac) (parts_of (rest rs)))
+                (and_from (area_there tac (length u.areas) && place_fits at) (operand_fits tac (word_at rs 0))
+                (and_from (area_there tac (length u.areas)) (place_fits at)
+                (lt-ltb (length u.areas) (length tac.areas) (area-in (bytes_at types t) u g)) place) (word 0 h))
+                (parts h));
+            result = λ h g. new-area t u g;
+          }
+          by false e = record {
+            grown = grown-temp u;
+            fine = λ h g. one-fits (CallValue (destinations.Temp u.temps) at sig (word_at rs 0) (parts_of (rest rs)))
+                (and_from (nat_lt u.temps tac.temps && place_fits at && operand_fits tac (word_at rs 0))
+                (list_all (part_fits tac) (parts_of (rest rs)))
+                (and_from (nat_lt u.temps tac.temps && place_fits at) (operand_fits tac (word_at rs 0))
+                (and_from (nat_lt u.temps tac.temps) (place_fits at) (own-temp u g) place) (word 0 h))
+                (parts h));
+            result = λ h g. (own-temp u g, e);
+          }
+
+      construct-ok : (os : List ℕ) → EntriesFit types (bytes_at types t) os ts → Fit (operations.Construct os)
+      construct-ok os fits =
+          let size = bytes_at types t in
+          let w = with_area size u in
+          let inner = constructed-ok {P = P × (Unit {0} × ((length u.areas < length tac.areas) × (area_size tac (length u.areas) ≡ size)))}
+              u w size os ts rs (usable-all ts usable) fits
+              (let n = length-append u.areas (size ∷ []) in omega (arith, n)) (grown-area size u) (λ h. h.1.1) (λ h. x h.0) in
+          record {
+            grown = grown-then u w (constructed types (length u.areas) os ts rs w).used (grown-area size u) inner.grown;
+            fine = λ h g.
+                let g1 = grown-then w (constructed types (length u.areas) os ts rs w).used within inner.grown g in
+                let there = area-in size u g1 in
+                let own = own-area size u g1 in
+                fine-append (does (Clear (length u.areas) size) ∷ []) (constructed types (length u.areas) os ts rs w).code
+                (one-fits (Clear (length u.areas) size)
+                (and_from (area_there tac (length u.areas)) (nat_le size (area_size tac (length u.areas)))
+                (lt-ltb (length u.areas) (length tac.areas) there) (le-leb size (area_size tac (length u.areas)) (omega (arith, own)))))
+                (inner.fine (h, (tt, (there, own))) g);
+            result = λ h g.
+                let v = (constructed types (length u.areas) os ts rs w).used in
+                let g1 = grown-then w v within inner.grown g in
+                gives-later the_value t w v (an_area (length u.areas)) inner.grown (new-area t u g1);
+          }
+

@@ -386,7 +386,7 @@ module _ (store : Contents) (are : AreTypes store.types) (entries : List FnId) (
   unit-nothing : (of : TypeId) → same of unit ≡ true → IsValue types of (word 0)
   unit-nothing of h = value-by types of forms.Unit 0 (unit-is of h) refl (wrapped-zero forms.Unit)
 
-  plain-boolean : (of : TypeId) → same of boolean ≡ true → is_aggregate types of ≡ false
+  pub plain-boolean : (of : TypeId) → same of boolean ≡ true → is_aggregate types of ≡ false
   plain-boolean of h = subst (λ g. is_aggregate (g ∷ []) (record { 0 = 0 }) ≡ false) (sym (boolean-is of h)) refl
 
   -- constants
@@ -514,7 +514,7 @@ module _ (store : Contents) (are : AreTypes store.types) (entries : List FnId) (
   not-empty (forms.Function ps r) h e none = absurd (no h)
   not-empty (forms.Struct n p l) h e none = absurd (no h)
 
-  operation-needs : (op : Operation) (ts : List TypeId) (of : TypeId) → typing.all_usable store ts ≡ true →
+  pub operation-needs : (op : Operation) (ts : List TypeId) (of : TypeId) → typing.all_usable store ts ≡ true →
       typing.operation_typed store op ts of ≡ true →
       OperationNeeds types (CallNeeds store) op ts of
   operation-needs operations.Negate ts of usable h = integer-number (form_at types of) (and_parts _ (typing.is_integer store of) h).1
