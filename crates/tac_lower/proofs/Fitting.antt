@@ -25,14 +25,15 @@ use Rattle.tac_form.specs.declared.tac.Destination.{Destination}
 use Rattle.tac_form.specs.declared.tac.Destination.TheVariants as destinations
 use Rattle.tac_form.specs.declared.tac.Signature.{Signature}
 use Rattle.terra_term.specs.WellTyped as typing
-use Rattle.terra_meaning.specs.Values.{form_at, bytes_at, is_aggregate}
+use Rattle.lua_value.specs.declared.primitive.Primitive.TheVariants as primitives
+use Rattle.terra_meaning.specs.Values.{form_at, bytes_at, is_aggregate, target_of}
 use Rattle.terra_meaning.specs.Meaning.{Wanted, the_value, the_address, type_at}
 use Rattle.tac_form.specs.declared.tac.Number.{Number}
 use Rattle.tac_form.specs.declared.tac.Operand.{Operand}
 use Rattle.tac_form.specs.declared.tac.Operand.TheVariants.{Temp, Constant}
 use Rattle.tac_form.specs.declared.tac.Address.TheVariants as addresses
 use Rattle.tac_form.specs.declared.tac.Instruction.{Instruction}
-use Rattle.tac_form.specs.declared.tac.Instruction.TheVariants.{Compute, TestDivisor, Copy, Locate, Load, Store, Move, Clear, Call, CallValue}
+use Rattle.tac_form.specs.declared.tac.Instruction.TheVariants.{Compute, TestDivisor, Copy, Locate, Load, Store, Move, Clear, Call, CallValue, PutByte, Write, Alloc}
 use Rattle.tac_form.specs.declared.tac.Spot.{Spot}
 use Rattle.tac_form.specs.declared.tac.Spot.TheVariants as spots
 use Rattle.tac_form.specs.declared.tac.Tac.{Tac}
@@ -43,13 +44,13 @@ use Rattle.tac_lower.specs.Items.{Item, does, ends, Ending, skips, tests, repeat
 use Rattle.tac_lower.specs.Pieces.{Used, with_temp, with_area, Piece, known, doing, following, then_piece, taken, Result, a_word, an_area, an_offset, no_word, word_of, part_of, address_of, whole_word, long, number_in, number_of, is_bool, compute, copied, located, loaded_bit, loaded_number, loaded_area, loaded_word, loaded, stored_part, stored, placed, declare_at, parts_of, word_at, result_at, rest, Around, Holder, in_temp, at_offset, Holders, holder_of, Bound}
 use Rattle.tac_lower.specs.Lowering.{reached, variable, entry, element, binary, difference, extracted, constructed, operation, call, call_value, signature_in}
 use Rattle.terra_meaning.specs.Frames.{Home, by_value, in_frame}
-use Rattle.tac_lower.specs.Needs.{GoodHome, HasNumber, IsWide, EntriesFit, NumberUnless, BinaryNeeds}
+use Rattle.tac_lower.specs.Needs.{GoodHome, HasNumber, IsWide, EntriesFit, NumberUnless, BinaryNeeds, is_comparison}
 use Rattle.tac_lower.proofs.Standing.{SizedBy, Grown}
 use Rattle.tac_lower.proofs.Simulates.{grown-none, grown-then}
 use Rattle.tac_lower.proofs.Writes.{grown-temp, grown-area}
 use Rattle.tac_lower.proofs.Keeps.{sizes}
 use Rattle.tac_lower.proofs.Homes.{sized}
-use Rattle.tac_lower.proofs.Typing.{no, same-id, plain-boolean}
+use Rattle.tac_lower.proofs.Typing.{no, same-id, plain-boolean, operation-needs}
 
 pub count-append : (a b : List Item) → count_ends (a ++ b) ≡ count_ends a + count_ends b
 count-append [] b = omega arith
@@ -588,11 +589,12 @@ module _ (types : List TypeForm) (tac : Tac) where
 
   pub binary-ok : {P : Type 0} (at : Place) (t : TypeId) (form : Number) (op : BinaryOperator) (x y : Operand) (u : Used) →
       place_fits at ≡ true → is_aggregate types t ≡ false → (P → operand_fits tac x ≡ true) → (P → operand_fits tac y ≡ true) →
-      Ok P u (binary at form op x y u) (Gives the_value t (with_temp u))
+      Ok P u (binary at form op x y u) (Gives the_value t (binary at form op x y u).used)
   binary-ok {P = P} at t form op x y u place plain hx hy = by (divides op)
     where
       by : (b : Bool) → Ok P u (then_piece (if b then doing (tt {0}) (TestDivisor at y) u else known (tt {0}) u)
-          (λ t1 u'. compute op form x y u')) (Gives the_value t (with_temp u))
+          (λ t1 u'. compute op form x y u')) (Gives the_value t (then_piece (if b then doing (tt {0}) (TestDivisor at y) u else known (tt {0}) u)
+          (λ t1 u'. compute op form x y u')).used)
       by true =
           then-ok {R = λ b. Unit {0}} (doing (tt {0}) (TestDivisor at y) u) (compute op form x y u)
           (doing-ok (λ b. Unit {0}) tt (TestDivisor at y) u (λ h. and_from (place_fits at) (operand_fits tac y) place (hy h)) (λ h. tt))
@@ -803,4 +805,66 @@ module _ (types : List TypeForm) (tac : Tac) where
                 let g1 = grown-then w v within inner.grown g in
                 gives-later the_value t w v (an_area (length u.areas)) inner.grown (new-area t u g1);
           }
+
+    -- an operation of the operands' types fits, and gives a value of its type
+    pub operation-ok : {P : Type 0} (at : Place) (t : TypeId) (op : Operation) (ts : List TypeId) (rs : List Result) (u : Used) →
+        place_fits at ≡ true → bytes_at types t ≤ 128 → typing.all_usable store ts ≡ true → typing.operation_typed store op ts t ≡ true →
+        (P → AllGive ts u rs) → Ok P u (operation c at t op ts rs u) (Gives the_value t (operation c at t op ts rs u).used)
+    operation-ok at t operations.Negate ts rs u place narrow usable h x =
+        let n = operation-needs store are entries few operations.Negate ts t usable h in
+        compute-ok (Gives the_value t (with_temp u)) operators.Subtract (number_of types t) (Constant 0) (word_at rs 0) u (λ y. refl)
+        (λ y. words-fit ts u rs 0 (x y)) (λ o f. (f, number-plain (form_at types t) n))
+    operation-ok at t operations.Not ts rs u place narrow usable h x =
+        let n = operation-needs store are entries few operations.Not ts t usable h in
+        not-ok at t ts rs u place narrow usable x (unless-plain t n.1)
+    operation-ok at t (operations.Binary op) ts rs u place narrow usable h x =
+        let n = operation-needs store are entries few (operations.Binary op) ts t usable h in
+        binary-ok at t (number_of types (type_at ts 0)) op (word_at rs 0) (word_at rs 1) u place
+        (binary-plain (is_comparison op) (type_at ts 0) t n) (λ y. words-fit ts u rs 0 (x y)) (λ y. words-fit ts u rs 1 (x y))
+    operation-ok at t operations.StepForward ts rs u place narrow usable h x =
+        let n = operation-needs store are entries few operations.StepForward ts t usable h in
+        let size = bytes_at types (target_of types t) in
+        twice-ok t operators.Multiply operators.Add whole_word (word_at rs 1) (Constant size) (word_at rs 0) u (wide-plain t n)
+        (λ y. words-fit ts u rs 1 (x y)) (λ y. lt-ltb size (2 ^ 64) (small-size (target_of types t))) (λ y. words-fit ts u rs 0 (x y))
+    operation-ok at t operations.StepBack ts rs u place narrow usable h x =
+        let n = operation-needs store are entries few operations.StepBack ts t usable h in
+        let size = bytes_at types (target_of types t) in
+        twice-ok t operators.Multiply operators.Subtract whole_word (word_at rs 1) (Constant size) (word_at rs 0) u (wide-plain t n)
+        (λ y. words-fit ts u rs 1 (x y)) (λ y. lt-ltb size (2 ^ 64) (small-size (target_of types t))) (λ y. words-fit ts u rs 0 (x y))
+    operation-ok at t operations.Difference ts rs u place narrow usable h x =
+        let n = operation-needs store are entries few operations.Difference ts t usable h in
+        apart-ok-ok t (word_at rs 0) (word_at rs 1) (bytes_at types (target_of types (type_at ts 0))) u
+        (small-size (target_of types (type_at ts 0))) (wide-plain t n.1) (λ y. words-fit ts u rs 0 (x y)) (λ y. words-fit ts u rs 1 (x y))
+    operation-ok at t operations.Convert ts rs u place narrow usable h x =
+        let n = operation-needs store are entries few operations.Convert ts t usable h in
+        convert-ok at t ts rs u place narrow usable x (unless-plain t n)
+    operation-ok at t (operations.Extract o) [] rs u place narrow usable h x = absurd (no h)
+    operation-ok at t (operations.Extract o) (s ∷ ts) rs u place narrow usable h x =
+        let n = operation-needs store are entries few (operations.Extract o) (s ∷ ts) t usable h in
+        extracted-ok s t o (result_at rs 0) u narrow n.0 n.1 (λ y. first-gives s ts u rs (x y))
+    operation-ok at t (operations.Call f) ts rs u place narrow usable h x = call-ok at t ts rs u place narrow usable x f
+    operation-ok at t (operations.Primitive primitives.PutByte) ts rs u place narrow usable h x =
+        let n = operation-needs store are entries few (operations.Primitive primitives.PutByte) ts t usable h in
+        doing-ok (Gives the_value t u) no_word (PutByte (word_at rs 0)) u (λ y. words-fit ts u rs 0 (x y)) (λ y. (refl, n.0))
+    operation-ok at t (operations.Primitive primitives.Write) ts rs u place narrow usable h x =
+        let n = operation-needs store are entries few (operations.Primitive primitives.Write) ts t usable h in
+        doing-ok (Gives the_value t u) no_word (Write at (word_at rs 0) (word_at rs 1)) u
+        (λ y. and_from (place_fits at && operand_fits tac (word_at rs 0)) (operand_fits tac (word_at rs 1))
+        (and_from (place_fits at) (operand_fits tac (word_at rs 0)) place (words-fit ts u rs 0 (x y))) (words-fit ts u rs 1 (x y)))
+        (λ y. (refl, n.0))
+    operation-ok at t (operations.Primitive primitives.Alloc) ts rs u place narrow usable h x =
+        let n = operation-needs store are entries few (operations.Primitive primitives.Alloc) ts t usable h in
+        record {
+          grown = grown-temp u;
+          fine = λ y g. one-fits (Alloc u.temps (word_at rs 0))
+              (and_from (nat_lt u.temps tac.temps) (operand_fits tac (word_at rs 0)) (own-temp u g) (words-fit ts u rs 0 (x y)));
+          result = λ y g. (own-temp u g, wide-plain t n);
+        }
+    operation-ok at t operations.CallValue [] rs u place narrow usable h x =
+        absurd (operation-needs store are entries few operations.CallValue [] t usable h)
+    operation-ok at t operations.CallValue (s ∷ ts) rs u place narrow usable h x =
+        value-call-ok at t (s ∷ ts) rs u place narrow usable x (λ y. parts-fit ts u (rest rs) (rest-give s ts u rs (x y)))
+    operation-ok at t (operations.Construct os) ts rs u place narrow usable h x =
+        let n = operation-needs store are entries few (operations.Construct os) ts t usable h in
+        construct-ok at t ts rs u place narrow usable x os n.1
 
