@@ -3,6 +3,7 @@ use Rattle.std.proofs.Common.{◌≡◌, ℕ, zero, suc, ◌+◌, ◌*◌, ◌<�
 use Rattle.std.specs.Prelude.{◌^◌, ◌-◌, not, ◌&&◌, nat_eq, nat_le, nat_lt, slice_get, unwrap_or, if◌then◌else◌}
 use Rattle.std.proofs.lemmas.Bool.{and_parts, and_from, eqb-true, eqb-false, ltb-true, lt-ltb, le-leb, leb-true, ne_eqb, not_from_false}
 use Rattle.std.specs.List.{list_all}
+use Rattle.std.proofs.lemmas.List.Folds.{list_all-append}
 use Rattle.std.proofs.lemmas.Option.{slice_get-get_or}
 use Rattle.std.proofs.Math.Seq.{get_or-append_seam}
 use Rattle.tl_base.specs.declared.place.Place.{Place}
@@ -39,7 +40,7 @@ use Rattle.tac_form.specs.declared.tac.Spot.TheVariants as spots
 use Rattle.tac_form.specs.declared.tac.Tac.{Tac}
 use Rattle.tac_form.specs.Flow as flow
 use Rattle.tac_form.specs.Flow.{area_size}
-use Rattle.tac_form.specs.Fits.{operand_fits, place_fits, area_there, part_fits, spot_fits, are_apart, instruction_fits}
+use Rattle.tac_form.specs.Fits.{area_fits, operand_fits, place_fits, area_there, part_fits, spot_fits, are_apart, instruction_fits}
 use Rattle.tac_lower.specs.Items.{Item, does, ends, Ending, skips, tests, repeats, repeats_unless, leaves, gives, fails, count_ends, loop_of}
 use Rattle.tac_lower.specs.Pieces.{Used, with_temp, with_area, Piece, known, doing, following, then_piece, taken, Result, a_word, an_area, an_offset, no_word, word_of, part_of, address_of, whole_word, long, number_in, number_of, is_bool, compute, copied, located, loaded_bit, loaded_number, loaded_area, loaded_word, loaded, stored_part, stored, placed, declare_at, parts_of, word_at, result_at, rest, Around, Holder, in_temp, at_offset, Holders, holder_of, Bound}
 use Rattle.tac_lower.specs.Lowering.{reached, variable, entry, element, binary, difference, extracted, constructed, operation, call, call_value, signature_in}
@@ -98,7 +99,7 @@ module _ (types : List TypeForm) (tac : Tac) where
   abbrev pub Fine : List Item → Type 0
   Fine is = (more : ℕ) → 1 ≤ more → ItemsFit is more
 
-  items-append : (a b : List Item) (more : ℕ) → ItemsFit a (count_ends b + more) → ItemsFit b more → ItemsFit (a ++ b) more
+  pub items-append : (a b : List Item) (more : ℕ) → ItemsFit a (count_ends b + more) → ItemsFit b more → ItemsFit (a ++ b) more
   items-append [] b more x y = y
   items-append (does i ∷ a) b more x y = (x.0, items-append a b more x.1 y)
   items-append (ends e ∷ a) b more x y =
@@ -132,9 +133,19 @@ module _ (types : List TypeForm) (tac : Tac) where
       by (ends (gives v) ∷ is) more one h = (h.0, by is more one h.1)
       by (ends (fails kind at) ∷ is) more one h = (h.0, by is more one h.1)
 
+  -- no area has more than 128 bytes
+  abbrev pub Slim : Used → Type 0
+  Slim u = list_all area_fits u.areas ≡ true
+
+  pub slim-area : (size : ℕ) (u : Used) → size ≤ 128 → Slim u → Slim (with_area size u)
+  slim-area size u narrow n =
+      list_all-append area_fits u.areas (size ∷ [])
+      ∙ and_from (list_all area_fits u.areas) (list_all area_fits (size ∷ [])) n (and_from (nat_le size 128) true (le-leb size 128 narrow) refl)
+
   -- A piece of code that fits where this is so, with what it gives.
   pub record Ok {A : Type 0} (P : Type 0) (u : Used) (p : Piece A) (R : A → Type 0) : Type 0 where
     pub grown : Grown u p.used
+    pub slim : Slim u → Slim p.used
     pub fine : P → Grown p.used within → Fine p.code
     pub result : P → Grown p.used within → R p.result
 
@@ -142,6 +153,7 @@ module _ (types : List TypeForm) (tac : Tac) where
       Ok (P × R p.result) p.used q S → Ok P u (following p q) S
   then-ok {u = u} p q x y = record {
     grown = grown-then u p.used q.used x.grown y.grown;
+    slim = λ n. y.slim (x.slim n);
     fine = λ h g. let g1 = grown-then p.used q.used within y.grown g in
         fine-append p.code q.code (x.fine h g1) (y.fine (h, x.result h g1) g);
     result = λ h g. let g1 = grown-then p.used q.used within y.grown g in y.result (h, x.result h g1) g;
@@ -161,7 +173,7 @@ module _ (types : List TypeForm) (tac : Tac) where
   Narrow the_value t = bytes_at types t ≤ 128
   Narrow the_address t = Unit {0}
 
-  grown-count : (u v : Used) → Grown u v → length u.areas ≤ length v.areas
+  pub grown-count : (u v : Used) → Grown u v → length u.areas ≤ length v.areas
   grown-count u v g = let e = ap length g.areas.1 ∙ length-append u.areas g.areas.0 in omega (arith, e)
 
   pub gives-later : (want : Wanted) (t : TypeId) (u v : Used) (r : Result) → Grown u v → Gives want t u r → Gives want t v r
@@ -201,19 +213,19 @@ module _ (types : List TypeForm) (tac : Tac) where
       ∙ ap (λ o. unwrap_or o 0) (slice_get-get_or (u.areas ++ size ∷ g.areas.0) (length u.areas) size lt)
       ∙ get_or-append_seam u.areas size g.areas.0 size
 
-  area-in : (size : ℕ) (u : Used) → Grown (with_area size u) within → length u.areas < length tac.areas
+  pub area-in : (size : ℕ) (u : Used) → Grown (with_area size u) within → length u.areas < length tac.areas
   area-in size u g =
       let l = grown-count (with_area size u) within g in
       let n = length-append u.areas (size ∷ []) in omega (arith, l, n)
 
-  new-area : (t : TypeId) (u : Used) → Grown (with_area (bytes_at types t) u) within →
+  pub new-area : (t : TypeId) (u : Used) → Grown (with_area (bytes_at types t) u) within →
       Gives the_value t (with_area (bytes_at types t) u) (an_area (length u.areas))
   new-area t u g =
       let n = length-append u.areas (bytes_at types t ∷ []) in
       (omega (arith, n), area-in (bytes_at types t) u g, own-area (bytes_at types t) u g)
 
   -- one instruction
-  one-fits : (i : Instruction) → instruction_fits tac i ≡ true → Fine (does i ∷ [])
+  pub one-fits : (i : Instruction) → instruction_fits tac i ≡ true → Fine (does i ∷ [])
   one-fits i h more one = (h, tt)
 
   pub none-fits : Fine []
@@ -223,6 +235,7 @@ module _ (types : List TypeForm) (tac : Tac) where
       (P → operand_fits tac a ≡ true) → (P → operand_fits tac b ≡ true) → Words S → Ok P u (compute op form a b u) S
   compute-ok S op form a b u x y s = record {
     grown = grown-temp u;
+    slim = λ n. n;
     fine = λ h g. one-fits (Compute u.temps op form a b)
         (and_from (nat_lt u.temps tac.temps && operand_fits tac a) (operand_fits tac b)
         (and_from (nat_lt u.temps tac.temps) (operand_fits tac a) (own-temp u g) (x h)) (y h));
@@ -233,12 +246,13 @@ module _ (types : List TypeForm) (tac : Tac) where
       Ok P u (copied a u) S
   copied-ok S a u x s = record {
     grown = grown-temp u;
+    slim = λ n. n;
     fine = λ h g. one-fits (Copy u.temps a) (and_from (nat_lt u.temps tac.temps) (operand_fits tac a) (own-temp u g) (x h));
     result = λ h g. s (Temp u.temps) (own-temp u g);
   }
 
   pub known-ok : {A : Type 0} {P : Type 0} (S : A → Type 0) (a : A) (u : Used) → (P → S a) → Ok P u (known a u) S
-  known-ok S a u x = record { grown = grown-none u; fine = λ h g. none-fits; result = λ h g. x h }
+  known-ok S a u x = record { grown = grown-none u; slim = λ n. n; fine = λ h g. none-fits; result = λ h g. x h }
 
   pub located-ok : {P : Type 0} (S : Result → Type 0) (t : TypeId) (v : Used) (r : Result) (u : Used) → (P → Gives the_address t v r) →
       Words S → Ok P u (located r u) S
@@ -246,6 +260,7 @@ module _ (types : List TypeForm) (tac : Tac) where
   located-ok S t v (an_area n) u x s = known-ok S (an_area n) u (λ h. absurd (x h))
   located-ok S t v (an_offset o) u x s = record {
     grown = grown-temp u;
+    slim = λ n. n;
     fine = λ h g. one-fits (Locate u.temps o) (and_from (nat_lt u.temps tac.temps) (nat_le o tac.frame) (own-temp u g)
         (let l = x h in le-leb o tac.frame (omega (arith, l))));
     result = λ h g. s (Temp u.temps) (own-temp u g);
@@ -283,9 +298,10 @@ module _ (types : List TypeForm) (tac : Tac) where
         else doing (an_area (length u.areas)) (Move (spots.Area (length u.areas) 0) from size) (with_area size u)
 
     area-ok : (b : Bool) → Ok P u (area_piece b) (Gives the_value t (area_piece b).used)
-    area-ok true = record { grown = grown-area size u; fine = λ h g. none-fits; result = λ h g. new-area t u g }
+    area-ok true = record { grown = grown-area size u; slim = slim-area size u narrow; fine = λ h g. none-fits; result = λ h g. new-area t u g }
     area-ok false = record {
       grown = grown-area size u;
+      slim = slim-area size u narrow;
       fine = λ h g. one-fits (Move (spots.Area (length u.areas) 0) from size)
           (and_from (spot_fits tac size (spots.Area (length u.areas) 0) && spot_fits tac size from
           && are_apart (spots.Area (length u.areas) 0) from) (nat_le size 128)
@@ -305,6 +321,7 @@ module _ (types : List TypeForm) (tac : Tac) where
         Ok P u (loaded_number (number_of types t) from u) (Gives the_value t (with_temp u))
     word-ok plain some = record {
       grown = grown-temp u;
+      slim = λ n. n;
       fine = λ h g. one-fits (Load u.temps (number_of types t) from)
           (and_from (nat_lt u.temps tac.temps) (spot_fits tac (flow.bytes_of (number_of types t).size) from) (own-temp u g)
           (spot-ok t u from (flow.bytes_of (number_of types t).size) (number-bytes (form_at types t) size (sizes types t) plain some)
@@ -379,6 +396,7 @@ module _ (types : List TypeForm) (tac : Tac) where
   variable-ok want at t None u narrow place x = known-ok (Gives want t u) no_word u (λ h. absurd (x h))
   variable-ok {P = P} want at t (Some (in_temp n)) u narrow place x = record {
     grown = grown-temp u;
+    slim = λ n. n;
     fine = λ h g. one-fits (Copy u.temps (Temp n)) (and_from (nat_lt u.temps tac.temps) (nat_lt n tac.temps) (own-temp u g)
         (lt-ltb n tac.temps (x h).0));
     result = λ h g. by want (own-temp u g) (x h).1;
@@ -396,10 +414,16 @@ module _ (types : List TypeForm) (tac : Tac) where
       known-ok (Gives the_address t u) (an_offset (at + offset)) u (λ h. let l = x h in omega (arith, l, fits))
   entry-ok s t offset (an_area n) u v small fits x = record {
     grown = by (nat_eq offset 0);
+    slim = slims (nat_eq offset 0);
     fine = λ h g. absurd (x h);
     result = λ h g. absurd (x h);
   }
     where
+      slims : (b : Bool) → Slim u → Slim (if b then known (a_word (Constant 0)) u
+          else compute operators.Add whole_word (Constant 0) (Constant offset) u).used
+      slims true n = n
+      slims false n = n
+
       by : (b : Bool) → Grown u (if b then known (a_word (Constant 0)) u else compute operators.Add whole_word (Constant 0) (Constant offset)
           u).used
       by true = grown-none u
@@ -439,6 +463,7 @@ module _ (types : List TypeForm) (tac : Tac) where
       by true e q x y = known-ok (λ b. Unit {0}) tt u (λ h. tt)
       by false e (a_word o) x y = record {
         grown = grown-none u;
+        slim = λ n. n;
         fine = λ h g. one-fits (Store to (number_of types t).size o)
             (and_from (spot_fits tac (flow.bytes_of (number_of types t).size) to) (operand_fits tac o)
             (spot-ok t v to (flow.bytes_of (number_of types t).size)
@@ -447,6 +472,7 @@ module _ (types : List TypeForm) (tac : Tac) where
       }
       by false e (an_area n) x y = record {
         grown = grown-none u;
+        slim = λ n. n;
         fine = λ h g. one-fits (Move to (spots.Area n 0) (bytes_at types t))
             (and_from (spot_fits tac (bytes_at types t) to && spot_fits tac (bytes_at types t) (spots.Area n 0)
             && are_apart to (spots.Area n 0)) (nat_le (bytes_at types t) 128)
@@ -460,12 +486,12 @@ module _ (types : List TypeForm) (tac : Tac) where
             (le-leb (bytes_at types t) 128 narrow));
         result = λ h g. tt;
       }
-      by false e (an_offset o) x y = record { grown = grown-none u; fine = λ h g. absurd (x h); result = λ h g. tt }
+      by false e (an_offset o) x y = record { grown = grown-none u; slim = λ n. n; fine = λ h g. absurd (x h); result = λ h g. tt }
 
   -- other results of the same code
   pub taken-ok : {A B : Type 0} {P : Type 0} {R : A → Type 0} (S : B → Type 0) (f : A → B) (p : Piece A) (u : Used) → Ok P u p R →
       ((a : A) → R a → S (f a)) → Ok P u (taken f p) S
-  taken-ok S f p u x h = record { grown = x.grown; fine = x.fine; result = λ y g. h p.result (x.result y g) }
+  taken-ok S f p u x h = record { grown = x.grown; slim = x.slim; fine = x.fine; result = λ y g. h p.result (x.result y g) }
 
   pub placed-ok : {P : Type 0} (t : TypeId) (at : Place) (o : ℕ) (r : Result) (u v : Used) → bytes_at types t ≤ 128 →
       place_fits at ≡ true → o + bytes_at types t ≤ tac.frame → (P → Gives the_value t v r) →
@@ -503,24 +529,27 @@ module _ (types : List TypeForm) (tac : Tac) where
       (P → Scoped names scope) → Ok P u (declare_at types at x o home scope u) (Scoped (x ∷ names))
   declare-ok at x None by_value names scope u v place good narrow value scoped = record {
     grown = grown-temp u;
+    slim = λ n. n;
     fine = λ h g. one-fits (Copy u.temps (Constant 0))
         (and_from (nat_lt u.temps tac.temps) (operand_fits tac (Constant 0)) (own-temp u g) refl);
     result = λ h g. (refl, (ltb-true u.temps tac.temps (own-temp u g), good), scoped h);
   }
   declare-ok at x (Some r) by_value names scope u v place good narrow value scoped = record {
     grown = grown-temp u;
+    slim = λ n. n;
     fine = λ h g. one-fits (Copy u.temps (word_of r))
         (and_from (nat_lt u.temps tac.temps) (operand_fits tac (word_of r)) (own-temp u g) (word-fits the_value x.of v r (value h)));
     result = λ h g. (refl, (ltb-true u.temps tac.temps (own-temp u g), good), scoped h);
   }
   declare-ok at x None (in_frame o) names scope u v place good narrow value scoped = record {
     grown = grown-none u;
+    slim = λ n. n;
     fine = λ h g. none-fits;
     result = λ h g. (refl, good, scoped h);
   }
   declare-ok at x (Some r) (in_frame o) names scope u v place good narrow value scoped =
       let y = placed-ok x.of at o r u v narrow place good value in
-      record { grown = y.grown; fine = y.fine; result = λ h g. (refl, good, scoped h) }
+      record { grown = y.grown; slim = y.slim; fine = y.fine; result = λ h g. (refl, good, scoped h) }
 
   -- results of lists
 
@@ -553,9 +582,9 @@ module _ (types : List TypeForm) (tac : Tac) where
 
   pub doing-ok : {A : Type 0} {P : Type 0} (S : A → Type 0) (a : A) (i : Instruction) (u : Used) → (P → instruction_fits tac i ≡ true) →
       (P → S a) → Ok P u (doing a i u) S
-  doing-ok S a i u x y = record { grown = grown-none u; fine = λ h g. one-fits i (x h); result = λ h g. y h }
+  doing-ok S a i u x y = record { grown = grown-none u; slim = λ n. n; fine = λ h g. one-fits i (x h); result = λ h g. y h }
 
-  number-plain : (f : TypeForm) → HasNumber f → is_aggregate (f ∷ []) (record { 0 = 0 }) ≡ false
+  pub number-plain : (f : TypeForm) → HasNumber f → is_aggregate (f ∷ []) (record { 0 = 0 }) ≡ false
   number-plain (forms.Integer i) h = refl
   number-plain (forms.Pointer t) h = refl
   number-plain (forms.Function ps r) h = refl
@@ -609,11 +638,12 @@ module _ (types : List TypeForm) (tac : Tac) where
       (λ h. let v = x h in let e = v.2 in (v.0, v.1, omega (arith, e, fits)))
   extracted-ok s t offset (a_word o) u narrow agg fits x = record {
     grown = grown-none u;
+    slim = λ n. n;
     fine = λ h g. none-fits;
     result = λ h g. let bad : true ≡ false = sym agg ∙ (x h).1 in absurd (grind (arith, bad));
   }
   extracted-ok s t offset (an_offset o) u narrow agg fits x =
-      record { grown = grown-none u; fine = λ h g. none-fits; result = λ h g. absurd (x h) }
+      record { grown = grown-none u; slim = λ n. n; fine = λ h g. none-fits; result = λ h g. absurd (x h) }
 
   -- the entries of a struct go to its area, which is none of theirs
 
@@ -648,7 +678,7 @@ module _ (types : List TypeForm) (tac : Tac) where
       apart (an_offset a) h n e = absurd (grind (arith, e))
 
   pub weak-ok : {A : Type 0} {P Q : Type 0} {R : A → Type 0} (p : Piece A) (u : Used) → Ok P u p R → (Q → P) → Ok Q u p R
-  weak-ok p u x f = record { grown = x.grown; fine = λ h g. x.fine (f h) g; result = λ h g. x.result (f h) g }
+  weak-ok p u x f = record { grown = x.grown; slim = x.slim; fine = λ h g. x.fine (f h) g; result = λ h g. x.result (f h) g }
 
   module _ (st : Contents) (are : AreTypes types) (entries : List FnId) (few : length entries < 2 ^ 32) (homes : List Home) where
     abbrev store : Contents
@@ -657,7 +687,7 @@ module _ (types : List TypeForm) (tac : Tac) where
     abbrev c : Around
     c = record { store = store; entries = entries; homes = homes }
 
-    small-size : (t : TypeId) → bytes_at types t < 2 ^ 64
+    pub small-size : (t : TypeId) → bytes_at types t < 2 ^ 64
     small-size t = let h = sized types are t in omega (arith, h)
 
     unless-plain : (t : TypeId) → NumberUnless types (nat_eq t.0 boolean.0) t → is_aggregate types t ≡ false
@@ -671,14 +701,14 @@ module _ (types : List TypeForm) (tac : Tac) where
     binary-plain true first t h = subst (λ g. is_aggregate (g ∷ []) (record { 0 = 0 }) ≡ false) (sym h) refl
     binary-plain false first t h = subst (λ k. is_aggregate types k ≡ false) h.1 (number-plain (form_at types first) h.0)
 
-    usable-small : (t : TypeId) → typing.is_usable store t ≡ true → bytes_at types t ≤ 128
+    pub usable-small : (t : TypeId) → typing.is_usable store t ≡ true → bytes_at types t ≤ 128
     usable-small t h = by (size_of types t) h
       where
         by : (o : Option ℕ) → typing.small o ≡ true → unwrap_or o 0 ≤ 128
         by None e = absurd (no e)
         by (Some n) e = leb-true n 128 e
 
-    usable-all : (ts : List TypeId) → typing.all_usable store ts ≡ true → NarrowAll ts
+    pub usable-all : (ts : List TypeId) → typing.all_usable store ts ≡ true → NarrowAll ts
     usable-all [] h = tt
     usable-all (t ∷ ts) h =
         let p = and_parts (typing.is_usable store t) (typing.all_usable store ts) h in (usable-small t p.0, usable-all ts p.1)
@@ -736,6 +766,7 @@ module _ (types : List TypeForm) (tac : Tac) where
               (Gives the_value t (then_piece (goes b) (λ to u'. call at f rs to u')).used)
           by true e = record {
             grown = grown-area (bytes_at types t) u;
+            slim = slim-area (bytes_at types t) u narrow;
             fine = λ h g. one-fits (Call (destinations.Area (length u.areas)) at f (parts_of rs))
                 (and_from (area_there tac (length u.areas) && place_fits at) (list_all (part_fits tac) (parts_of rs))
                 (and_from (area_there tac (length u.areas)) (place_fits at)
@@ -745,6 +776,7 @@ module _ (types : List TypeForm) (tac : Tac) where
           }
           by false e = record {
             grown = grown-temp u;
+            slim = λ n. n;
             fine = λ h g. one-fits (Call (destinations.Temp u.temps) at f (parts_of rs))
                 (and_from (nat_lt u.temps tac.temps && place_fits at) (list_all (part_fits tac) (parts_of rs))
                 (and_from (nat_lt u.temps tac.temps) (place_fits at) (own-temp u g) place) (parts-fit ts u rs (x h)));
@@ -762,6 +794,7 @@ module _ (types : List TypeForm) (tac : Tac) where
               (Gives the_value t (then_piece (goes b) (λ to u'. call_value at (signature_in (form_at types (type_at ts 0))) rs to u')).used)
           by true e = record {
             grown = grown-area (bytes_at types t) u;
+            slim = slim-area (bytes_at types t) u narrow;
             fine = λ h g. one-fits (CallValue (destinations.Area (length u.areas)) at sig (word_at rs 0) (parts_of (rest rs)))
                 (and_from (area_there tac (length u.areas) && place_fits at && operand_fits tac (word_at rs 0))
                 (list_all (part_fits tac) (parts_of (rest rs)))
@@ -773,6 +806,7 @@ module _ (types : List TypeForm) (tac : Tac) where
           }
           by false e = record {
             grown = grown-temp u;
+            slim = λ n. n;
             fine = λ h g. one-fits (CallValue (destinations.Temp u.temps) at sig (word_at rs 0) (parts_of (rest rs)))
                 (and_from (nat_lt u.temps tac.temps && place_fits at && operand_fits tac (word_at rs 0))
                 (list_all (part_fits tac) (parts_of (rest rs)))
@@ -791,6 +825,7 @@ module _ (types : List TypeForm) (tac : Tac) where
               (let n = length-append u.areas (size ∷ []) in omega (arith, n)) (grown-area size u) (λ h. h.1.1) (λ h. x h.0) in
           record {
             grown = grown-then u w (constructed types (length u.areas) os ts rs w).used (grown-area size u) inner.grown;
+            slim = λ n. inner.slim (slim-area size u narrow n);
             fine = λ h g.
                 let g1 = grown-then w (constructed types (length u.areas) os ts rs w).used within inner.grown g in
                 let there = area-in size u g1 in
@@ -856,6 +891,7 @@ module _ (types : List TypeForm) (tac : Tac) where
         let n = operation-needs store are entries few (operations.Primitive primitives.Alloc) ts t usable h in
         record {
           grown = grown-temp u;
+          slim = λ n. n;
           fine = λ y g. one-fits (Alloc u.temps (word_at rs 0))
               (and_from (nat_lt u.temps tac.temps) (operand_fits tac (word_at rs 0)) (own-temp u g) (words-fit ts u rs 0 (x y)));
           result = λ y g. (own-temp u g, wide-plain t n);
