@@ -1,6 +1,6 @@
 -- The temporaries that parameters go to are live where a function's code is entered: its first block reads each of them.
-use Rattle.std.proofs.Common.{◌≡◌, ℕ, zero, suc, ◌+◌, ◌<◌, ◌≤◌, ◌⊎◌, inl, inr, Bool, true, false, List, [], ◌∷◌, ◌++◌, length, map, Option, Some, None, refl, sym, ap, ◌∙◌, subst, arith}
-use Rattle.std.specs.Prelude.{not, ◌&&◌, ◌||◌, ◌↔◌, nat_eq, slice_get, option_map, if◌then◌else◌, IsTrue}
+use Rattle.std.proofs.Common.{◌≡◌, ℕ, suc, ◌<◌, ◌≤◌, ◌⊎◌, inl, inr, Bool, true, false, List, [], ◌∷◌, ◌++◌, length, map, Some, refl, sym, ap, ◌∙◌, arith}
+use Rattle.std.specs.Prelude.{not, ◌&&◌, ◌||◌, ◌↔◌, nat_eq, option_map, if◌then◌else◌, IsTrue}
 use Rattle.std.specs.List.{list_any}
 use Rattle.std.proofs.lemmas.Bool.{or_cases, eqb-true, ne_eqb}
 use Rattle.std.proofs.lemmas.Option.{slice_get-map}
@@ -11,25 +11,23 @@ use Rattle.terra_term.specs.declared.lists.TypedName.{TypedName}
 use Rattle.terra_term.specs.Stores.{Contents, Callable}
 use Rattle.terra_meaning.specs.Values.{bytes_at, is_aggregate}
 use Rattle.terra_meaning.specs.Frames.{Home, by_value, in_frame, home_at}
-use Rattle.tac_form.specs.declared.tac.Operand.TheVariants.{Temp, Constant}
+use Rattle.tac_form.specs.declared.tac.Operand.TheVariants.{Temp}
 use Rattle.tac_form.specs.declared.tac.Address.TheVariants as addresses
 use Rattle.tac_form.specs.declared.tac.Spot.TheVariants as spots
 use Rattle.tac_form.specs.declared.tac.Destination.{Destination}
 use Rattle.tac_form.specs.declared.tac.Destination.TheVariants as destinations
-use Rattle.tac_form.specs.declared.tac.Instruction.TheVariants.{Copy, Store, Move}
 use Rattle.tac_form.specs.declared.tac.Block.{Block}
 use Rattle.tac_form.specs.declared.graph.FlowBlock.{FlowBlock}
-use Rattle.tac_form.specs.Graph.{instruction_reads, instruction_write, step_of, steps_of, block_of, graph_of}
+use Rattle.tac_form.specs.Graph.{instruction_reads, instruction_write, step_of, block_of, graph_of}
 use Rattle.tac_form.specs.Live as live
 use Rattle.tac_form.specs.Live.{IsLive, is_written, at_step, at_place, read_within}
 use Rattle.tac_form.specs.Fits.{goes_to, receives}
 use Rattle.tac_lower.specs.Items.{Item, does, ends, empty_draft}
-use Rattle.tac_lower.specs.Pieces.{Used, nothing_used, with_temp, with_area, Piece, known, doing, then_piece, taken, Result, a_word, an_area, word_of, number_of, given, copied, stored_part, stored, placed, Holders, Around, declare, declare_at, declare_all}
+use Rattle.tac_lower.specs.Pieces.{Used, nothing_used, with_temp, with_area, known, then_piece, taken, a_word, an_area, given, copied, stored_part, Holders, Around, declare, declare_at, declare_all}
 use Rattle.tac_lower.specs.Lowering.{all, around, received, ending, code_of}
 use Rattle.tac_lower.proofs.Places.{Point, step_on, start_of, DoesAt, HasAt, has-front}
 use Rattle.tac_lower.proofs.Whole.{has-whole}
 use Rattle.tac_lower.proofs.Functions.{ends-whole}
-use Rattle.tac_lower.proofs.Idle as idles
 use Rattle.tac_lower.proofs.IdleTerms.{entry-idle}
 
 -- the temporary is read in the block, and not written before
@@ -76,14 +74,18 @@ module _ (blocks : List Block) (t out : ℕ) where
       by : (live.has (instruction_reads i) t ≡ true) ⊎ ((is_written (instruction_write i) t ≡ false) × ReadFirst t is) →
           (ReadFirst t is → (k : ℕ) × (read_within (map block_of blocks) k at.block (suc at.at) t ≡ true)) →
           (k : ℕ) × (read_within (map block_of blocks) k at.block at.at t ≡ true)
-      by (inl r) more =
-          (1, here 0 ∙ ap (λ b. b || (not (is_written (instruction_write i) t) && read_within (map block_of blocks) 0 at.block (suc at.at) t))
-          r)
+      by (inl r) more = (
+        1,
+        here 0 ∙ ap (λ b. b || (not (is_written (instruction_write i) t) && read_within (map block_of blocks) 0 at.block (suc at.at) t))
+            r,
+      )
       by (inr p) more =
-          let m = more p.1 in
-          (suc m.0, here m.0
-          ∙ ap (λ b. live.has (instruction_reads i) t || (not b && read_within (map block_of blocks) m.0 at.block (suc at.at) t)) p.0
-          ∙ ap (λ b. live.has (instruction_reads i) t || b) m.1 ∙ or-true (live.has (instruction_reads i) t))
+          let m = more p.1 in (
+            suc m.0,
+            here m.0
+                ∙ ap (λ b. live.has (instruction_reads i) t || (not b && read_within (map block_of blocks) m.0 at.block (suc at.at) t)) p.0
+                ∙ ap (λ b. live.has (instruction_reads i) t || b) m.1 ∙ or-true (live.has (instruction_reads i) t),
+          )
 
 -- a piece that doesn't write it
 abbrev Passes : (t : ℕ) → List Item → Type 0
@@ -111,7 +113,8 @@ module _ (types : List TypeForm) (t : ℕ) where
   parameter-passes at x (destinations.Temp d) (in_frame o) scope u lt b h = by (nat_eq (bytes_at types x.of) 0)
     where
       by : (c : Bool) → ReadFirst t ((if c then taken (λ c. tt {0}) (copied (Temp d) u)
-          else (if c then known (tt {0}) u else stored_part types x.of (spots.Region at (addresses.Frame o)) (a_word (Temp d)) u)).code ++ b)
+          else (if c then known (tt {0}) u else stored_part types x.of (spots.Region at (addresses.Frame o)) (a_word
+          (Temp d)) u)).code ++ b)
       by true = inr (other u.temps lt, h)
       by false = inr (refl, h)
   parameter-passes at x (destinations.Area n) (in_frame o) scope u lt b h = by (nat_eq (bytes_at types x.of) 0)
@@ -128,7 +131,8 @@ module _ (types : List TypeForm) (t : ℕ) where
   parameter-later at x (destinations.Temp d) (in_frame o) scope u = by (nat_eq (bytes_at types x.of) 0)
     where
       by : (c : Bool) → u.temps ≤ (if c then taken (λ c. tt {0}) (copied (Temp d) u)
-          else (if c then known (tt {0}) u else stored_part types x.of (spots.Region at (addresses.Frame o)) (a_word (Temp d)) u)).used.temps
+          else (if c then known (tt {0}) u else stored_part types x.of (spots.Region at (addresses.Frame o)) (a_word
+          (Temp d)) u)).used.temps
       by true = omega arith
       by false = omega arith
   parameter-later at x (destinations.Area n) (in_frame o) scope u = by (nat_eq (bytes_at types x.of) 0)

@@ -1,7 +1,6 @@
 -- The frame of a function of few typed nodes is small: each declaration has a node, and a value of a type has few bytes.
-use Rattle.std.proofs.Common.{◌≡◌, ℕ, zero, suc, ◌+◌, ◌*◌, ◌<◌, ◌≤◌, Bool, true, false, List, [], ◌∷◌, ◌++◌, length, Option, Some, None, refl, sym, ap, ◌∙◌, subst, arith, length-append}
-use Rattle.std.specs.Prelude.{◌^◌, ◌||◌, ◌-◌, ◌/◌, unwrap_or, if◌then◌else◌}
-use Rattle.tl_base.specs.declared.place.Place.{Place}
+use Rattle.std.proofs.Common.{◌≡◌, ℕ, suc, ◌+◌, ◌*◌, ◌<◌, ◌≤◌, Bool, true, false, List, [], ◌∷◌, ◌++◌, length, Option, Some, None, refl, ap, ◌∙◌, arith, length-append}
+use Rattle.std.specs.Prelude.{◌^◌, ◌||◌, ◌-◌, unwrap_or, if◌then◌else◌}
 use Rattle.tl_base.specs.declared.ids.TypeId.{TypeId}
 use Rattle.terra_types.specs.declared.measure.Measure.{Measure}
 use Rattle.terra_types.specs.declared.types.TypeForm.{TypeForm}
@@ -14,7 +13,7 @@ use Rattle.terra_term.specs.TypedTerms.{Expression, typed, Constant', Variable, 
 use Rattle.terra_term.specs.Sizes.{typed_size, typed_list_size, typed_statement_size, typed_block_size, body_size}
 use Rattle.terra_term.specs.Events.{Event, events_of, list_events, doing_events, block_events, operation_events, takes, declares, declares_all, scope, body_events, declared_in}
 use Rattle.terra_meaning.specs.Values.{bytes_at, is_aggregate}
-use Rattle.terra_meaning.specs.Frames.{Home, by_value, in_frame, has, Frame, with_home, framed, frame_of, taken}
+use Rattle.terra_meaning.specs.Frames.{by_value, in_frame, has, with_home, framed, frame_of, taken}
 use Rattle.tac_lower.proofs.Homes.{within, sized, declared-append, declared-scope, declared-takes, declared-operation}
 
 -- how many declarations

@@ -1,11 +1,9 @@
 -- The blocks of a function's code, and what they name, are there.
-use Rattle.std.proofs.Common.{◌≡◌, ℕ, zero, suc, ◌+◌, ◌*◌, ◌<◌, ◌≤◌, Bool, true, false, List, [], ◌∷◌, ◌++◌, length, map, Option, Some, None, refl, sym, ap, ◌∙◌, subst, arith, length-append}
+use Rattle.std.proofs.Common.{◌≡◌, ℕ, suc, ◌+◌, ◌<◌, ◌≤◌, Bool, true, false, List, [], ◌∷◌, ◌++◌, length, map, refl, ◌∙◌, subst, arith, length-append}
 use Rattle.std.specs.Prelude.{◌^◌, ◌-◌, ◌&&◌, nat_eq, nat_le, nat_lt, if◌then◌else◌}
-use Rattle.std.proofs.lemmas.Bool.{and_parts, and_from, lt-ltb, leb-true, le-leb}
+use Rattle.std.proofs.lemmas.Bool.{and_parts, and_from, lt-ltb, leb-true}
 use Rattle.std.specs.List.{list_all}
 use Rattle.std.proofs.lemmas.List.Folds.{list_all-append}
-use Rattle.tl_base.specs.declared.place.Place.{Place}
-use Rattle.tl_base.specs.declared.ids.TypeId.{TypeId}
 use Rattle.tl_base.specs.declared.ids.FnId.{FnId}
 use Rattle.terra_words.specs.declared.words.FaultKind.TheVariants.{NoReturn}
 use Rattle.terra_types.specs.declared.types.TypeForm.{TypeForm}
@@ -17,27 +15,24 @@ use Rattle.terra_term.specs.Events.{declares_all, block_events, declared_in}
 use Rattle.terra_term.specs.WellTyped as typing
 use Rattle.terra_term.specs.WellTyped.{Within, all_typed, body_typed, with_names}
 use Rattle.terra_meaning.specs.Values.{bytes_at, is_aggregate}
-use Rattle.terra_meaning.specs.Frames.{Home, frame_of}
 use Rattle.terra_meaning.specs.Meaning.{the_value}
-use Rattle.tac_form.specs.declared.tac.Operand.{Operand}
-use Rattle.tac_form.specs.declared.tac.Operand.TheVariants.{Temp, Constant}
 use Rattle.tac_form.specs.declared.tac.Destination.{Destination}
 use Rattle.tac_form.specs.declared.tac.Destination.TheVariants as destinations
-use Rattle.tac_form.specs.declared.tac.Instruction.{Instruction}
 use Rattle.tac_form.specs.declared.tac.Block.{Block}
 use Rattle.tac_form.specs.declared.tac.Tac.{Tac}
-use Rattle.tac_form.specs.Fits.{area_fits, operand_fits, place_fits, area_there, part_fits, destination_fits, instruction_fits, edge_fits, exit_fits, block_fits, is_within, most_nodes}
-use Rattle.tac_lower.specs.Items.{Item, does, ends, Ending, skips, tests, repeats, repeats_unless, leaves, gives, fails, count_ends, exit_of, onward, Draft, empty_draft, with_item, with_items, blocks_of}
-use Rattle.tac_lower.specs.Pieces.{Used, nothing_used, with_temp, with_area, Piece, known, doing, following, then_piece, taken, a_word, an_area, no_word, part_of, given, destination, Holders, Around, declare_all}
-use Rattle.tac_lower.specs.Lowering.{all, received, ending, around, body_piece, code_of, unreached, type_of_name, are_narrow, parameter_types, lowered}
+use Rattle.tac_form.specs.Fits.{area_fits, operand_fits, place_fits, area_there, destination_fits, instruction_fits, edge_fits, exit_fits, block_fits, is_within, most_nodes}
+use Rattle.tac_lower.specs.Items.{Item, does, ends, Ending, skips, tests, repeats, repeats_unless, leaves, gives, fails, count_ends, exit_of, onward, Draft, empty_draft, with_item, with_items}
+use Rattle.tac_lower.specs.Pieces.{Used, nothing_used, with_temp, with_area, Piece, known, then_piece, taken, an_area, no_word, part_of, given, Holders, Around, declare_all}
+use Rattle.tac_lower.specs.Lowering.{all, received, ending, around, code_of, type_of_name, are_narrow, parameter_types}
 use Rattle.tac_lower.proofs.Standing.{Grown}
 use Rattle.tac_lower.proofs.Simulates.{grown-none, grown-then}
 use Rattle.tac_lower.proofs.Writes.{grown-temp, grown-area}
 use Rattle.tac_lower.proofs.Homes.{Homes, homes-of, halves}
 use Rattle.tac_lower.proofs.Typing.{declared-count}
 use Rattle.tac_lower.proofs.Fitting as fits
-use Rattle.tac_lower.proofs.FitsTerms as terms
-use Rattle.tac_lower.proofs.FitsTerms.{block-ok, declares-ok}
+use Rattle.tac_lower.proofs.FitsParts as parts
+use Rattle.tac_lower.proofs.FitsParts.{declares-ok}
+use Rattle.tac_lower.proofs.FitsTerms.{block-ok}
 use Rattle.tac_lower.proofs.FitsFrames.{frame-small}
 
 -- blocks
@@ -105,7 +100,7 @@ module _ (types : List TypeForm) (tac : Tac) where
 
   abbrev Received : List TypedName → Used → List Destination → Type 0
   Received xs u tos =
-      (list_all (destination_fits tac) tos ≡ true) × terms.Fills types tac xs u (map given tos)
+      (list_all (destination_fits tac) tos ≡ true) × parts.Fills types tac xs u (map given tos)
 
   received-ok : (xs : List TypedName) (u : Used) → are_narrow types (map type_of_name xs) ≡ true →
       Ok (Unit {0}) u (received types xs u) (Received xs (received types xs u).used)
@@ -131,8 +126,11 @@ module _ (types : List TypeForm) (tac : Tac) where
                 let r = y.result k g in (
                   and_from (area_there tac (length u.areas)) (list_all (destination_fits tac) (received types xs v).result)
                       (lt-ltb (length u.areas) (length tac.areas) (fits.area-in types tac (bytes_at types x.of) u g1)) r.0,
-                  (fits.gives-later types tac the_value x.of v (received types xs v).used (an_area (length u.areas)) y.grown
-                      (fits.new-area types tac x.of u g1), r.1),
+                  (
+                    fits.gives-later types tac the_value x.of v (received types xs v).used (an_area (length u.areas)) y.grown
+                        (fits.new-area types tac x.of u g1),
+                    r.1,
+                  ),
                 );
           }
       by false e narrow more =
@@ -152,7 +150,7 @@ module _ (types : List TypeForm) (tac : Tac) where
           }
 
   narrow-names : (xs : List TypedName) (rs : List Destination) → are_narrow types (map type_of_name xs) ≡ true →
-      terms.Narrows types tac xs (map given rs)
+      parts.Narrows types tac xs (map given rs)
   narrow-names [] [] h = tt
   narrow-names [] (r ∷ rs) h = tt
   narrow-names (x ∷ xs) [] h = tt
@@ -196,18 +194,19 @@ module _ (store : Contents) (entries : List FnId) (k : Callable) (are : AreTypes
       (s.0, subst (λ j. Homes types tac.frame c.homes j (declared_in (block_events k.body.body))) (declared-count k.body.parameters) s.1)
 
   abbrev Start : Type 0
-  Start = terms.Fills types tac k.body.parameters tos.used (map given tos.result)
+  Start = parts.Fills types tac k.body.parameters tos.used (map given tos.result)
 
   start-ok : fits.Ok types tac (Unit {0}) nothing_used tos (Received types tac k.body.parameters tos.used)
   start-ok = received-ok types tac k.body.parameters nothing_used narrow
 
-  declares : fits.Ok types tac Start tos.used D (terms.Scoped types tac (with_names k.body.parameters []))
+  declares : fits.Ok types tac Start tos.used D (parts.Scoped types tac (with_names k.body.parameters []))
   declares =
-      declares-ok types tac store are entries few c.homes k.at k.body.parameters (map given tos.result) 0 [] [] tos.used tos.used Start place
+      declares-ok types tac store are entries few c.homes k.at k.body.parameters
+      (map given tos.result) 0 [] [] tos.used tos.used Start place
       homes.0 (narrow-names types tac k.body.parameters tos.result narrow) (λ y. y) (λ y. tt)
 
-  body : fits.Ok types tac (terms.Scoped types tac (with_names k.body.parameters []) D.result) D.used B
-      (terms.Scoped types tac (typing.after_all k.body.body (with_names k.body.parameters [])))
+  body : fits.Ok types tac (parts.Scoped types tac (with_names k.body.parameters []) D.result) D.used B
+      (parts.Scoped types tac (typing.after_all k.body.body (with_names k.body.parameters [])))
   body =
       let w : Within = record { result = k.body.result; in_loop = false; in_let = false } in
       let t = and_parts (typing.names_laid_out store k.body.parameters) (all_typed store w (with_names k.body.parameters []) k.body.body) h
@@ -219,7 +218,8 @@ module _ (store : Contents) (entries : List FnId) (k : Callable) (are : AreTypes
   whole = grown-none B.used
 
   upto : Grown tos.used (fits.within types tac)
-  upto = grown-then tos.used D.used (fits.within types tac) declares.grown (grown-then D.used B.used (fits.within types tac) body.grown whole)
+  upto = grown-then tos.used D.used (fits.within types tac) declares.grown (grown-then D.used B.used
+      (fits.within types tac) body.grown whole)
 
   middle : Grown D.used (fits.within types tac)
   middle = grown-then D.used B.used (fits.within types tac) body.grown whole

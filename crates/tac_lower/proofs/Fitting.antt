@@ -1,7 +1,7 @@
 -- Lowered code of typed functions names what is there, and reaches what lies within its frame and areas.
-use Rattle.std.proofs.Common.{◌≡◌, ℕ, zero, suc, ◌+◌, ◌*◌, ◌<◌, ◌≤◌, Bool, true, false, List, [], ◌∷◌, ◌++◌, length, map, Option, Some, None, refl, sym, ap, ◌∙◌, subst, arith, length-append, append_assoc, append-nil}
-use Rattle.std.specs.Prelude.{◌^◌, ◌-◌, not, ◌&&◌, nat_eq, nat_le, nat_lt, slice_get, unwrap_or, if◌then◌else◌}
-use Rattle.std.proofs.lemmas.Bool.{and_parts, and_from, eqb-true, eqb-false, ltb-true, lt-ltb, le-leb, leb-true, ne_eqb, not_from_false}
+use Rattle.std.proofs.Common.{◌≡◌, ℕ, zero, suc, ◌+◌, ◌<◌, ◌≤◌, Bool, true, false, List, [], ◌∷◌, ◌++◌, length, Option, Some, None, refl, sym, ap, ◌∙◌, subst, arith, length-append, append_assoc}
+use Rattle.std.specs.Prelude.{◌^◌, ◌&&◌, nat_eq, nat_le, nat_lt, slice_get, unwrap_or, if◌then◌else◌}
+use Rattle.std.proofs.lemmas.Bool.{and_from, eqb-false, ltb-true, lt-ltb, le-leb, ne_eqb, not_from_false}
 use Rattle.std.specs.List.{list_all}
 use Rattle.std.proofs.lemmas.List.Folds.{list_all-append}
 use Rattle.std.proofs.lemmas.Option.{slice_get-get_or}
@@ -11,30 +11,19 @@ use Rattle.tl_base.specs.declared.ids.SymId.{SymId}
 use Rattle.tl_base.specs.declared.ids.TypeId.{TypeId}
 use Rattle.terra_words.specs.declared.words.BinaryOperator.{BinaryOperator}
 use Rattle.terra_words.specs.declared.words.BinaryOperator.TheVariants as operators
-use Rattle.terra_words.specs.Words.{divides}
 use Rattle.terra_types.specs.declared.types.Integer.TheVariants.{Int8, Int16, Int32, Int64, Uint8, Uint16, Uint32, Uint64}
 use Rattle.terra_types.specs.declared.types.TypeForm.{TypeForm}
 use Rattle.terra_types.specs.declared.types.TypeForm.TheVariants as forms
 use Rattle.terra_term.specs.declared.lists.TypedName.{TypedName}
-use Rattle.tl_base.specs.declared.ids.FnId.{FnId}
-use Rattle.terra_types.specs.Opening.{AreTypes, boolean}
-use Rattle.terra_types.specs.Sizes.{size_of}
-use Rattle.terra_term.specs.Stores.{Contents}
-use Rattle.terra_term.specs.declared.operators.Operation.{Operation}
-use Rattle.terra_term.specs.declared.operators.Operation.TheVariants as operations
-use Rattle.tac_form.specs.declared.tac.Destination.{Destination}
-use Rattle.tac_form.specs.declared.tac.Destination.TheVariants as destinations
-use Rattle.tac_form.specs.declared.tac.Signature.{Signature}
 use Rattle.terra_term.specs.WellTyped as typing
-use Rattle.lua_value.specs.declared.primitive.Primitive.TheVariants as primitives
-use Rattle.terra_meaning.specs.Values.{form_at, bytes_at, is_aggregate, target_of}
-use Rattle.terra_meaning.specs.Meaning.{Wanted, the_value, the_address, type_at}
+use Rattle.terra_meaning.specs.Values.{form_at, bytes_at, is_aggregate}
+use Rattle.terra_meaning.specs.Meaning.{Wanted, the_value, the_address}
 use Rattle.tac_form.specs.declared.tac.Number.{Number}
 use Rattle.tac_form.specs.declared.tac.Operand.{Operand}
 use Rattle.tac_form.specs.declared.tac.Operand.TheVariants.{Temp, Constant}
 use Rattle.tac_form.specs.declared.tac.Address.TheVariants as addresses
 use Rattle.tac_form.specs.declared.tac.Instruction.{Instruction}
-use Rattle.tac_form.specs.declared.tac.Instruction.TheVariants.{Compute, TestDivisor, Copy, Locate, Load, Store, Move, Clear, Call, CallValue, PutByte, Write, Alloc}
+use Rattle.tac_form.specs.declared.tac.Instruction.TheVariants.{Compute, Copy, Locate, Load, Store, Move}
 use Rattle.tac_form.specs.declared.tac.Spot.{Spot}
 use Rattle.tac_form.specs.declared.tac.Spot.TheVariants as spots
 use Rattle.tac_form.specs.declared.tac.Tac.{Tac}
@@ -42,16 +31,15 @@ use Rattle.tac_form.specs.Flow as flow
 use Rattle.tac_form.specs.Flow.{area_size}
 use Rattle.tac_form.specs.Fits.{area_fits, operand_fits, place_fits, area_there, part_fits, spot_fits, are_apart, instruction_fits}
 use Rattle.tac_lower.specs.Items.{Item, does, ends, Ending, skips, tests, repeats, repeats_unless, leaves, gives, fails, count_ends, loop_of}
-use Rattle.tac_lower.specs.Pieces.{Used, with_temp, with_area, Piece, known, doing, following, then_piece, taken, Result, a_word, an_area, an_offset, no_word, word_of, part_of, address_of, whole_word, long, number_in, number_of, is_bool, compute, copied, located, loaded_bit, loaded_number, loaded_area, loaded_word, loaded, stored_part, stored, placed, declare_at, parts_of, word_at, result_at, rest, Around, Holder, in_temp, at_offset, Holders, holder_of, Bound}
-use Rattle.tac_lower.specs.Lowering.{reached, variable, entry, element, binary, difference, extracted, constructed, operation, call, call_value, signature_in}
+use Rattle.tac_lower.specs.Pieces.{Used, with_temp, with_area, Piece, known, doing, following, taken, Result, a_word, an_area, an_offset, no_word, word_of, part_of, address_of, whole_word, number_in, number_of, is_bool, compute, copied, located, loaded_bit, loaded_number, loaded_area, loaded_word, loaded, stored_part, stored, placed, declare_at, parts_of, word_at, Holder, in_temp, at_offset, Holders, holder_of}
+use Rattle.tac_lower.specs.Lowering.{reached, variable, entry, element}
 use Rattle.terra_meaning.specs.Frames.{Home, by_value, in_frame}
-use Rattle.tac_lower.specs.Needs.{GoodHome, HasNumber, IsWide, EntriesFit, NumberUnless, BinaryNeeds, is_comparison}
+use Rattle.tac_lower.specs.Needs.{GoodHome}
 use Rattle.tac_lower.proofs.Standing.{SizedBy, Grown}
 use Rattle.tac_lower.proofs.Simulates.{grown-none, grown-then}
 use Rattle.tac_lower.proofs.Writes.{grown-temp, grown-area}
 use Rattle.tac_lower.proofs.Keeps.{sizes}
-use Rattle.tac_lower.proofs.Homes.{sized}
-use Rattle.tac_lower.proofs.Typing.{no, same-id, plain-boolean, operation-needs}
+use Rattle.tac_lower.proofs.Typing.{no, same-id}
 
 pub count-append : (a b : List Item) → count_ends (a ++ b) ≡ count_ends a + count_ends b
 count-append [] b = omega arith
@@ -102,10 +90,11 @@ module _ (types : List TypeForm) (tac : Tac) where
   pub items-append : (a b : List Item) (more : ℕ) → ItemsFit a (count_ends b + more) → ItemsFit b more → ItemsFit (a ++ b) more
   items-append [] b more x y = y
   items-append (does i ∷ a) b more x y = (x.0, items-append a b more x.1 y)
-  items-append (ends e ∷ a) b more x y =
-      (subst (EndFits e) (let h = count-append a b in
-      let n : count_ends a + (count_ends b + more) ≡ count_ends (a ++ b) + more = omega (arith, h) in n) x.0,
-      items-append a b more x.1 y)
+  items-append (ends e ∷ a) b more x y = (
+    subst (EndFits e) (let h = count-append a b in
+        let n : count_ends a + (count_ends b + more) ≡ count_ends (a ++ b) + more = omega (arith, h) in n) x.0,
+    items-append a b more x.1 y,
+  )
 
   pub fine-append : (a b : List Item) → Fine a → Fine b → Fine (a ++ b)
   fine-append a b x y more one = items-append a b more (x (count_ends b + more) (omega (arith, one))) (y more one)
@@ -140,7 +129,8 @@ module _ (types : List TypeForm) (tac : Tac) where
   pub slim-area : (size : ℕ) (u : Used) → size ≤ 128 → Slim u → Slim (with_area size u)
   slim-area size u narrow n =
       list_all-append area_fits u.areas (size ∷ [])
-      ∙ and_from (list_all area_fits u.areas) (list_all area_fits (size ∷ [])) n (and_from (nat_le size 128) true (le-leb size 128 narrow) refl)
+      ∙ and_from (list_all area_fits u.areas) (list_all area_fits (size ∷ [])) n (and_from (nat_le size 128) true
+      (le-leb size 128 narrow) refl)
 
   -- A piece of code that fits where this is so, with what it gives.
   pub record Ok {A : Type 0} (P : Type 0) (u : Used) (p : Piece A) (R : A → Type 0) : Type 0 where
@@ -298,7 +288,13 @@ module _ (types : List TypeForm) (tac : Tac) where
         else doing (an_area (length u.areas)) (Move (spots.Area (length u.areas) 0) from size) (with_area size u)
 
     area-ok : (b : Bool) → Ok P u (area_piece b) (Gives the_value t (area_piece b).used)
-    area-ok true = record { grown = grown-area size u; slim = slim-area size u narrow; fine = λ h g. none-fits; result = λ h g. new-area t u g }
+    area-ok true = record {
+      grown = grown-area size u;
+      slim = slim-area size u narrow;
+      fine = λ h g. none-fits;
+      result = λ h g. new-area t
+          u g;
+    }
     area-ok false = record {
       grown = grown-area size u;
       slim = slim-area size u narrow;
@@ -402,7 +398,8 @@ module _ (types : List TypeForm) (tac : Tac) where
     result = λ h g. by want (own-temp u g) (x h).1;
   }
     where
-      by : (w : Wanted) → operand_fits tac (Temp u.temps) ≡ true → is_aggregate types t ≡ false → Gives w t (with_temp u) (a_word (Temp u.temps))
+      by : (w : Wanted) → operand_fits tac (Temp u.temps) ≡ true → is_aggregate types t ≡ false → Gives w t (with_temp u) (a_word
+          (Temp u.temps))
       by the_value f p = (f, p)
       by the_address f p = f
   variable-ok want at t (Some (at_offset o)) u narrow place x = reached-ok want at t (an_offset o) u narrow place x
@@ -424,7 +421,8 @@ module _ (types : List TypeForm) (tac : Tac) where
       slims true n = n
       slims false n = n
 
-      by : (b : Bool) → Grown u (if b then known (a_word (Constant 0)) u else compute operators.Add whole_word (Constant 0) (Constant offset)
+      by : (b : Bool) → Grown u (if b then known (a_word (Constant 0)) u else compute operators.Add whole_word (Constant 0)
+          (Constant offset)
           u).used
       by true = grown-none u
       by false = grown-temp u
@@ -434,7 +432,8 @@ module _ (types : List TypeForm) (tac : Tac) where
           (Gives the_address t (if b then known (a_word o) u else compute operators.Add whole_word o (Constant offset) u).used)
       by true = known-ok (Gives the_address t u) (a_word o) u x
       by false =
-          compute-ok (Gives the_address t (with_temp u)) operators.Add whole_word o (Constant offset) u x (λ h. lt-ltb offset (2 ^ 64) small)
+          compute-ok (Gives the_address t (with_temp u)) operators.Add whole_word o (Constant offset) u x (λ h. lt-ltb offset
+          (2 ^ 64) small)
           (λ a f. f)
 
   pub element-ok : {P : Type 0} (t : TypeId) (size : ℕ) (from index : Operand) (u : Used) → size < 2 ^ 64 →
@@ -500,7 +499,8 @@ module _ (types : List TypeForm) (tac : Tac) where
       stored-ok t (spots.Region at (addresses.Frame o)) (an_area n) u v narrow (λ h. (place, fits)) x (λ h m e. refl)
   placed-ok {P = P} t at o (a_word a) u v narrow place fits x = by (nat_eq (bytes_at types t) 0)
     where
-      by : (b : Bool) → Ok P u (if b then taken (λ c. tt {0}) (copied a u) else stored types t (spots.Region at (addresses.Frame o)) (a_word a) u)
+      by : (b : Bool) → Ok P u (if b then taken (λ c. tt {0}) (copied a u) else stored types t (spots.Region at (addresses.Frame o))
+          (a_word a) u)
           (λ c. Unit {0})
       by true =
           taken-ok (λ c. Unit {0}) (λ c. tt {0}) (copied a u) u (copied-ok (λ c. Unit {0}) a u (λ h. (x h).0) (λ c f. tt)) (λ c f. tt)
@@ -578,329 +578,9 @@ module _ (types : List TypeForm) (tac : Tac) where
   parts-fit (t ∷ ts) v (r ∷ rs) h =
       and_from (part_fits tac (part_of r)) (list_all (part_fits tac) (parts_of rs)) (part-ok t v r h.0) (parts-fit ts v rs h.1)
 
-  -- operations
-
   pub doing-ok : {A : Type 0} {P : Type 0} (S : A → Type 0) (a : A) (i : Instruction) (u : Used) → (P → instruction_fits tac i ≡ true) →
       (P → S a) → Ok P u (doing a i u) S
   doing-ok S a i u x y = record { grown = grown-none u; slim = λ n. n; fine = λ h g. one-fits i (x h); result = λ h g. y h }
 
-  pub number-plain : (f : TypeForm) → HasNumber f → is_aggregate (f ∷ []) (record { 0 = 0 }) ≡ false
-  number-plain (forms.Integer i) h = refl
-  number-plain (forms.Pointer t) h = refl
-  number-plain (forms.Function ps r) h = refl
-  number-plain forms.Bool h = absurd h
-  number-plain forms.Unit h = absurd h
-  number-plain (forms.Array t m) h = absurd h
-  number-plain (forms.Struct m q l) h = absurd h
-
-  wide-plain : (t : TypeId) → IsWide types t → is_aggregate types t ≡ false
-  wide-plain t h = (h 0 (omega arith)).0
-
-  -- two operators, the second over what the first gives
-  twice-ok : {P : Type 0} (t : TypeId) (op other : BinaryOperator) (form : Number) (a b x : Operand) (u : Used) →
-      is_aggregate types t ≡ false → (P → operand_fits tac a ≡ true) → (P → operand_fits tac b ≡ true) → (P → operand_fits tac x ≡ true) →
-      Ok P u (then_piece (compute op form a b u) (λ r u'. compute other form x (word_of r) u')) (Gives the_value t (with_temp (with_temp u)))
-  twice-ok t op other form a b x u plain ha hb hx =
-      then-ok {R = λ r. operand_fits tac (word_of r) ≡ true} (compute op form a b u) (compute other form x (Temp u.temps) (with_temp u))
-      (compute-ok (λ r. operand_fits tac (word_of r) ≡ true) op form a b u ha hb (λ o f. f))
-      (compute-ok (Gives the_value t (with_temp (with_temp u))) other form x (Temp u.temps) (with_temp u) (λ h. hx h.0) (λ h. h.1)
-      (λ o f. (f, plain)))
-
-  apart-ok-ok : {P : Type 0} (t : TypeId) (x y : Operand) (size : ℕ) (u : Used) → size < 2 ^ 64 → is_aggregate types t ≡ false →
-      (P → operand_fits tac x ≡ true) → (P → operand_fits tac y ≡ true) →
-      Ok P u (difference size x y u) (Gives the_value t (with_temp (with_temp u)))
-  apart-ok-ok t x y size u small plain hx hy =
-      then-ok {R = λ r. operand_fits tac (word_of r) ≡ true} (compute operators.Subtract (long true) x y u)
-      (compute operators.Divide (long true) (Temp u.temps) (Constant size) (with_temp u))
-      (compute-ok (λ r. operand_fits tac (word_of r) ≡ true) operators.Subtract (long true) x y u hx hy (λ o f. f))
-      (compute-ok (Gives the_value t (with_temp (with_temp u))) operators.Divide (long true) (Temp u.temps) (Constant size) (with_temp u)
-      (λ h. h.1) (λ h. lt-ltb size (2 ^ 64) small) (λ o f. (f, plain)))
-
-  pub binary-ok : {P : Type 0} (at : Place) (t : TypeId) (form : Number) (op : BinaryOperator) (x y : Operand) (u : Used) →
-      place_fits at ≡ true → is_aggregate types t ≡ false → (P → operand_fits tac x ≡ true) → (P → operand_fits tac y ≡ true) →
-      Ok P u (binary at form op x y u) (Gives the_value t (binary at form op x y u).used)
-  binary-ok {P = P} at t form op x y u place plain hx hy = by (divides op)
-    where
-      by : (b : Bool) → Ok P u (then_piece (if b then doing (tt {0}) (TestDivisor at y) u else known (tt {0}) u)
-          (λ t1 u'. compute op form x y u')) (Gives the_value t (then_piece (if b then doing (tt {0}) (TestDivisor at y) u else known (tt {0}) u)
-          (λ t1 u'. compute op form x y u')).used)
-      by true =
-          then-ok {R = λ b. Unit {0}} (doing (tt {0}) (TestDivisor at y) u) (compute op form x y u)
-          (doing-ok (λ b. Unit {0}) tt (TestDivisor at y) u (λ h. and_from (place_fits at) (operand_fits tac y) place (hy h)) (λ h. tt))
-          (compute-ok (Gives the_value t (with_temp u)) op form x y u (λ h. hx h.0) (λ h. hy h.0) (λ o f. (f, plain)))
-      by false = compute-ok (Gives the_value t (with_temp u)) op form x y u hx hy (λ o f. (f, plain))
-
-  pub extracted-ok : {P : Type 0} (s t : TypeId) (offset : ℕ) (r : Result) (u : Used) → bytes_at types t ≤ 128 →
-      is_aggregate types s ≡ true → offset + bytes_at types t ≤ bytes_at types s → (P → Gives the_value s u r) →
-      Ok P u (extracted types t offset r u) (Gives the_value t (extracted types t offset r u).used)
-  extracted-ok s t offset (an_area n) u narrow agg fits x =
-      loaded-ok t (spots.Area n offset) u narrow
-      (λ h. let v = x h in let e = v.2 in (v.0, v.1, omega (arith, e, fits)))
-  extracted-ok s t offset (a_word o) u narrow agg fits x = record {
-    grown = grown-none u;
-    slim = λ n. n;
-    fine = λ h g. none-fits;
-    result = λ h g. let bad : true ≡ false = sym agg ∙ (x h).1 in absurd (grind (arith, bad));
-  }
-  extracted-ok s t offset (an_offset o) u narrow agg fits x =
-      record { grown = grown-none u; slim = λ n. n; fine = λ h g. none-fits; result = λ h g. absurd (x h) }
-
-  -- the entries of a struct go to its area, which is none of theirs
-
-  abbrev pub NarrowAll : List TypeId → Type 0
-  NarrowAll [] = Unit {0}
-  NarrowAll (t ∷ ts) = (bytes_at types t ≤ 128) × NarrowAll ts
-
-  pub constructed-ok : {P : Type 0} (u w : Used) (size : ℕ) (os : List ℕ) (ts : List TypeId) (rs : List Result) → NarrowAll ts →
-      EntriesFit types size os ts → length u.areas < length w.areas → Grown u w →
-      (P → (length u.areas < length tac.areas) × (area_size tac (length u.areas) ≡ size)) → (P → AllGive ts u rs) →
-      Ok P w (constructed types (length u.areas) os ts rs w) (λ b. Unit {0})
-  constructed-ok u w size [] ts rs narrow fits lt g there x = known-ok (λ b. Unit {0}) tt w (λ h. tt)
-  constructed-ok u w size (o ∷ os) [] rs narrow fits lt g there x = known-ok (λ b. Unit {0}) tt w (λ h. tt)
-  constructed-ok u w size (o ∷ os) (t ∷ ts) [] narrow fits lt g there x = known-ok (λ b. Unit {0}) tt w (λ h. tt)
-  constructed-ok {P = P} u w size (o ∷ os) (t ∷ ts) (r ∷ rs) narrow fits lt g there x =
-      let p = stored types t (spots.Area (length u.areas) o) r w in
-      let first = stored-ok t (spots.Area (length u.areas) o) r w w narrow.0
-          (λ h. let e = (there h).1 in let f = fits.0 in (lt, (there h).0, omega (arith, e, f)))
-          (λ h. gives-later the_value t u w r g (x h).0)
-          (λ h n e. apart r (x h).0 n e) in
-      then-ok {R = λ b. Unit {0}} p (constructed types (length u.areas) os ts rs p.used) first
-      (constructed-ok u p.used size os ts rs narrow.1 fits.1
-      (let c = grown-count w p.used first.grown in omega (arith, c, lt)) (grown-then u w p.used g first.grown) (λ h. there h.0)
-      (λ h. (x h.0).1))
-    where
-      apart : (q : Result) → Gives the_value t u q → (n : ℕ) → q ≡ an_area n → are_apart (spots.Area (length u.areas) o) (spots.Area n 0) ≡ true
-      apart (an_area m) h n e =
-          let lt1 = h.0 in
-          let same : m ≡ n = grind (arith, e) in
-          not_from_false (nat_eq (length u.areas) n) (ne_eqb (length u.areas) n (λ f. let z : ⊥ = absurd (omega (arith, lt1, f, same)) in z))
-      apart (a_word a) h n e = absurd (grind (arith, e))
-      apart (an_offset a) h n e = absurd (grind (arith, e))
-
   pub weak-ok : {A : Type 0} {P Q : Type 0} {R : A → Type 0} (p : Piece A) (u : Used) → Ok P u p R → (Q → P) → Ok Q u p R
   weak-ok p u x f = record { grown = x.grown; slim = x.slim; fine = λ h g. x.fine (f h) g; result = λ h g. x.result (f h) g }
-
-  module _ (st : Contents) (are : AreTypes types) (entries : List FnId) (few : length entries < 2 ^ 32) (homes : List Home) where
-    abbrev store : Contents
-    store = record st { types = types }
-
-    abbrev c : Around
-    c = record { store = store; entries = entries; homes = homes }
-
-    pub small-size : (t : TypeId) → bytes_at types t < 2 ^ 64
-    small-size t = let h = sized types are t in omega (arith, h)
-
-    unless-plain : (t : TypeId) → NumberUnless types (nat_eq t.0 boolean.0) t → is_aggregate types t ≡ false
-    unless-plain t h = by (nat_eq t.0 boolean.0) refl h
-      where
-        by : (b : Bool) → nat_eq t.0 boolean.0 ≡ b → NumberUnless types b t → is_aggregate types t ≡ false
-        by true e n = plain-boolean store are entries few t e
-        by false e n = number-plain (form_at types t) n
-
-    binary-plain : (b : Bool) (first t : TypeId) → BinaryNeeds types b first t → is_aggregate types t ≡ false
-    binary-plain true first t h = subst (λ g. is_aggregate (g ∷ []) (record { 0 = 0 }) ≡ false) (sym h) refl
-    binary-plain false first t h = subst (λ k. is_aggregate types k ≡ false) h.1 (number-plain (form_at types first) h.0)
-
-    pub usable-small : (t : TypeId) → typing.is_usable store t ≡ true → bytes_at types t ≤ 128
-    usable-small t h = by (size_of types t) h
-      where
-        by : (o : Option ℕ) → typing.small o ≡ true → unwrap_or o 0 ≤ 128
-        by None e = absurd (no e)
-        by (Some n) e = leb-true n 128 e
-
-    pub usable-all : (ts : List TypeId) → typing.all_usable store ts ≡ true → NarrowAll ts
-    usable-all [] h = tt
-    usable-all (t ∷ ts) h =
-        let p = and_parts (typing.is_usable store t) (typing.all_usable store ts) h in (usable-small t p.0, usable-all ts p.1)
-
-    rest-give : (t : TypeId) (ts : List TypeId) (v : Used) (rs : List Result) → AllGive (t ∷ ts) v rs → AllGive ts v (rest rs)
-    rest-give t ts v [] h = absurd h
-    rest-give t ts v (r ∷ rs) h = h.1
-
-    first-gives : (t : TypeId) (ts : List TypeId) (v : Used) (rs : List Result) → AllGive (t ∷ ts) v rs →
-        Gives the_value t v (result_at rs 0)
-    first-gives t ts v [] h = absurd h
-    first-gives t ts v (r ∷ rs) h = h.0
-
-    module _ {P : Type 0} (at : Place) (t : TypeId) (ts : List TypeId) (rs : List Result) (u : Used) (place : place_fits at ≡ true)
-        (narrow : bytes_at types t ≤ 128) (usable : typing.all_usable store ts ≡ true) (x : P → AllGive ts u rs) where
-      abbrev Fit : Operation → Type 0
-      Fit op = Ok P u (operation c at t op ts rs u) (Gives the_value t (operation c at t op ts rs u).used)
-
-      abbrev W : Result → Type 0
-      W = Gives the_value t (with_temp u)
-
-      word : (i : ℕ) → P → operand_fits tac (word_at rs i) ≡ true
-      word i h = words-fit ts u rs i (x h)
-
-      not-ok : is_aggregate types t ≡ false → Fit operations.Not
-      not-ok plain = by (nat_eq t.0 boolean.0)
-        where
-          by : (b : Bool) → Ok P u (if b then compute operators.Xor whole_word (word_at rs 0) (Constant 1) u
-              else compute operators.Xor (number_of types t) (word_at rs 0) (Constant (2 ^ 64 - 1)) u)
-              (Gives the_value t (if b then compute operators.Xor whole_word (word_at rs 0) (Constant 1) u
-              else compute operators.Xor (number_of types t) (word_at rs 0) (Constant (2 ^ 64 - 1)) u).used)
-          by true = compute-ok W operators.Xor whole_word (word_at rs 0) (Constant 1) u (word 0) (λ h. refl) (λ o f. (f, plain))
-          by false =
-              compute-ok W operators.Xor (number_of types t) (word_at rs 0) (Constant (2 ^ 64 - 1)) u (word 0) (λ h. refl)
-              (λ o f. (f, plain))
-
-      convert-ok : is_aggregate types t ≡ false → Fit operations.Convert
-      convert-ok plain = by (nat_eq t.0 boolean.0)
-        where
-          by : (b : Bool) → Ok P u (if b then compute operators.NotEqual whole_word (word_at rs 0) (Constant 0) u
-              else compute operators.Add (number_of types t) (word_at rs 0) (Constant 0) u)
-              (Gives the_value t (if b then compute operators.NotEqual whole_word (word_at rs 0) (Constant 0) u
-              else compute operators.Add (number_of types t) (word_at rs 0) (Constant 0) u).used)
-          by true = compute-ok W operators.NotEqual whole_word (word_at rs 0) (Constant 0) u (word 0) (λ h. refl) (λ o f. (f, plain))
-          by false = compute-ok W operators.Add (number_of types t) (word_at rs 0) (Constant 0) u (word 0) (λ h. refl) (λ o f. (f, plain))
-
-      abbrev goes : Bool → Piece Destination
-      goes b = if b then known (destinations.Area (length u.areas)) (with_area (bytes_at types t) u)
-          else known (destinations.Temp u.temps) (with_temp u)
-
-      call-ok : (f : FnId) → Fit (operations.Call f)
-      call-ok f = by (is_aggregate types t) refl
-        where
-          by : (b : Bool) → is_aggregate types t ≡ b → Ok P u (then_piece (goes b) (λ to u'. call at f rs to u'))
-              (Gives the_value t (then_piece (goes b) (λ to u'. call at f rs to u')).used)
-          by true e = record {
-            grown = grown-area (bytes_at types t) u;
-            slim = slim-area (bytes_at types t) u narrow;
-            fine = λ h g. one-fits (Call (destinations.Area (length u.areas)) at f (parts_of rs))
-                (and_from (area_there tac (length u.areas) && place_fits at) (list_all (part_fits tac) (parts_of rs))
-                (and_from (area_there tac (length u.areas)) (place_fits at)
-                (lt-ltb (length u.areas) (length tac.areas) (area-in (bytes_at types t) u g)) place)
-                (parts-fit ts u rs (x h)));
-            result = λ h g. new-area t u g;
-          }
-          by false e = record {
-            grown = grown-temp u;
-            slim = λ n. n;
-            fine = λ h g. one-fits (Call (destinations.Temp u.temps) at f (parts_of rs))
-                (and_from (nat_lt u.temps tac.temps && place_fits at) (list_all (part_fits tac) (parts_of rs))
-                (and_from (nat_lt u.temps tac.temps) (place_fits at) (own-temp u g) place) (parts-fit ts u rs (x h)));
-            result = λ h g. (own-temp u g, e);
-          }
-
-      value-call-ok : (P → list_all (part_fits tac) (parts_of (rest rs)) ≡ true) → Fit operations.CallValue
-      value-call-ok parts = by (is_aggregate types t) refl
-        where
-          sig : Signature
-          sig = signature_in (form_at types (type_at ts 0))
-
-          by : (b : Bool) → is_aggregate types t ≡ b →
-              Ok P u (then_piece (goes b) (λ to u'. call_value at (signature_in (form_at types (type_at ts 0))) rs to u'))
-              (Gives the_value t (then_piece (goes b) (λ to u'. call_value at (signature_in (form_at types (type_at ts 0))) rs to u')).used)
-          by true e = record {
-            grown = grown-area (bytes_at types t) u;
-            slim = slim-area (bytes_at types t) u narrow;
-            fine = λ h g. one-fits (CallValue (destinations.Area (length u.areas)) at sig (word_at rs 0) (parts_of (rest rs)))
-                (and_from (area_there tac (length u.areas) && place_fits at && operand_fits tac (word_at rs 0))
-                (list_all (part_fits tac) (parts_of (rest rs)))
-                (and_from (area_there tac (length u.areas) && place_fits at) (operand_fits tac (word_at rs 0))
-                (and_from (area_there tac (length u.areas)) (place_fits at)
-                (lt-ltb (length u.areas) (length tac.areas) (area-in (bytes_at types t) u g)) place) (word 0 h))
-                (parts h));
-            result = λ h g. new-area t u g;
-          }
-          by false e = record {
-            grown = grown-temp u;
-            slim = λ n. n;
-            fine = λ h g. one-fits (CallValue (destinations.Temp u.temps) at sig (word_at rs 0) (parts_of (rest rs)))
-                (and_from (nat_lt u.temps tac.temps && place_fits at && operand_fits tac (word_at rs 0))
-                (list_all (part_fits tac) (parts_of (rest rs)))
-                (and_from (nat_lt u.temps tac.temps && place_fits at) (operand_fits tac (word_at rs 0))
-                (and_from (nat_lt u.temps tac.temps) (place_fits at) (own-temp u g) place) (word 0 h))
-                (parts h));
-            result = λ h g. (own-temp u g, e);
-          }
-
-      construct-ok : (os : List ℕ) → EntriesFit types (bytes_at types t) os ts → Fit (operations.Construct os)
-      construct-ok os fits =
-          let size = bytes_at types t in
-          let w = with_area size u in
-          let inner = constructed-ok {P = P × (Unit {0} × ((length u.areas < length tac.areas) × (area_size tac (length u.areas) ≡ size)))}
-              u w size os ts rs (usable-all ts usable) fits
-              (let n = length-append u.areas (size ∷ []) in omega (arith, n)) (grown-area size u) (λ h. h.1.1) (λ h. x h.0) in
-          record {
-            grown = grown-then u w (constructed types (length u.areas) os ts rs w).used (grown-area size u) inner.grown;
-            slim = λ n. inner.slim (slim-area size u narrow n);
-            fine = λ h g.
-                let g1 = grown-then w (constructed types (length u.areas) os ts rs w).used within inner.grown g in
-                let there = area-in size u g1 in
-                let own = own-area size u g1 in
-                fine-append (does (Clear (length u.areas) size) ∷ []) (constructed types (length u.areas) os ts rs w).code
-                (one-fits (Clear (length u.areas) size)
-                (and_from (area_there tac (length u.areas)) (nat_le size (area_size tac (length u.areas)))
-                (lt-ltb (length u.areas) (length tac.areas) there) (le-leb size (area_size tac (length u.areas)) (omega (arith, own)))))
-                (inner.fine (h, (tt, (there, own))) g);
-            result = λ h g.
-                let v = (constructed types (length u.areas) os ts rs w).used in
-                let g1 = grown-then w v within inner.grown g in
-                gives-later the_value t w v (an_area (length u.areas)) inner.grown (new-area t u g1);
-          }
-
-    -- an operation of the operands' types fits, and gives a value of its type
-    pub operation-ok : {P : Type 0} (at : Place) (t : TypeId) (op : Operation) (ts : List TypeId) (rs : List Result) (u : Used) →
-        place_fits at ≡ true → bytes_at types t ≤ 128 → typing.all_usable store ts ≡ true → typing.operation_typed store op ts t ≡ true →
-        (P → AllGive ts u rs) → Ok P u (operation c at t op ts rs u) (Gives the_value t (operation c at t op ts rs u).used)
-    operation-ok at t operations.Negate ts rs u place narrow usable h x =
-        let n = operation-needs store are entries few operations.Negate ts t usable h in
-        compute-ok (Gives the_value t (with_temp u)) operators.Subtract (number_of types t) (Constant 0) (word_at rs 0) u (λ y. refl)
-        (λ y. words-fit ts u rs 0 (x y)) (λ o f. (f, number-plain (form_at types t) n))
-    operation-ok at t operations.Not ts rs u place narrow usable h x =
-        let n = operation-needs store are entries few operations.Not ts t usable h in
-        not-ok at t ts rs u place narrow usable x (unless-plain t n.1)
-    operation-ok at t (operations.Binary op) ts rs u place narrow usable h x =
-        let n = operation-needs store are entries few (operations.Binary op) ts t usable h in
-        binary-ok at t (number_of types (type_at ts 0)) op (word_at rs 0) (word_at rs 1) u place
-        (binary-plain (is_comparison op) (type_at ts 0) t n) (λ y. words-fit ts u rs 0 (x y)) (λ y. words-fit ts u rs 1 (x y))
-    operation-ok at t operations.StepForward ts rs u place narrow usable h x =
-        let n = operation-needs store are entries few operations.StepForward ts t usable h in
-        let size = bytes_at types (target_of types t) in
-        twice-ok t operators.Multiply operators.Add whole_word (word_at rs 1) (Constant size) (word_at rs 0) u (wide-plain t n)
-        (λ y. words-fit ts u rs 1 (x y)) (λ y. lt-ltb size (2 ^ 64) (small-size (target_of types t))) (λ y. words-fit ts u rs 0 (x y))
-    operation-ok at t operations.StepBack ts rs u place narrow usable h x =
-        let n = operation-needs store are entries few operations.StepBack ts t usable h in
-        let size = bytes_at types (target_of types t) in
-        twice-ok t operators.Multiply operators.Subtract whole_word (word_at rs 1) (Constant size) (word_at rs 0) u (wide-plain t n)
-        (λ y. words-fit ts u rs 1 (x y)) (λ y. lt-ltb size (2 ^ 64) (small-size (target_of types t))) (λ y. words-fit ts u rs 0 (x y))
-    operation-ok at t operations.Difference ts rs u place narrow usable h x =
-        let n = operation-needs store are entries few operations.Difference ts t usable h in
-        apart-ok-ok t (word_at rs 0) (word_at rs 1) (bytes_at types (target_of types (type_at ts 0))) u
-        (small-size (target_of types (type_at ts 0))) (wide-plain t n.1) (λ y. words-fit ts u rs 0 (x y)) (λ y. words-fit ts u rs 1 (x y))
-    operation-ok at t operations.Convert ts rs u place narrow usable h x =
-        let n = operation-needs store are entries few operations.Convert ts t usable h in
-        convert-ok at t ts rs u place narrow usable x (unless-plain t n)
-    operation-ok at t (operations.Extract o) [] rs u place narrow usable h x = absurd (no h)
-    operation-ok at t (operations.Extract o) (s ∷ ts) rs u place narrow usable h x =
-        let n = operation-needs store are entries few (operations.Extract o) (s ∷ ts) t usable h in
-        extracted-ok s t o (result_at rs 0) u narrow n.0 n.1 (λ y. first-gives s ts u rs (x y))
-    operation-ok at t (operations.Call f) ts rs u place narrow usable h x = call-ok at t ts rs u place narrow usable x f
-    operation-ok at t (operations.Primitive primitives.PutByte) ts rs u place narrow usable h x =
-        let n = operation-needs store are entries few (operations.Primitive primitives.PutByte) ts t usable h in
-        doing-ok (Gives the_value t u) no_word (PutByte (word_at rs 0)) u (λ y. words-fit ts u rs 0 (x y)) (λ y. (refl, n.0))
-    operation-ok at t (operations.Primitive primitives.Write) ts rs u place narrow usable h x =
-        let n = operation-needs store are entries few (operations.Primitive primitives.Write) ts t usable h in
-        doing-ok (Gives the_value t u) no_word (Write at (word_at rs 0) (word_at rs 1)) u
-        (λ y. and_from (place_fits at && operand_fits tac (word_at rs 0)) (operand_fits tac (word_at rs 1))
-        (and_from (place_fits at) (operand_fits tac (word_at rs 0)) place (words-fit ts u rs 0 (x y))) (words-fit ts u rs 1 (x y)))
-        (λ y. (refl, n.0))
-    operation-ok at t (operations.Primitive primitives.Alloc) ts rs u place narrow usable h x =
-        let n = operation-needs store are entries few (operations.Primitive primitives.Alloc) ts t usable h in
-        record {
-          grown = grown-temp u;
-          slim = λ n. n;
-          fine = λ y g. one-fits (Alloc u.temps (word_at rs 0))
-              (and_from (nat_lt u.temps tac.temps) (operand_fits tac (word_at rs 0)) (own-temp u g) (words-fit ts u rs 0 (x y)));
-          result = λ y g. (own-temp u g, wide-plain t n);
-        }
-    operation-ok at t operations.CallValue [] rs u place narrow usable h x =
-        absurd (operation-needs store are entries few operations.CallValue [] t usable h)
-    operation-ok at t operations.CallValue (s ∷ ts) rs u place narrow usable h x =
-        value-call-ok at t (s ∷ ts) rs u place narrow usable x (λ y. parts-fit ts u (rest rs) (rest-give s ts u rs (x y)))
-    operation-ok at t (operations.Construct os) ts rs u place narrow usable h x =
-        let n = operation-needs store are entries few (operations.Construct os) ts t usable h in
-        construct-ok at t ts rs u place narrow usable x os n.1
-

@@ -1,5 +1,5 @@
 -- Lowered code is such as machine code may be made of.
-use Rattle.std.proofs.Common.{◌≡◌, ℕ, zero, suc, ◌+◌, ◌*◌, ◌<◌, ◌≤◌, Bool, true, false, List, [], ◌∷◌, length, refl, sym, ap, ◌∙◌, arith}
+use Rattle.std.proofs.Common.{◌≡◌, ℕ, zero, suc, ◌+◌, ◌*◌, ◌<◌, ◌≤◌, Bool, true, false, List, length, refl, sym, ap, ◌∙◌, arith}
 use Rattle.std.specs.Prelude.{◌^◌, ◌&&◌, ◌↔◌, nat_lt, if◌then◌else◌, IsTrue}
 use Rattle.tl_base.specs.declared.ids.FnId.{FnId}
 use Rattle.terra_types.specs.Opening.{AreTypes}

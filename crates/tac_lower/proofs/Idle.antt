@@ -1,5 +1,5 @@
 -- Where a temporary isn't live in lowered code: a piece reads what it is given, and what it writes itself before.
-use Rattle.std.proofs.Common.{◌≡◌, ℕ, zero, suc, ◌+◌, ◌<◌, ◌≤◌, Bool, true, false, List, [], ◌∷◌, ◌++◌, length, map, Option, Some, None, refl, sym, ap, ◌∙◌, subst, arith}
+use Rattle.std.proofs.Common.{◌≡◌, ℕ, zero, suc, ◌+◌, ◌<◌, Bool, true, false, List, [], ◌∷◌, ◌++◌, length, map, Option, Some, None, refl, ap, ◌∙◌, subst, arith}
 use Rattle.std.specs.Prelude.{◌^◌, ◌-◌, not, ◌&&◌, ◌||◌, nat_eq, slice_get, option_map, if◌then◌else◌}
 use Rattle.std.specs.List.{list_any}
 use Rattle.std.proofs.lemmas.List.Folds.{list_any-append}
@@ -32,17 +32,13 @@ use Rattle.tac_form.specs.declared.tac.Destination.TheVariants as destinations
 use Rattle.tac_form.specs.declared.tac.Instruction.{Instruction}
 use Rattle.tac_form.specs.declared.tac.Instruction.TheVariants.{Compute, TestDivisor, Copy, Locate, Load, Store, Move, Clear, Call, CallValue, PutByte, Write, Alloc}
 use Rattle.tac_form.specs.declared.tac.Exit.{Exit}
-use Rattle.tac_form.specs.declared.tac.Edge.{Edge}
-use Rattle.tac_form.specs.declared.tac.Exit.TheVariants.{Jump, Branch, Return, Fail}
 use Rattle.tac_form.specs.declared.tac.Block.{Block}
-use Rattle.tac_form.specs.declared.graph.Step.{Step}
 use Rattle.tac_form.specs.declared.graph.FlowBlock.{FlowBlock}
-use Rattle.tac_form.specs.Graph.{operand_reads, address_reads, spot_reads, part_reads, parts_reads, instruction_reads, instruction_write, exit_reads, exit_next, step_of, steps_of, block_of}
+use Rattle.tac_form.specs.Graph.{operand_reads, spot_reads, part_reads, parts_reads, instruction_reads, instruction_write, exit_reads, exit_next, step_of, steps_of, block_of}
 use Rattle.tac_form.specs.Live as live
 use Rattle.tac_form.specs.Live.{is_written, before_step, before_exit, at_step, at_place, read_within}
-use Rattle.tac_lower.specs.Items.{Item, does, ends}
-use Rattle.tac_lower.specs.Pieces.{Used, with_temp, with_area, Piece, known, doing, following, then_piece, taken, Result, a_word, an_area, an_offset, no_word, word_of, part_of, parts_of, address_of, result_at, word_at, rest, long, whole_word, number_of, is_bool, given, destination, compute, copied, located, loaded_bit, loaded_number, loaded_area, loaded_word, loaded, stored_part, stored, placed, Holder, in_temp, at_offset, Holders, Bound, holder_of, bound, Around, declare_at, declare, declare_all, first_of}
-use Rattle.tac_lower.specs.Lowering.{reached, variable, entry, element, binary, step, difference, extracted, constructed, construct, primitive, signature_in, call, call_value, operation, Target, to_temp, to_place, target_at, aimed, assigned, assigned_all, Counting, is_one, either_way, with_step, runs}
+use Rattle.tac_lower.specs.Pieces.{Used, with_temp, with_area, Piece, known, doing, following, then_piece, taken, Result, a_word, an_area, an_offset, no_word, word_of, part_of, parts_of, address_of, result_at, word_at, rest, long, whole_word, number_of, is_bool, compute, copied, located, loaded_bit, loaded_number, loaded_word, loaded, stored_part, stored, placed, Holder, in_temp, at_offset, Holders, holder_of, bound, Around, declare_at, declare, declare_all, first_of}
+use Rattle.tac_lower.specs.Lowering.{reached, variable, entry, element, binary, difference, extracted, constructed, signature_in, call, call_value, operation, Target, to_temp, to_place, target_at, aimed, assigned_all, Counting, is_one, either_way, runs}
 use Rattle.tac_lower.proofs.Places.{Point, step_on, start_of, after, after-append, DoesAt, EndsAt, HasAt, has-front, has-back}
 
 abbrev pub before : ℕ → ℕ
@@ -98,7 +94,8 @@ module _ (blocks : List Block) (t : ℕ) where
   IdleNext k [] = Unit {0}
   IdleNext k (c ∷ cs) = Idle k (start_of c) × IdleNext k cs
 
-  pub exit-idle : (at : Point) (x : Exit) (k : ℕ) → EndsAt blocks at x → Lacks (exit_reads x) → IdleNext (before k) (exit_next x) → Idle k at
+  pub exit-idle : (at : Point) (x : Exit) (k : ℕ) → EndsAt blocks at x → Lacks (exit_reads x) → IdleNext (before k)
+      (exit_next x) → Idle k at
   exit-idle at x k d lacks next zero lt = refl
   exit-idle at x zero d lacks next (suc j) lt = absurd (omega (arith, lt))
   exit-idle at x (suc k) d lacks next (suc j) lt =
@@ -280,12 +277,14 @@ module _ (blocks : List Block) (t : ℕ) where
       (P → FreeResult r) → Clean P (stored types of to r u) (λ b. Unit {0})
   stored-clean {P = P} types of to r u x y = by (nat_eq (bytes_at types of) 0) r y
     where
-      store : (q : Result) → (P → FreeResult q) → Clean P (doing (tt {0}) (Store to (number_of types of).size (word_of q)) u) (λ b. Unit {0})
+      store : (q : Result) → (P → FreeResult q) → Clean P (doing (tt {0}) (Store to (number_of types of).size (word_of q)) u)
+          (λ b. Unit {0})
       store q f =
           doing-clean (λ b. Unit {0}) (tt {0}) (Store to (number_of types of).size (word_of q)) u
           (λ h. lacks-both (spot_reads to) (operand_reads (word_of q)) (lacks-spot to (x h)) (lacks-word (word_of q) (f h))) (λ h w. tt)
 
-      by : (b : Bool) (q : Result) → (P → FreeResult q) → Clean P (if b then known (tt {0}) u else stored_part types of to q u) (λ b. Unit {0})
+      by : (b : Bool) (q : Result) → (P → FreeResult q) → Clean P (if b then known (tt {0}) u else stored_part types of to q u)
+          (λ b. Unit {0})
       by true q f = known-clean (λ b. Unit {0}) (tt {0}) u (λ h. tt)
       by false (a_word o) f = store (a_word o) f
       by false (an_area n) f =
@@ -455,7 +454,8 @@ module _ (blocks : List Block) (t : ℕ) where
     operation-clean (operations.Binary op) =
         binary-clean at (number_of forms_of (type_at ts 0)) op (word_at rs 0) (word_at rs 1) u (word 0) (word 1)
     operation-clean operations.StepForward =
-        twice-clean operators.Multiply operators.Add whole_word whole_word (word_at rs 1) (Constant (bytes_at forms_of (target_of forms_of of)))
+        twice-clean operators.Multiply operators.Add whole_word whole_word (word_at rs 1) (Constant (bytes_at forms_of
+        (target_of forms_of of)))
         (word_at rs 0) u (word 1) (λ h. tt) (word 0)
     operation-clean operations.StepBack =
         twice-clean operators.Multiply operators.Subtract whole_word whole_word (word_at rs 1)
@@ -522,7 +522,8 @@ module _ (blocks : List Block) (t : ℕ) where
 
   -- assignments
 
-  target-clean : {P : Type 0} (o : Option Holder) (p : Piece Result) (u : Used) → Clean P p FreeResult → Clean P (target_at o p u) FreeTarget
+  target-clean : {P : Type 0} (o : Option Holder) (p : Piece Result) (u : Used) → Clean P p FreeResult → Clean P
+      (target_at o p u) FreeTarget
   target-clean None p u x = taken-clean {R = FreeResult} FreeTarget to_place p x (λ h r. r)
   target-clean (Some (in_temp n)) p u x = known-clean FreeTarget (to_temp n) u (λ h. tt)
   target-clean (Some (at_offset o)) p u x = taken-clean {R = FreeResult} FreeTarget to_place p x (λ h r. r)

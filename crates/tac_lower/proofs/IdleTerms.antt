@@ -1,6 +1,6 @@
 -- Where a temporary isn't live in the code of terms, and in that of a function.
-use Rattle.std.proofs.Common.{◌≡◌, ℕ, zero, suc, ◌+◌, ◌<◌, ◌≤◌, Bool, true, false, List, [], ◌∷◌, ◌++◌, length, map, Option, Some, None, refl, sym, ap, ◌∙◌, subst, arith}
-use Rattle.std.specs.Prelude.{◌-◌, ◌||◌, nat_eq, if◌then◌else◌}
+use Rattle.std.proofs.Common.{◌≡◌, ℕ, zero, suc, ◌+◌, Bool, true, false, List, [], ◌∷◌, ◌++◌, length, map, Some, refl, ap, ◌∙◌, subst, arith}
+use Rattle.std.specs.Prelude.{◌-◌, nat_eq, if◌then◌else◌}
 use Rattle.std.specs.List.{list_any}
 use Rattle.std.proofs.lemmas.Bool.{or_parts}
 use Rattle.tl_base.specs.declared.ids.FnId.{FnId}
@@ -19,10 +19,10 @@ use Rattle.tac_form.specs.declared.tac.Instruction.TheVariants.{Compute, Copy}
 use Rattle.tac_form.specs.declared.tac.Exit.TheVariants as exits
 use Rattle.tac_form.specs.declared.tac.Block.{Block}
 use Rattle.tac_form.specs.Fits.{goes_to}
-use Rattle.tac_lower.specs.Items.{Item, does, ends, skips, tests, repeats, repeats_unless, leaves, gives, fails, count_ends, onward, backward, with_items, empty_draft, blocks_of}
-use Rattle.tac_lower.specs.Pieces.{Used, with_temp, Piece, known, doing, following, then_piece, taken, Result, a_word, no_word, word_of, part_of, word_at, rest, whole_word, number_of, given, compute, located, Holders, Around, declare, declare_all, nothing_used}
-use Rattle.tac_lower.specs.Lowering.{reached, entry, element, operation, opposite, passed_over, aimed, Target, assigned_all, Counting, counting, step_in, runs, counted_on, while_loop, repeat_loop, choice, piece, pieces, targets, one, all, around, received, ending, code_of}
-use Rattle.tac_lower.proofs.Places.{Point, start_of, after, after-append, after-block, EndsAt, HasAt, has-front, has-back, has-loop, ends-append}
+use Rattle.tac_lower.specs.Items.{Item, does, ends, skips, tests, repeats, repeats_unless, gives, fails, count_ends, onward, backward, empty_draft}
+use Rattle.tac_lower.specs.Pieces.{Used, with_temp, Piece, known, doing, following, taken, Result, a_word, no_word, word_of, part_of, word_at, rest, whole_word, number_of, given, compute, located, Holders, Around, declare, declare_all, nothing_used}
+use Rattle.tac_lower.specs.Lowering.{reached, entry, element, operation, opposite, passed_over, aimed, Target, assigned_all, counting, step_in, runs, while_loop, repeat_loop, choice, piece, pieces, targets, one, all, around, received, ending, code_of}
+use Rattle.tac_lower.proofs.Places.{Point, start_of, after, after-append, after-block, HasAt, has-front, has-back, has-loop, ends-append}
 use Rattle.tac_lower.proofs.Loops.{after-loop, while_code, while-count, while-after}
 use Rattle.tac_lower.proofs.Whole.{has-whole}
 use Rattle.tac_lower.proofs.Functions.{ends-whole}
@@ -122,18 +122,23 @@ module _ (blocks : List Block) (t : ℕ) where
         let to_m : suc (suc at.block + count_ends p.code) + nb ≡ suc m.block + 0 = omega (arith, at_l, at_m) in
         let to_l : suc (suc at.block + count_ends p.code) + nb ≡ suc l.block + nb = omega (arith, at_l) in
         let to_b : suc l.block ≡ b + na = omega (arith, at_l) in
-        let last = idles.exit-idle blocks t m (exits.Jump (onward (suc m.block + 0))) k back.0 refl
-        (idles.idle-before blocks t k (start_of (suc m.block + 0))
-        (shifted k (suc (suc at.block + count_ends p.code) + nb) (suc m.block + 0) to_m behind), tt) in
+        let last = idles.exit-idle blocks t m (exits.Jump (onward (suc m.block + 0))) k back.0 refl (
+          idles.idle-before blocks t k (start_of (suc m.block + 0))
+              (shifted k (suc (suc at.block + count_ends p.code) + nb) (suc m.block + 0) to_m behind),
+          tt,
+        ) in
         let second = y.idle out k (start_of (suc l.block))
         (has-front blocks out (start_of (suc l.block)) q.code (ends (skips 0) ∷ []) middle.1) h (λ s. last) u in
-        let skip = idles.exit-idle blocks t l (exits.Jump (onward (suc l.block + nb))) k middle.0 refl
-        (idles.idle-before blocks t k (start_of (suc l.block + nb))
-        (shifted k (suc (suc at.block + count_ends p.code) + nb) (suc l.block + nb) to_l behind), tt) in
+        let skip = idles.exit-idle blocks t l (exits.Jump (onward (suc l.block + nb))) k middle.0 refl (
+          idles.idle-before blocks t k (start_of (suc l.block + nb))
+              (shifted k (suc (suc at.block + count_ends p.code) + nb) (suc l.block + nb) to_l behind),
+          tt,
+        ) in
         let first = x.idle out k (start_of b) (has-front blocks out (start_of b) p.code (ends (skips nb) ∷ tail) has.1) h (λ s. skip) u in
-        idles.exit-idle blocks t at (exits.Branch o (onward b) (onward (b + na))) k has.0 (idles.lacks-word blocks t o (f h))
-        (idles.idle-before blocks t k (start_of b) first,
-        (idles.idle-before blocks t k (start_of (b + na)) (shifted k (suc l.block) (b + na) to_b second), tt));
+        idles.exit-idle blocks t at (exits.Branch o (onward b) (onward (b + na))) k has.0 (idles.lacks-word blocks t o (f h)) (
+          idles.idle-before blocks t k (start_of b) first,
+          (idles.idle-before blocks t k (start_of (b + na)) (shifted k (suc l.block) (b + na) to_b second), tt),
+        );
   }
 
   while-rounds : {A : Type 0} {P : Type 0} {S : A → Type 0} (p : Piece Result) (q : Piece A) → Clean P p FreeResult →
@@ -162,9 +167,10 @@ module _ (blocks : List Block) (t : ℕ) where
       (λ r. let body = y.idle e (suc k) (start_of (suc l.block))
       (has-front blocks e (start_of (suc l.block)) q.code back has_tail.1) (h, r) (λ s. round) earlier in
       idles.exit-idle blocks t l (exits.Branch a (onward (suc l.block)) (onward (suc l.block + suc (count_ends q.code)))) (suc k) has_tail.0
-      (idles.lacks-word blocks t a r)
-      (idles.idle-before blocks t (suc k) (start_of (suc l.block)) body,
-      (shifted k e (suc l.block + suc (count_ends q.code)) to_e earlier, tt))) earlier
+      (idles.lacks-word blocks t a r) (
+        idles.idle-before blocks t (suc k) (start_of (suc l.block)) body,
+        (shifted k e (suc l.block + suc (count_ends q.code)) to_e earlier, tt),
+      )) earlier
 
   while-clean : {A B : Type 0} {P : Type 0} {S : A → Type 0} (R : B → Type 0) (p : Piece Result) (q : Piece A) (r : B) → (P → R r) →
       Clean P p FreeResult → Clean (P × FreeResult p.result) q S →
@@ -454,7 +460,8 @@ module _ (blocks : List Block) (t : ℕ) where
           let p = piece c the_value e from scope u in
           idles.taken-clean blocks t {R = FreeResult} FreeScope (λ v. scope) p (expression-clean the_value e from scope u) (λ h r. h)
 
-      pub block-clean : (ss : Statements) (from : ℕ) (scope : Holders) (u : Used) → Clean (FreeScope scope) (all c ss from scope u) FreeScope
+      pub block-clean : (ss : Statements) (from : ℕ) (scope : Holders) (u : Used) → Clean (FreeScope scope)
+          (all c ss from scope u) FreeScope
       block-clean done from scope u = idles.known-clean blocks t FreeScope scope u (λ h. h)
       block-clean (and_then st ss) from scope u =
           let p = one c st from scope u in

@@ -11,4 +11,6 @@
 
 pub mod law;
 
-pub use law::{lowered_code_is_counted, lowered_code_is_good, lowered_code_is_sized, lowering_keeps_runs};
+pub use law::{
+    lowered_code_is_counted, lowered_code_is_good, lowered_code_is_sized, lowering_keeps_runs,
+};
