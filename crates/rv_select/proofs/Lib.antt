@@ -32,6 +32,9 @@ pub mod Passes
 pub mod Quits
 pub mod Callings
 pub mod Receives
+pub mod Waits
+pub mod Finds
+pub mod Stands
 pub mod Returns
 pub mod Entrances
 pub mod Within

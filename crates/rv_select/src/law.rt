@@ -2,6 +2,7 @@
 
 ghost use Rattle.rv_select.specs.Compared.{ComparesAreCarried, ComparesKeepWithin};
 ghost use Rattle.rv_select.specs.Frames.{CallsAreBegun, CallsKeepWithin, FramesKeepWithin, FunctionsAreEntered, FunctionsAreLeft, ParametersAreReceived};
+ghost use Rattle.rv_select.specs.Waiting.{CallersGoOnWaiting};
 ghost use Rattle.rv_select.specs.Steps.{ExitsAreCarried, ExitsKeepWithin, InstructionsAreCarried, ShapesKeepWithin};
 
 /// The code of an instruction carries it out: from each state of the machine that holds what three-address code sees in a state, it
@@ -65,4 +66,9 @@ pub fn compares_are_carried()
 /// It has fewer words than the two, and as many wherever it stands.
 pub fn compares_keep_within()
     ensures { ComparesKeepWithin }
+{}
+
+/// Callers go on waiting while a function keeps what they rest on.
+pub fn callers_go_on_waiting()
+    ensures { CallersGoOnWaiting }
 {}
