@@ -39,3 +39,4 @@ pub mod Returns
 pub mod Entrances
 pub mod Within
 pub mod Compares
+pub mod Backs

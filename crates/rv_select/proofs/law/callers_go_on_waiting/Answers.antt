@@ -1,7 +1,5 @@
 use Rattle.rv_select.proofs.Waits.{waits-keeps}
-use Rattle.rv_select.proofs.Finds.{find-function}
-use Rattle.rv_select.proofs.Stands.{at-exit}
-use Rattle.rv_select.proofs.Returns.{back-holds}
+use Rattle.rv_select.proofs.Backs.{return-steps}
 use Rattle.rv_select.proofs.law.callers_go_on_waiting.Goals as goal
 
 pub returns : goal.returns
