@@ -40,3 +40,5 @@ pub mod Entrances
 pub mod Within
 pub mod Compares
 pub mod Backs
+pub mod Inner
+pub mod Through
