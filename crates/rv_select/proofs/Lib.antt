@@ -42,3 +42,5 @@ pub mod Compares
 pub mod Backs
 pub mod Inner
 pub mod Through
+pub mod Arrivals
+pub mod Calling

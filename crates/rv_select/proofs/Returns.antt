@@ -58,7 +58,7 @@ pub record BackIn (program : List (Option Instr)) (y : Layout) (bytes base over 
   pub region : after.region ≡ m.region
   pub private : after.private ≡ m.private
 
-if-is : (b : Bool) (x u v : ℕ) → (b ≡ true → x ≡ u) → (b ≡ false → x ≡ v) → x ≡ (if b then u else v)
+pub if-is : (b : Bool) (x u v : ℕ) → (b ≡ true → x ≡ u) → (b ≡ false → x ≡ v) → x ≡ (if b then u else v)
 if-is true x u v f g = f refl
 if-is false x u v f g = g refl
 

@@ -80,7 +80,7 @@ waits-same p image program most size (c ∷ cs) link base placed m n linked s w 
           (restored-same y base (frame_bytes y) m n s) w.1),
     )
 
-lasting : (r : ℕ) → 18 ≤ r → r < 28 → is_lasting r ≡ true
+pub lasting : (r : ℕ) → 18 ≤ r → r < 28 → is_lasting r ≡ true
 lasting r l u =
     let a : nat_le 18 r ≡ true = le-leb 18 r l in
     let b : nat_le r 27 ≡ true = le-leb r 27 (omega (arith, u)) in
