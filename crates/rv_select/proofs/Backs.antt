@@ -342,10 +342,15 @@ to-one p image program most size linked s base m y Used frame h fits sized a (Ar
     no-way : false ≡ true → ⊥
     no-way e = cc
 
+-- how many steps a return takes at most
+abbrev pub return_most : List Caller → ℕ
+return_most [] = 36
+return_most (c ∷ cs) = 39
+
 -- a function returns
 pub return-steps : (p : Program) (image : Image) (program : List (Option Instr)) (most size : ℕ) → IsLinked p image program most → (s : tac.State) (base : ℕ) (m : State)
     (x : StandsIn p image program most size s base m) (block : Block) (v : Part) → slice_get x.code.blocks s.here.block ≡ Some block → slice_get block.instructions s.here.at ≡ None → block.exit ≡ Return v →
-    Stepped p image program most size 39 s m (step p s)
+    Stepped p image program most size (return_most s.callers) s m (step p s)
 return-steps p image program most size linked s base m x block v in-f in-b is =
     let e1 = x.function in
     rw (e1, in-f, in-b) (rw is (go s.callers refl x.waits))
@@ -385,7 +390,7 @@ return-steps p image program most size linked s base m x block v in-f in-b is =
     go : (cs : List Caller) → s.callers ≡ cs →
         Waits p image most size cs (private_word m base) (base + frame_bytes (layout_of x.code (image s.here.function).homes)) (s.here.base + x.code.frame)
         (restored (layout_of x.code (image s.here.function).homes) base m) →
-        Stepped p image program most size 39 s m (give p (value_of s v) cs s)
+        Stepped p image program most size (return_most cs) s m (give p (value_of s v) cs s)
     go [] e w =
         let b = back 0 w.0 refl (omega arith) in (
           refl,

@@ -113,7 +113,7 @@ part-below y Used w base m (parts.Area n) h r = inner (length m.private) h.frame
     inner : (size : ℕ) → base + frame_bytes y ≤ size → size ≤ 603979776 → 2 ^ 32 + (base + area_offset y n) < 2 ^ 64
     inner size a b = omega (arith, a, b, r)
 
-takes-is : (ds : List Destination) (vs : List Value) (a : Activation) → takes_all ds vs a ≡ record a { temps = (takes_all ds vs a).temps; areas = (takes_all ds vs a).areas }
+pub takes-is : (ds : List Destination) (vs : List Value) (a : Activation) → takes_all ds vs a ≡ record a { temps = (takes_all ds vs a).temps; areas = (takes_all ds vs a).areas }
 takes-is [] vs a = refl
 takes-is (d ∷ ds) [] a = refl
 takes-is (Temp t ∷ ds) (v ∷ vs) a = takes-is ds vs (takes (Temp t) v a)

@@ -44,3 +44,5 @@ pub mod Inner
 pub mod Through
 pub mod Arrivals
 pub mod Calling
+pub mod Falls
+pub mod Runs

@@ -16,3 +16,5 @@ pub mod Frames
 pub mod Compared
 -- A program of several functions, and what the machine holds for the calls that wait.
 pub mod Waiting
+-- Runs of a whole program, and how many steps they take.
+pub mod Whole

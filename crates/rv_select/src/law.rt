@@ -3,6 +3,7 @@
 ghost use Rattle.rv_select.specs.Compared.{ComparesAreCarried, ComparesKeepWithin};
 ghost use Rattle.rv_select.specs.Frames.{CallsAreBegun, CallsKeepWithin, FramesKeepWithin, FunctionsAreEntered, FunctionsAreLeft, ParametersAreReceived};
 ghost use Rattle.rv_select.specs.Waiting.{CallersGoOnWaiting};
+ghost use Rattle.rv_select.specs.Whole.{StepsAreCarried};
 ghost use Rattle.rv_select.specs.Steps.{ExitsAreCarried, ExitsKeepWithin, InstructionsAreCarried, ShapesKeepWithin};
 
 /// The code of an instruction carries it out: from each state of the machine that holds what three-address code sees in a state, it
@@ -71,4 +72,9 @@ pub fn compares_keep_within()
 /// Callers go on waiting while a function keeps what they rest on.
 pub fn callers_go_on_waiting()
     ensures { CallersGoOnWaiting }
+{}
+
+/// Each step of a program whose functions stand in the machine is carried out: calls and returns too.
+pub fn steps_are_carried()
+    ensures { StepsAreCarried }
 {}

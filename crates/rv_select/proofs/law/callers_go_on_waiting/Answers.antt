@@ -1,5 +1,4 @@
 use Rattle.rv_select.proofs.Waits.{waits-keeps}
-use Rattle.rv_select.proofs.Calling.{call-step}
 use Rattle.rv_select.proofs.law.callers_go_on_waiting.Goals as goal
 
 pub returns : goal.returns
