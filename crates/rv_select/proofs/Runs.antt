@@ -116,3 +116,136 @@ a-step p image program most size words linked s base m x = in-block (slice_get x
 
 pub steps-carried : StepsAreCarried
 steps-carried p image program most size s base m linked x = let d = a-step p image program most size 0 linked s base m x in (d.bound, d.stepped)
+
+-- a run that is over stays so
+steps-stopped : (p : Program) (k : ℕ) (r : Run) → steps p k (Stops r) ≡ Stops r
+steps-stopped p zero r = refl
+steps-stopped p (suc k) r = refl
+
+nothing-first : (r : Ran) → r ≡ after_output [] r
+nothing-first r = refl
+
+both-outputs : (a b : List ℕ) (r : Ran) → after_output a (after_output b r) ≡ after_output (a ++ b) r
+both-outputs a b r = ap (λ o. record { stop = r.stop; state = r.state; output = o }) (sym (append_assoc a b r.output))
+
+-- outputs one after the other
+outs-both : (s t out a b : List ℕ) → t ≡ s ++ a → out ≡ t ++ b → out ≡ s ++ (a ++ b)
+outs-both s t out a b e f = f ∙ (ap (λ z. z ++ b) e ∙ append_assoc s a b)
+
+-- some steps, and a run from there
+then-ended : (p : Program) (image : Image) (program : List (Option Instr)) (most size words bound : ℕ) (out : List ℕ) (s t : tac.State) (m : State) (r : Run) → t.out ≡ s.out ++ out →
+    (a : Arrives p image program most size bound out t m) → bound + steps_left p words t ≤ steps_left p words s → s.left ≤ suc t.left →
+    Ended program (steps_left p words t) t a.after r → Ended program (steps_left p words s) s m r
+then-ended p image program most size words bound out s t m (Over (Returned v) all) e a falls counts (rest, o, d) = (
+  out ++ rest,
+  outs-both s.out t.out all out rest e o,
+  record {
+    count = a.steps + d.count;
+    last = d.last;
+    few = sum (steps_left p words t) (steps_left p words s) a.steps d.count falls a.few d.few;
+    runs = λ more.
+        let split : a.steps + d.count + more ≡ a.steps + (d.count + more) = omega arith in
+        ap (run_of program m) split ∙ (a.runs (d.count + more) ∙ (ap (after_output out) (d.runs more) ∙ both-outputs out rest _));
+    gives = d.gives;
+  },
+)
+  where
+    sum : (l n k c : ℕ) → bound + l ≤ n → k ≤ bound → c ≤ l → k + c ≤ n
+    sum l n k c f g h = omega (arith, f, g, h)
+then-ended p image program most size words bound out s t m (Over (Fault kind at) all) e a falls counts (rest, o, d) = (
+  out ++ rest,
+  outs-both s.out t.out all out rest e o,
+  record {
+    count = a.steps + d.count;
+    last = d.last;
+    few = sum (steps_left p words t) (steps_left p words s) a.steps d.count falls a.few d.few;
+    runs = λ more.
+        let split : a.steps + d.count + more ≡ a.steps + (d.count + more) = omega arith in
+        ap (run_of program m) split ∙ (a.runs (d.count + more) ∙ (ap (after_output out) (d.runs more) ∙ both-outputs out rest _));
+  },
+)
+  where
+    sum : (l n k c : ℕ) → bound + l ≤ n → k ≤ bound → c ≤ l → k + c ≤ n
+    sum l n k c f g h = omega (arith, f, g, h)
+then-ended p image program most size words bound out s t m (Over Stuck all) e a falls counts d = tt
+then-ended p image program most size words bound out s t m (More all) e a falls counts (rest, o, d) = (
+  out ++ rest,
+  outs-both s.out t.out all out rest e o,
+  record {
+    count = a.steps + d.count;
+    after = d.after;
+    enough = least s.left t.left a.steps d.count counts a.some d.enough;
+    few = sum (steps_left p words t) (steps_left p words s) a.steps d.count falls a.few d.few;
+    runs = λ more.
+        let split : a.steps + d.count + more ≡ a.steps + (d.count + more) = omega arith in
+        ap (run_of program m) split ∙ (a.runs (d.count + more) ∙ (ap (after_output out) (d.runs more) ∙ both-outputs out rest _));
+  },
+)
+  where
+    sum : (l n k c : ℕ) → bound + l ≤ n → k ≤ bound → c ≤ l → k + c ≤ n
+    sum l n k c f g h = omega (arith, f, g, h)
+
+    least : (l n k c : ℕ) → l ≤ suc n → 1 ≤ k → n ≤ c → l ≤ k + c
+    least l n k c f g h = omega (arith, f, g, h)
+
+-- the step by which the run is over
+at-end : (p : Program) (image : Image) (program : List (Option Instr)) (most size words bound : ℕ) (s : tac.State) (m : State) (r : Run) → Stepped p image program most size bound s m (Stops r) →
+    FallsIf p words bound s (Stops r) → Ended program (steps_left p words s) s m r
+at-end p image program most size words bound s m (Over (Returned v) out) (e, d) falls = (
+  [],
+  sym (append-nil s.out ∙ sym e),
+  record {
+    count = d.steps;
+    last = d.last;
+    few = under d.steps (steps_left p words s) d.few falls;
+    runs = λ more. d.runs more;
+    gives = d.gives;
+  },
+)
+  where
+    under : (a b : ℕ) → a ≤ bound → bound ≤ b → a ≤ b
+    under a b h g = omega (arith, h, g)
+at-end p image program most size words bound s m (Over (Fault kind at) out) (e, d) falls = (
+  [],
+  sym (append-nil s.out ∙ sym e),
+  record {
+    count = d.steps;
+    last = d.last;
+    few = under d.steps (steps_left p words s) d.few falls;
+    runs = λ more. d.runs more;
+  },
+)
+  where
+    under : (a b : ℕ) → a ≤ bound → bound ≤ b → a ≤ b
+    under a b h g = omega (arith, h, g)
+at-end p image program most size words bound s m (Over Stuck out) d falls = tt
+at-end p image program most size words bound s m (More out) (e, none) falls = (
+  [],
+  sym (append-nil s.out ∙ sym e),
+  record {
+    count = 0;
+    after = m;
+    enough = omega (arith, none);
+    few = omega arith;
+    runs = λ more. let same : 0 + more ≡ more = omega arith in ap (run_of program m) same ∙ nothing-first (run_of program m more);
+  },
+)
+
+same-run : (a b : Run) → Stops a ≡ Stops b → a ≡ b
+same-run a b e = cc
+
+behind-step : (p : Program) (image : Image) (program : List (Option Instr)) (most size words k bound : ℕ) (r : Run) (s : tac.State) (m : State) →
+    ((t : tac.State) (base : ℕ) (n : State) → StandsIn p image program most size t base n → steps p k (Goes t) ≡ Stops r → Ended program (steps_left p words t) t n r) → (moved : tac.Moved) →
+    Stepped p image program most size bound s m moved → FallsIf p words bound s moved → steps p k moved ≡ Stops r → Ended program (steps_left p words s) s m r
+behind-step p image program most size words k bound r s m more (Goes t) (out, e, a) falls ends =
+    then-ended p image program most size words bound out s t m r e a falls.0 falls.1 (more t a.base a.after a.stands ends)
+behind-step p image program most size words k bound r s m more (Stops q) d falls ends =
+    let same : q ≡ r = same-run q r (sym (steps-stopped p k q) ∙ ends) in
+    subst (λ z. Ended program (steps_left p words s) s m z) same (at-end p image program most size words bound s m q d falls)
+
+pub runs-carried : RunsAreCarried
+runs-carried p image program most size words zero r s base m linked short x e = cc
+runs-carried p image program most size words (suc k) r s base m linked short x e =
+    let d = a-step p image program most size words linked s base m x in
+    behind-step p image program most size words k d.bound r s m
+    (λ t b n y g. runs-carried p image program most size words k r t b n linked short y g) (step p s) d.stepped (d.falls short) e
