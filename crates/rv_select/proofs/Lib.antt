@@ -32,7 +32,17 @@ pub mod Passes
 pub mod Quits
 pub mod Callings
 pub mod Receives
+pub mod Waits
+pub mod Finds
+pub mod Stands
 pub mod Returns
 pub mod Entrances
 pub mod Within
 pub mod Compares
+pub mod Backs
+pub mod Inner
+pub mod Through
+pub mod Arrivals
+pub mod Calling
+pub mod Falls
+pub mod Runs
