@@ -145,7 +145,7 @@ Waits p image most size [] link base placed m =
 Waits p image most size (c ∷ cs) link base placed m =
     (w : Waiting p image most c (length cs) link base placed m) ×
     Waits p image most size cs (private_word m base) (base + frame_bytes (layout_of w.code (image c.waits.function).homes)) (placed + w.code.frame)
-      (restored (layout_of w.code (image c.waits.function).homes) base m)
+    (restored (layout_of w.code (image c.waits.function).homes) base m)
 
 -- The machine stands where three-address code does in a state: before the code of the next instruction, or of the exit. It holds what
 -- three-address code sees, and all callers wait; and below the frame there is room for each call that may still be made.
