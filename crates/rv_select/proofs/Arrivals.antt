@@ -30,7 +30,7 @@ pub record InFunction (z : Layout) (base bottom placed depth link : ℕ) (m n : 
   pub eight : n.registers 8 ≡ placed
   pub three : n.registers 3 ≡ m.registers 3
   pub four : n.registers 4 ≡ m.registers 4
-  pub waiting : n.registers 28 ≡ suc depth
+  pub waiting : n.registers 28 ≡ depth
   pub region : n.region ≡ m.region
   pub long : length n.private ≡ length m.private
   pub bytes : AreBytes m.private → AreBytes n.private
@@ -40,7 +40,7 @@ pub record InFunction (z : Layout) (base bottom placed depth link : ℕ) (m n : 
 
 pub enters-call : (program : List (Option Instr)) (y z : Layout) (base bytes frame placed target to link : ℕ) (w : World) (at : Place) (ps : List Part) (rest : List Instr) (m : State)
     (b : Begun program y base w at ps rest m) (j : JumpedTo program target b.after) (e : Enters program z (base - bytes) (placed - frame) to j.after) → 88 ≤ bytes → bytes ≤ base →
-    low (b.after.pc + 8) ≡ link → link < 2 ^ 64 → InFunction z base (base - bytes) (placed - frame) w.depth link m e.after
+    low (b.after.pc + 8) ≡ link → link < 2 ^ 64 → InFunction z base (base - bytes) (placed - frame) (suc w.depth) link m e.after
 enters-call program y z base bytes frame placed target to link w at ps rest m b j e least room link-is small = record {
   pointer = e.pointer;
   eight = e.placed;
@@ -135,7 +135,7 @@ room-next most depth base bytes h shallow few = go h.rest h.calls h.room
 pub begin-holds : (z : Layout) (base bottom placed depth link : ℕ) (region : Contents) (a : Activation) (m n : State) → InFunction z base bottom placed depth link m n → a.base ≡ placed → ((k : ℕ) → a.areas k ≡ []) →
     bottom + frame_bytes z ≤ length n.private → length m.private ≤ 603979776 → AreBytes m.private → n.pc < 2 ^ 64 → m.region ≡ region.bytes → AreBytes region.bytes → IsLawful region →
     m.registers 3 ≡ region.heap → m.registers 4 ≡ end_address region → heap_limit region ≤ placed → placed ≤ end_address region →
-    Holds (without_words z) (λ t. ⊥) (seen a region (suc depth)) bottom n
+    Holds (without_words z) (λ t. ⊥) (seen a region depth) bottom n
 begin-holds z base bottom placed depth link region a m n f base-is none within private bytes pc same are lawful heap limit above below = record {
   frame = record { pointer = f.pointer; within = omega (arith, within); private = subst (λ x. x ≤ 603979776) (sym f.long) private; bytes = f.bytes bytes };
   pc = pc;

@@ -60,7 +60,7 @@ part-is-read code homes Used (parts.Word a) fits f = operand-read code Used a fi
 part-is-read code homes Used (parts.Area n) fits f = ltb-true n (length code.areas) fits
 
 -- the first block begins behind the code that enters the function
-first-start : (y : Layout) (code : Tac) (at : ℕ) → 0 < length code.blocks → start_of (block_starts y code at) 0 ≡ at + 4 * length (head_code y code)
+pub first-start : (y : Layout) (code : Tac) (at : ℕ) → 0 < length code.blocks → start_of (block_starts y code at) 0 ≡ at + 4 * length (head_code y code)
 first-start y code at h = go code.blocks h
   where
     go : (bs : List Block) → 0 < length bs → start_of (starts_from y code.areas (at + 4 * length (head_code y code)) bs) 0 ≡ at + 4 * length (head_code y code)
@@ -120,7 +120,7 @@ takes-is (Temp t ∷ ds) (v ∷ vs) a = takes-is ds vs (takes (Temp t) v a)
 takes-is (Area n ∷ ds) (v ∷ vs) a = takes-is ds vs (takes (Area n) v a)
 
 -- with the parameters' words the frame is as long as it is
-widen : (z : Layout) (Used : ℕ → Type 0) (w : World) (base : ℕ) (m : State) → Holds (without_words z) Used w base m → base + frame_bytes z ≤ length m.private → Holds z Used w base m
+pub widen : (z : Layout) (Used : ℕ → Type 0) (w : World) (base : ℕ) (m : State) → Holds (without_words z) Used w base m → base + frame_bytes z ≤ length m.private → Holds z Used w base m
 widen z Used w base m h within = record {
   frame = record { pointer = h.frame.pointer; within = within; private = h.frame.private; bytes = h.frame.bytes };
   pc = h.pc;
@@ -165,7 +165,7 @@ pub lands : (p : Program) (image : Image) (program : List (Option Instr)) (most 
     slice_get x.code.blocks s.here.block ≡ Some block → slice_get block.instructions s.here.at ≡ Some (Call to place f arguments) → (callee : Tac) → p.code f ≡ Some callee →
     (l k target : ℕ) (a : Activation) (n : State) → a ≡ record (fresh_call f callee s) { temps = a.temps; areas = a.areas } → Way program k m n → 1 ≤ k → k + 6 * length callee.parameters ≤ bound →
     (frame_bytes (layout_of callee (image f).homes)) ≤ base → HasRoom most (suc (length s.callers)) (base - (frame_bytes (layout_of callee (image f).homes))) → callee.frame ≤ s.here.base → s.here.base ≤ end_address s.region → base ≤ length m.private →
-    InFunction (layout_of callee (image f).homes) base (base - (frame_bytes (layout_of callee (image f).homes))) (s.here.base - callee.frame) (length s.callers) (place_in p image x.code (image s.here.function) s.here.block s.here.at + 4 * length (call_begun (layout_of x.code (image s.here.function).homes) place arguments) + 8) m n → target ≡ place_in p image callee (image f) 0 0 →
+    InFunction (layout_of callee (image f).homes) base (base - (frame_bytes (layout_of callee (image f).homes))) (s.here.base - callee.frame) (suc (length s.callers)) (place_in p image x.code (image s.here.function) s.here.block s.here.at + 4 * length (call_begun (layout_of x.code (image s.here.function).homes) place arguments) + 8) m n → target ≡ place_in p image callee (image f) 0 0 →
     Received program (without_words (layout_of callee (image f).homes)) (InUse (graph_of callee) 0 0) (seen a s.region (suc (length s.callers))) (base - (frame_bytes (layout_of callee (image f).homes))) (6 * length callee.parameters) target n →
     Arrives p image program most size bound [] (entered_state s to l a) m
 unfolding made-waiting
@@ -192,9 +192,9 @@ lands p image program most size bound linked s base m x block to place f argumen
         let up : base - (frame_bytes (layout_of callee (image f).homes)) + (frame_bytes (layout_of callee (image f).homes)) ≡ base = back-up base (frame_bytes (layout_of callee (image f).homes)) fit in
         let over : s.here.base - callee.frame + callee.frame ≡ s.here.base = back-up s.here.base callee.frame enough in
         let same : SameAbove base m (restored (layout_of callee (image f).homes) (base - (frame_bytes (layout_of callee (image f).homes))) r.after) =
-        same-after (layout_of callee (image f).homes) base (base - (frame_bytes (layout_of callee (image f).homes))) (s.here.base - callee.frame) (length s.callers) (place_in p image x.code (image s.here.function) s.here.block s.here.at + 4 * length (call_begun (layout_of x.code (image s.here.function).homes) place arguments) + 8) m n r.after inside r.keeps (least base fit) in
+        same-after (layout_of callee (image f).homes) base (base - (frame_bytes (layout_of callee (image f).homes))) (s.here.base - callee.frame) (suc (length s.callers)) (place_in p image x.code (image s.here.function) s.here.block s.here.at + 4 * length (call_begun (layout_of x.code (image s.here.function).homes) place arguments) + 8) m n r.after inside r.keeps (least base fit) in
         let word : private_word r.after (base - (frame_bytes (layout_of callee (image f).homes))) ≡ (place_in p image x.code (image s.here.function) s.here.block s.here.at + 4 * length (call_begun (layout_of x.code (image s.here.function).homes) place arguments) + 8) =
-        link-after (layout_of callee (image f).homes) base (base - (frame_bytes (layout_of callee (image f).homes))) (s.here.base - callee.frame) (length s.callers) (place_in p image x.code (image s.here.function) s.here.block s.here.at + 4 * length (call_begun (layout_of x.code (image s.here.function).homes) place arguments) + 8) m n r.after inside r.keeps in
+        link-after (layout_of callee (image f).homes) base (base - (frame_bytes (layout_of callee (image f).homes))) (s.here.base - callee.frame) (suc (length s.callers)) (place_in p image x.code (image s.here.function) s.here.block s.here.at + 4 * length (call_begun (layout_of x.code (image s.here.function).homes) place arguments) + 8) m n r.after inside r.keeps in
         let caller : Waiting p image most (record { waits = record s.here { at = suc s.here.at }; to = to }) (length s.callers) (place_in p image x.code (image s.here.function) s.here.block s.here.at + 4 * length (call_begun (layout_of x.code (image s.here.function).homes) place arguments) + 8) base s.here.base (restored (layout_of callee (image f).homes) (base - (frame_bytes (layout_of callee (image f).homes))) r.after) =
         made-waiting p image program most size linked s base m (restored (layout_of callee (image f).homes) (base - (frame_bytes (layout_of callee (image f).homes))) r.after) x block to place f arguments (place_in p image x.code (image s.here.function) s.here.block s.here.at + 4 * length (call_begun (layout_of x.code (image s.here.function).homes) place arguments) + 8) in-f in-b refl same in
         let first : private_word (restored (layout_of callee (image f).homes) (base - (frame_bytes (layout_of callee (image f).homes))) r.after) base ≡ private_word m base = ap number_of (same.private base 8 (omega arith)) in
@@ -431,13 +431,13 @@ callee-step p image program most size linked s base m x block to place f argumen
         heap_limit s.region + callee.frame ≤ s.here.base → accepts_all callee callee.parameters (values_of s arguments) ≡ true → (l : ℕ) →
         Arrives p image program most size (49 + 17 * length arguments) [] (entered_state s to l (takes_all callee.parameters (values_of s arguments) (fresh_call f callee s))) m
     arrived en fits accepts l =
-        let inside : InFunction (layout_of callee (image f).homes) base (base - (frame_bytes (layout_of callee (image f).homes))) (s.here.base - callee.frame) (length s.callers) (place_in p image x.code (image s.here.function) s.here.block s.here.at + 4 * length (call_begun (layout_of x.code (image s.here.function).homes) place arguments) + 8) m en.after =
+        let inside : InFunction (layout_of callee (image f).homes) base (base - (frame_bytes (layout_of callee (image f).homes))) (s.here.base - callee.frame) (suc (length s.callers)) (place_in p image x.code (image s.here.function) s.here.block s.here.at + 4 * length (call_begun (layout_of x.code (image s.here.function).homes) place arguments) + 8) m en.after =
         enters-call program (layout_of x.code (image s.here.function).homes) (layout_of callee (image f).homes) base (frame_bytes (layout_of callee (image f).homes)) callee.frame s.here.base ((image f).at + 4 * length (begun callee)) (low (jump.after.pc + 4 * length (entered (layout_of callee (image f).homes) (frame_bytes (layout_of callee (image f).homes)) callee.frame))) (place_in p image x.code (image s.here.function) s.here.block s.here.at + 4 * length (call_begun (layout_of x.code (image s.here.function).homes) place arguments) + 8) (world_of s) place arguments (call_jump (place_in p image x.code (image s.here.function) s.here.block s.here.at + 4 * length (call_begun (layout_of x.code (image s.here.function).homes) place arguments)) (entries_of p image f) ++ call_ended (layout_of x.code (image s.here.function).homes) x.code.areas to) m b jump en before.least room.0
         (link-pc (place_in p image x.code (image s.here.function) s.here.block s.here.at + 4 * length (call_begun (layout_of x.code (image s.here.function).homes) place arguments)) b.after.pc here (link-low (place_in p image x.code (image s.here.function) s.here.block s.here.at + 4 * length (call_begun (layout_of x.code (image s.here.function).homes) place arguments)) c.near)) (link-word (place_in p image x.code (image s.here.function) s.here.block s.here.at + 4 * length (call_begun (layout_of x.code (image s.here.function).homes) place arguments)) c.near) in
         let ahead : en.after.pc ≡ ((image f).at + 4 * length (begun callee)) + 4 * length (entered (layout_of callee (image f).homes) (frame_bytes (layout_of callee (image f).homes)) callee.frame) =
         en.at ∙ (ap (λ q. low (q + 4 * length (entered (layout_of callee (image f).homes) (frame_bytes (layout_of callee (image f).homes)) callee.frame))) jump.pc ∙ low-near (((image f).at + 4 * length (begun callee)) + 4 * length (entered (layout_of callee (image f).homes) (frame_bytes (layout_of callee (image f).homes)) callee.frame)) enter-near) in
         let holds : Holds (without_words (layout_of callee (image f).homes)) (λ t. ⊥) (seen (fresh_call f callee s) s.region (suc (length s.callers))) (base - (frame_bytes (layout_of callee (image f).homes))) en.after =
-        begin-holds (layout_of callee (image f).homes) base (base - (frame_bytes (layout_of callee (image f).homes))) (s.here.base - callee.frame) (length s.callers) (place_in p image x.code (image s.here.function) s.here.block s.here.at + 4 * length (call_begun (layout_of x.code (image s.here.function).homes) place arguments) + 8) s.region (fresh_call f callee s) m en.after inside refl (λ k. refl)
+        begin-holds (layout_of callee (image f).homes) base (base - (frame_bytes (layout_of callee (image f).homes))) (s.here.base - callee.frame) (suc (length s.callers)) (place_in p image x.code (image s.here.function) s.here.block s.here.at + 4 * length (call_begun (layout_of x.code (image s.here.function).homes) place arguments) + 8) s.region (fresh_call f callee s) m en.after inside refl (λ k. refl)
         (subst (λ q. base - (frame_bytes (layout_of callee (image f).homes)) + (frame_bytes (layout_of callee (image f).homes)) ≤ q) (sym inside.long) within-back) x.holds.frame.private x.holds.frame.bytes (subst (λ q. q < 2 ^ 64) (sym ahead) (word-of (((image f).at + 4 * length (begun callee)) + 4 * length (entered (layout_of callee (image f).homes) (frame_bytes (layout_of callee (image f).homes)) callee.frame)) enter-near))
         x.holds.region x.holds.bytes x.holds.lawful x.holds.heap x.holds.limit (less-frame (heap_limit s.region) s.here.base callee.frame fits) (still-below s.here.base callee.frame (end_address s.region) x.holds.below) in
         let words = has-words (layout_of x.code (image s.here.function).homes) base s (base - (frame_bytes (layout_of callee (image f).homes))) (words_offset (layout_of callee (image f).homes)) base 0 callee.parameters arguments en.after (sym count)
