@@ -47,3 +47,4 @@ pub mod Calling
 pub mod Falls
 pub mod Runs
 pub mod Begins
+pub mod Entire

@@ -132,17 +132,32 @@ both-outputs a b r = ap (λ o. record { stop = r.stop; state = r.state; output =
 outs-both : (s t out a b : List ℕ) → t ≡ s ++ a → out ≡ t ++ b → out ≡ s ++ (a ++ b)
 outs-both s t out a b e f = f ∙ (ap (λ z. z ++ b) e ∙ append_assoc s a b)
 
+-- a bound on what a step and all that follows take
+abbrev pub FallsTo : Program → (words top bound : ℕ) → tac.State → tac.Moved → Type 0
+FallsTo p words top bound s (Goes t) = (bound + steps_left p words t ≤ top) × (s.left ≤ suc t.left)
+FallsTo p words top bound s (Stops (Over (Returned v) out)) = bound ≤ top
+FallsTo p words top bound s (Stops (Over (Fault kind at) out)) = bound ≤ top
+FallsTo p words top bound s (Stops (Over Stuck out)) = Unit {0}
+FallsTo p words top bound s (Stops (More out)) = Unit {0}
+
+falls-to : (p : Program) (words bound : ℕ) (s : tac.State) (moved : tac.Moved) → FallsIf p words bound s moved → FallsTo p words (steps_left p words s) bound s moved
+falls-to p words bound s (Goes t) h = h
+falls-to p words bound s (Stops (Over (Returned v) out)) h = h
+falls-to p words bound s (Stops (Over (Fault kind at) out)) h = h
+falls-to p words bound s (Stops (Over Stuck out)) h = tt
+falls-to p words bound s (Stops (More out)) h = tt
+
 -- some steps, and a run from there
-then-ended : (p : Program) (image : Image) (program : List (Option Instr)) (most size words bound : ℕ) (out : List ℕ) (s t : tac.State) (m : State) (r : Run) → t.out ≡ s.out ++ out →
-    (a : Arrives p image program most size bound out t m) → bound + steps_left p words t ≤ steps_left p words s → s.left ≤ suc t.left →
-    Ended program (steps_left p words t) t a.after r → Ended program (steps_left p words s) s m r
-then-ended p image program most size words bound out s t m (Over (Returned v) all) e a falls counts (rest, o, d) = (
+then-ended : (p : Program) (image : Image) (program : List (Option Instr)) (most size words bound top : ℕ) (out : List ℕ) (s t : tac.State) (m : State) (r : Run) → t.out ≡ s.out ++ out →
+    (a : Arrives p image program most size bound out t m) → bound + steps_left p words t ≤ top → s.left ≤ suc t.left →
+    Ended program (steps_left p words t) t a.after r → Ended program top s m r
+then-ended p image program most size words bound top out s t m (Over (Returned v) all) e a falls counts (rest, o, d) = (
   out ++ rest,
   outs-both s.out t.out all out rest e o,
   record {
     count = a.steps + d.count;
     last = d.last;
-    few = sum (steps_left p words t) (steps_left p words s) a.steps d.count falls a.few d.few;
+    few = sum (steps_left p words t) top a.steps d.count falls a.few d.few;
     runs = λ more.
         let split : a.steps + d.count + more ≡ a.steps + (d.count + more) = omega arith in
         ap (run_of program m) split ∙ (a.runs (d.count + more) ∙ (ap (after_output out) (d.runs more) ∙ both-outputs out rest _));
@@ -152,13 +167,13 @@ then-ended p image program most size words bound out s t m (Over (Returned v) al
   where
     sum : (l n k c : ℕ) → bound + l ≤ n → k ≤ bound → c ≤ l → k + c ≤ n
     sum l n k c f g h = omega (arith, f, g, h)
-then-ended p image program most size words bound out s t m (Over (Fault kind at) all) e a falls counts (rest, o, d) = (
+then-ended p image program most size words bound top out s t m (Over (Fault kind at) all) e a falls counts (rest, o, d) = (
   out ++ rest,
   outs-both s.out t.out all out rest e o,
   record {
     count = a.steps + d.count;
     last = d.last;
-    few = sum (steps_left p words t) (steps_left p words s) a.steps d.count falls a.few d.few;
+    few = sum (steps_left p words t) top a.steps d.count falls a.few d.few;
     runs = λ more.
         let split : a.steps + d.count + more ≡ a.steps + (d.count + more) = omega arith in
         ap (run_of program m) split ∙ (a.runs (d.count + more) ∙ (ap (after_output out) (d.runs more) ∙ both-outputs out rest _));
@@ -167,15 +182,15 @@ then-ended p image program most size words bound out s t m (Over (Fault kind at)
   where
     sum : (l n k c : ℕ) → bound + l ≤ n → k ≤ bound → c ≤ l → k + c ≤ n
     sum l n k c f g h = omega (arith, f, g, h)
-then-ended p image program most size words bound out s t m (Over Stuck all) e a falls counts d = tt
-then-ended p image program most size words bound out s t m (More all) e a falls counts (rest, o, d) = (
+then-ended p image program most size words bound top out s t m (Over Stuck all) e a falls counts d = tt
+then-ended p image program most size words bound top out s t m (More all) e a falls counts (rest, o, d) = (
   out ++ rest,
   outs-both s.out t.out all out rest e o,
   record {
     count = a.steps + d.count;
     after = d.after;
     enough = least s.left t.left a.steps d.count counts a.some d.enough;
-    few = sum (steps_left p words t) (steps_left p words s) a.steps d.count falls a.few d.few;
+    few = sum (steps_left p words t) top a.steps d.count falls a.few d.few;
     runs = λ more.
         let split : a.steps + d.count + more ≡ a.steps + (d.count + more) = omega arith in
         ap (run_of program m) split ∙ (a.runs (d.count + more) ∙ (ap (after_output out) (d.runs more) ∙ both-outputs out rest _));
@@ -189,15 +204,15 @@ then-ended p image program most size words bound out s t m (More all) e a falls 
     least l n k c f g h = omega (arith, f, g, h)
 
 -- the step by which the run is over
-at-end : (p : Program) (image : Image) (program : List (Option Instr)) (most size words bound : ℕ) (s : tac.State) (m : State) (r : Run) → Stepped p image program most size bound s m (Stops r) →
-    FallsIf p words bound s (Stops r) → Ended program (steps_left p words s) s m r
-at-end p image program most size words bound s m (Over (Returned v) out) (e, d) falls = (
+at-end : (p : Program) (image : Image) (program : List (Option Instr)) (most size words bound top : ℕ) (s : tac.State) (m : State) (r : Run) → Stepped p image program most size bound s m (Stops r) →
+    FallsTo p words top bound s (Stops r) → Ended program top s m r
+at-end p image program most size words bound top s m (Over (Returned v) out) (e, d) falls = (
   [],
   sym (append-nil s.out ∙ sym e),
   record {
     count = d.steps;
     last = d.last;
-    few = under d.steps (steps_left p words s) d.few falls;
+    few = under d.steps top d.few falls;
     runs = λ more. d.runs more;
     gives = d.gives;
   },
@@ -205,21 +220,21 @@ at-end p image program most size words bound s m (Over (Returned v) out) (e, d) 
   where
     under : (a b : ℕ) → a ≤ bound → bound ≤ b → a ≤ b
     under a b h g = omega (arith, h, g)
-at-end p image program most size words bound s m (Over (Fault kind at) out) (e, d) falls = (
+at-end p image program most size words bound top s m (Over (Fault kind at) out) (e, d) falls = (
   [],
   sym (append-nil s.out ∙ sym e),
   record {
     count = d.steps;
     last = d.last;
-    few = under d.steps (steps_left p words s) d.few falls;
+    few = under d.steps top d.few falls;
     runs = λ more. d.runs more;
   },
 )
   where
     under : (a b : ℕ) → a ≤ bound → bound ≤ b → a ≤ b
     under a b h g = omega (arith, h, g)
-at-end p image program most size words bound s m (Over Stuck out) d falls = tt
-at-end p image program most size words bound s m (More out) (e, none) falls = (
+at-end p image program most size words bound top s m (Over Stuck out) d falls = tt
+at-end p image program most size words bound top s m (More out) (e, none) falls = (
   [],
   sym (append-nil s.out ∙ sym e),
   record {
@@ -234,18 +249,18 @@ at-end p image program most size words bound s m (More out) (e, none) falls = (
 same-run : (a b : Run) → Stops a ≡ Stops b → a ≡ b
 same-run a b e = cc
 
-behind-step : (p : Program) (image : Image) (program : List (Option Instr)) (most size words k bound : ℕ) (r : Run) (s : tac.State) (m : State) →
+pub behind-step : (p : Program) (image : Image) (program : List (Option Instr)) (most size words k bound top : ℕ) (r : Run) (s : tac.State) (m : State) →
     ((t : tac.State) (base : ℕ) (n : State) → StandsIn p image program most size t base n → steps p k (Goes t) ≡ Stops r → Ended program (steps_left p words t) t n r) → (moved : tac.Moved) →
-    Stepped p image program most size bound s m moved → FallsIf p words bound s moved → steps p k moved ≡ Stops r → Ended program (steps_left p words s) s m r
-behind-step p image program most size words k bound r s m more (Goes t) (out, e, a) falls ends =
-    then-ended p image program most size words bound out s t m r e a falls.0 falls.1 (more t a.base a.after a.stands ends)
-behind-step p image program most size words k bound r s m more (Stops q) d falls ends =
+    Stepped p image program most size bound s m moved → FallsTo p words top bound s moved → steps p k moved ≡ Stops r → Ended program top s m r
+behind-step p image program most size words k bound top r s m more (Goes t) (out, e, a) falls ends =
+    then-ended p image program most size words bound top out s t m r e a falls.0 falls.1 (more t a.base a.after a.stands ends)
+behind-step p image program most size words k bound top r s m more (Stops q) d falls ends =
     let same : q ≡ r = same-run q r (sym (steps-stopped p k q) ∙ ends) in
-    subst (λ z. Ended program (steps_left p words s) s m z) same (at-end p image program most size words bound s m q d falls)
+    subst (λ z. Ended program top s m z) same (at-end p image program most size words bound top s m q d falls)
 
 pub runs-carried : RunsAreCarried
 runs-carried p image program most size words zero r s base m linked short x e = cc
 runs-carried p image program most size words (suc k) r s base m linked short x e =
     let d = a-step p image program most size words linked s base m x in
-    behind-step p image program most size words k d.bound r s m
-    (λ t b n y g. runs-carried p image program most size words k r t b n linked short y g) (step p s) d.stepped (d.falls short) e
+    behind-step p image program most size words k d.bound (steps_left p words s) r s m
+    (λ t b n y g. runs-carried p image program most size words k r t b n linked short y g) (step p s) d.stepped (falls-to p words d.bound s (step p s) (d.falls short)) e

@@ -12,9 +12,9 @@ use Rattle.terra_words.specs.Runs.{Value, word, Returned, Fault, Stuck, Run, Ove
 use Rattle.tac_form.specs.declared.tac.Block.{Block}
 use Rattle.tac_form.specs.declared.tac.Tac.{Tac}
 use Rattle.tac_form.specs.Flow as tac
-use Rattle.tac_form.specs.Flow.{Caller, Program, Goes, Stops, enter, step, steps}
+use Rattle.tac_form.specs.Flow.{Caller, Program, Goes, Stops, TacRun, enter, step, steps}
 use Rattle.tac_form.specs.Weights.{block_words, code_words, exit_words, words_of}
-use Rattle.terra_memory.specs.Region.{Contents, IsLawful, end_address}
+use Rattle.terra_memory.specs.Region.{Contents, IsLawful, end_address, fresh}
 use Rattle.rv_select.specs.Places.{AreBytes}
 use Rattle.rv_select.specs.Entering.{begun}
 use Rattle.rv_select.specs.Shapes.{place_number}
@@ -123,3 +123,14 @@ EntriesAreCarried =
     length arguments ≡ length code.parameters → 512 * most ≤ length m.private →
     Stepped p image program most (length region.bytes) (length (begun code) + 36 + 6 * length code.parameters) (before_entry f region n) m
     (enter code.place f (Some code) (map word arguments) (end_address region) [] (before_entry f region n))
+
+-- A whole run of a program, from the machine's start at the count n: it ends as that of three-address code does, with the same output, in at
+-- most n + 1 times the words that a function may have. Where three-address code needs more counts than n, the machine has written the same
+-- output in at least n steps, and goes on.
+abbrev pub ProgramsAreCarried : Type 0
+ProgramsAreCarried =
+    (p : Program) (image : Image) (program : List (Option Instr)) (most words memory n : ℕ) (statics : List ℕ) (f : FnId) (code : Tac) (arguments : List ℕ) (m : State)
+    (r : Run) → IsLinked p image program most → AreShort p words → p.code f ≡ Some code → Starts (image f).at (fresh memory statics) arguments m →
+    length arguments ≤ 8 → length arguments ≡ length code.parameters → 512 * most ≤ length m.private →
+    TacRun p statics memory n f (map word arguments) r →
+    Ended program ((n + 1) * words) (before_entry f (fresh memory statics) n) m r

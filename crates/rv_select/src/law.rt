@@ -3,7 +3,7 @@
 ghost use Rattle.rv_select.specs.Compared.{ComparesAreCarried, ComparesKeepWithin};
 ghost use Rattle.rv_select.specs.Frames.{CallsAreBegun, CallsKeepWithin, FramesKeepWithin, FunctionsAreEntered, FunctionsAreLeft, ParametersAreReceived};
 ghost use Rattle.rv_select.specs.Waiting.{CallersGoOnWaiting};
-ghost use Rattle.rv_select.specs.Whole.{EntriesAreCarried, RunsAreCarried, StepsAreCarried};
+ghost use Rattle.rv_select.specs.Whole.{EntriesAreCarried, ProgramsAreCarried, RunsAreCarried, StepsAreCarried};
 ghost use Rattle.rv_select.specs.Steps.{ExitsAreCarried, ExitsKeepWithin, InstructionsAreCarried, ShapesKeepWithin};
 
 /// The code of an instruction carries it out: from each state of the machine that holds what three-address code sees in a state, it
@@ -89,4 +89,10 @@ pub fn runs_are_carried()
 /// its caller, or the run ends where the data stack has no room for its frame.
 pub fn entries_are_carried()
     ensures { EntriesAreCarried }
+{}
+
+/// The run of a program in the machine, from its start, ends as that of three-address code does at a count, with the same output, in at most
+/// as many times a function's words as one more than the count.
+pub fn programs_are_carried()
+    ensures { ProgramsAreCarried }
 {}
