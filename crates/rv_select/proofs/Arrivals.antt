@@ -99,8 +99,7 @@ has-words y base s bottom last top i [] [] n same sum words small = tt
 has-words y base s bottom last top i [] (p ∷ ps) n same sum words small = tt
 has-words y base s bottom last top i (d ∷ ds) [] n same sum words small = tt
 has-words y base s bottom last top i (d ∷ ds) (p ∷ ps) n same sum words small =
-    let first : top - 8 * (i + 0 + 1) ≡ bottom + (last + 8 * length ds) = omega (arith, sum) in
-    (
+    let first : top - 8 * (i + 0 + 1) ≡ bottom + (last + 8 * length ds) = omega (arith, sum) in (
       one p (ap (λ a. private_word n a) (sym first) ∙ words 0 p refl) (small 0 p refl),
       has-words y base s bottom last top (suc i) ds ps n (omega (arith, same)) (omega (arith, sum))
           (λ k q e. ap (λ a. private_word n (top - 8 * a)) (sums i k) ∙ words (suc k) q e) (λ k q e. small (suc k) q e),

@@ -224,8 +224,8 @@ to-caller p image program most size linked s a d v cs up over link k M m n W res
     let here : n.pc ≡ q = b.pc ∙ W.returns in
     let shallow : length cs < 2 ^ 63 = omega (arith, W.room.calls) in
     let r = resumes program (layout_of W.code (image a.function).homes) (UsedBut (InUse (graph_of W.code) a.block a.at) (Temp d)) (outer s a over (length cs)) up v
-        (put_to (home_of (layout_of W.code (image a.function).homes) d)) n b.ten b.small b.waiting shallow
-        (subst (λ z. Stands program z (call_ended (layout_of W.code (image a.function).homes) W.code.areas (Temp d))) (sym here) bc.stands) in
+    (put_to (home_of (layout_of W.code (image a.function).homes) d)) n b.ten b.small b.waiting shallow
+    (subst (λ z. Stands program z (call_ended (layout_of W.code (image a.function).homes) W.code.areas (Temp d))) (sym here) bc.stands) in
     landed W rest q bc here r
   where
     frame-within : (bs : List ℕ) (over frame : ℕ) → a.base ≡ over → length bs ≡ size → over + frame ≤ 2 ^ 30 + size → a.base + frame ≤ 2 ^ 30 + length bs

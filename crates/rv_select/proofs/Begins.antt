@@ -190,7 +190,7 @@ comes-in program code m there p eight place two four small region room =
       words = λ k u few.
           let reg : t.registers (10 + k) ≡ m.registers (10 + k) = same (10 + k) (λ z. omega (arith, z)) in
           ap (λ z. number_of (take 8 (drop (length m.private - 8 * (k + 1)) z))) c.private
-              ∙ (l.words k (omega arith) (omega (arith, u)) (subst (λ z. z < 2 ^ 64) (sym reg) few) ∙ reg);
+          ∙ (l.words k (omega arith) (omega (arith, u)) (subst (λ z. z < 2 ^ 64) (sym reg) few) ∙ reg);
     }
   where
     counted : (a b n : ℕ) → n ≡ a + b → 1 + (a + b) ≡ suc n
@@ -380,8 +380,7 @@ module _ (p : Program) (image : Image) (program : List (Option Instr)) (most n :
       (k y : ℕ) → slice_get arguments k ≡ Some y → (private_word en.after ((length m.private) - 8 * (0 + k + 1)) ≡ y) × (y < 2 ^ 64)
   passed-word b en k y g =
       let h = x.arguments_are k y g in
-      let l : k < length code.parameters = subst (λ z. k < z) count (slice-below arguments k y g) in
-      (
+      let l : k < length code.parameters = subst (λ z. k < z) count (slice-below arguments k y g) in (
         ap number_of (en.above ((length m.private) - 8 * (0 + k + 1)) 8 (word-high (length m.private) (length (image f).homes) (length code.areas) (length code.parameters) k fit.0 l))
             ∙ (ap (λ z. private_word b.after ((length m.private) - 8 * z)) (zero-first k) ∙ (b.words k l (subst (λ z. z < 2 ^ 64) (sym h.0) h.1) ∙ h.0)),
         h.1,
@@ -396,15 +395,15 @@ module _ (p : Program) (image : Image) (program : List (Option Instr)) (most n :
       subst (λ q. (length m.private) - (frame_bytes (layout_of code (image f).homes)) + (frame_bytes (layout_of code (image f).homes)) ≤ q) (sym (en.long ∙ b.long)) (at-most ((length m.private) - (frame_bytes (layout_of code (image f).homes)) + (frame_bytes (layout_of code (image f).homes))) (length m.private) (length m.private) (back-up (length m.private) (frame_bytes (layout_of code (image f).homes)) fit.0) (least-same (length m.private))) in
       let other : (r : ℕ) → r ≢ 5 → r ≢ 6 → r ≢ 7 → r ≢ 8 → r ≢ 11 → b.after.registers r ≡ m.registers r = b.others in
       let holds = begin-holds (layout_of code (image f).homes) (length m.private) ((length m.private) - (frame_bytes (layout_of code (image f).homes))) ((end_address region) - code.frame) 0 0 region (fresh_call f code (before_entry f region n)) b.after en.after (inside b en) refl (λ k. refl) back (subst (λ z. z ≤ 603979776) (sym b.long) x.private)
-          (b.bytes x.are_bytes) (subst (λ q. q < 2 ^ 64) (sym ahead) (word-of (((image f).at + 4 * length (begun code)) + 4 * length (entered (layout_of code (image f).homes) (frame_bytes (layout_of code (image f).homes)) code.frame)) near.1.0)) (b.region ∙ x.region_is) x.bytes x.lawful
-          (other 3 (λ z. omega (arith, z)) (λ z. omega (arith, z)) (λ z. omega (arith, z)) (λ z. omega (arith, z)) (λ z. omega (arith, z)) ∙ x.heap)
-          (other 4 (λ z. omega (arith, z)) (λ z. omega (arith, z)) (λ z. omega (arith, z)) (λ z. omega (arith, z)) (λ z. omega (arith, z)) ∙ x.limit)
-          (frame-fits (heap_limit region) (end_address region) code.frame fits).1 (still-below (end_address region) code.frame (end_address region) (least-same (end_address region))) in
+      (b.bytes x.are_bytes) (subst (λ q. q < 2 ^ 64) (sym ahead) (word-of (((image f).at + 4 * length (begun code)) + 4 * length (entered (layout_of code (image f).homes) (frame_bytes (layout_of code (image f).homes)) code.frame)) near.1.0)) (b.region ∙ x.region_is) x.bytes x.lawful
+      (other 3 (λ z. omega (arith, z)) (λ z. omega (arith, z)) (λ z. omega (arith, z)) (λ z. omega (arith, z)) (λ z. omega (arith, z)) ∙ x.heap)
+      (other 4 (λ z. omega (arith, z)) (λ z. omega (arith, z)) (λ z. omega (arith, z)) (λ z. omega (arith, z)) (λ z. omega (arith, z)) ∙ x.limit)
+      (frame-fits (heap_limit region) (end_address region) code.frame fits).1 (still-below (end_address region) code.frame (end_address region) (least-same (end_address region))) in
       let words = entry-words ((length m.private) - (frame_bytes (layout_of code (image f).homes))) (words_offset (layout_of code (image f).homes)) (length m.private) 0 code.parameters arguments en.after (sym count)
-          (top-is (length m.private) (length (image f).homes) (length code.areas) (length code.parameters) fit.0) (λ k y g. passed-word b en k y g) in
+      (top-is (length m.private) (length (image f).homes) (length code.areas) (length code.parameters) fit.0) (λ k y g. passed-word b en k y g) in
       let only : list_all is_word code.parameters ≡ true = (both-true (list_all is_word code.parameters) (list_all block_takes_words code.blocks) pl.words).0 in
       let rc = parameters-received code (image f).homes program (map word arguments) (fresh_call f code (before_entry f region n)) region 0 ((length m.private) - (frame_bytes (layout_of code (image f).homes))) en.after pl.fits pl.right only accepts
-          (subst (λ q. Stands program q (received (layout_of code (image f).homes) code.areas (words_offset (layout_of code (image f).homes)) code.parameters)) (sym ahead) fn.receives) holds words back in
+      (subst (λ q. Stands program q (received (layout_of code (image f).homes) code.areas (words_offset (layout_of code (image f).homes)) code.parameters)) (sym ahead) fn.receives) holds words back in
       lands-in b en (takes_all code.parameters (map word arguments) (fresh_call f code (before_entry f region n))) (low (en.after.pc + 4 * length (received (layout_of code (image f).homes) code.areas (words_offset (layout_of code (image f).homes)) code.parameters))) (takes-is code.parameters (map word arguments) (fresh_call f code (before_entry f region n)))
       (frame-fits (heap_limit region) (end_address region) code.frame fits).0
       (ap (λ q. low (q + 4 * length (received (layout_of code (image f).homes) code.areas (words_offset (layout_of code (image f).homes)) code.parameters))) ahead ∙ (low-near (((image f).at + 4 * length (begun code)) + 4 * length (entered (layout_of code (image f).homes) (frame_bytes (layout_of code (image f).homes)) code.frame) + 4 * length (received (layout_of code (image f).homes) code.areas (words_offset (layout_of code (image f).homes)) code.parameters)) near.0 ∙ (fn.first ∙ sym (first-start (layout_of code (image f).homes) code (image f).at wi.entered)))) rc

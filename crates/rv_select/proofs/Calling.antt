@@ -199,7 +199,7 @@ lands p image program most size bound linked s base m x block to place f argumen
         made-waiting p image program most size linked s base m (restored (layout_of callee (image f).homes) (base - (frame_bytes (layout_of callee (image f).homes))) r.after) x block to place f arguments (place_in p image x.code (image s.here.function) s.here.block s.here.at + 4 * length (call_begun (layout_of x.code (image s.here.function).homes) place arguments) + 8) in-f in-b refl same in
         let first : private_word (restored (layout_of callee (image f).homes) (base - (frame_bytes (layout_of callee (image f).homes))) r.after) base ≡ private_word m base = ap number_of (same.private base 8 (omega arith)) in
         let others : Waits p image most size s.callers (private_word (restored (layout_of callee (image f).homes) (base - (frame_bytes (layout_of callee (image f).homes))) r.after) base) (base + frame_bytes (layout_of x.code (image s.here.function).homes)) (s.here.base + x.code.frame)
-            (restored (layout_of x.code (image s.here.function).homes) base (restored (layout_of callee (image f).homes) (base - (frame_bytes (layout_of callee (image f).homes))) r.after)) =
+        (restored (layout_of x.code (image s.here.function).homes) base (restored (layout_of callee (image f).homes) (base - (frame_bytes (layout_of callee (image f).homes))) r.after)) =
         subst (λ q. Waits p image most size s.callers q (base + frame_bytes (layout_of x.code (image s.here.function).homes)) (s.here.base + x.code.frame) (restored (layout_of x.code (image s.here.function).homes) base (restored (layout_of callee (image f).homes) (base - (frame_bytes (layout_of callee (image f).homes))) r.after))) (sym first)
         (waits-same p image program most size s.callers (private_word m base) (base + frame_bytes (layout_of x.code (image s.here.function).homes)) (s.here.base + x.code.frame) (restored (layout_of x.code (image s.here.function).homes) base m)
         (restored (layout_of x.code (image s.here.function).homes) base (restored (layout_of callee (image f).homes) (base - (frame_bytes (layout_of callee (image f).homes))) r.after)) linked (restored-same (layout_of x.code (image s.here.function).homes) base (frame_bytes (layout_of x.code (image s.here.function).homes)) m (restored (layout_of callee (image f).homes) (base - (frame_bytes (layout_of callee (image f).homes))) r.after) same) x.waits) in
@@ -301,6 +301,7 @@ some-steps a b = omega arith
 
 all-few : (a b n q : ℕ) → a ≤ 11 + 11 * n → b ≤ 36 → n ≡ q → a + 2 + b + 6 * q ≤ 49 + 17 * n
 all-few a b n q h g e = omega (arith, h, g, e)
+
 zero-first : (k : ℕ) → 0 + k + 1 ≡ k + 1
 zero-first k = omega arith
 
@@ -399,6 +400,7 @@ callee-step p image program most size linked s base m x block to place f argumen
 
     top-within : base ≤ length m.private
     top-within = least base (frame_bytes (layout_of x.code (image s.here.function).homes)) (length m.private) x.holds.frame.within
+
     same : (r : ℕ) → r ≢ 1 → r ≢ 5 → r ≢ 6 → r ≢ 7 → r ≢ 11 → r ≢ 28 → jump.after.registers r ≡ m.registers r
     same r one five six seven eleven more = jump.others r one five ∙ b.others r five six seven eleven more
 
@@ -419,6 +421,7 @@ callee-step p image program most size linked s base m x block to place f argumen
       least = bytes-least (length (image f).homes) (length callee.areas) (length callee.parameters);
       room = room.0;
     }
+
     entering : (s.here.base < 2 ^ 30 + length s.region.bytes - length s.region.bytes / 4 + callee.frame → Ends program StackFull place 36 jump.after) ×
         (2 ^ 30 + length s.region.bytes - length s.region.bytes / 4 + callee.frame ≤ s.here.base →
         Enters program (layout_of callee (image f).homes) (base - (frame_bytes (layout_of callee (image f).homes))) (s.here.base - callee.frame) (low (jump.after.pc + 4 * length (entered (layout_of callee (image f).homes) (frame_bytes (layout_of callee (image f).homes)) callee.frame))) jump.after)
@@ -454,10 +457,13 @@ callee-step p image program most size linked s base m x block to place f argumen
       where
         head-near : (image f).at + 4 * length (head_code (layout_of callee (image f).homes) callee) < 2 ^ 30
         head-near = nearer ((image f).at + 4 * length (head_code (layout_of callee (image f).homes) callee)) (last_address (layout_of callee (image f).homes) callee (image f).at) (head-in (image f).at (length (head_code (layout_of callee (image f).homes) callee)) (blocks_length (layout_of callee (image f).homes) callee.areas callee.blocks)) fn.near
+
         enter-near : ((image f).at + 4 * length (begun callee)) + 4 * length (entered (layout_of callee (image f).homes) (frame_bytes (layout_of callee (image f).homes)) callee.frame) < 2 ^ 30
         enter-near = shorter (((image f).at + 4 * length (begun callee)) + 4 * length (entered (layout_of callee (image f).homes) (frame_bytes (layout_of callee (image f).homes)) callee.frame)) (4 * length (received (layout_of callee (image f).homes) callee.areas (words_offset (layout_of callee (image f).homes)) callee.parameters)) ((image f).at + 4 * length (head_code (layout_of callee (image f).homes) callee)) fn.first head-near
+
         within-back : base - (frame_bytes (layout_of callee (image f).homes)) + (frame_bytes (layout_of callee (image f).homes)) ≤ length m.private
         within-back = goes base (frame_bytes (layout_of callee (image f).homes)) (length m.private) room.0 top-within
+
         position : (k : ℕ) (q : Part) → slice_get arguments k ≡ Some q → k < length arguments
         position k q g = slice-below arguments k q g
 
@@ -519,7 +525,7 @@ call-step p image program most size linked s base m x block to place f arguments
         (λ shallow.
         let less : length s.callers < 511 = shallow-is (length s.callers) (not-le most_calls (suc (length s.callers)) shallow) in
         let both = callee-step p image program most size linked s base m x block to place f arguments in-f in-b callee e c (count callee e) less
-            (begins program (layout_of x.code (image s.here.function).homes) (InUse (graph_of x.code) s.here.block s.here.at) (world_of s) base place arguments (call_jump (place_in p image x.code (image s.here.function) s.here.block s.here.at + 4 * length (call_begun (layout_of x.code (image s.here.function).homes) place arguments)) (entries_of p image f) ++ call_ended (layout_of x.code (image s.here.function).homes) x.code.areas to) m x.holds c.homes c.place_small c.code less c.reads (room callee e less)) in
+        (begins program (layout_of x.code (image s.here.function).homes) (InUse (graph_of x.code) s.here.block s.here.at) (world_of s) base place arguments (call_jump (place_in p image x.code (image s.here.function) s.here.block s.here.at + 4 * length (call_begun (layout_of x.code (image s.here.function).homes) place arguments)) (entries_of p image f) ++ call_ended (layout_of x.code (image s.here.function).homes) x.code.areas to) m x.holds c.homes c.place_small c.code less c.reads (room callee e less)) in
         by-test (Stepped p image program most size (49 + 17 * length arguments) s m) (nat_lt s.here.base (heap_limit s.region + callee.frame)) _ _
         (λ full. (refl, both.0 (ltb-true s.here.base (heap_limit s.region + callee.frame) full)))
         (λ fits.

@@ -142,7 +142,7 @@ find-exit program y sizes places (j ∷ is) (suc k) at rest e near there =
     let count : length (A ++ B) ≡ length A + length B = length-append A B in
     let all : at + 4 * length A + 4 * length B ≡ at + 4 * length (A ++ B) = omega (arith, count) in
     let found = find-exit program y sizes places is k (at + 4 * length A) rest e (omega (arith, near, count))
-        (stands-next program at A (B ++ rest) (omega (arith, near, count)) (subst (λ z. Stands program at z) (append_assoc A B rest) there)) in
+    (stands-next program at A (B ++ rest) (omega (arith, near, count)) (subst (λ z. Stands program at z) (append_assoc A B rest) there)) in
     (found.0 ∙ all, subst (λ q. Stands program q rest) all found.1)
 
 -- A block's code stands where its number says.
@@ -170,7 +170,7 @@ find-block program y sizes places starts last top (j ∷ bs) (suc k) b at rest e
     let B = blocks_code y sizes places starts last (at + 4 * length A) bs in
     let count : length (A ++ B) ≡ length A + length B = length-append A B in
     let found = find-block program y sizes places starts last top bs k b (at + 4 * length A) rest e (omega (arith, even)) (omega (arith, near, count)) small
-        (stands-next program at A (B ++ rest) (omega (arith, near, count, small)) (subst (λ z. Stands program at z) (append_assoc A B rest) there)) in
+    (stands-next program at A (B ++ rest) (omega (arith, near, count, small)) (subst (λ z. Stands program at z) (append_assoc A B rest) there)) in
     subst (λ n. FoundBlock program y sizes places starts last top (start_of (starts_from y sizes (at + 4 * n) bs) k) b)
     (block-length y sizes places (λ f. 0) starts (λ c. 0) last 0 at 0 j) found
 

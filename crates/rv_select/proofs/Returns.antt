@@ -105,7 +105,7 @@ goes-back program y Used w base frame last link from v m p h reads near last-sma
     (ap (λ z. private-of z base) private-2 ∙ link-is) even link-small (subst (λ z. Stands program z (left y (frame_bytes y) frame)) (sym j.pc) leaves) in
     let other : (r : ℕ) → (r ≡ 3) ⊎ ((r ≡ 4) ⊎ (r ≡ 28)) → q.after.registers r ≡ m.registers r =
     λ r o. q.others r (not-r r 0 o refl) (not-r r 1 o refl) (not-r r 2 o refl) (not-r r 5 o refl) (not-r r 6 o refl) (not-r r 7 o refl) (not-r r 8 o refl) (below-r r o)
-        ∙ same-2 r (not-r r 5 o refl) (not-r r 6 o refl) (not-r r 7 o refl) (not-r r 10 o refl) in
+    ∙ same-2 r (not-r r 5 o refl) (not-r r 6 o refl) (not-r r 7 o refl) (not-r r 10 o refl) in
     let back : (r : ℕ) → 18 ≤ r → r < 28 → q.after.registers r ≡ (if uses y r then private_word m (base + kept_offset r) else m.registers r) =
     λ r lo hi.
     if-is (uses y r) (q.after.registers r) (private_word m (base + kept_offset r)) (m.registers r)

@@ -226,7 +226,7 @@ exit-step p image program most size linked s base m x block in-f in-b h =
         let at : ℕ = (image s.here.function).at in
         let f : FoundFunction program y x.code (entries_of p image) at = the-function p image program most x.code (image s.here.function) pl in
         let n = starts-near y x.code.areas (entries_of p image) (start_of (block_starts y x.code at)) (last_address y x.code at) (last_address y x.code at) x.code.blocks b (at + 4 * length (head_code y x.code))
-            (first at (length (head_code y x.code)) pl.aligned) (most-is _ _ f.whole) in
+        (first at (length (head_code y x.code)) pl.aligned) (most-is _ _ f.whole) in
         (small (start_of (block_starts y x.code at) b) (last_address y x.code at) n.0 f.near, even (start_of (block_starts y x.code at) b) n.1)
 
     before : StandsAtExit p x.code (image s.here.function).homes block.exit (start_of (block_starts (layout_of x.code (image s.here.function).homes) x.code (image s.here.function).at)) s program base m

@@ -72,8 +72,7 @@ unfolding waiting-same
 waits-same p image program most size [] link base placed m n linked s w = (w.0, w.1 ∙ sym s.long, w.2)
 waits-same p image program most size (c ∷ cs) link base placed m n linked s w =
     let y : Layout = layout_of w.0.code (image c.waits.function).homes in
-    let word : private_word n base ≡ private_word m base = ap number_of (s.private base 8 (omega arith)) in
-    (
+    let word : private_word n base ≡ private_word m base = ap number_of (s.private base 8 (omega arith)) in (
       waiting-same p image program most c (length cs) link base placed m n linked s w.0,
       subst (λ x. Waits p image most size cs x (base + frame_bytes y) (placed + w.0.code.frame) (restored y base n)) (sym word)
           (waits-same p image program most size cs (private_word m base) (base + frame_bytes y) (placed + w.0.code.frame) (restored y base m) (restored y base n) linked

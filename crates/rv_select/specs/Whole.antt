@@ -56,7 +56,8 @@ pub record RunFails (program : List (Option Instr)) (most : ℕ) (kind : FaultKi
   pub count : ℕ
   pub last : State
   pub few : count ≤ most
-  pub runs : (more : ℕ) → run_of program m (count + more) ≡ after_output out (stands (stops.TerraFault (fault_number kind) (place_number at)) last)
+  pub runs : (more : ℕ) → run_of program m (count + more) ≡ after_output out
+      (stands (stops.TerraFault (fault_number kind) (place_number at)) last)
 
 -- The machine writes these bytes in at least and at most so many steps, and then goes on from a state.
 pub record RunGoesOn (program : List (Option Instr)) (least most : ℕ) (out : List ℕ) (m : State) : Type 0 where
@@ -118,19 +119,23 @@ before_entry f region n = record {
 -- many steps as the code before has words; or the run ends, where the data stack has no room for its frame.
 abbrev pub EntriesAreCarried : Type 0
 EntriesAreCarried =
-    (p : Program) (image : Image) (program : List (Option Instr)) (most n : ℕ) (f : FnId) (code : Tac) (arguments : List ℕ) (region : Contents) (m : State) →
+    (p : Program) (image : Image) (program : List (Option Instr)) (most n : ℕ) (f : FnId) (code : Tac) (arguments : List ℕ)
+        (region : Contents) (m : State) →
     IsLinked p image program most → p.code f ≡ Some code → Starts (image f).at region arguments m → length arguments ≤ 8 →
     length arguments ≡ length code.parameters → 512 * most ≤ length m.private →
     Stepped p image program most (length region.bytes) (length (begun code) + 36 + 6 * length code.parameters) (before_entry f region n) m
     (enter code.place f (Some code) (map word arguments) (end_address region) [] (before_entry f region n))
 
--- A whole run of a program, from the machine's start at the count n: it ends as that of three-address code does, with the same output, in at
+-- A whole run of a program, from the machine's start at the count n: it ends as that of three-address code does, with the same output, in
+-- at
 -- most n + 1 times the words that a function may have. Where three-address code needs more counts than n, the machine has written the same
 -- output in at least n steps, and goes on.
 abbrev pub ProgramsAreCarried : Type 0
 ProgramsAreCarried =
-    (p : Program) (image : Image) (program : List (Option Instr)) (most words memory n : ℕ) (statics : List ℕ) (f : FnId) (code : Tac) (arguments : List ℕ) (m : State)
-    (r : Run) → IsLinked p image program most → AreShort p words → p.code f ≡ Some code → Starts (image f).at (fresh memory statics) arguments m →
+    (p : Program) (image : Image) (program : List (Option Instr)) (most words memory n : ℕ) (statics : List ℕ) (f : FnId) (code : Tac)
+        (arguments : List ℕ) (m : State)
+    (r : Run) → IsLinked p image program most → AreShort p words → p.code f ≡ Some code →
+        Starts (image f).at (fresh memory statics) arguments m →
     length arguments ≤ 8 → length arguments ≡ length code.parameters → 512 * most ≤ length m.private →
     TacRun p statics memory n f (map word arguments) r →
     Ended program ((n + 1) * words) (before_entry f (fresh memory statics) n) m r
