@@ -133,7 +133,7 @@ pub record Waiting (p : Program) (image : Image) (most : ℕ) (c : Caller) (dept
   pub words : (t : ℕ) → InUse (graph_of code) c.waits.block c.waits.at t → destination_write c.to ≢ Some t → c.waits.temps t < 2 ^ 64
   pub areas : (n : ℕ) → n < length code.areas →
       take (length (c.waits.areas n)) (drop (base + area_offset (layout_of code (image c.waits.function).homes) n) m.private) ≡
-          c.waits.areas n
+      c.waits.areas n
   pub short : (n : ℕ) → n < length code.areas → length (c.waits.areas n) ≤ most_moved
   pub area_bytes : (n : ℕ) → n < length code.areas → AreBytes (c.waits.areas n)
   pub placed_is : c.waits.base ≡ placed
@@ -147,7 +147,7 @@ Waits p image most size [] link base placed m =
 Waits p image most size (c ∷ cs) link base placed m =
     (w : Waiting p image most c (length cs) link base placed m) ×
     Waits p image most size cs (private_word m base) (base + frame_bytes (layout_of w.code (image c.waits.function).homes))
-        (placed + w.code.frame)
+    (placed + w.code.frame)
     (restored (layout_of w.code (image c.waits.function).homes) base m)
 
 -- The machine stands where three-address code does in a state: before the code of the next instruction, or of the exit. It holds what
@@ -199,7 +199,7 @@ Stepped p image program most size bound s m (Stops (More out)) = (out ≡ s.out)
 abbrev pub CallersGoOnWaiting : Type 0
 CallersGoOnWaiting =
     (p : Program) (image : Image) (program : List (Option Instr)) (most size : ℕ) (y : Layout) (cs : List Caller) (base placed : ℕ)
-        (m n : State) →
+    (m n : State) →
     IsLinked p image program most → Keeps y base m n →
     Waits p image most size cs (private_word m base) (base + frame_bytes y) placed (restored y base m) →
     Waits p image most size cs (private_word n base) (base + frame_bytes y) placed (restored y base n)

@@ -120,7 +120,7 @@ before_entry f region n = record {
 abbrev pub EntriesAreCarried : Type 0
 EntriesAreCarried =
     (p : Program) (image : Image) (program : List (Option Instr)) (most n : ℕ) (f : FnId) (code : Tac) (arguments : List ℕ)
-        (region : Contents) (m : State) →
+    (region : Contents) (m : State) →
     IsLinked p image program most → p.code f ≡ Some code → Starts (image f).at region arguments m → length arguments ≤ 8 →
     length arguments ≡ length code.parameters → 512 * most ≤ length m.private →
     Stepped p image program most (length region.bytes) (length (begun code) + 36 + 6 * length code.parameters) (before_entry f region n) m
@@ -133,9 +133,9 @@ EntriesAreCarried =
 abbrev pub ProgramsAreCarried : Type 0
 ProgramsAreCarried =
     (p : Program) (image : Image) (program : List (Option Instr)) (most words memory n : ℕ) (statics : List ℕ) (f : FnId) (code : Tac)
-        (arguments : List ℕ) (m : State)
+    (arguments : List ℕ) (m : State)
     (r : Run) → IsLinked p image program most → AreShort p words → p.code f ≡ Some code →
-        Starts (image f).at (fresh memory statics) arguments m →
+    Starts (image f).at (fresh memory statics) arguments m →
     length arguments ≤ 8 → length arguments ≡ length code.parameters → 512 * most ≤ length m.private →
     TacRun p statics memory n f (map word arguments) r →
     Ended program ((n + 1) * words) (before_entry f (fresh memory statics) n) m r
