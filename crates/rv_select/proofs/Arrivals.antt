@@ -30,23 +30,29 @@ pub record InFunction (z : Layout) (base bottom placed depth link : ℕ) (m n : 
   pub eight : n.registers 8 ≡ placed
   pub three : n.registers 3 ≡ m.registers 3
   pub four : n.registers 4 ≡ m.registers 4
-  pub waiting : n.registers 28 ≡ suc depth
+  pub waiting : n.registers 28 ≡ depth
   pub region : n.region ≡ m.region
   pub long : length n.private ≡ length m.private
   pub bytes : AreBytes m.private → AreBytes n.private
   pub link_is : private_word n bottom ≡ link
-  pub kept : (r : ℕ) → 18 ≤ r → r < 28 → m.registers r < 2 ^ 64 → (if uses z r then private_word n (bottom + kept_offset r) else n.registers r) ≡ m.registers r
+  pub kept : (r : ℕ) → 18 ≤ r → r < 28 → m.registers r < 2 ^ 64 →
+      (if uses z r then private_word n (bottom + kept_offset r) else n.registers r) ≡ m.registers r
   pub above : (at k : ℕ) → base ≤ at → take k (drop at n.private) ≡ take k (drop at m.private)
 
-pub enters-call : (program : List (Option Instr)) (y z : Layout) (base bytes frame placed target to link : ℕ) (w : World) (at : Place) (ps : List Part) (rest : List Instr) (m : State)
-    (b : Begun program y base w at ps rest m) (j : JumpedTo program target b.after) (e : Enters program z (base - bytes) (placed - frame) to j.after) → 88 ≤ bytes → bytes ≤ base →
-    low (b.after.pc + 8) ≡ link → link < 2 ^ 64 → InFunction z base (base - bytes) (placed - frame) w.depth link m e.after
+pub enters-call : (program : List (Option Instr)) (y z : Layout) (base bytes frame placed target to link : ℕ) (w : World) (at : Place)
+    (ps : List Part) (rest : List Instr) (m : State)
+    (b : Begun program y base w at ps rest m) (j : JumpedTo program target b.after)
+    (e : Enters program z (base - bytes) (placed - frame) to j.after) → 88 ≤ bytes → bytes ≤ base →
+    low (b.after.pc + 8) ≡ link → link < 2 ^ 64 → InFunction z base (base - bytes) (placed - frame) (suc w.depth) link m e.after
 enters-call program y z base bytes frame placed target to link w at ps rest m b j e least room link-is small = record {
   pointer = e.pointer;
   eight = e.placed;
-  three = others 3 (λ q. omega (arith, q)) (λ q. omega (arith, q)) (λ q. omega (arith, q)) (λ q. omega (arith, q)) (λ q. omega (arith, q)) (λ q. omega (arith, q)) (λ q. omega (arith, q)) (λ q. omega (arith, q));
-  four = others 4 (λ q. omega (arith, q)) (λ q. omega (arith, q)) (λ q. omega (arith, q)) (λ q. omega (arith, q)) (λ q. omega (arith, q)) (λ q. omega (arith, q)) (λ q. omega (arith, q)) (λ q. omega (arith, q));
-  waiting = e.others 28 (λ q. omega (arith, q)) (λ q. omega (arith, q)) (λ q. omega (arith, q)) (λ q. omega (arith, q)) (λ q. omega (arith, q))
+  three = others 3 (λ q. omega (arith, q)) (λ q. omega (arith, q)) (λ q. omega (arith, q)) (λ q. omega (arith, q)) (λ q. omega (arith, q))
+      (λ q. omega (arith, q)) (λ q. omega (arith, q)) (λ q. omega (arith, q));
+  four = others 4 (λ q. omega (arith, q)) (λ q. omega (arith, q)) (λ q. omega (arith, q)) (λ q. omega (arith, q)) (λ q. omega (arith, q))
+      (λ q. omega (arith, q)) (λ q. omega (arith, q)) (λ q. omega (arith, q));
+  waiting = e.others 28 (λ q. omega (arith, q)) (λ q. omega (arith, q)) (λ q. omega (arith, q)) (λ q. omega (arith, q))
+      (λ q. omega (arith, q))
       ∙ (j.others 28 (λ q. omega (arith, q)) (λ q. omega (arith, q)) ∙ b.waiting);
   region = e.region ∙ (j.region ∙ b.region);
   long = e.long ∙ (ap length j.private ∙ b.long);
@@ -55,7 +61,8 @@ enters-call program y z base bytes frame placed target to link w at ps rest m b 
   kept = λ r lo hi few.
       sym (if-is (uses z r) (m.registers r) (private_word e.after (base - bytes + kept_offset r)) (e.after.registers r)
       (λ u. sym (e.kept r lo hi u ∙ (ap low (before r lo hi) ∙ low-small (m.registers r) few)))
-      (λ u. sym (e.others r (λ q. omega (arith, q, lo)) (λ q. omega (arith, q, lo)) (λ q. omega (arith, q, lo)) (λ q. omega (arith, q, lo)) (λ q. omega (arith, q, lo)) ∙ before r lo hi)));
+      (λ u. sym (e.others r (λ q. omega (arith, q, lo)) (λ q. omega (arith, q, lo)) (λ q. omega (arith, q, lo)) (λ q. omega (arith, q, lo))
+      (λ q. omega (arith, q, lo)) ∙ before r lo hi)));
   above = λ a k o. e.above a k (higher base bytes a least room o) ∙ (ap (λ q. take k (drop a q)) j.private ∙ b.above a k o);
 }
   where
@@ -65,13 +72,16 @@ enters-call program y z base bytes frame placed target to link w at ps rest m b 
     before : (r : ℕ) → 18 ≤ r → r < 28 → j.after.registers r ≡ m.registers r
     before r lo hi =
         j.others r (λ q. omega (arith, q, lo)) (λ q. omega (arith, q, lo))
-        ∙ b.others r (λ q. omega (arith, q, lo)) (λ q. omega (arith, q, lo)) (λ q. omega (arith, q, lo)) (λ q. omega (arith, q, lo)) (λ q. omega (arith, q, hi))
+        ∙ b.others r (λ q. omega (arith, q, lo)) (λ q. omega (arith, q, lo)) (λ q. omega (arith, q, lo)) (λ q. omega (arith, q, lo))
+        (λ q. omega (arith, q, hi))
 
     others : (r : ℕ) → r ≢ 1 → r ≢ 2 → r ≢ 5 → r ≢ 6 → r ≢ 7 → r ≢ 8 → r ≢ 11 → r ≢ 28 → e.after.registers r ≡ m.registers r
-    others r one two five six seven eight eleven more = e.others r two five six seven eight ∙ (j.others r one five ∙ b.others r five six seven eleven more)
+    others r one two five six seven eight eleven more = e.others r two five six seven eight ∙
+        (j.others r one five ∙ b.others r five six seven eleven more)
 
 -- the caller's registers and memory, as the function will put them back
-pub same-after : (z : Layout) (base bottom placed depth link : ℕ) (m n q : State) → InFunction z base bottom placed depth link m n → Keeps (without_words z) bottom n q → bottom + frame_bytes (without_words z) ≤ base →
+pub same-after : (z : Layout) (base bottom placed depth link : ℕ) (m n q : State) → InFunction z base bottom placed depth link m n →
+    Keeps (without_words z) bottom n q → bottom + frame_bytes (without_words z) ≤ base →
     SameAbove base m (restored z bottom q)
 same-after z base bottom placed depth link m n q f k below = record {
   registers = λ r lo hi few.
@@ -88,11 +98,13 @@ same-after z base bottom placed depth link m n q f k below = record {
     unused : (r : ℕ) → 18 ≤ r → r < 28 → m.registers r < 2 ^ 64 → uses z r ≡ false → n.registers r ≡ m.registers r
     unused r lo hi few u = sym (ap (λ c. if c then private_word n (bottom + kept_offset r) else n.registers r) u) ∙ f.kept r lo hi few
 
-pub link-after : (z : Layout) (base bottom placed depth link : ℕ) (m n q : State) → InFunction z base bottom placed depth link m n → Keeps (without_words z) bottom n q → private_word q bottom ≡ link
+pub link-after : (z : Layout) (base bottom placed depth link : ℕ) (m n q : State) → InFunction z base bottom placed depth link m n →
+    Keeps (without_words z) bottom n q → private_word q bottom ≡ link
 link-after z base bottom placed depth link m n q f k = ap number_of (k.outside bottom 8 (omega arith) (inl (omega arith))) ∙ f.link_is
 
 -- the parts' words, as the function finds them
-pub has-words : (y : Layout) (base : ℕ) (s : tac.State) (bottom last top i : ℕ) (ds : List Destination) (ps : List Part) (n : State) → length ds ≡ length ps → bottom + (last + 8 * length ds) + 8 * i ≡ top →
+pub has-words : (y : Layout) (base : ℕ) (s : tac.State) (bottom last top i : ℕ) (ds : List Destination) (ps : List Part) (n : State) →
+    length ds ≡ length ps → bottom + (last + 8 * length ds) + 8 * i ≡ top →
     ((k : ℕ) (p : Part) → slice_get ps k ≡ Some p → private_word n (top - 8 * (i + k + 1)) ≡ part_value y base (world_of s) p) →
     ((k : ℕ) (p : Part) → slice_get ps k ≡ Some p → part_value y base (world_of s) p < 2 ^ 64) → HasWords bottom last ds (values_of s ps) n
 has-words y base s bottom last top i [] [] n same sum words small = tt
@@ -108,13 +120,15 @@ has-words y base s bottom last top i (d ∷ ds) (p ∷ ps) n same sum words smal
     sums : (i k : ℕ) → suc i + k + 1 ≡ i + suc k + 1
     sums i k = omega arith
 
-    one : (p : Part) → private_word n (bottom + (last + 8 * length ds)) ≡ part_value y base (world_of s) p → part_value y base (world_of s) p < 2 ^ 64 →
+    one : (p : Part) → private_word n (bottom + (last + 8 * length ds)) ≡ part_value y base (world_of s) p →
+        part_value y base (world_of s) p < 2 ^ 64 →
         IsWordOf (value_of s p) (private_word n (bottom + (last + 8 * length ds)))
     one (parts.Word a) e h = (e ∙ part-is y base s a, subst (λ x. x < 2 ^ 64) (part-is y base s a) h)
     one (parts.Area k) e h = tt
 
 -- below the frame there is room for each call that may be made then
-pub room-next : (most depth base bytes : ℕ) → HasRoom most depth base → depth < 511 → bytes ≤ most → (bytes ≤ base) × HasRoom most (suc depth) (base - bytes)
+pub room-next : (most depth base bytes : ℕ) → HasRoom most depth base → depth < 511 → bytes ≤ most → (bytes ≤ base) ×
+    HasRoom most (suc depth) (base - bytes)
 room-next most depth base bytes h shallow few = go h.rest h.calls h.room
   where
     more : (x : ℕ) → x + most ≤ base → bytes ≤ base
@@ -131,25 +145,34 @@ room-next most depth base bytes h shallow few = go h.rest h.calls h.room
         (more (k * most) whole, record { rest = k; calls = omega (arith, e); room = less (k * most) whole })
 
 -- what the function's first instruction finds, before it takes its parameters
-pub begin-holds : (z : Layout) (base bottom placed depth link : ℕ) (region : Contents) (a : Activation) (m n : State) → InFunction z base bottom placed depth link m n → a.base ≡ placed → ((k : ℕ) → a.areas k ≡ []) →
-    bottom + frame_bytes z ≤ length n.private → length m.private ≤ 603979776 → AreBytes m.private → n.pc < 2 ^ 64 → m.region ≡ region.bytes → AreBytes region.bytes → IsLawful region →
+pub begin-holds : (z : Layout) (base bottom placed depth link : ℕ) (region : Contents) (a : Activation) (m n : State) →
+    InFunction z base bottom placed depth link m n → a.base ≡ placed → ((k : ℕ) → a.areas k ≡ []) →
+    bottom + frame_bytes z ≤ length n.private → length m.private ≤ 603979776 → AreBytes m.private → n.pc < 2 ^ 64 →
+    m.region ≡ region.bytes → AreBytes region.bytes → IsLawful region →
     m.registers 3 ≡ region.heap → m.registers 4 ≡ end_address region → heap_limit region ≤ placed → placed ≤ end_address region →
-    Holds (without_words z) (λ t. ⊥) (seen a region (suc depth)) bottom n
-begin-holds z base bottom placed depth link region a m n f base-is none within private bytes pc same are lawful heap limit above below = record {
-  frame = record { pointer = f.pointer; within = omega (arith, within); private = subst (λ x. x ≤ 603979776) (sym f.long) private; bytes = f.bytes bytes };
-  pc = pc;
-  values = λ t u. absurd u;
-  words = λ t u. absurd u;
-  areas = λ k l. subst (λ bs. take (length bs) (drop (bottom + area_offset z k) n.private) ≡ bs) (sym (none k)) refl;
-  short = λ k l. subst (λ bs. length bs ≤ 128) (sym (none k)) (omega arith);
-  area_bytes = λ k l. subst AreBytes (sym (none k)) tt;
-  region = f.region ∙ same;
-  bytes = are;
-  lawful = lawful;
-  heap = f.three ∙ heap;
-  limit = f.four ∙ limit;
-  placed = f.eight ∙ sym base-is;
-  above = subst (λ x. heap_limit region ≤ x) (sym base-is) above;
-  below = subst (λ x. x ≤ end_address region) (sym base-is) below;
-  depth = f.waiting;
-}
+    Holds (without_words z) (λ t. ⊥) (seen a region depth) bottom n
+begin-holds z base bottom placed depth link region a m n f base-is none within private bytes pc same are lawful heap limit above below =
+    record {
+      frame = record {
+        pointer = f.pointer;
+        within = omega (arith, within);
+        private = subst (λ x. x ≤ 603979776) (sym f.long) private;
+        bytes =
+            f.bytes bytes;
+      };
+      pc = pc;
+      values = λ t u. absurd u;
+      words = λ t u. absurd u;
+      areas = λ k l. subst (λ bs. take (length bs) (drop (bottom + area_offset z k) n.private) ≡ bs) (sym (none k)) refl;
+      short = λ k l. subst (λ bs. length bs ≤ 128) (sym (none k)) (omega arith);
+      area_bytes = λ k l. subst AreBytes (sym (none k)) tt;
+      region = f.region ∙ same;
+      bytes = are;
+      lawful = lawful;
+      heap = f.three ∙ heap;
+      limit = f.four ∙ limit;
+      placed = f.eight ∙ sym base-is;
+      above = subst (λ x. heap_limit region ≤ x) (sym base-is) above;
+      below = subst (λ x. x ≤ end_address region) (sym base-is) below;
+      depth = f.waiting;
+    }

@@ -28,7 +28,8 @@ no-more : (at : ℕ) → at ≡ at + 4 * 0
 no-more at = omega arith
 
 -- code behind other code, below 2 ^ 30
-pub stands-next : (program : List (Option Instr)) (at : ℕ) (a b : List Instr) → at + 4 * length a ≤ 2 ^ 30 → Stands program at (a ++ b) → Stands program (at + 4 * length a) b
+pub stands-next : (program : List (Option Instr)) (at : ℕ) (a b : List Instr) → at + 4 * length a ≤ 2 ^ 30 → Stands program at (a ++ b) →
+    Stands program (at + 4 * length a) b
 stands-next program at a b h there =
     subst (λ q. Stands program q b) (near-low (at + 4 * length a) h) (stands-back program at a b (omega (arith, h)) there)
 
@@ -38,7 +39,8 @@ pub instruction-length : (y : Layout) (sizes : List ℕ) (places others : FnId �
 instruction-length y sizes places others at other (Call to place f arguments) =
     let A = call_begun y place arguments in
     let C = call_ended y sizes to in
-    length-append A (call_jump (at + 4 * length A) (places f) ++ C) ∙ sym (length-append A (call_jump (other + 4 * length A) (others f) ++ C))
+    length-append A (call_jump (at + 4 * length A) (places f) ++ C) ∙ sym
+    (length-append A (call_jump (other + 4 * length A) (others f) ++ C))
 instruction-length y sizes places others at other (Compute d op form a b) = refl
 instruction-length y sizes places others at other (TestDivisor place a) = refl
 instruction-length y sizes places others at other (Copy d a) = refl
@@ -52,7 +54,8 @@ instruction-length y sizes places others at other (PutByte a) = refl
 instruction-length y sizes places others at other (Write place a b) = refl
 instruction-length y sizes places others at other (Alloc d a) = refl
 
-pub exit-length : (y : Layout) (at other last final : ℕ) (starts others : ℕ → ℕ) (e : Exit) → length (exit_code y at starts last e) ≡ length (exit_code y other others final e)
+pub exit-length : (y : Layout) (at other last final : ℕ) (starts others : ℕ → ℕ) (e : Exit) →
+    length (exit_code y at starts last e) ≡ length (exit_code y other others final e)
 exit-length y at other last final starts others (Return v) =
     let A = part_taken y x10 v in length-append A _ ∙ sym (length-append A _)
 exit-length y at other last final starts others (Jump e) = refl
@@ -88,7 +91,8 @@ block-length y sizes places others starts ends last final at other b =
     sums : (a b c d : ℕ) → a ≡ b → c ≡ d → a + c ≡ b + d
     sums a b c d e f = omega arith
 
-pub blocks-length : (y : Layout) (sizes : List ℕ) (places others : FnId → ℕ) (starts ends : ℕ → ℕ) (last final at other : ℕ) (bs : List Block) →
+pub blocks-length : (y : Layout) (sizes : List ℕ) (places others : FnId → ℕ) (starts ends : ℕ → ℕ) (last final at other : ℕ)
+    (bs : List Block) →
     length (blocks_code y sizes places starts last at bs) ≡ length (blocks_code y sizes others ends final other bs)
 blocks-length y sizes places others starts ends last final at other [] = refl
 blocks-length y sizes places others starts ends last final at other (b ∷ bs) =
@@ -97,20 +101,24 @@ blocks-length y sizes places others starts ends last final at other (b ∷ bs) =
     let C = blocks_code y sizes places starts last (at + 4 * length A) bs in
     let D = blocks_code y sizes others ends final (other + 4 * length B) bs in
     let a : length A ≡ length B = block-length y sizes places others starts ends last final at other b in
-    let c : length C ≡ length D = blocks-length y sizes places others starts ends last final (at + 4 * length A) (other + 4 * length B) bs in
+    let c : length C ≡ length D = blocks-length y sizes places others starts ends last final (at + 4 * length A) (other + 4 * length B) bs
+    in
     length-append A C ∙ (sums (length A) (length B) (length C) (length D) a c ∙ sym (length-append B D))
   where
     sums : (a b c d : ℕ) → a ≡ b → c ≡ d → a + c ≡ b + d
     sums a b c d e f = omega arith
 
 -- An instruction's code stands at its place, and what follows behind it.
-pub record Found (program : List (Option Instr)) (y : Layout) (sizes : List ℕ) (places : FnId → ℕ) (i : Instruction) (top at behind : ℕ) : Type 0 where
+pub record Found (program : List (Option Instr)) (y : Layout) (sizes : List ℕ) (places : FnId → ℕ) (i : Instruction) (top at behind : ℕ) :
+    Type 0 where
   pub stands : Stands program at (instruction_code y sizes places at i)
   pub next : behind ≡ at + 4 * length (instruction_code y sizes places at i)
   pub near : at + 4 * length (instruction_code y sizes places at i) ≤ top
 
-pub find-instruction : (program : List (Option Instr)) (y : Layout) (sizes : List ℕ) (places : FnId → ℕ) (is : List Instruction) (k : ℕ) (i : Instruction) (top at : ℕ) (rest : List Instr) →
-    slice_get is k ≡ Some i → top ≤ 2 ^ 30 → at + 4 * length (instructions_code y sizes places at is) ≤ top → Stands program at (instructions_code y sizes places at is ++ rest) →
+pub find-instruction : (program : List (Option Instr)) (y : Layout) (sizes : List ℕ) (places : FnId → ℕ) (is : List Instruction) (k : ℕ)
+    (i : Instruction) (top at : ℕ) (rest : List Instr) →
+    slice_get is k ≡ Some i → top ≤ 2 ^ 30 → at + 4 * length (instructions_code y sizes places at is) ≤ top →
+    Stands program at (instructions_code y sizes places at is ++ rest) →
     Found program y sizes places i top (instruction_at y sizes places at is k) (instruction_at y sizes places at is (suc k))
 find-instruction program y sizes places [] k i top at rest e small near there = cc
 find-instruction program y sizes places (j ∷ is) zero i top at rest e small near there =
@@ -128,11 +136,15 @@ find-instruction program y sizes places (j ∷ is) (suc k) i top at rest e small
     let B = instructions_code y sizes places (at + 4 * length A) is in
     let count : length (A ++ B) ≡ length A + length B = length-append A B in
     find-instruction program y sizes places is k i top (at + 4 * length A) rest e small (omega (arith, near, count))
-    (stands-next program at A (B ++ rest) (omega (arith, near, count, small)) (subst (λ z. Stands program at z) (append_assoc A B rest) there))
+    (stands-next program at A (B ++ rest) (omega (arith, near, count, small))
+    (subst (λ z. Stands program at z) (append_assoc A B rest) there))
 
-pub find-exit : (program : List (Option Instr)) (y : Layout) (sizes : List ℕ) (places : FnId → ℕ) (is : List Instruction) (k at : ℕ) (rest : List Instr) →
-    slice_get is k ≡ None → at + 4 * length (instructions_code y sizes places at is) ≤ 2 ^ 30 → Stands program at (instructions_code y sizes places at is ++ rest) →
-    (instruction_at y sizes places at is k ≡ at + 4 * length (instructions_code y sizes places at is)) × Stands program (at + 4 * length (instructions_code y sizes places at is)) rest
+pub find-exit : (program : List (Option Instr)) (y : Layout) (sizes : List ℕ) (places : FnId → ℕ) (is : List Instruction) (k at : ℕ)
+    (rest : List Instr) →
+    slice_get is k ≡ None → at + 4 * length (instructions_code y sizes places at is) ≤ 2 ^ 30 →
+    Stands program at (instructions_code y sizes places at is ++ rest) →
+    (instruction_at y sizes places at is k ≡ at + 4 * length (instructions_code y sizes places at is)) ×
+    Stands program (at + 4 * length (instructions_code y sizes places at is)) rest
 find-exit program y sizes places [] zero at rest e near there = (omega arith, subst (λ q. Stands program q rest) (no-more at) there)
 find-exit program y sizes places [] (suc k) at rest e near there = (omega arith, subst (λ q. Stands program q rest) (no-more at) there)
 find-exit program y sizes places (j ∷ is) zero at rest e near there = cc
@@ -146,14 +158,17 @@ find-exit program y sizes places (j ∷ is) (suc k) at rest e near there =
     (found.0 ∙ all, subst (λ q. Stands program q rest) all found.1)
 
 -- A block's code stands where its number says.
-pub record FoundBlock (program : List (Option Instr)) (y : Layout) (sizes : List ℕ) (places : FnId → ℕ) (starts : ℕ → ℕ) (last top at : ℕ) (b : Block) : Type 0 where
+pub record FoundBlock (program : List (Option Instr)) (y : Layout) (sizes : List ℕ) (places : FnId → ℕ) (starts : ℕ → ℕ) (last top at : ℕ)
+    (b : Block) : Type 0 where
   pub stands : Stands program at (block_code y sizes places starts last at b)
   pub near : at + 4 * length (block_code y sizes places starts last at b) ≤ top
   pub aligned : at % 4 ≡ 0
 
-pub find-block : (program : List (Option Instr)) (y : Layout) (sizes : List ℕ) (places : FnId → ℕ) (starts : ℕ → ℕ) (last top : ℕ) (bs : List Block) (k : ℕ) (b : Block) (at : ℕ) (rest : List Instr) →
+pub find-block : (program : List (Option Instr)) (y : Layout) (sizes : List ℕ) (places : FnId → ℕ) (starts : ℕ → ℕ) (last top : ℕ)
+    (bs : List Block) (k : ℕ) (b : Block) (at : ℕ) (rest : List Instr) →
     slice_get bs k ≡ Some b → at % 4 ≡ 0 → at + 4 * length (blocks_code y sizes places starts last at bs) ≤ top → top ≤ 2 ^ 30 →
-    Stands program at (blocks_code y sizes places starts last at bs ++ rest) → FoundBlock program y sizes places starts last top (start_of (starts_from y sizes at bs) k) b
+    Stands program at (blocks_code y sizes places starts last at bs ++ rest) →
+    FoundBlock program y sizes places starts last top (start_of (starts_from y sizes at bs) k) b
 find-block program y sizes places starts last top [] k b at rest e even near small there = cc
 find-block program y sizes places starts last top (j ∷ bs) zero b at rest e even near small there =
     let same : j ≡ b = cc in
@@ -169,14 +184,18 @@ find-block program y sizes places starts last top (j ∷ bs) (suc k) b at rest e
     let A = block_code y sizes places starts last at j in
     let B = blocks_code y sizes places starts last (at + 4 * length A) bs in
     let count : length (A ++ B) ≡ length A + length B = length-append A B in
-    let found = find-block program y sizes places starts last top bs k b (at + 4 * length A) rest e (omega (arith, even)) (omega (arith, near, count)) small
-    (stands-next program at A (B ++ rest) (omega (arith, near, count, small)) (subst (λ z. Stands program at z) (append_assoc A B rest) there)) in
+    let found = find-block program y sizes places starts last top bs k b (at + 4 * length A) rest e (omega (arith, even))
+    (omega (arith, near, count)) small
+    (stands-next program at A (B ++ rest) (omega (arith, near, count, small))
+    (subst (λ z. Stands program at z) (append_assoc A B rest) there)) in
     subst (λ n. FoundBlock program y sizes places starts last top (start_of (starts_from y sizes (at + 4 * n) bs) k) b)
     (block-length y sizes places (λ f. 0) starts (λ c. 0) last 0 at 0 j) found
 
 -- where blocks begin
-pub starts-near : (y : Layout) (sizes : List ℕ) (places : FnId → ℕ) (starts : ℕ → ℕ) (last top : ℕ) (bs : List Block) (k at : ℕ) → at % 4 ≡ 0 →
-    at + 4 * length (blocks_code y sizes places starts last at bs) ≤ top → (start_of (starts_from y sizes at bs) k ≤ top) × (start_of (starts_from y sizes at bs) k % 4 ≡ 0)
+pub starts-near : (y : Layout) (sizes : List ℕ) (places : FnId → ℕ) (starts : ℕ → ℕ) (last top : ℕ) (bs : List Block) (k at : ℕ) →
+    at % 4 ≡ 0 →
+    at + 4 * length (blocks_code y sizes places starts last at bs) ≤ top → (start_of (starts_from y sizes at bs) k ≤ top) ×
+    (start_of (starts_from y sizes at bs) k % 4 ≡ 0)
 starts-near y sizes places starts last top [] k at even near = (omega arith, refl)
 starts-near y sizes places starts last top (j ∷ bs) zero at even near = (omega (arith, near), even)
 starts-near y sizes places starts last top (j ∷ bs) (suc k) at even near =
@@ -187,7 +206,8 @@ starts-near y sizes places starts last top (j ∷ bs) (suc k) at even near =
     subst (λ n. (start_of (starts_from y sizes (at + 4 * n) bs) k ≤ top) × (start_of (starts_from y sizes (at + 4 * n) bs) k % 4 ≡ 0))
     (block-length y sizes places (λ f. 0) starts (λ c. 0) last 0 at 0 j) found
 
-pub instruction-aligned : (y : Layout) (sizes : List ℕ) (places : FnId → ℕ) (is : List Instruction) (k at : ℕ) → at % 4 ≡ 0 → instruction_at y sizes places at is k % 4 ≡ 0
+pub instruction-aligned : (y : Layout) (sizes : List ℕ) (places : FnId → ℕ) (is : List Instruction) (k at : ℕ) → at % 4 ≡ 0 →
+    instruction_at y sizes places at is k % 4 ≡ 0
 instruction-aligned y sizes places is zero at h = h
 instruction-aligned y sizes places [] (suc k) at h = h
 instruction-aligned y sizes places (i ∷ is) (suc k) at h =
@@ -197,14 +217,17 @@ instruction-aligned y sizes places (i ∷ is) (suc k) at h =
 pub record FoundFunction (program : List (Option Instr)) (y : Layout) (code : Tac) (places : FnId → ℕ) (at : ℕ) : Type 0 where
   pub begins : Stands program at (begun code)
   pub enters : Stands program (at + 4 * length (begun code)) (entered y (frame_bytes y) code.frame)
-  pub receives : Stands program (at + 4 * length (begun code) + 4 * length (entered y (frame_bytes y) code.frame)) (received y code.areas (words_offset y) code.parameters)
-  pub first : at + 4 * length (begun code) + 4 * length (entered y (frame_bytes y) code.frame) + 4 * length (received y code.areas (words_offset y) code.parameters) ≡ at + 4 * length (head_code y code)
+  pub receives : Stands program (at + 4 * length (begun code) + 4 * length (entered y (frame_bytes y) code.frame))
+      (received y code.areas (words_offset y) code.parameters)
+  pub first : at + 4 * length (begun code) + 4 * length (entered y (frame_bytes y) code.frame) + 4 * length
+      (received y code.areas (words_offset y) code.parameters) ≡ at + 4 * length (head_code y code)
   pub body : Stands program (at + 4 * length (head_code y code)) (body_code y code places at ++ left y (frame_bytes y) code.frame)
   pub leaves : Stands program (last_address y code at) (left y (frame_bytes y) code.frame)
   pub whole : at + 4 * length (head_code y code) + 4 * length (body_code y code places at) ≡ last_address y code at
   pub near : last_address y code at + 256 ≤ 2 ^ 30
 
-pub find-function : (program : List (Option Instr)) (y : Layout) (code : Tac) (places : FnId → ℕ) (at : ℕ) → at + 4 * length (function_code y code places at) + 256 ≤ 2 ^ 30 →
+pub find-function : (program : List (Option Instr)) (y : Layout) (code : Tac) (places : FnId → ℕ) (at : ℕ) →
+    at + 4 * length (function_code y code places at) + 256 ≤ 2 ^ 30 →
     Stands program at (function_code y code places at) → FoundFunction program y code places at
 find-function program y code places at near there =
     let A : List Instr = begun code in
@@ -213,16 +236,19 @@ find-function program y code places at near there =
     let H : List Instr = head_code y code in
     let D : List Instr = body_code y code places at in
     let L : List Instr = left y (frame_bytes y) code.frame in
-    let count : length (H ++ (D ++ L)) ≡ length H + (length D + length L) = length-append H (D ++ L) ∙ ap (λ n. length H + n) (length-append D L) in
+    let count : length (H ++ (D ++ L)) ≡ length H + (length D + length L) = length-append H (D ++ L) ∙ ap (λ n. length H + n)
+    (length-append D L) in
     let counts : length H ≡ length A + (length B + length C) = length-append A (B ++ C) ∙ ap (λ n. length A + n) (length-append B C) in
     let all : Stands program at (A ++ (B ++ (C ++ (D ++ L)))) =
     subst (λ z. Stands program at z) (append_assoc A (B ++ C) (D ++ L) ∙ ap (λ z. A ++ z) (append_assoc B C (D ++ L))) there in
-    let enters : Stands program (at + 4 * length A) (B ++ (C ++ (D ++ L))) = stands-next program at A (B ++ (C ++ (D ++ L))) (omega (arith, near, count, counts)) all in
+    let enters : Stands program (at + 4 * length A) (B ++ (C ++ (D ++ L))) = stands-next program at A (B ++ (C ++ (D ++ L)))
+    (omega (arith, near, count, counts)) all in
     let receives : Stands program (at + 4 * length A + 4 * length B) (C ++ (D ++ L)) =
     stands-next program (at + 4 * length A) B (C ++ (D ++ L)) (omega (arith, near, count, counts)) enters in
     let body : Stands program (at + 4 * length H) (D ++ L) = stands-next program at H (D ++ L) (omega (arith, near, count)) there in
     let blocks : length D ≡ blocks_length y code.areas code.blocks =
-    blocks-length y code.areas places (λ f. 0) (start_of (block_starts y code at)) (λ b. 0) (last_address y code at) 0 (at + 4 * length H) 0 code.blocks in
+    blocks-length y code.areas places (λ f. 0) (start_of (block_starts y code at)) (λ b. 0) (last_address y code at) 0 (at + 4 * length H)
+    0 code.blocks in
     let whole : at + 4 * length H + 4 * length D ≡ last_address y code at = omega (arith, blocks) in
     record {
       begins = stands-front program at A (B ++ (C ++ (D ++ L))) all;

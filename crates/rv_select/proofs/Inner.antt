@@ -41,13 +41,16 @@ abbrev pub StaysIf : tac.State → tac.Moved → Type 0
 StaysIf s (Goes t) = Stays s t
 StaysIf s (Stops r) = Unit {0}
 
-fetched-stays : (at : Place) (s : tac.State) (o : Option (List ℕ)) (go : List ℕ → tac.Moved) → ((bs : List ℕ) → StaysIf s (go bs)) → StaysIf s (fetched at s o go)
+fetched-stays : (at : Place) (s : tac.State) (o : Option (List ℕ)) (go : List ℕ → tac.Moved) → ((bs : List ℕ) → StaysIf s (go bs)) →
+    StaysIf s (fetched at s o go)
 fetched-stays at s None go f = tt
 fetched-stays at s (Some bs) go f = f bs
 
-from-stays : (spot : Spot) (size : ℕ) (s : tac.State) (go : List ℕ → tac.Moved) → ((bs : List ℕ) → StaysIf s (go bs)) → StaysIf s (from_spot spot size s go)
+from-stays : (spot : Spot) (size : ℕ) (s : tac.State) (go : List ℕ → tac.Moved) → ((bs : List ℕ) → StaysIf s (go bs)) →
+    StaysIf s (from_spot spot size s go)
 from-stays (spots.Region at a) size s go f = fetched-stays at s (range_of s.region (address s a) size) go f
-from-stays (spots.Area n offset) size s go f = by-test (StaysIf s) (nat_le (offset + size) (length (s.here.areas n))) _ _ (λ e. f _) (λ e. tt)
+from-stays (spots.Area n offset) size s go f = by-test (StaysIf s) (nat_le (offset + size) (length (s.here.areas n))) _ _ (λ e. f _)
+    (λ e. tt)
 
 put-long : (r t : Contents) (a : ℕ) (bs : List ℕ) → put_bytes r a bs ≡ Some t → length t.bytes ≡ length r.bytes
 unfolding put_bytes
@@ -59,11 +62,15 @@ put-long r t a (b ∷ bs) e = tested (is_inside r a (length (b ∷ bs))) refl e
         let i = inside_parts r a (length (b ∷ bs)) g in
         length-overwritten r.bytes (b ∷ bs) (a - first_address) (omega (arith, i.0, i.1))
 
-    tested : (c : Bool) → is_inside r a (length (b ∷ bs)) ≡ c → (if c then Some (record r { bytes = overwritten r.bytes (a - first_address) (b ∷ bs) }) else None) ≡ Some t → length t.bytes ≡ length r.bytes
-    tested true g h = let same : record r { bytes = overwritten r.bytes (a - first_address) (b ∷ bs) } ≡ t = cc in ap (λ c. length c.bytes) (sym same) ∙ inside g
+    tested : (c : Bool) → is_inside r a (length (b ∷ bs)) ≡ c →
+        (if c then Some (record r { bytes = overwritten r.bytes (a - first_address) (b ∷ bs) }) else None) ≡ Some t →
+        length t.bytes ≡ length r.bytes
+    tested true g h = let same : record r { bytes = overwritten r.bytes (a - first_address) (b ∷ bs) } ≡ t = cc in ap (λ c. length c.bytes)
+        (sym same) ∙ inside g
     tested false g h = cc
 
-written-stays : (at : Place) (s : tac.State) (o : Option Contents) → ((r : Contents) → o ≡ Some r → length r.bytes ≡ length s.region.bytes) → StaysIf s (written at s o)
+written-stays : (at : Place) (s : tac.State) (o : Option Contents) →
+    ((r : Contents) → o ≡ Some r → length r.bytes ≡ length s.region.bytes) → StaysIf s (written at s o)
 written-stays at s None f = tt
 written-stays at s (Some r) f = record { temps = s.here.temps; areas = s.here.areas; region = r; out = s.out; is = refl; long = f r refl }
 
@@ -77,7 +84,8 @@ alloc-long : (r : Contents) (z : ℤ) → length (alloc_of r z).1.bytes ≡ leng
 unfolding alloc_of
 alloc-long r (negsuc n) = refl
 alloc-long r (pos count) =
-    by-test {A = ℕ × Contents} (λ g. length g.1.bytes ≡ length r.bytes) (nat_le (aligned r.heap + count) (heap_limit r)) (aligned r.heap, record r { heap = aligned r.heap + count }) (0, r) (λ e. refl) (λ e. refl)
+    by-test {A = ℕ × Contents} (λ g. length g.1.bytes ≡ length r.bytes) (nat_le (aligned r.heap + count) (heap_limit r))
+    (aligned r.heap, record r { heap = aligned r.heap + count }) (0, r) (λ e. refl) (λ e. refl)
 
 pub act-stays : (p : Program) (i : Instruction) (s : tac.State) → has_shape i ≡ true → StaysIf s (act p i s)
 act-stays p (Compute d op form a b) s h =
@@ -129,7 +137,8 @@ follow-to exit e s n =
     by-test (LeavesIf exit s) e.counts _ _ (λ h. counted-to h s.left refl)
     (λ h. record { edge = e; left = s.left; is = refl; next = n; counts = λ g. let no : true ≡ false = sym g ∙ h in cc; free = λ g. refl })
   where
-    counted-to : e.counts ≡ true → (l : ℕ) → s.left ≡ l → LeavesIf exit s (tac.counted l s (λ z. Goes (record z { here = record z.here { block = e.block; at = 0 } })))
+    counted-to : e.counts ≡ true → (l : ℕ) → s.left ≡ l →
+        LeavesIf exit s (tac.counted l s (λ z. Goes (record z { here = record z.here { block = e.block; at = 0 } })))
     counted-to h zero q = (refl, q)
     counted-to h (suc l) q = record {
       edge = e;
@@ -143,6 +152,7 @@ follow-to exit e s n =
 pub leave-to : (p : Program) (exit : Exit) (s : tac.State) → has_exit_shape exit ≡ true → LeavesIf exit s (leave p exit s)
 leave-to p (Jump e) s h = follow-to (Jump e) e s refl
 leave-to p (Branch a e f) s h =
-    by-test (LeavesIf (Branch a e f) s) (nat_eq (operand s a) 0) _ _ (λ z. follow-to (Branch a e f) f s (inr refl)) (λ z. follow-to (Branch a e f) e s (inl refl))
+    by-test (LeavesIf (Branch a e f) s) (nat_eq (operand s a) 0) _ _ (λ z. follow-to (Branch a e f) f s (inr refl))
+    (λ z. follow-to (Branch a e f) e s (inl refl))
 leave-to p (Return v) s h = cc
 leave-to p (Fail kind at) s h = tt

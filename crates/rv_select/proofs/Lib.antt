@@ -46,3 +46,5 @@ pub mod Arrivals
 pub mod Calling
 pub mod Falls
 pub mod Runs
+pub mod Begins
+pub mod Entire

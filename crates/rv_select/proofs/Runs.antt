@@ -32,12 +32,14 @@ use Rattle.rv_select.proofs.Stands.{both-true, list-all-get}
 use Rattle.rv_select.proofs.Through.{exit-step, inner-step}
 
 -- A step is carried out, and takes no more than is taken off what is left.
-pub record Done (p : Program) (image : Image) (program : List (Option Instr)) (most size words : ℕ) (s : tac.State) (m : State) (moved : tac.Moved) : Type 0 where
+pub record Done (p : Program) (image : Image) (program : List (Option Instr)) (most size words : ℕ) (s : tac.State) (m : State)
+    (moved : tac.Moved) : Type 0 where
   pub bound : ℕ
   pub stepped : Stepped p image program most size bound s m moved
   pub falls : AreShort p words → FallsIf p words bound s moved
 
-pub a-step : (p : Program) (image : Image) (program : List (Option Instr)) (most size words : ℕ) → IsLinked p image program most → (s : tac.State) (base : ℕ) (m : State) →
+pub a-step : (p : Program) (image : Image) (program : List (Option Instr)) (most size words : ℕ) → IsLinked p image program most →
+    (s : tac.State) (base : ℕ) (m : State) →
     StandsIn p image program most size s base m → Done p image program most size words s m (step p s)
 a-step p image program most size words linked s base m x = in-block (slice_get x.code.blocks s.here.block) refl
   where
@@ -47,26 +49,33 @@ a-step p image program most size words linked s base m x = in-block (slice_get x
     stuck : slice_get x.code.blocks s.here.block ≡ None → Done p image program most size words s m (step p s)
     stuck e = let e1 = x.function in rw (e1, e) (record { bound = 0; stepped = tt; falls = λ short. tt })
 
-    parts : (block : Block) → slice_get x.code.blocks s.here.block ≡ Some block → (list_all has_code block.instructions ≡ true) × (has_exit_code block.exit ≡ true)
-    parts block e = both-true (list_all has_code block.instructions) (has_exit_code block.exit) (list-all-get block_has_code x.code.blocks s.here.block block pl.has_code e)
+    parts : (block : Block) → slice_get x.code.blocks s.here.block ≡ Some block → (list_all has_code block.instructions ≡ true) ×
+        (has_exit_code block.exit ≡ true)
+    parts block e = both-true (list_all has_code block.instructions) (has_exit_code block.exit)
+        (list-all-get block_has_code x.code.blocks s.here.block block pl.has_code e)
 
-    inside : (block : Block) (i : Instruction) → slice_get x.code.blocks s.here.block ≡ Some block → slice_get block.instructions s.here.at ≡ Some i → has_shape i ≡ true →
+    inside : (block : Block) (i : Instruction) → slice_get x.code.blocks s.here.block ≡ Some block →
+        slice_get block.instructions s.here.at ≡ Some i → has_shape i ≡ true →
         Done p image program most size words s m (step p s)
     inside block i e g h = record {
       bound = words_of i;
       stepped = inner-step p image program most size linked s base m x block i e g h;
-      falls = λ short. falls-inner p words x.code block i s (step p s) x.function e g (let e1 = x.function in rw (e1, e, g) (act-stays p i s h));
+      falls = λ short. falls-inner p words x.code block i s (step p s) x.function e g
+          (let e1 = x.function in rw (e1, e, g) (act-stays p i s h));
     }
 
-    leaving : (block : Block) → slice_get x.code.blocks s.here.block ≡ Some block → slice_get block.instructions s.here.at ≡ None → has_exit_shape block.exit ≡ true →
+    leaving : (block : Block) → slice_get x.code.blocks s.here.block ≡ Some block → slice_get block.instructions s.here.at ≡ None →
+        has_exit_shape block.exit ≡ true →
         Done p image program most size words s m (step p s)
     leaving block e g h = record {
       bound = exit_words block.exit;
       stepped = exit-step p image program most size linked s base m x block e g h;
-      falls = λ short. falls-exit p words x.code block s (step p s) x.function e pl.counted (short s.here.function x.code x.function) (let e1 = x.function in rw (e1, e, g) (leave-to p block.exit s h));
+      falls = λ short. falls-exit p words x.code block s (step p s) x.function e pl.counted (short s.here.function x.code x.function)
+          (let e1 = x.function in rw (e1, e, g) (leave-to p block.exit s h));
     }
 
-    returns : (block : Block) (v : Part) → slice_get x.code.blocks s.here.block ≡ Some block → slice_get block.instructions s.here.at ≡ None → block.exit ≡ Return v →
+    returns : (block : Block) (v : Part) → slice_get x.code.blocks s.here.block ≡ Some block →
+        slice_get block.instructions s.here.at ≡ None → block.exit ≡ Return v →
         Done p image program most size words s m (step p s)
     returns block v e g is = record {
       bound = return_most s.callers;
@@ -74,7 +83,8 @@ a-step p image program most size words linked s base m x = in-block (slice_get x
       falls = λ short. falls-return p words x.code block v s x.function e g is;
     }
 
-    calls : (block : Block) (to : Destination) (place : Place) (f : FnId) (arguments : List Part) → slice_get x.code.blocks s.here.block ≡ Some block →
+    calls : (block : Block) (to : Destination) (place : Place) (f : FnId) (arguments : List Part) →
+        slice_get x.code.blocks s.here.block ≡ Some block →
         slice_get block.instructions s.here.at ≡ Some (Call to place f arguments) → Done p image program most size words s m (step p s)
     calls block to place f arguments e g = record {
       bound = 49 + 17 * length arguments;
@@ -83,14 +93,16 @@ a-step p image program most size words linked s base m x = in-block (slice_get x
           (λ callee h. pl.passes s.here.block s.here.at block to place f arguments callee e g h);
     }
 
-    an-exit : (block : Block) → slice_get x.code.blocks s.here.block ≡ Some block → slice_get block.instructions s.here.at ≡ None → (exit : Exit) → block.exit ≡ exit → has_exit_code exit ≡ true →
+    an-exit : (block : Block) → slice_get x.code.blocks s.here.block ≡ Some block → slice_get block.instructions s.here.at ≡ None →
+        (exit : Exit) → block.exit ≡ exit → has_exit_code exit ≡ true →
         Done p image program most size words s m (step p s)
     an-exit block e g (Return v) is h = returns block v e g is
     an-exit block e g (Jump d) is h = leaving block e g (ap has_exit_shape is ∙ h)
     an-exit block e g (Branch a d f) is h = leaving block e g (ap has_exit_shape is ∙ h)
     an-exit block e g (Fail kind at) is h = leaving block e g (ap has_exit_shape is ∙ h)
 
-    an-instruction : (block : Block) → slice_get x.code.blocks s.here.block ≡ Some block → (i : Instruction) → slice_get block.instructions s.here.at ≡ Some i → has_code i ≡ true →
+    an-instruction : (block : Block) → slice_get x.code.blocks s.here.block ≡ Some block → (i : Instruction) →
+        slice_get block.instructions s.here.at ≡ Some i → has_code i ≡ true →
         Done p image program most size words s m (step p s)
     an-instruction block e (Call to place f arguments) g h = calls block to place f arguments e g
     an-instruction block e (CallValue to place sig a arguments) g h = cc
@@ -106,7 +118,8 @@ a-step p image program most size words linked s base m x = in-block (slice_get x
     an-instruction block e (Write place a b) g h = inside block (Write place a b) e g h
     an-instruction block e (Alloc d a) g h = inside block (Alloc d a) e g h
 
-    at-it : (block : Block) → slice_get x.code.blocks s.here.block ≡ Some block → (o : Option Instruction) → slice_get block.instructions s.here.at ≡ o → Done p image program most size words s m (step p s)
+    at-it : (block : Block) → slice_get x.code.blocks s.here.block ≡ Some block → (o : Option Instruction) →
+        slice_get block.instructions s.here.at ≡ o → Done p image program most size words s m (step p s)
     at-it block e None g = an-exit block e g block.exit refl (parts block e).1
     at-it block e (Some i) g = an-instruction block e i g (list-all-get has_code block.instructions s.here.at i (parts block e).0 g)
 
@@ -115,7 +128,8 @@ a-step p image program most size words linked s base m x = in-block (slice_get x
     in-block (Some block) e = at-it block e (slice_get block.instructions s.here.at) refl
 
 pub steps-carried : StepsAreCarried
-steps-carried p image program most size s base m linked x = let d = a-step p image program most size 0 linked s base m x in (d.bound, d.stepped)
+steps-carried p image program most size s base m linked x = let d = a-step p image program most size 0 linked s base m x in
+    (d.bound, d.stepped)
 
 -- a run that is over stays so
 steps-stopped : (p : Program) (k : ℕ) (r : Run) → steps p k (Stops r) ≡ Stops r
@@ -132,17 +146,34 @@ both-outputs a b r = ap (λ o. record { stop = r.stop; state = r.state; output =
 outs-both : (s t out a b : List ℕ) → t ≡ s ++ a → out ≡ t ++ b → out ≡ s ++ (a ++ b)
 outs-both s t out a b e f = f ∙ (ap (λ z. z ++ b) e ∙ append_assoc s a b)
 
+-- a bound on what a step and all that follows take
+abbrev pub FallsTo : Program → (words top bound : ℕ) → tac.State → tac.Moved → Type 0
+FallsTo p words top bound s (Goes t) = (bound + steps_left p words t ≤ top) × (s.left ≤ suc t.left)
+FallsTo p words top bound s (Stops (Over (Returned v) out)) = bound ≤ top
+FallsTo p words top bound s (Stops (Over (Fault kind at) out)) = bound ≤ top
+FallsTo p words top bound s (Stops (Over Stuck out)) = Unit {0}
+FallsTo p words top bound s (Stops (More out)) = Unit {0}
+
+falls-to : (p : Program) (words bound : ℕ) (s : tac.State) (moved : tac.Moved) → FallsIf p words bound s moved →
+    FallsTo p words (steps_left p words s) bound s moved
+falls-to p words bound s (Goes t) h = h
+falls-to p words bound s (Stops (Over (Returned v) out)) h = h
+falls-to p words bound s (Stops (Over (Fault kind at) out)) h = h
+falls-to p words bound s (Stops (Over Stuck out)) h = tt
+falls-to p words bound s (Stops (More out)) h = tt
+
 -- some steps, and a run from there
-then-ended : (p : Program) (image : Image) (program : List (Option Instr)) (most size words bound : ℕ) (out : List ℕ) (s t : tac.State) (m : State) (r : Run) → t.out ≡ s.out ++ out →
-    (a : Arrives p image program most size bound out t m) → bound + steps_left p words t ≤ steps_left p words s → s.left ≤ suc t.left →
-    Ended program (steps_left p words t) t a.after r → Ended program (steps_left p words s) s m r
-then-ended p image program most size words bound out s t m (Over (Returned v) all) e a falls counts (rest, o, d) = (
+then-ended : (p : Program) (image : Image) (program : List (Option Instr)) (most size words bound top : ℕ) (out : List ℕ) (s t : tac.State)
+    (m : State) (r : Run) → t.out ≡ s.out ++ out →
+    (a : Arrives p image program most size bound out t m) → bound + steps_left p words t ≤ top → s.left ≤ suc t.left →
+    Ended program (steps_left p words t) t a.after r → Ended program top s m r
+then-ended p image program most size words bound top out s t m (Over (Returned v) all) e a falls counts (rest, o, d) = (
   out ++ rest,
   outs-both s.out t.out all out rest e o,
   record {
     count = a.steps + d.count;
     last = d.last;
-    few = sum (steps_left p words t) (steps_left p words s) a.steps d.count falls a.few d.few;
+    few = sum (steps_left p words t) top a.steps d.count falls a.few d.few;
     runs = λ more.
         let split : a.steps + d.count + more ≡ a.steps + (d.count + more) = omega arith in
         ap (run_of program m) split ∙ (a.runs (d.count + more) ∙ (ap (after_output out) (d.runs more) ∙ both-outputs out rest _));
@@ -152,13 +183,13 @@ then-ended p image program most size words bound out s t m (Over (Returned v) al
   where
     sum : (l n k c : ℕ) → bound + l ≤ n → k ≤ bound → c ≤ l → k + c ≤ n
     sum l n k c f g h = omega (arith, f, g, h)
-then-ended p image program most size words bound out s t m (Over (Fault kind at) all) e a falls counts (rest, o, d) = (
+then-ended p image program most size words bound top out s t m (Over (Fault kind at) all) e a falls counts (rest, o, d) = (
   out ++ rest,
   outs-both s.out t.out all out rest e o,
   record {
     count = a.steps + d.count;
     last = d.last;
-    few = sum (steps_left p words t) (steps_left p words s) a.steps d.count falls a.few d.few;
+    few = sum (steps_left p words t) top a.steps d.count falls a.few d.few;
     runs = λ more.
         let split : a.steps + d.count + more ≡ a.steps + (d.count + more) = omega arith in
         ap (run_of program m) split ∙ (a.runs (d.count + more) ∙ (ap (after_output out) (d.runs more) ∙ both-outputs out rest _));
@@ -167,15 +198,15 @@ then-ended p image program most size words bound out s t m (Over (Fault kind at)
   where
     sum : (l n k c : ℕ) → bound + l ≤ n → k ≤ bound → c ≤ l → k + c ≤ n
     sum l n k c f g h = omega (arith, f, g, h)
-then-ended p image program most size words bound out s t m (Over Stuck all) e a falls counts d = tt
-then-ended p image program most size words bound out s t m (More all) e a falls counts (rest, o, d) = (
+then-ended p image program most size words bound top out s t m (Over Stuck all) e a falls counts d = tt
+then-ended p image program most size words bound top out s t m (More all) e a falls counts (rest, o, d) = (
   out ++ rest,
   outs-both s.out t.out all out rest e o,
   record {
     count = a.steps + d.count;
     after = d.after;
     enough = least s.left t.left a.steps d.count counts a.some d.enough;
-    few = sum (steps_left p words t) (steps_left p words s) a.steps d.count falls a.few d.few;
+    few = sum (steps_left p words t) top a.steps d.count falls a.few d.few;
     runs = λ more.
         let split : a.steps + d.count + more ≡ a.steps + (d.count + more) = omega arith in
         ap (run_of program m) split ∙ (a.runs (d.count + more) ∙ (ap (after_output out) (d.runs more) ∙ both-outputs out rest _));
@@ -189,15 +220,16 @@ then-ended p image program most size words bound out s t m (More all) e a falls 
     least l n k c f g h = omega (arith, f, g, h)
 
 -- the step by which the run is over
-at-end : (p : Program) (image : Image) (program : List (Option Instr)) (most size words bound : ℕ) (s : tac.State) (m : State) (r : Run) → Stepped p image program most size bound s m (Stops r) →
-    FallsIf p words bound s (Stops r) → Ended program (steps_left p words s) s m r
-at-end p image program most size words bound s m (Over (Returned v) out) (e, d) falls = (
+at-end : (p : Program) (image : Image) (program : List (Option Instr)) (most size words bound top : ℕ) (s : tac.State) (m : State)
+    (r : Run) → Stepped p image program most size bound s m (Stops r) →
+    FallsTo p words top bound s (Stops r) → Ended program top s m r
+at-end p image program most size words bound top s m (Over (Returned v) out) (e, d) falls = (
   [],
   sym (append-nil s.out ∙ sym e),
   record {
     count = d.steps;
     last = d.last;
-    few = under d.steps (steps_left p words s) d.few falls;
+    few = under d.steps top d.few falls;
     runs = λ more. d.runs more;
     gives = d.gives;
   },
@@ -205,21 +237,21 @@ at-end p image program most size words bound s m (Over (Returned v) out) (e, d) 
   where
     under : (a b : ℕ) → a ≤ bound → bound ≤ b → a ≤ b
     under a b h g = omega (arith, h, g)
-at-end p image program most size words bound s m (Over (Fault kind at) out) (e, d) falls = (
+at-end p image program most size words bound top s m (Over (Fault kind at) out) (e, d) falls = (
   [],
   sym (append-nil s.out ∙ sym e),
   record {
     count = d.steps;
     last = d.last;
-    few = under d.steps (steps_left p words s) d.few falls;
+    few = under d.steps top d.few falls;
     runs = λ more. d.runs more;
   },
 )
   where
     under : (a b : ℕ) → a ≤ bound → bound ≤ b → a ≤ b
     under a b h g = omega (arith, h, g)
-at-end p image program most size words bound s m (Over Stuck out) d falls = tt
-at-end p image program most size words bound s m (More out) (e, none) falls = (
+at-end p image program most size words bound top s m (Over Stuck out) d falls = tt
+at-end p image program most size words bound top s m (More out) (e, none) falls = (
   [],
   sym (append-nil s.out ∙ sym e),
   record {
@@ -234,18 +266,22 @@ at-end p image program most size words bound s m (More out) (e, none) falls = (
 same-run : (a b : Run) → Stops a ≡ Stops b → a ≡ b
 same-run a b e = cc
 
-behind-step : (p : Program) (image : Image) (program : List (Option Instr)) (most size words k bound : ℕ) (r : Run) (s : tac.State) (m : State) →
-    ((t : tac.State) (base : ℕ) (n : State) → StandsIn p image program most size t base n → steps p k (Goes t) ≡ Stops r → Ended program (steps_left p words t) t n r) → (moved : tac.Moved) →
-    Stepped p image program most size bound s m moved → FallsIf p words bound s moved → steps p k moved ≡ Stops r → Ended program (steps_left p words s) s m r
-behind-step p image program most size words k bound r s m more (Goes t) (out, e, a) falls ends =
-    then-ended p image program most size words bound out s t m r e a falls.0 falls.1 (more t a.base a.after a.stands ends)
-behind-step p image program most size words k bound r s m more (Stops q) d falls ends =
+pub behind-step : (p : Program) (image : Image) (program : List (Option Instr)) (most size words k bound top : ℕ) (r : Run) (s : tac.State)
+    (m : State) →
+    ((t : tac.State) (base : ℕ) (n : State) → StandsIn p image program most size t base n → steps p k (Goes t) ≡ Stops r →
+    Ended program (steps_left p words t) t n r) → (moved : tac.Moved) →
+    Stepped p image program most size bound s m moved → FallsTo p words top bound s moved → steps p k moved ≡ Stops r →
+    Ended program top s m r
+behind-step p image program most size words k bound top r s m more (Goes t) (out, e, a) falls ends =
+    then-ended p image program most size words bound top out s t m r e a falls.0 falls.1 (more t a.base a.after a.stands ends)
+behind-step p image program most size words k bound top r s m more (Stops q) d falls ends =
     let same : q ≡ r = same-run q r (sym (steps-stopped p k q) ∙ ends) in
-    subst (λ z. Ended program (steps_left p words s) s m z) same (at-end p image program most size words bound s m q d falls)
+    subst (λ z. Ended program top s m z) same (at-end p image program most size words bound top s m q d falls)
 
 pub runs-carried : RunsAreCarried
 runs-carried p image program most size words zero r s base m linked short x e = cc
 runs-carried p image program most size words (suc k) r s base m linked short x e =
     let d = a-step p image program most size words linked s base m x in
-    behind-step p image program most size words k d.bound r s m
-    (λ t b n y g. runs-carried p image program most size words k r t b n linked short y g) (step p s) d.stepped (d.falls short) e
+    behind-step p image program most size words k d.bound (steps_left p words s) r s m
+    (λ t b n y g. runs-carried p image program most size words k r t b n linked short y g) (step p s) d.stepped
+    (falls-to p words d.bound s (step p s) (d.falls short)) e

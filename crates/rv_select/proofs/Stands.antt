@@ -42,53 +42,75 @@ pub record Within (code : Tac) : Type 0 where
   pub frame : code.frame < 2 ^ 63
   pub entered : 0 < length code.blocks
 
-pub within-parts : (p : Program) (image : Image) (program : List (Option Instr)) (most : ℕ) (code : Tac) (x : Placed) → IsPlaced p image program most code x → Within code
+pub within-parts : (p : Program) (image : Image) (program : List (Option Instr)) (most : ℕ) (code : Tac) (x : Placed) →
+    IsPlaced p image program most code x → Within code
 within-parts p image program most code x h =
     let a = both-true _ (nat_lt 0 (length code.blocks)) h.fits.within in
     let b = both-true _ (nat_lt code.frame (2 ^ 63)) a.0 in
     let c = both-true _ (place_fits code.place) b.0 in
     let d = both-true _ (list_all area_fits code.areas) c.0 in
     let e = both-true (list_all (block_fits code) code.blocks) (list_all (destination_fits code) code.parameters) d.0 in
-    record { blocks = e.0; areas = d.1; place = c.1; frame = ltb-true code.frame (2 ^ 63) b.1; entered = ltb-true 0 (length code.blocks) a.1 }
+    record {
+      blocks = e.0;
+      areas = d.1;
+      place = c.1;
+      frame = ltb-true code.frame (2 ^ 63) b.1;
+      entered = ltb-true 0 (length code.blocks)
+          a.1;
+    }
 
-pub instruction-within : (code : Tac) (b k : ℕ) (block : Block) (i : Instruction) → list_all (block_fits code) code.blocks ≡ true → slice_get code.blocks b ≡ Some block → slice_get block.instructions k ≡ Some i →
+pub instruction-within : (code : Tac) (b k : ℕ) (block : Block) (i : Instruction) → list_all (block_fits code) code.blocks ≡ true →
+    slice_get code.blocks b ≡ Some block → slice_get block.instructions k ≡ Some i →
     instruction_fits code i ≡ true
 instruction-within code b k block i h e g =
-    list-all-get (instruction_fits code) block.instructions k i (both-true (list_all (instruction_fits code) block.instructions) (exit_fits code block.exit) (list-all-get (block_fits code) code.blocks b block h e)).0 g
+    list-all-get (instruction_fits code) block.instructions k i
+    (both-true (list_all (instruction_fits code) block.instructions) (exit_fits code block.exit)
+    (list-all-get (block_fits code) code.blocks b block h e)).0 g
 
-pub exit-within : (code : Tac) (b : ℕ) (block : Block) → list_all (block_fits code) code.blocks ≡ true → slice_get code.blocks b ≡ Some block → exit_fits code block.exit ≡ true
+pub exit-within : (code : Tac) (b : ℕ) (block : Block) → list_all (block_fits code) code.blocks ≡ true →
+    slice_get code.blocks b ≡ Some block → exit_fits code block.exit ≡ true
 exit-within code b block h e =
-    (both-true (list_all (instruction_fits code) block.instructions) (exit_fits code block.exit) (list-all-get (block_fits code) code.blocks b block h e)).1
+    (both-true (list_all (instruction_fits code) block.instructions) (exit_fits code block.exit)
+    (list-all-get (block_fits code) code.blocks b block h e)).1
 
 -- An instruction's code stands at its place in a function.
-pub record AtPlace (p : Program) (image : Image) (program : List (Option Instr)) (code : Tac) (x : Placed) (b k : ℕ) (i : Instruction) (at : ℕ) : Type 0 where
+pub record AtPlace (p : Program) (image : Image) (program : List (Option Instr)) (code : Tac) (x : Placed) (b k : ℕ) (i : Instruction)
+    (at : ℕ) : Type 0 where
   pub stands : Stands program at (instruction_code (layout_of code x.homes) code.areas (entries_of p image) at i)
-  pub next : place_in p image code x b (suc k) ≡ at + 4 * length (instruction_code (layout_of code x.homes) code.areas (entries_of p image) at i)
+  pub next : place_in p image code x b (suc k) ≡ at + 4 * length
+      (instruction_code (layout_of code x.homes) code.areas (entries_of p image) at i)
   pub near : at + 4 * length (instruction_code (layout_of code x.homes) code.areas (entries_of p image) at i) + 256 ≤ 2 ^ 30
   pub aligned : at % 4 ≡ 0
 
 -- and so does an exit's
 pub record AtExit (p : Program) (image : Image) (program : List (Option Instr)) (code : Tac) (x : Placed) (e : Exit) (at : ℕ) : Type 0 where
   pub stands : Stands program at
-      (exit_code (layout_of code x.homes) at (start_of (block_starts (layout_of code x.homes) code x.at)) (last_address (layout_of code x.homes) code x.at) e)
+      (exit_code (layout_of code x.homes) at (start_of (block_starts (layout_of code x.homes) code x.at))
+      (last_address (layout_of code x.homes) code x.at) e)
   pub near : at + 256 ≤ 2 ^ 30
   pub aligned : at % 4 ≡ 0
 
-pub the-function : (p : Program) (image : Image) (program : List (Option Instr)) (most : ℕ) (code : Tac) (x : Placed) → IsPlaced p image program most code x →
+pub the-function : (p : Program) (image : Image) (program : List (Option Instr)) (most : ℕ) (code : Tac) (x : Placed) →
+    IsPlaced p image program most code x →
     FoundFunction program (layout_of code x.homes) code (entries_of p image) x.at
 the-function p image program most code x h = find-function program (layout_of code x.homes) code (entries_of p image) x.at h.near h.stands
 
-pub the-block : (p : Program) (image : Image) (program : List (Option Instr)) (most : ℕ) (code : Tac) (x : Placed) (b : ℕ) (block : Block) → IsPlaced p image program most code x → slice_get code.blocks b ≡ Some block →
-    FoundBlock program (layout_of code x.homes) code.areas (entries_of p image) (start_of (block_starts (layout_of code x.homes) code x.at)) (last_address (layout_of code x.homes) code x.at)
+pub the-block : (p : Program) (image : Image) (program : List (Option Instr)) (most : ℕ) (code : Tac) (x : Placed) (b : ℕ) (block : Block)
+    → IsPlaced p image program most code x → slice_get code.blocks b ≡ Some block →
+    FoundBlock program (layout_of code x.homes) code.areas (entries_of p image)
+    (start_of (block_starts (layout_of code x.homes) code x.at)) (last_address (layout_of code x.homes) code x.at)
     (last_address (layout_of code x.homes) code x.at) (start_of (block_starts (layout_of code x.homes) code x.at) b) block
 the-block p image program most code x b block h e =
     let y : Layout = layout_of code x.homes in
     let f : FoundFunction program y code (entries_of p image) x.at = the-function p image program most code x h in
-    find-block program y code.areas (entries_of p image) (start_of (block_starts y code x.at)) (last_address y code x.at) (last_address y code x.at) code.blocks b block (x.at + 4 * length (head_code y code))
+    find-block program y code.areas (entries_of p image) (start_of (block_starts y code x.at)) (last_address y code x.at)
+    (last_address y code x.at) code.blocks b block (x.at + 4 * length (head_code y code))
     (left y (frame_bytes y) code.frame) e (omega (arith, h.aligned)) (omega (arith, f.whole)) (omega (arith, f.near)) f.body
 
-pub at-instruction : (p : Program) (image : Image) (program : List (Option Instr)) (most : ℕ) (code : Tac) (x : Placed) (b k : ℕ) (block : Block) (i : Instruction) → IsPlaced p image program most code x →
-    slice_get code.blocks b ≡ Some block → slice_get block.instructions k ≡ Some i → AtPlace p image program code x b k i (place_in p image code x b k)
+pub at-instruction : (p : Program) (image : Image) (program : List (Option Instr)) (most : ℕ) (code : Tac) (x : Placed) (b k : ℕ)
+    (block : Block) (i : Instruction) → IsPlaced p image program most code x →
+    slice_get code.blocks b ≡ Some block → slice_get block.instructions k ≡ Some i →
+    AtPlace p image program code x b k i (place_in p image code x b k)
 at-instruction p image program most code x b k block i h e g =
     let y : Layout = layout_of code x.homes in
     let places = entries_of p image in
@@ -98,9 +120,12 @@ at-instruction p image program most code x b k block i h e g =
     let A = instructions_code y code.areas places S block.instructions in
     let E = exit_code y (S + 4 * length A) (start_of (block_starts y code x.at)) (last_address y code x.at) block.exit in
     let count : length (A ++ E) ≡ length A + length E = length-append A E in
-    let fi : Found program y code.areas places i (S + 4 * length A) (instruction_at y code.areas places S block.instructions k) (instruction_at y code.areas places S block.instructions (suc k)) =
-    find-instruction program y code.areas places block.instructions k i (S + 4 * length A) S E g (omega (arith, fb.near, f.near, count)) (omega arith) fb.stands in
-    let here : (j : ℕ) → place_in p image code x b j ≡ instruction_at y code.areas places S block.instructions j = λ j. ap (λ o. instruction_at y code.areas places S (instructions_in o) j) e in
+    let fi : Found program y code.areas places i (S + 4 * length A) (instruction_at y code.areas places S block.instructions k)
+    (instruction_at y code.areas places S block.instructions (suc k)) =
+    find-instruction program y code.areas places block.instructions k i (S + 4 * length A) S E g (omega (arith, fb.near, f.near, count))
+    (omega arith) fb.stands in
+    let here : (j : ℕ) → place_in p image code x b j ≡ instruction_at y code.areas places S block.instructions j = λ j. ap
+    (λ o. instruction_at y code.areas places S (instructions_in o) j) e in
     subst (λ at. AtPlace p image program code x b k i at) (sym (here k))
     (record {
       stands = fi.stands;
@@ -109,8 +134,10 @@ at-instruction p image program most code x b k block i h e g =
       aligned = instruction-aligned y code.areas places block.instructions k S fb.aligned;
     })
 
-pub at-exit : (p : Program) (image : Image) (program : List (Option Instr)) (most : ℕ) (code : Tac) (x : Placed) (b k : ℕ) (block : Block) → IsPlaced p image program most code x →
-    slice_get code.blocks b ≡ Some block → slice_get block.instructions k ≡ None → AtExit p image program code x block.exit (place_in p image code x b k)
+pub at-exit : (p : Program) (image : Image) (program : List (Option Instr)) (most : ℕ) (code : Tac) (x : Placed) (b k : ℕ) (block : Block)
+    → IsPlaced p image program most code x →
+    slice_get code.blocks b ≡ Some block → slice_get block.instructions k ≡ None →
+    AtExit p image program code x block.exit (place_in p image code x b k)
 at-exit p image program most code x b k block h e g =
     let y : Layout = layout_of code x.homes in
     let places = entries_of p image in
@@ -121,6 +148,7 @@ at-exit p image program most code x b k block h e g =
     let E = exit_code y (S + 4 * length A) (start_of (block_starts y code x.at)) (last_address y code x.at) block.exit in
     let count : length (A ++ E) ≡ length A + length E = length-append A E in
     let fe = find-exit program y code.areas places block.instructions k S E g (omega (arith, fb.near, f.near, count)) fb.stands in
-    let here : place_in p image code x b k ≡ S + 4 * length A = ap (λ o. instruction_at y code.areas places S (instructions_in o) k) e ∙ fe.0 in
+    let here : place_in p image code x b k ≡ S + 4 * length A = ap (λ o. instruction_at y code.areas places S (instructions_in o) k) e ∙
+    fe.0 in
     subst (λ at. AtExit p image program code x block.exit at) (sym here)
     (record { stands = fe.1; near = omega (arith, fb.near, f.near, count); aligned = omega (arith, fb.aligned) })

@@ -31,7 +31,8 @@ use Rattle.rv_select.proofs.Leaves.{exits}
 use Rattle.rv_select.proofs.Stands.{AtExit, AtPlace, at-exit, at-instruction, exit-within, instruction-within, the-function, within-parts}
 use Rattle.rv_select.proofs.Waits.{waits-keeps}
 
-pub code-is : (y : Layout) (sizes : List ℕ) (places : FnId → ℕ) (at : ℕ) (i : Instruction) → has_shape i ≡ true → instruction_code y sizes places at i ≡ shape_of y i
+pub code-is : (y : Layout) (sizes : List ℕ) (places : FnId → ℕ) (at : ℕ) (i : Instruction) → has_shape i ≡ true →
+    instruction_code y sizes places at i ≡ shape_of y i
 code-is y sizes places at (Call to place f arguments) h = cc
 code-is y sizes places at (Compute d op form a b) h = refl
 code-is y sizes places at (TestDivisor place a) h = refl
@@ -46,7 +47,8 @@ code-is y sizes places at (PutByte a) h = refl
 code-is y sizes places at (Write place a b) h = refl
 code-is y sizes places at (Alloc d a) h = refl
 
-exit-is : (y : Layout) (at last : ℕ) (starts : ℕ → ℕ) (e : Exit) → has_exit_shape e ≡ true → exit_code y at starts last e ≡ exit_shape y at starts e
+exit-is : (y : Layout) (at last : ℕ) (starts : ℕ → ℕ) (e : Exit) → has_exit_shape e ≡ true →
+    exit_code y at starts last e ≡ exit_shape y at starts e
 exit-is y at last starts (Return v) h = cc
 exit-is y at last starts (Jump e) h = refl
 exit-is y at last starts (Branch a e f) h = refl
@@ -57,18 +59,32 @@ unfolding low
 near-low n h = omega arith
 
 -- the machine stands behind an instruction
-arrives : (p : Program) (image : Image) (program : List (Option Instr)) (most size weight : ℕ) → IsLinked p image program most → (s t : tac.State) (base : ℕ) (m : State)
-    (x : StandsIn p image program most size s base m) (out : List ℕ) (target : ℕ) → Stays s t → target ≡ place_in p image x.code (image s.here.function) s.here.block (suc s.here.at) →
-    Comes (layout_of x.code (image s.here.function).homes) program (InUse (graph_of x.code) t.here.block t.here.at) (world_of t) base weight target out m →
+arrives : (p : Program) (image : Image) (program : List (Option Instr)) (most size weight : ℕ) → IsLinked p image program most →
+    (s t : tac.State) (base : ℕ) (m : State)
+    (x : StandsIn p image program most size s base m) (out : List ℕ) (target : ℕ) → Stays s t →
+    target ≡ place_in p image x.code (image s.here.function) s.here.block (suc s.here.at) →
+    Comes (layout_of x.code (image s.here.function).homes) program (InUse (graph_of x.code) t.here.block t.here.at) (world_of t) base
+    weight target out m →
     Arrives p image program most size weight out t m
 arrives p image program most size weight linked s t base m x out target st to c =
     subst
-    (λ z. Comes (layout_of x.code (image s.here.function).homes) program (InUse (graph_of x.code) z.here.block z.here.at) (world_of z) base weight target out m → Arrives p image program most size weight out z m)
+    (λ z. Comes (layout_of x.code (image s.here.function).homes) program (InUse (graph_of x.code) z.here.block z.here.at) (world_of z) base
+    weight target out m → Arrives p image program most size weight out z m)
     (sym st.is) made c
   where
     made : Comes (layout_of x.code (image s.here.function).homes) program (InUse (graph_of x.code) s.here.block (suc s.here.at))
-        (world_of (record s { here = record s.here { at = suc s.here.at; temps = st.temps; areas = st.areas }; region = st.region; out = st.out })) base weight target out m →
-        Arrives p image program most size weight out (record s { here = record s.here { at = suc s.here.at; temps = st.temps; areas = st.areas }; region = st.region; out = st.out }) m
+        (world_of (record s {
+          here = record s.here { at = suc s.here.at; temps = st.temps; areas = st.areas };
+          region = st.region;
+          out =
+              st.out;
+        })) base weight target out m →
+        Arrives p image program most size weight out
+        (record s {
+          here = record s.here { at = suc s.here.at; temps = st.temps; areas = st.areas };
+          region = st.region;
+          out = st.out;
+        }) m
     made d = record {
       steps = d.steps;
       after = d.after;
@@ -84,13 +100,17 @@ arrives p image program most size weight linked s t base m x out target st to c 
         frame = subst (λ n. s.here.base + x.code.frame ≤ 2 ^ 30 + n) (sym st.long) x.frame;
         region = st.long ∙ x.region;
         room = x.room;
-        waits = waits-keeps p image program most size (layout_of x.code (image s.here.function).homes) s.callers base (s.here.base + x.code.frame) m d.after linked d.keeps x.waits;
+        waits = waits-keeps p image program most size (layout_of x.code (image s.here.function).homes) s.callers base
+            (s.here.base + x.code.frame) m d.after linked d.keeps x.waits;
       };
     }
 
-joined : (p : Program) (image : Image) (program : List (Option Instr)) (most size weight : ℕ) → IsLinked p image program most → (s : tac.State) (base : ℕ) (m : State)
-    (x : StandsIn p image program most size s base m) (code : List Instr) (moved : tac.Moved) → behind m code ≡ place_in p image x.code (image s.here.function) s.here.block (suc s.here.at) → StaysIf s moved →
-    Carried (layout_of x.code (image s.here.function).homes) (graph_of x.code) program base weight code s m moved → Stepped p image program most size weight s m moved
+joined : (p : Program) (image : Image) (program : List (Option Instr)) (most size weight : ℕ) → IsLinked p image program most →
+    (s : tac.State) (base : ℕ) (m : State)
+    (x : StandsIn p image program most size s base m) (code : List Instr) (moved : tac.Moved) →
+    behind m code ≡ place_in p image x.code (image s.here.function) s.here.block (suc s.here.at) → StaysIf s moved →
+    Carried (layout_of x.code (image s.here.function).homes) (graph_of x.code) program base weight code s m moved →
+    Stepped p image program most size weight s m moved
 joined p image program most size weight linked s base m x code (Goes t) to st c =
     (c.0, c.1, arrives p image program most size weight linked s t base m x c.0 (behind m code) st to c.2)
 joined p image program most size weight linked s base m x code (Stops (Over (Fault kind at) out)) to st c = c
@@ -99,24 +119,31 @@ joined p image program most size weight linked s base m x code (Stops (Over Stuc
 joined p image program most size weight linked s base m x code (Stops (More out)) to st c = absurd c
 
 -- an instruction that stays within its function
-pub inner-step : (p : Program) (image : Image) (program : List (Option Instr)) (most size : ℕ) → IsLinked p image program most → (s : tac.State) (base : ℕ) (m : State)
-    (x : StandsIn p image program most size s base m) (block : Block) (i : Instruction) → slice_get x.code.blocks s.here.block ≡ Some block → slice_get block.instructions s.here.at ≡ Some i → has_shape i ≡ true →
+pub inner-step : (p : Program) (image : Image) (program : List (Option Instr)) (most size : ℕ) → IsLinked p image program most →
+    (s : tac.State) (base : ℕ) (m : State)
+    (x : StandsIn p image program most size s base m) (block : Block) (i : Instruction) →
+    slice_get x.code.blocks s.here.block ≡ Some block → slice_get block.instructions s.here.at ≡ Some i → has_shape i ≡ true →
     Stepped p image program most size (words_of i) s m (step p s)
 inner-step p image program most size linked s base m x block i in-f in-b h =
-    joined p image program most size (words_of i) linked s base m x (shape_of (layout_of x.code (image s.here.function).homes) i) (step p s) to stays
+    joined p image program most size (words_of i) linked s base m x (shape_of (layout_of x.code (image s.here.function).homes) i)
+    (step p s) to stays
     (instructions p x.code (image s.here.function).homes i s program base m h before)
   where
     pl : IsPlaced p image program most x.code (image s.here.function)
     pl = linked s.here.function x.code x.function
 
-    found : AtPlace p image program x.code (image s.here.function) s.here.block s.here.at i (place_in p image x.code (image s.here.function) s.here.block s.here.at)
+    found : AtPlace p image program x.code (image s.here.function) s.here.block s.here.at i
+        (place_in p image x.code (image s.here.function) s.here.block s.here.at)
     found = at-instruction p image program most x.code (image s.here.function) s.here.block s.here.at block i pl in-f in-b
 
-    same : instruction_code (layout_of x.code (image s.here.function).homes) x.code.areas (entries_of p image) (place_in p image x.code (image s.here.function) s.here.block s.here.at) i
+    same : instruction_code (layout_of x.code (image s.here.function).homes) x.code.areas (entries_of p image)
+        (place_in p image x.code (image s.here.function) s.here.block s.here.at) i
         ≡ shape_of (layout_of x.code (image s.here.function).homes) i
-    same = code-is (layout_of x.code (image s.here.function).homes) x.code.areas (entries_of p image) (place_in p image x.code (image s.here.function) s.here.block s.here.at) i h
+    same = code-is (layout_of x.code (image s.here.function).homes) x.code.areas (entries_of p image)
+        (place_in p image x.code (image s.here.function) s.here.block s.here.at) i h
 
-    to : behind m (shape_of (layout_of x.code (image s.here.function).homes) i) ≡ place_in p image x.code (image s.here.function) s.here.block (suc s.here.at)
+    to : behind m (shape_of (layout_of x.code (image s.here.function).homes) i) ≡ place_in p image x.code (image s.here.function)
+        s.here.block (suc s.here.at)
     to =
         ap (λ c. low (m.pc + 4 * length c)) (sym same)
         ∙ (ap (λ q. low (q + 4 * length (instruction_code (layout_of x.code (image s.here.function).homes) x.code.areas (entries_of p image)
@@ -132,7 +159,8 @@ inner-step p image program most size linked s base m x block i in-f in-b h =
       function = x.function;
       in_function = in-f;
       in_block = in-b;
-      fits = instruction-within x.code s.here.block s.here.at block i (within-parts p image program most x.code (image s.here.function) pl).blocks in-f in-b;
+      fits = instruction-within x.code s.here.block s.here.at block i
+          (within-parts p image program most x.code (image s.here.function) pl).blocks in-f in-b;
       areas = (within-parts p image program most x.code (image s.here.function) pl).areas;
       frame = x.frame;
       right = pl.right;
@@ -142,14 +170,16 @@ inner-step p image program most size linked s base m x block i in-f in-b h =
     }
 
 -- the machine stands where a block begins
-comes-to : (p : Program) (image : Image) (program : List (Option Instr)) (most size weight : ℕ) → IsLinked p image program most → (s t : tac.State) (base : ℕ) (m : State)
+comes-to : (p : Program) (image : Image) (program : List (Option Instr)) (most size weight : ℕ) → IsLinked p image program most →
+    (s t : tac.State) (base : ℕ) (m : State)
     (x : StandsIn p image program most size s base m) (exit : Exit) → LeavesTo exit s t →
     Comes (layout_of x.code (image s.here.function).homes) program (InUse (graph_of x.code) t.here.block t.here.at) (world_of t) base weight
     (start_of (block_starts (layout_of x.code (image s.here.function).homes) x.code (image s.here.function).at) t.here.block) [] m →
     Arrives p image program most size weight [] t m
 comes-to p image program most size weight linked s t base m x exit l c =
     subst
-    (λ z. Comes (layout_of x.code (image s.here.function).homes) program (InUse (graph_of x.code) z.here.block z.here.at) (world_of z) base weight
+    (λ z. Comes (layout_of x.code (image s.here.function).homes) program (InUse (graph_of x.code) z.here.block z.here.at) (world_of z) base
+    weight
     (start_of (block_starts (layout_of x.code (image s.here.function).homes) x.code (image s.here.function).at) z.here.block) [] m →
     Arrives p image program most size weight [] z m)
     (sym l.is) made c
@@ -172,13 +202,16 @@ comes-to p image program most size weight linked s t base m x exit l c =
         frame = x.frame;
         region = x.region;
         room = x.room;
-        waits = waits-keeps p image program most size (layout_of x.code (image s.here.function).homes) s.callers base (s.here.base + x.code.frame) m d.after linked d.keeps x.waits;
+        waits = waits-keeps p image program most size (layout_of x.code (image s.here.function).homes) s.callers base
+            (s.here.base + x.code.frame) m d.after linked d.keeps x.waits;
       };
     }
 
-left-joined : (p : Program) (image : Image) (program : List (Option Instr)) (most size weight : ℕ) → IsLinked p image program most → (s : tac.State) (base : ℕ) (m : State)
+left-joined : (p : Program) (image : Image) (program : List (Option Instr)) (most size weight : ℕ) → IsLinked p image program most →
+    (s : tac.State) (base : ℕ) (m : State)
     (x : StandsIn p image program most size s base m) (exit : Exit) (moved : tac.Moved) → LeavesIf exit s moved →
-    Left (layout_of x.code (image s.here.function).homes) (graph_of x.code) program base weight (start_of (block_starts (layout_of x.code (image s.here.function).homes) x.code (image s.here.function).at)) s m moved →
+    Left (layout_of x.code (image s.here.function).homes) (graph_of x.code) program base weight
+    (start_of (block_starts (layout_of x.code (image s.here.function).homes) x.code (image s.here.function).at)) s m moved →
     Stepped p image program most size weight s m moved
 left-joined p image program most size weight linked s base m x exit (Goes t) l c =
     ([], outs s t c.0, comes-to p image program most size weight linked s t base m x exit l c.1)
@@ -191,17 +224,22 @@ left-joined p image program most size weight linked s base m x exit (Stops (Over
 left-joined p image program most size weight linked s base m x exit (Stops (More out)) l c = l
 
 -- an exit that stays within its function, or ends the run
-pub exit-step : (p : Program) (image : Image) (program : List (Option Instr)) (most size : ℕ) → IsLinked p image program most → (s : tac.State) (base : ℕ) (m : State)
-    (x : StandsIn p image program most size s base m) (block : Block) → slice_get x.code.blocks s.here.block ≡ Some block → slice_get block.instructions s.here.at ≡ None → has_exit_shape block.exit ≡ true →
+pub exit-step : (p : Program) (image : Image) (program : List (Option Instr)) (most size : ℕ) → IsLinked p image program most →
+    (s : tac.State) (base : ℕ) (m : State)
+    (x : StandsIn p image program most size s base m) (block : Block) → slice_get x.code.blocks s.here.block ≡ Some block →
+    slice_get block.instructions s.here.at ≡ None → has_exit_shape block.exit ≡ true →
     Stepped p image program most size (exit_words block.exit) s m (step p s)
 exit-step p image program most size linked s base m x block in-f in-b h =
     left-joined p image program most size (exit_words block.exit) linked s base m x block.exit (step p s) leaves
-    (exits p x.code (image s.here.function).homes block.exit (start_of (block_starts (layout_of x.code (image s.here.function).homes) x.code (image s.here.function).at)) s program base m h before)
+    (exits p x.code (image s.here.function).homes block.exit
+    (start_of (block_starts (layout_of x.code (image s.here.function).homes) x.code (image s.here.function).at)) s program base m h
+    before)
   where
     pl : IsPlaced p image program most x.code (image s.here.function)
     pl = linked s.here.function x.code x.function
 
-    found : AtExit p image program x.code (image s.here.function) block.exit (place_in p image x.code (image s.here.function) s.here.block s.here.at)
+    found : AtExit p image program x.code (image s.here.function) block.exit
+        (place_in p image x.code (image s.here.function) s.here.block s.here.at)
     found = at-exit p image program most x.code (image s.here.function) s.here.block s.here.at block pl in-f in-b
 
     leaves : LeavesIf block.exit s (step p s)
@@ -219,17 +257,24 @@ exit-step p image program most size linked s base m x block in-f in-b h =
     most-is : (a b : ℕ) → a ≡ b → a ≤ b
     most-is a b e = omega (arith, e)
 
-    starts : (b : ℕ) → (start_of (block_starts (layout_of x.code (image s.here.function).homes) x.code (image s.here.function).at) b < 2 ^ 30)
+    starts : (b : ℕ) → (start_of (block_starts (layout_of x.code (image s.here.function).homes) x.code (image s.here.function).at) b < 2 ^
+        30)
         × (start_of (block_starts (layout_of x.code (image s.here.function).homes) x.code (image s.here.function).at) b % 2 ≡ 0)
     starts b =
         let y : Layout = layout_of x.code (image s.here.function).homes in
         let at : ℕ = (image s.here.function).at in
-        let f : FoundFunction program y x.code (entries_of p image) at = the-function p image program most x.code (image s.here.function) pl in
-        let n = starts-near y x.code.areas (entries_of p image) (start_of (block_starts y x.code at)) (last_address y x.code at) (last_address y x.code at) x.code.blocks b (at + 4 * length (head_code y x.code))
-        (first at (length (head_code y x.code)) pl.aligned) (most-is _ _ f.whole) in
-        (small (start_of (block_starts y x.code at) b) (last_address y x.code at) n.0 f.near, even (start_of (block_starts y x.code at) b) n.1)
+        let f : FoundFunction program y x.code (entries_of p image) at = the-function p image program most x.code (image s.here.function)
+        pl in
+        let n = starts-near y x.code.areas (entries_of p image) (start_of (block_starts y x.code at)) (last_address y x.code at)
+        (last_address y x.code at) x.code.blocks b (at + 4 * length (head_code y x.code))
+        (first at (length (head_code y x.code)) pl.aligned) (most-is _ _ f.whole) in (
+          small (start_of (block_starts y x.code at) b) (last_address y x.code at) n.0 f.near,
+          even (start_of (block_starts y x.code at) b)
+              n.1,
+        )
 
-    before : StandsAtExit p x.code (image s.here.function).homes block.exit (start_of (block_starts (layout_of x.code (image s.here.function).homes) x.code (image s.here.function).at)) s program base m
+    before : StandsAtExit p x.code (image s.here.function).homes block.exit
+        (start_of (block_starts (layout_of x.code (image s.here.function).homes) x.code (image s.here.function).at)) s program base m
     before = record {
       block = block;
       function = x.function;
@@ -241,10 +286,12 @@ exit-step p image program most size linked s base m x block in-f in-b h =
       near = subst (λ q. q + 256 ≤ 2 ^ 30) (sym x.pc) found.near;
       blocks = starts;
       stands = subst (λ q. Stands program q (exit_shape (layout_of x.code (image s.here.function).homes) q
-          (start_of (block_starts (layout_of x.code (image s.here.function).homes) x.code (image s.here.function).at)) block.exit)) (sym x.pc)
+          (start_of (block_starts (layout_of x.code (image s.here.function).homes) x.code (image s.here.function).at)) block.exit))
+          (sym x.pc)
           (subst (λ c. Stands program (place_in p image x.code (image s.here.function) s.here.block s.here.at) c)
           (exit-is (layout_of x.code (image s.here.function).homes) (place_in p image x.code (image s.here.function) s.here.block s.here.at)
           (last_address (layout_of x.code (image s.here.function).homes) x.code (image s.here.function).at)
-          (start_of (block_starts (layout_of x.code (image s.here.function).homes) x.code (image s.here.function).at)) block.exit h) found.stands);
+          (start_of (block_starts (layout_of x.code (image s.here.function).homes) x.code (image s.here.function).at)) block.exit h)
+          found.stands);
       holds = x.holds;
     }

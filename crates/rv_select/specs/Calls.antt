@@ -117,7 +117,8 @@ last_address y code at = at + 4 * (length (head_code y code) + blocks_length y c
 -- The code of a function that stands at an address, by the addresses at which functions are entered.
 abbrev pub body_code : Layout → Tac → (places : FnId → ℕ) → (at : ℕ) → List Instr
 body_code y code places at =
-    blocks_code y code.areas places (start_of (block_starts y code at)) (last_address y code at) (at + 4 * length (head_code y code)) code.blocks
+    blocks_code y code.areas places (start_of (block_starts y code at)) (last_address y code at) (at + 4 * length (head_code y code))
+    code.blocks
 
 abbrev pub function_code : Layout → Tac → (places : FnId → ℕ) → (at : ℕ) → List Instr
 function_code y code places at = head_code y code ++ (body_code y code places at ++ left y (frame_bytes y) code.frame)

@@ -66,7 +66,8 @@ PassesAll p code =
     slice_get code.blocks b ≡ Some block → slice_get block.instructions k ≡ Some (Call to at f arguments) → p.code f ≡ Some callee →
     length arguments ≡ length callee.parameters
 
--- The code of a function stands in the machine: it is right, and below 2 ^ 30, its frame has at most so many bytes, and its temporaries have
+-- The code of a function stands in the machine: it is right, and below 2 ^ 30, its frame has at most so many bytes, and its temporaries
+-- have
 -- right homes.
 pub record IsPlaced (p : Program) (image : Image) (program : List (Option Instr)) (most : ℕ) (code : Tac) (x : Placed) : Type 0 where
   pub fits : Fits code
@@ -131,7 +132,8 @@ pub record Waiting (p : Program) (image : Image) (most : ℕ) (c : Caller) (dept
       word_at base m (home_of (layout_of code (image c.waits.function).homes) t) ≡ c.waits.temps t
   pub words : (t : ℕ) → InUse (graph_of code) c.waits.block c.waits.at t → destination_write c.to ≢ Some t → c.waits.temps t < 2 ^ 64
   pub areas : (n : ℕ) → n < length code.areas →
-      take (length (c.waits.areas n)) (drop (base + area_offset (layout_of code (image c.waits.function).homes) n) m.private) ≡ c.waits.areas n
+      take (length (c.waits.areas n)) (drop (base + area_offset (layout_of code (image c.waits.function).homes) n) m.private) ≡
+      c.waits.areas n
   pub short : (n : ℕ) → n < length code.areas → length (c.waits.areas n) ≤ most_moved
   pub area_bytes : (n : ℕ) → n < length code.areas → AreBytes (c.waits.areas n)
   pub placed_is : c.waits.base ≡ placed
@@ -144,12 +146,14 @@ Waits p image most size [] link base placed m =
     (link ≡ 0) × (base ≡ length m.private) × (placed ≡ 2 ^ 30 + size)
 Waits p image most size (c ∷ cs) link base placed m =
     (w : Waiting p image most c (length cs) link base placed m) ×
-    Waits p image most size cs (private_word m base) (base + frame_bytes (layout_of w.code (image c.waits.function).homes)) (placed + w.code.frame)
+    Waits p image most size cs (private_word m base) (base + frame_bytes (layout_of w.code (image c.waits.function).homes))
+    (placed + w.code.frame)
     (restored (layout_of w.code (image c.waits.function).homes) base m)
 
 -- The machine stands where three-address code does in a state: before the code of the next instruction, or of the exit. It holds what
 -- three-address code sees, and all callers wait; and below the frame there is room for each call that may still be made.
-pub record StandsIn (p : Program) (image : Image) (program : List (Option Instr)) (most size : ℕ) (s : tac.State) (base : ℕ) (m : State) : Type 0 where
+pub record StandsIn (p : Program) (image : Image) (program : List (Option Instr)) (most size : ℕ) (s : tac.State) (base : ℕ) (m : State) :
+    Type 0 where
   pub code : Tac
   pub function : p.code s.here.function ≡ Some code
   pub pc : m.pc ≡ place_in p image code (image s.here.function) s.here.block s.here.at
@@ -160,8 +164,10 @@ pub record StandsIn (p : Program) (image : Image) (program : List (Option Instr)
   pub waits : Waits p image most size s.callers (private_word m base) (base + frame_bytes (layout_of code (image s.here.function).homes))
       (s.here.base + code.frame) (restored (layout_of code (image s.here.function).homes) base m)
 
--- The machine comes, in at least one and at most so many steps, to a state in which it stands where three-address code does in another state.
-pub record Arrives (p : Program) (image : Image) (program : List (Option Instr)) (most size bound : ℕ) (out : List ℕ) (t : tac.State) (m : State) : Type 0 where
+-- The machine comes, in at least one and at most so many steps, to a state in which it stands where three-address code does in another
+-- state.
+pub record Arrives (p : Program) (image : Image) (program : List (Option Instr)) (most size bound : ℕ) (out : List ℕ) (t : tac.State)
+    (m : State) : Type 0 where
   pub steps : ℕ
   pub after : State
   pub base : ℕ
@@ -192,7 +198,8 @@ Stepped p image program most size bound s m (Stops (More out)) = (out ≡ s.out)
 -- What waits goes on waiting where a function keeps what its callers rest on.
 abbrev pub CallersGoOnWaiting : Type 0
 CallersGoOnWaiting =
-    (p : Program) (image : Image) (program : List (Option Instr)) (most size : ℕ) (y : Layout) (cs : List Caller) (base placed : ℕ) (m n : State) →
+    (p : Program) (image : Image) (program : List (Option Instr)) (most size : ℕ) (y : Layout) (cs : List Caller) (base placed : ℕ)
+    (m n : State) →
     IsLinked p image program most → Keeps y base m n →
     Waits p image most size cs (private_word m base) (base + frame_bytes y) placed (restored y base m) →
     Waits p image most size cs (private_word n base) (base + frame_bytes y) placed (restored y base n)
