@@ -20,8 +20,8 @@ use Rattle.terra_lib.specs.Types.{newstruct_turned, pointer_turned, array_turned
 use Rattle.terra_lib.specs.Lists.{newlist_turned, insert_turned, insertall_turned, map_turned, map_back}
 use Rattle.terra_lib.specs.Fields.{field_turned, pointer_type, array_type, function_type}
 
--- What a function gives that tells of types and functions, or that the language itself calls. Those that need a check or a layout
--- aren't built yet. One that is not of Terra's library gives nothing.
+-- What a function gives that tells of types and functions, or that the language itself calls. Those that need a check or a layout, and
+-- `saveobj`, aren't built yet. One that is not of Terra's library gives nothing.
 abbrev pub told : State StageState → LibFn → List Value → Place → Turned
 told s IsDefined vs place = isdefined_turned s vs place
 told s IsIntegral vs place = test_turned s IsIntegral vs place
@@ -36,6 +36,7 @@ told s FunctionType vs place = function_type s (argument vs 0) (argument vs 1) p
 told s Global vs place = not_built s place
 told s SizeOf vs place = not_built s place
 told s OffsetOf vs place = not_built s place
+told s SaveObj vs place = not_built s place
 told s Compile vs place = not_built s place
 told s GetType vs place = not_built s place
 told s f vs place = gives s s.world []

@@ -12,3 +12,5 @@ pub mod Fields
 pub mod Opening
 -- Answers and payments.
 pub mod Answers
+-- What each call keeps of the world.
+pub mod Keeping

@@ -4,6 +4,7 @@ ghost use Rattle.std.specs.Prelude.{◌≡◌, ◌≤◌, [], ◌∷◌, length,
 ghost use Rattle.tl_base.specs.Layer.{state};
 ghost use Rattle.exotype.specs.Faults.{fault_text};
 ghost use Rattle.terra_lib.specs.Answers.{turned, bad_argument, raised, not_built, type_in};
+ghost use Rattle.terra_lib.specs.Keeping.{KeepsWorld};
 
 use exotype::{Fault, World};
 use lua_table::{Heap, LibTurn};
@@ -34,6 +35,7 @@ pub fn bad_argument(
 ) -> Result<LibTurn, NoMemory>
     ensures does { IfOk result (λ turn.
         turned turn (state world.new budget.new) ≡ bad_argument (state world.old budget.old) place position function) }
+    ensures kept { OnOk result (KeepsWorld world.old world.new) }
     ensures paid { OnOk result (budget.new ≤ budget.old) }
 {
     lua_base::bad_argument(&mut world.heap, budget, place, position, function)
@@ -49,6 +51,7 @@ pub fn raise(
     requires { length (fault_text fault) ≤ 1000 }
     ensures does { IfOk result (λ turn.
         turned turn (state world.new budget.new) ≡ raised (state world.old budget.old) place fault) }
+    ensures kept { OnOk result (KeepsWorld world.old world.new) }
     ensures paid { OnOk result (budget.new ≤ budget.old) }
 {
     let text = fault.text(world.heap.allocator())?;
@@ -59,6 +62,7 @@ pub fn raise(
 pub fn not_built(world: &mut World, budget: &mut Budget, place: Place) -> Result<LibTurn, NoMemory>
     ensures does { IfOk result (λ turn.
         turned turn (state world.new budget.new) ≡ not_built (state world.old budget.old) place) }
+    ensures kept { OnOk result (KeepsWorld world.old world.new) }
     ensures paid { OnOk result (budget.new ≤ budget.old) }
 {
     lua_base::raise(&mut world.heap, budget, place, b"not built")

@@ -3,6 +3,7 @@
 ghost use Rattle.std.specs.Prelude.{◌≡◌, ◌≤◌, IfOk, OnOk};
 ghost use Rattle.tl_base.specs.Layer.{state};
 ghost use Rattle.terra_lib.specs.Answers.{turned};
+ghost use Rattle.terra_lib.specs.Keeping.{KeepsWorld};
 ghost use Rattle.terra_lib.specs.Calls.{called, backed, told};
 
 use crate::answers::{give_nothing, not_built};
@@ -18,10 +19,11 @@ use tl_base::{Budget, NoMemory, Place};
 
 /// Begins a call of a function of Terra's library, which pays for the texts of errors that it raises and for the values that it moves. No
 /// value is moved where the payment is larger than what is left. A function that is not of Terra's library gives no values; one that needs
-/// a check or a layout raises that it isn't built.
+/// a check or a layout, and `saveobj`, raise that they aren't built.
 pub fn call(world: &mut World, call: &LibCall, budget: &mut Budget) -> Result<LibTurn, NoMemory>
     ensures does { IfOk result (λ turn.
         turned turn (state world.new budget.new) ≡ called (state world.old budget.old) call.now) }
+    ensures kept { OnOk result (KeepsWorld world.old world.new) }
     ensures paid { OnOk result (budget.new ≤ budget.old) }
 {
     let args = call.args.as_slice();
@@ -51,6 +53,7 @@ fn tell(
 ) -> Result<LibTurn, NoMemory>
     ensures does { IfOk result (λ turn.
         turned turn (state world.new budget.new) ≡ told (state world.old budget.old) function args.now place) }
+    ensures kept { OnOk result (KeepsWorld world.old world.new) }
     ensures paid { OnOk result (budget.new ≤ budget.old) }
 {
     match function {
@@ -69,6 +72,7 @@ fn tell(
         LibFn::Global => not_built(world, budget, place),
         LibFn::SizeOf => not_built(world, budget, place),
         LibFn::OffsetOf => not_built(world, budget, place),
+        LibFn::SaveObj => not_built(world, budget, place),
         LibFn::Compile => not_built(world, budget, place),
         LibFn::GetType => not_built(world, budget, place),
         _ => Ok(give_nothing(&world.heap)),
@@ -84,9 +88,9 @@ pub fn back(
 ) -> Result<LibTurn, NoMemory>
     ensures does { IfOk result (λ turn.
         turned turn (state world.new budget.new) ≡ backed (state world.old budget.old) next answer) }
+    ensures kept { OnOk result (KeepsWorld world.old world.new) }
     ensures paid { OnOk result (budget.new ≤ budget.old) }
 {
-    let heap = &mut world.heap;
     match next {
         LibNext::Map {
             source,
@@ -94,13 +98,21 @@ pub fn back(
             result,
             function,
             at,
-        } => map_back(heap, source, count, result, function, at, answer),
-        LibNext::Pcall => Ok(give_nothing(heap)),
-        LibNext::ToString => Ok(give_nothing(heap)),
+        } => map_back(
+            &mut world.heap,
+            source,
+            count,
+            result,
+            function,
+            at,
+            answer,
+        ),
+        LibNext::Pcall => Ok(give_nothing(&world.heap)),
+        LibNext::ToString => Ok(give_nothing(&world.heap)),
         LibNext::Print {
             written: _written,
             args: _args,
             ..
-        } => Ok(give_nothing(heap)),
+        } => Ok(give_nothing(&world.heap)),
     }
 }

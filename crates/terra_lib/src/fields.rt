@@ -8,6 +8,7 @@ ghost use Rattle.lua_model.specs.Plans.{whole};
 ghost use Rattle.exotype.specs.Types.{function_id, with_function};
 ghost use Rattle.spec_model.specs.Making.{symbol_type};
 ghost use Rattle.terra_lib.specs.Answers.{turned};
+ghost use Rattle.terra_lib.specs.Keeping.{KeepsWorld};
 ghost use Rattle.terra_lib.specs.Fields.{Fields, field_in, type_methods, shape_methods, struct_methods, function_methods, state_methods};
 ghost use Rattle.terra_lib.specs.Fields.{metamethods_field, quote_methods, struct_fields, type_fields, type_or_nil, fields_of};
 ghost use Rattle.terra_lib.specs.Fields.{field_under, pointer_type, array_type, types_in, parameters_in, result_of, result_if, result_in};
@@ -222,6 +223,7 @@ pub fn pointer_type(
 ) -> Result<LibTurn, NoMemory>
     ensures does { IfOk result (λ turn.
         turned turn (state world.new budget.new) ≡ pointer_type (state world.old budget.old) of place) }
+    ensures kept { OnOk result (KeepsWorld world.old world.new) }
     ensures paid { OnOk result (budget.new ≤ budget.old) }
 {
     match of {
@@ -240,6 +242,7 @@ pub fn array_type(
 ) -> Result<LibTurn, NoMemory>
     ensures does { IfOk result (λ turn.
         turned turn (state world.new budget.new) ≡ array_type (state world.old budget.old) of count place) }
+    ensures kept { OnOk result (KeepsWorld world.old world.new) }
     ensures paid { OnOk result (budget.new ≤ budget.old) }
 {
     match of {
@@ -264,6 +267,7 @@ pub fn function_type(
 ) -> Result<LibTurn, NoMemory>
     ensures does { IfOk result (λ turn.
         turned turn (state world.new budget.new) ≡ function_type (state world.old budget.old) params of place) }
+    ensures kept { OnOk result (KeepsWorld world.old world.new) }
     ensures paid { OnOk result (budget.new ≤ budget.old) }
 {
     let Some(params) = parameters_in(world, params)? else {
@@ -278,6 +282,7 @@ pub fn function_type(
 fn give_function(world: &mut World, params: &[TypeId], of: TypeId) -> Result<LibTurn, NoMemory>
     ensures turn { IfOk result (λ turn. turn ≡ LibTurn.Values (values.TerraType (function_id world.old params.now of) ∷ [])) }
     ensures world { OnOk result (world.new ≡ with_function world.old params.now of) }
+    ensures kept { OnOk result (KeepsWorld world.old world.new) }
 {
     let function = world.function_of(params, of)?;
     give_one(&world.heap, Value::TerraType(function))

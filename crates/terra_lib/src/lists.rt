@@ -3,8 +3,10 @@
 ghost use Rattle.std.specs.Prelude.{◌≡◌, ◌≤◌, pos, IfOk, OnOk};
 ghost use Rattle.tl_base.specs.Layer.{state};
 ghost use Rattle.lua_table.specs.Heap.{next_table, table_at};
+ghost use Rattle.lua_table.specs.Keeping.{KeepsHeap};
 ghost use Rattle.spec_model.specs.Plans.{values_in};
 ghost use Rattle.terra_lib.specs.Answers.{turned};
+ghost use Rattle.terra_lib.specs.Keeping.{KeepsWorld};
 ghost use Rattle.terra_lib.specs.Lists.{newlist_turned, insert_turned, insertall_turned, map_turned, mapping, map_turn, map_heap, as_list, with_list};
 ghost use Rattle.terra_lib.specs.Lists.{appended, all_appended, end_of};
 
@@ -27,6 +29,7 @@ pub fn new_list(
 ) -> Result<LibTurn, NoMemory>
     ensures does { IfOk result (λ turn.
         turned turn (state world.new budget.new) ≡ newlist_turned (state world.old budget.old) args.now place) }
+    ensures kept { OnOk result (KeepsWorld world.old world.new) }
     ensures paid { OnOk result (budget.new ≤ budget.old) }
 {
     match argument(args, 0) {
@@ -46,6 +49,7 @@ pub fn new_list(
 fn make_list(heap: &mut Heap) -> Result<TableId, NoMemory>
     ensures list { IfOk result (λ list. list ≡ next_table heap.old) }
     ensures heap { OnOk result (heap.new ≡ with_list heap.old) }
+    ensures kept { OnOk result (KeepsHeap heap.old heap.new) }
 {
     let list = heap.new_table()?;
     become_list(heap, list);
@@ -53,7 +57,8 @@ fn make_list(heap: &mut Heap) -> Result<TableId, NoMemory>
 }
 
 fn become_list(heap: &mut Heap, table: TableId)
-    ensures { heap.new ≡ as_list heap.old table }
+    ensures heap { heap.new ≡ as_list heap.old table }
+    ensures kept { KeepsHeap heap.old heap.new }
 {
     heap.set_metatable(table, Some(LIST_METHODS));
 }
@@ -67,6 +72,7 @@ pub fn insert(
 ) -> Result<LibTurn, NoMemory>
     ensures does { IfOk result (λ turn.
         turned turn (state world.new budget.new) ≡ insert_turned (state world.old budget.old) args.now place) }
+    ensures kept { OnOk result (KeepsWorld world.old world.new) }
     ensures paid { OnOk result (budget.new ≤ budget.old) }
 {
     let Some(table) = table_in(argument(args, 0)) else {
@@ -81,7 +87,8 @@ pub fn insert(
 
 /// Puts a value behind the end of a table's list. A list of more values than there are numbers doesn't fit into memory.
 fn append(heap: &mut Heap, table: TableId, value: Value) -> Result<(), NoMemory>
-    ensures { OnOk result (heap.new ≡ appended heap.old table value) }
+    ensures heap { OnOk result (heap.new ≡ appended heap.old table value) }
+    ensures kept { OnOk result (KeepsHeap heap.old heap.new) }
 {
     let behind = heap.border(table).checked_add(1).ok_or(NoMemory)?;
     let key = key(behind)?;
@@ -107,6 +114,7 @@ pub fn insert_all(
 ) -> Result<LibTurn, NoMemory>
     ensures does { IfOk result (λ turn.
         turned turn (state world.new budget.new) ≡ insertall_turned (state world.old budget.old) args.now place) }
+    ensures kept { OnOk result (KeepsWorld world.old world.new) }
     ensures paid { OnOk result (budget.new ≤ budget.old) }
 {
     let Some(table) = table_in(argument(args, 0)) else {
@@ -155,6 +163,7 @@ pub fn map(
 ) -> Result<LibTurn, NoMemory>
     ensures does { IfOk result (λ turn.
         turned turn (state world.new budget.new) ≡ map_turned (state world.old budget.old) args.now place) }
+    ensures kept { OnOk result (KeepsWorld world.old world.new) }
     ensures paid { OnOk result (budget.new ≤ budget.old) }
 {
     let Some(source) = table_in(argument(args, 0)) else {
@@ -214,6 +223,7 @@ pub fn map_back(
 ) -> Result<LibTurn, NoMemory>
     ensures turn { IfOk result (λ turn. turn ≡ map_turn heap.new source count list function at answer) }
     ensures heap { OnOk result (heap.new ≡ map_heap heap.old list at answer) }
+    ensures kept { OnOk result (KeepsHeap heap.old heap.new) }
 {
     match answer {
         Back::Values(values) => {

@@ -10,6 +10,7 @@ ghost use Rattle.terra_term.specs.Held as stores;
 ghost use Rattle.exotype.specs.World.{with_heap};
 ghost use Rattle.spec_model.specs.Making.{next_symbol, with_symbol};
 ghost use Rattle.terra_lib.specs.Answers.{turned};
+ghost use Rattle.terra_lib.specs.Keeping.{KeepsWorld};
 ghost use Rattle.terra_lib.specs.Symbols.{symbol_turned, macro_turned, constant_turned, in_range, scalar_bits, is_scalar, with_constant};
 
 use crate::answers::{bad_argument, give_one, type_in};
@@ -30,6 +31,7 @@ pub fn symbol(
 ) -> Result<LibTurn, NoMemory>
     ensures does { IfOk result (λ turn.
         turned turn (state world.new budget.new) ≡ symbol_turned (state world.old budget.old) args.now place) }
+    ensures kept { OnOk result (KeepsWorld world.old world.new) }
     ensures paid { OnOk result (budget.new ≤ budget.old) }
 {
     match argument(args, 0) {
@@ -42,6 +44,7 @@ pub fn symbol(
 fn new_symbol(world: &mut World, of: Option<TypeId>) -> Result<LibTurn, NoMemory>
     ensures turn { IfOk result (λ turn. turn ≡ LibTurn.Values (values.Symbol (next_symbol world.old) ∷ [])) }
     ensures world { OnOk result (world.new ≡ with_symbol world.old of) }
+    ensures kept { OnOk result (KeepsWorld world.old world.new) }
 {
     let symbol = world.store.new_symbol(of)?;
     give_one(&world.heap, Value::Symbol(symbol))
@@ -56,6 +59,7 @@ pub fn make_macro(
 ) -> Result<LibTurn, NoMemory>
     ensures does { IfOk result (λ turn.
         turned turn (state world.new budget.new) ≡ macro_turned (state world.old budget.old) args.now place) }
+    ensures kept { OnOk result (KeepsWorld world.old world.new) }
     ensures paid { OnOk result (budget.new ≤ budget.old) }
 {
     match argument(args, 0) {
@@ -67,6 +71,7 @@ pub fn make_macro(
 fn new_macro(world: &mut World, function: ClosureId) -> Result<LibTurn, NoMemory>
     ensures turn { IfOk result (λ turn. turn ≡ LibTurn.Values (values.Macro (next_macro world.old.heap) ∷ [])) }
     ensures world { OnOk result (world.new ≡ with_heap world.old (with_macro world.old.heap function)) }
+    ensures kept { OnOk result (KeepsWorld world.old world.new) }
 {
     let id = world.heap.new_macro(function)?;
     give_one(&world.heap, Value::Macro(id))
@@ -82,6 +87,7 @@ pub fn constant(
 ) -> Result<LibTurn, NoMemory>
     ensures does { IfOk result (λ turn.
         turned turn (state world.new budget.new) ≡ constant_turned (state world.old budget.old) args.now place) }
+    ensures kept { OnOk result (KeepsWorld world.old world.new) }
     ensures paid { OnOk result (budget.new ≤ budget.old) }
 {
     let Some(of) = type_in(argument(args, 0)) else {
@@ -100,6 +106,7 @@ fn new_constant(world: &mut World, of: TypeId, value: u64) -> Result<LibTurn, No
     ensures turn { IfOk result (λ turn.
         turn ≡ LibTurn.Values (values.Constant (stores.next_constant world.old.store) ∷ [])) }
     ensures world { OnOk result (world.new ≡ with_constant world.old of value) }
+    ensures kept { OnOk result (KeepsWorld world.old world.new) }
 {
     let constant = world.store.new_constant(TerraConstant { of, value })?;
     give_one(&world.heap, Value::Constant(constant))

@@ -6,6 +6,7 @@ ghost use Rattle.lua_value.specs.declared.value.Value.TheVariants as values;
 ghost use Rattle.exotype.specs.Types.{pointer_id, with_pointer, next_type, with_struct};
 ghost use Rattle.spec_model.specs.Making.{is_undefined};
 ghost use Rattle.terra_lib.specs.Answers.{turned};
+ghost use Rattle.terra_lib.specs.Keeping.{KeepsWorld};
 ghost use Rattle.terra_lib.specs.Types.{pointer_turned, array_turned, test_turned, isdefined_turned, array_of, is_too_large, count_in};
 ghost use Rattle.terra_lib.specs.Types.{tested, defined_in};
 
@@ -22,6 +23,7 @@ use tl_base::{Budget, FnId, NoMemory, Place, TypeId};
 pub fn new_struct(world: &mut World, place: Place) -> Result<LibTurn, NoMemory>
     ensures turn { IfOk result (λ turn. turn ≡ LibTurn.Values (values.TerraType (next_type world.old) ∷ [])) }
     ensures world { OnOk result (world.new ≡ with_struct world.old place) }
+    ensures kept { OnOk result (KeepsWorld world.old world.new) }
 {
     let of = world.new_struct(place)?;
     give_one(&world.heap, Value::TerraType(of))
@@ -36,6 +38,7 @@ pub fn pointer(
 ) -> Result<LibTurn, NoMemory>
     ensures does { IfOk result (λ turn.
         turned turn (state world.new budget.new) ≡ pointer_turned (state world.old budget.old) args.now place) }
+    ensures kept { OnOk result (KeepsWorld world.old world.new) }
     ensures paid { OnOk result (budget.new ≤ budget.old) }
 {
     match type_in(argument(args, 0)) {
@@ -48,6 +51,7 @@ pub fn pointer(
 pub fn give_pointer(world: &mut World, of: TypeId) -> Result<LibTurn, NoMemory>
     ensures turn { IfOk result (λ turn. turn ≡ LibTurn.Values (values.TerraType (pointer_id world.old of) ∷ [])) }
     ensures world { OnOk result (world.new ≡ with_pointer world.old of) }
+    ensures kept { OnOk result (KeepsWorld world.old world.new) }
 {
     let pointer = world.pointer_to(of)?;
     give_one(&world.heap, Value::TerraType(pointer))
@@ -62,6 +66,7 @@ pub fn array(
 ) -> Result<LibTurn, NoMemory>
     ensures does { IfOk result (λ turn.
         turned turn (state world.new budget.new) ≡ array_turned (state world.old budget.old) args.now place) }
+    ensures kept { OnOk result (KeepsWorld world.old world.new) }
     ensures paid { OnOk result (budget.new ≤ budget.old) }
 {
     let Some(of) = type_in(argument(args, 0)) else {
@@ -83,6 +88,7 @@ pub fn give_array(
 ) -> Result<LibTurn, NoMemory>
     ensures does { IfOk result (λ turn.
         turned turn (state world.new budget.new) ≡ array_of (state world.old budget.old) of count place) }
+    ensures kept { OnOk result (KeepsWorld world.old world.new) }
     ensures paid { OnOk result (budget.new ≤ budget.old) }
 {
     if is_too_large(world, of, count) {
@@ -122,6 +128,7 @@ pub fn test(
 ) -> Result<LibTurn, NoMemory>
     ensures does { IfOk result (λ turn.
         turned turn (state world.new budget.new) ≡ test_turned (state world.old budget.old) function args.now place) }
+    ensures kept { OnOk result (KeepsWorld world.old world.new) }
     ensures paid { OnOk result (budget.new ≤ budget.old) }
 {
     match type_in(argument(args, 0)) {
@@ -154,6 +161,7 @@ pub fn is_defined(
 ) -> Result<LibTurn, NoMemory>
     ensures does { IfOk result (λ turn.
         turned turn (state world.new budget.new) ≡ isdefined_turned (state world.old budget.old) args.now place) }
+    ensures kept { OnOk result (KeepsWorld world.old world.new) }
     ensures paid { OnOk result (budget.new ≤ budget.old) }
 {
     match defined_in(world, argument(args, 0)) {
