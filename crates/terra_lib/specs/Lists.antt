@@ -1,5 +1,5 @@
 -- Lists, which are tables with the metatable of lists.
-use Rattle.std.specs.Prelude.{ℕ, ◌+◌, pos, List, [], ◌∷◌, Option, Some, None, if◌then◌else◌, nat_le}
+use Rattle.std.specs.Prelude.{ℕ, ◌+◌, pos, List, [], ◌∷◌, Some, if◌then◌else◌, nat_le}
 use Rattle.tl_base.specs.declared.ids.TableId.{TableId}
 use Rattle.tl_base.specs.declared.place.Place.{Place}
 use Rattle.tl_base.specs.Layer.{State, state}

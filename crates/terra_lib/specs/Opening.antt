@@ -2,7 +2,6 @@
 -- 4 has the functions that make types, and that of number 5 is the metatable of lists, which has their methods.
 use Rattle.std.specs.Prelude.{ℕ, List, [], ◌∷◌, codes}
 use Rattle.tl_base.specs.declared.ids.TableId.{TableId}
-use Rattle.tl_base.specs.declared.ids.TypeId.{TypeId}
 use Rattle.lua_value.specs.declared.library.LibFn.TheVariants.{«Type» as TypeOf, Symbol, Macro, Global, Constant, SizeOf, OffsetOf}
 use Rattle.lua_value.specs.declared.library.LibFn.TheVariants.{NewList, Insert, InsertAll, Map, NewStruct, Pointer, Array, SaveObj}
 use Rattle.lua_value.specs.declared.primitive.Primitive.TheVariants.{PutByte, Write, Alloc}

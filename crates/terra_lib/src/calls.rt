@@ -98,15 +98,7 @@ pub fn back(
             result,
             function,
             at,
-        } => map_back(
-            &mut world.heap,
-            source,
-            count,
-            result,
-            function,
-            at,
-            answer,
-        ),
+        } => map_back(&mut world.heap, source, count, result, function, at, answer),
         LibNext::Pcall => Ok(give_nothing(&world.heap)),
         LibNext::ToString => Ok(give_nothing(&world.heap)),
         LibNext::Print {
