@@ -8,7 +8,7 @@ pub mod Shapes
 pub mod Steps
 -- How a function is entered and left.
 pub mod Entering
--- Calls and returns.
+-- Calls and returns, and the code of a whole function.
 pub mod Calls
 -- What the code that enters and leaves functions promises.
 pub mod Frames
