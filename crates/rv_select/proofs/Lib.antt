@@ -26,6 +26,11 @@ pub mod Carries
 pub mod Weights
 pub mod Jumps
 pub mod Leaves
+pub mod Pushed
+pub mod Lengths
+pub mod Selects
+pub mod Layouts
+pub mod Bodies
 pub mod Kept
 pub mod Enters
 pub mod Passes

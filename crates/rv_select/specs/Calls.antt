@@ -1,5 +1,5 @@
 -- Calls and returns, and the code of a whole function.
-use Rattle.std.specs.Prelude.{ℕ, ◌+◌, ◌-◌, ◌*◌, Bool, ◌&&◌, true, List, [], ◌∷◌, ◌++◌, length}
+use Rattle.std.specs.Prelude.{◌≡◌, ℕ, zero, suc, ◌+◌, ◌-◌, ◌*◌, Bool, ◌&&◌, true, false, List, [], ◌∷◌, ◌++◌, length, map, Option}
 use Rattle.std.specs.List.{list_all}
 use Rattle.tl_base.specs.declared.place.Place.{Place}
 use Rattle.tl_base.specs.declared.ids.FnId.{FnId}
@@ -8,6 +8,8 @@ use Rattle.rv_isa.specs.declared.instr.Instr.TheVariants.{Auipc, Jalr, Branch, R
 use Rattle.rv_isa.specs.declared.operation.BranchCondition.TheVariants.{Ltu}
 use Rattle.rv_isa.specs.declared.operation.ImmediateOp.TheVariants.{Addi}
 use Rattle.rv_isa.specs.declared.operand.Register.{Register}
+use Rattle.rv_isa.specs.Table.{word_of}
+use Rattle.reg_alloc.specs.declared.assignment.Home.{Home}
 use Rattle.terra_words.specs.declared.words.FaultKind.TheVariants.{CallDepth}
 use Rattle.tac_form.specs.declared.tac.Part.{Part}
 use Rattle.tac_form.specs.declared.tac.Part.TheVariants as parts
@@ -19,8 +21,10 @@ use Rattle.tac_form.specs.declared.tac.Exit.TheVariants.{Return}
 use Rattle.tac_form.specs.declared.tac.Block.{Block}
 use Rattle.tac_form.specs.declared.tac.Tac.{Tac}
 use Rattle.rv_operators.specs.Codes.{x5}
+use Rattle.rv_select.specs.declared.selected.Code.{Code}
+use Rattle.rv_select.specs.declared.selected.Call.{Call as Site}
 use Rattle.rv_select.specs.Numbers.{below_zero, constant, immediate_of, lower_of, upper_of}
-use Rattle.rv_select.specs.Places.{Layout, frame_bytes}
+use Rattle.rv_select.specs.Places.{Layout, frame_bytes, layout_of}
 use Rattle.rv_select.specs.Shapes.{area_reached, distance, exit_shape, fault_call, has_exit_shape, has_shape, jump, moved, over, place_number, shape_of, small, start_of, taken, x10, x11}
 use Rattle.rv_select.specs.Entering.{begun, entered, left, received, result_put, stored_below, words_offset, x1, x28}
 
@@ -92,6 +96,24 @@ blocks_code y sizes places starts last at (b ∷ bs) =
     block_code y sizes places starts last at b
     ++ blocks_code y sizes places starts last (at + 4 * length (block_code y sizes places starts last at b)) bs
 
+-- where calls of functions stand in code: the number of the first word of a jump, and the function
+abbrev pub instruction_calls : Layout → (at : ℕ) → Instruction → List Site
+instruction_calls y at (Call to place f arguments) =
+    record { at = at + length (call_begun y place arguments); callee = f } ∷ []
+instruction_calls y at i = []
+
+abbrev pub instructions_calls : Layout → (sizes : List ℕ) → (at : ℕ) → List Instruction → List Site
+instructions_calls y sizes at [] = []
+instructions_calls y sizes at (i ∷ is) =
+    instruction_calls y at i
+    ++ instructions_calls y sizes (at + length (instruction_code y sizes (λ f. 0) 0 i)) is
+
+abbrev pub blocks_calls : Layout → (sizes : List ℕ) → (at : ℕ) → List Block → List Site
+blocks_calls y sizes at [] = []
+blocks_calls y sizes at (b ∷ bs) =
+    instructions_calls y sizes at b.instructions
+    ++ blocks_calls y sizes (at + length (block_code y sizes (λ f. 0) (λ c. 0) 0 0 b)) bs
+
 -- how many words the blocks take, and where each begins
 abbrev pub blocks_length : Layout → (sizes : List ℕ) → List Block → ℕ
 blocks_length y sizes bs = length (blocks_code y sizes (λ f. 0) (λ b. 0) 0 0 bs)
@@ -117,11 +139,21 @@ last_address y code at = at + 4 * (length (head_code y code) + blocks_length y c
 -- The code of a function that stands at an address, by the addresses at which functions are entered.
 abbrev pub body_code : Layout → Tac → (places : FnId → ℕ) → (at : ℕ) → List Instr
 body_code y code places at =
-    blocks_code y code.areas places (start_of (block_starts y code at)) (last_address y code at) (at + 4 * length (head_code y code))
-    code.blocks
+    blocks_code y code.areas places (start_of (block_starts y code at)) (last_address y code at) (at + 4 * length (head_code y code)) code.blocks
 
 abbrev pub function_code : Layout → Tac → (places : FnId → ℕ) → (at : ℕ) → List Instr
 function_code y code places at = head_code y code ++ (body_code y code places at ++ left y (frame_bytes y) code.frame)
+
+abbrev pub function_calls : Layout → Tac → List Site
+function_calls y code = blocks_calls y code.areas (length (head_code y code)) code.blocks
+
+-- What selection gives: the words of the code as they are at address 0, with each function at address 0 too, the calls in it, the
+-- number of the word at which calls enter it, and the bytes of a frame.
+pub record IsSelected (code : Tac) (homes : List (Option Home)) (selected : Code) : Type 0 where
+  pub words : selected.words.items ≡ map word_of (function_code (layout_of code homes) code (λ f. 0) 0)
+  pub calls : selected.calls.items ≡ function_calls (layout_of code homes) code
+  pub entry : selected.entry ≡ length (begun code)
+  pub frame : selected.frame ≡ frame_bytes (layout_of code homes)
 
 -- which code has machine code: all but calls of function values, which the machine of this version has no fault for
 abbrev pub has_code : Instruction → Bool

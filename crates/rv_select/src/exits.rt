@@ -62,7 +62,7 @@ fn push_tested(code: &mut Vec<u32>, homes: &[Option<Home>], a: Operand) -> Resul
 }
 
 /// How far it is from an address to another, in 32 bits.
-fn distance(from: u64, to: u64) -> u64
+pub(crate) fn distance(from: u64, to: u64) -> u64
     requires { from ≤ 2 ^ 32 }
     ensures { result ≡ distance from to }
 {

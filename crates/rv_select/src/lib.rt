@@ -6,14 +6,19 @@
 //! holds afterwards what three-address code sees then. The laws of `law` have that of each instruction.
 #![tactic(auto)]
 
+mod calls;
 pub mod compared;
 mod emit;
+mod entries;
 pub mod exits;
 pub mod instructions;
 pub mod law;
 mod moving;
 mod operands;
 mod outputs;
+pub mod selectable;
+pub mod selected;
+pub mod selection;
 
 pub use compared::push_compared;
 pub use exits::push_exit;
@@ -23,6 +28,9 @@ pub use law::{
     exits_are_carried, exits_keep_within, frames_keep_within, functions_are_entered,
     functions_are_left, instructions_are_carried, parameters_are_received, shapes_keep_within,
 };
+pub use selectable::all_has_code;
+pub use selected::{Call, Code};
+pub use selection::select;
 
 #[cfg(test)]
 mod tests;

@@ -76,7 +76,7 @@ fn push_from_area(
 }
 
 /// Bytes from where x5 points go to an area.
-fn push_to_area(
+pub(crate) fn push_to_area(
     code: &mut Vec<u32>,
     homes: &[Option<Home>],
     area: u64,

@@ -1,0 +1,149 @@
+-- The code of a function from its parts.
+use Rattle.std.proofs.Common.{◌≡◌, ℕ, ◌+◌, ◌*◌, List, [], ◌∷◌, ◌++◌, length, append_assoc, Option, refl, sym, ap, subst, ◌∙◌, arith}
+use Rattle.std.specs.Prelude.{map, Result, Ok, Err, OnOk}
+use Rattle.std.proofs.lemmas.List.{length-append, map-append}
+use Rattle.tl_base.specs.declared.place.Place.{Place}
+use Rattle.tl_base.specs.declared.ids.FnId.{FnId}
+use Rattle.reg_alloc.specs.declared.assignment.Home.{Home}
+use Rattle.rv_isa.specs.declared.instr.Instr.{Instr}
+use Rattle.rv_isa.specs.Table.{word_of}
+use Rattle.tac_form.specs.declared.tac.Part.{Part}
+use Rattle.tac_form.specs.declared.tac.Destination.{Destination}
+use Rattle.tac_form.specs.declared.tac.Instruction.{Instruction}
+use Rattle.tac_form.specs.declared.tac.Instruction.TheVariants.{Call}
+use Rattle.tac_form.specs.declared.tac.Block.{Block}
+use Rattle.tac_form.specs.declared.tac.Tac.{Tac}
+use Rattle.rv_select.specs.declared.selected.Call.{Call as Site}
+use Rattle.rv_select.specs.Places.{Layout, frame_bytes, layout_of, with_homes}
+use Rattle.rv_select.specs.Shapes.{start_of}
+use Rattle.rv_select.specs.Entering.{begun, entered, left, received, words_offset}
+use Rattle.rv_select.specs.Calls.{block_code, block_starts, blocks_calls, blocks_code, body_code, call_begun, call_ended, call_jump, called, exit_code, function_code, head_code, instruction_code, instructions_code, last_address, starts_from}
+use Rattle.rv_select.proofs.Layouts.{blocks-calls-same, blocks-same, received-same, starts-same}
+use Rattle.rv_select.proofs.Lengths.{blocks-length}
+use Rattle.rv_select.proofs.Numbers.{pushed_words}
+use Rattle.rv_select.proofs.Pushed.{behind, placed-turn, turn}
+
+pub called-turn : {A E : Type 0} (r : Result A E) (y : Layout) (sizes : List ℕ) (to : Destination) (at : Place) (f : FnId) (arguments : List Part) (old first mid new : List ℕ) →
+    first ≡ old ++ map word_of (call_begun y at arguments) → mid ≡ first ++ map word_of (call_jump (4 * length first) 0) →
+    OnOk r (new ≡ mid ++ map word_of (call_ended y sizes to)) →
+    OnOk r (new ≡ old ++ map word_of (called y sizes (λ g. 0) (4 * length old) to at f arguments))
+called-turn r y sizes to at f arguments old first mid new e g h =
+    placed-turn r old first new (call_begun y at arguments) (λ n. call_jump n 0 ++ call_ended y sizes to) e
+    (turn r first mid new (call_jump (4 * length first) 0) (call_ended y sizes to) (call_jump (4 * length first) 0 ++ call_ended y sizes to) refl g h)
+
+pub one-called : {A E : Type 0} (r : Result A E) (y : Layout) (sizes : List ℕ) (to : Destination) (at : Place) (f : FnId) (arguments given : List Part) (i : Instruction) (n : ℕ) (old new : List ℕ) →
+    i ≡ Call to at f arguments → given ≡ arguments →
+    OnOk r (new ≡ old ++ map word_of (called y sizes (λ g. 0) n to at f given)) →
+    OnOk r (new ≡ old ++ map word_of (instruction_code y sizes (λ g. 0) n i))
+one-called r y sizes to at f arguments given i n old new e g h =
+    subst (λ z. OnOk r (new ≡ old ++ map word_of (instruction_code y sizes (λ g. 0) n z))) (sym e)
+    (subst (λ z. OnOk r (new ≡ old ++ map word_of (called y sizes (λ g. 0) n to at f z))) g h)
+
+pub block-turn : {A E : Type 0} (r : Result A E) (y : Layout) (sizes : List ℕ) (starts : ℕ → ℕ) (last : ℕ) (b : Block) (is : List Instruction) (old mid new : List ℕ) → is ≡ b.instructions →
+    mid ≡ old ++ map word_of (instructions_code y sizes (λ f. 0) (4 * length old) is) →
+    OnOk r (new ≡ mid ++ map word_of (exit_code y (4 * length mid) starts last b.exit)) →
+    OnOk r (new ≡ old ++ map word_of (block_code y sizes (λ f. 0) starts last (4 * length old) b))
+block-turn r y sizes starts last b is old mid new w e g =
+    placed-turn r old mid new (instructions_code y sizes (λ f. 0) (4 * length old) b.instructions) (λ at. exit_code y at starts last b.exit)
+    (e ∙ ap (λ z. old ++ map word_of (instructions_code y sizes (λ f. 0) (4 * length old) z)) w) g
+
+pub call-head : {A E : Type 0} (r : Result A E) (code : Tac) (h : List (Option Home)) (words bytes : ℕ) (sizes : List ℕ) (ds : List Destination) (old mid new : List ℕ) →
+    sizes ≡ code.areas → ds ≡ code.parameters →
+    mid ≡ old ++ map word_of (entered (with_homes h) bytes code.frame) →
+    OnOk r (new ≡ mid ++ map word_of (received (with_homes h) sizes words ds)) →
+    OnOk r (new ≡ old ++ map word_of (entered (layout_of code h) bytes code.frame ++ received (layout_of code h) code.areas words code.parameters))
+call-head r code h words bytes sizes ds old mid new w v e g =
+    let same : received (with_homes h) sizes words ds ≡ received (layout_of code h) code.areas words code.parameters =
+    ap (λ z. received (with_homes h) z words ds) w ∙ (ap (λ z. received (with_homes h) code.areas words z) v
+    ∙ received-same h 0 0 (length code.areas) (length code.parameters) code.areas words code.parameters) in
+    turn r old mid new (entered (layout_of code h) bytes code.frame) (received (layout_of code h) code.areas words code.parameters)
+    (entered (layout_of code h) bytes code.frame ++ received (layout_of code h) code.areas words code.parameters) refl e
+    (subst (λ z. OnOk r (new ≡ mid ++ map word_of z)) same g)
+
+pub body-code : {A E : Type 0} (r : Result A E) (code : Tac) (h : List (Option Home)) (sizes : List ℕ) (bs : List Block) (starts : ℕ → ℕ) (last at : ℕ) (old new : List ℕ) →
+    sizes ≡ code.areas → bs ≡ code.blocks →
+    OnOk r (new ≡ old ++ map word_of (blocks_code (with_homes h) sizes (λ f. 0) starts last at bs)) →
+    OnOk r (new ≡ old ++ map word_of (blocks_code (layout_of code h) code.areas (λ f. 0) starts last at code.blocks))
+body-code r code h sizes bs starts last at old new w v g =
+    let same : blocks_code (with_homes h) sizes (λ f. 0) starts last at bs ≡ blocks_code (layout_of code h) code.areas (λ f. 0) starts last at code.blocks =
+    ap (λ z. blocks_code (with_homes h) z (λ f. 0) starts last at bs) w ∙ (ap (λ z. blocks_code (with_homes h) code.areas (λ f. 0) starts last at z) v
+    ∙ blocks-same h 0 0 (length code.areas) (length code.parameters) code.areas (λ f. 0) starts last at code.blocks) in
+    subst (λ z. OnOk r (new ≡ old ++ map word_of z)) same g
+
+pub body-calls : {A E : Type 0} (r : Result A E) (code : Tac) (h : List (Option Home)) (sizes : List ℕ) (bs : List Block) (at : ℕ) (old new : List Site) →
+    sizes ≡ code.areas → bs ≡ code.blocks →
+    OnOk r (new ≡ old ++ blocks_calls (with_homes h) sizes at bs) → OnOk r (new ≡ old ++ blocks_calls (layout_of code h) code.areas at code.blocks)
+body-calls r code h sizes bs at old new w v g =
+    let same : blocks_calls (with_homes h) sizes at bs ≡ blocks_calls (layout_of code h) code.areas at code.blocks =
+    ap (λ z. blocks_calls (with_homes h) z at bs) w ∙ (ap (λ z. blocks_calls (with_homes h) code.areas at z) v
+    ∙ blocks-calls-same h 0 0 (length code.areas) (length code.parameters) code.areas at code.blocks) in
+    subst (λ z. OnOk r (new ≡ old ++ z)) same g
+
+pub body-begins : {A E : Type 0} (r : Result A E) (code : Tac) (h : List (Option Home)) (sizes : List ℕ) (bs : List Block) (at : ℕ) (old new : List ℕ) →
+    sizes ≡ code.areas → bs ≡ code.blocks →
+    OnOk r (new ≡ old ++ starts_from (with_homes h) sizes at bs) → OnOk r (new ≡ old ++ starts_from (layout_of code h) code.areas at code.blocks)
+body-begins r code h sizes bs at old new w v g =
+    let same : starts_from (with_homes h) sizes at bs ≡ starts_from (layout_of code h) code.areas at code.blocks =
+    ap (λ z. starts_from (with_homes h) z at bs) w ∙ (ap (λ z. starts_from (with_homes h) code.areas at z) v
+    ∙ starts-same h 0 0 (length code.areas) (length code.parameters) code.areas at code.blocks) in
+    subst (λ z. OnOk r (new ≡ old ++ z)) same g
+
+-- how many words there are behind a function's first ones
+pub head-words : (y : Layout) (code : Tac) (old head : List ℕ) → old ≡ [] → head ≡ old ++ map word_of (head_code y code) → length head ≡ length (head_code y code)
+head-words y code old head n e =
+    let count : length head ≡ length old + length (head_code y code) = ap length e ∙ pushed_words old (head_code y code) in
+    let none : length old ≡ 0 = ap length n in
+    omega (arith, count, none)
+
+pub places-starts : (y : Layout) (code : Tac) (old head : List ℕ) (none starts : List ℕ) → old ≡ [] → none ≡ [] → head ≡ old ++ map word_of (head_code y code) →
+    starts ≡ none ++ starts_from y code.areas (4 * length head) code.blocks → starts ≡ block_starts y code 0
+places-starts y code old head none starts n m e g =
+    let count : 4 * length head ≡ 0 + 4 * length (head_code y code) = omega (arith, head-words y code old head n e) in
+    g ∙ (ap (λ z. z ++ starts_from y code.areas (4 * length head) code.blocks) m ∙ ap (λ z. starts_from y code.areas z code.blocks) count)
+
+pub places-last : (y : Layout) (code : Tac) (old head body : List ℕ) (starts : ℕ → ℕ) (last : ℕ) → old ≡ [] → head ≡ old ++ map word_of (head_code y code) →
+    body ≡ head ++ map word_of (blocks_code y code.areas (λ f. 0) starts 0 (4 * length head) code.blocks) → last ≡ 4 * length body → last ≡ last_address y code 0
+places-last y code old head body starts last n e g k =
+    let B : List Instr = blocks_code y code.areas (λ f. 0) starts 0 (4 * length head) code.blocks in
+    let count : length head ≡ length (head_code y code) = head-words y code old head n e in
+    let words : length body ≡ length head + length B = ap length g ∙ pushed_words head B in
+    let same : length B ≡ length (blocks_code y code.areas (λ f. 0) (λ c. 0) 0 0 code.blocks) =
+    blocks-length y code.areas (λ f. 0) (λ f. 0) starts (λ c. 0) 0 0 (4 * length head) 0 code.blocks in
+    omega (arith, count, words, same, k)
+
+pub whole-words : (y : Layout) (code : Tac) (old head body whole : List ℕ) (starts : List ℕ) (last : ℕ) → old ≡ [] → starts ≡ block_starts y code 0 → last ≡ last_address y code 0 →
+    head ≡ old ++ map word_of (head_code y code) →
+    body ≡ head ++ map word_of (blocks_code y code.areas (λ f. 0) (start_of starts) last (4 * length head) code.blocks) →
+    whole ≡ body ++ map word_of (left y (frame_bytes y) code.frame) → whole ≡ map word_of (function_code y code (λ f. 0) 0)
+whole-words y code old head body whole starts last n s l e g k =
+    let H : List Instr = head_code y code in
+    let D : List Instr = body_code y code (λ f. 0) 0 in
+    let L : List Instr = left y (frame_bytes y) code.frame in
+    let at : 4 * length head ≡ 0 + 4 * length H = omega (arith, head-words y code old head n e) in
+    let first : head ≡ map word_of H = e ∙ ap (λ z. z ++ map word_of H) n in
+    let mid : body ≡ head ++ map word_of D =
+    g ∙ (ap (λ z. head ++ map word_of (blocks_code y code.areas (λ f. 0) (start_of z) last (4 * length head) code.blocks)) s
+    ∙ (ap (λ z. head ++ map word_of (blocks_code y code.areas (λ f. 0) (start_of (block_starts y code 0)) z (4 * length head) code.blocks)) l
+    ∙ ap (λ z. head ++ map word_of (blocks_code y code.areas (λ f. 0) (start_of (block_starts y code 0)) (last_address y code 0) z code.blocks)) at)) in
+    k ∙ (ap (λ z. z ++ map word_of L) mid ∙ (ap (λ z. (z ++ map word_of D) ++ map word_of L) first
+    ∙ (append_assoc (map word_of H) (map word_of D) (map word_of L) ∙ (ap (λ z. map word_of H ++ z) (sym (map-append word_of D L)) ∙ sym (map-append word_of H (D ++ L))))))
+
+pub whole-calls : (y : Layout) (code : Tac) (old head : List ℕ) (none calls : List Site) → old ≡ [] → none ≡ [] → head ≡ old ++ map word_of (head_code y code) →
+    calls ≡ none ++ blocks_calls y code.areas (length head) code.blocks → calls ≡ blocks_calls y code.areas (length (head_code y code)) code.blocks
+whole-calls y code old head none calls n m e g =
+    g ∙ (ap (λ z. z ++ blocks_calls y code.areas (length head) code.blocks) m ∙ ap (λ z. blocks_calls y code.areas z code.blocks) (head-words y code old head n e))
+
+pub head-whole : (code : Tac) (h : List (Option Home)) (words frame : ℕ) (old mid new : List ℕ) → words ≡ words_offset (layout_of code h) → frame ≡ frame_bytes (layout_of code h) →
+    mid ≡ old ++ map word_of (begun code) →
+    new ≡ mid ++ map word_of (entered (layout_of code h) frame code.frame ++ received (layout_of code h) code.areas words code.parameters) →
+    new ≡ old ++ map word_of (head_code (layout_of code h) code)
+head-whole code h words frame old mid new w f e g =
+    let y : Layout = layout_of code h in
+    behind old mid new (begun code) (entered y (frame_bytes y) code.frame ++ received y code.areas (words_offset y) code.parameters) e
+    (g ∙ (ap (λ z. mid ++ map word_of (entered y z code.frame ++ received y code.areas words code.parameters)) f
+    ∙ ap (λ z. mid ++ map word_of (entered y (frame_bytes y) code.frame ++ received y code.areas z code.parameters)) w))
+
+pub left-whole : (code : Tac) (h : List (Option Home)) (frame : ℕ) (body whole : List ℕ) → frame ≡ frame_bytes (layout_of code h) →
+    whole ≡ body ++ map word_of (left (with_homes h) frame code.frame) →
+    whole ≡ body ++ map word_of (left (layout_of code h) (frame_bytes (layout_of code h)) code.frame)
+left-whole code h frame body whole f e = e ∙ ap (λ z. body ++ map word_of (left (layout_of code h) z code.frame)) f
