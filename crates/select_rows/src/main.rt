@@ -79,9 +79,10 @@ fn program_answer(alloc: Global, words: &[&str]) -> Result<String, NoMemory> {
     let text = linked(alloc, &codes)?;
     let mut arguments = Vec::new(alloc);
     for place in 2..words.len() {
-        if arguments.len() < 8 {
-            arguments.push(number_at(words, place))?;
-        }
+        arguments.push(number_at(words, place))?;
+    }
+    if arguments.len() > 8 {
+        return Ok(String::from_str(alloc, "more than eight arguments")?);
     }
     shown(alloc, run(alloc, text, &arguments)?)
 }
