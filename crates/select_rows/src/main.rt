@@ -1,13 +1,23 @@
 //! Applies operators to words as the rows of standard input say, one row a line, by the words that `rv_select` makes of
 //! three-address code, on the machine, and writes each row with what came out: once with constants as operands, and once with
-//! temporaries. A row is an operator, whether its width has a sign, the bits of the width, and its operands. `stdin` and `stdout`
-//! are written by `bench/word_rows`, by the rules of C's integers with wrapping.
+//! temporaries. A row is an operator, whether its width has a sign, the bits of the width, and its operands. These rows of `stdin`
+//! and `stdout` are written by `bench/word_rows`, by the rules of C's integers with wrapping.
+//!
+//! A row that begins with `run` is the name of a program of `functions` and its arguments: its functions are selected with the
+//! homes that `assign` gives, and run. What comes of them is worked out by hand.
 #![tactic(auto)]
 
+mod functions;
+mod linking;
+
+ghost use Rattle.std.specs.Prelude.{◌≤◌, length};
+
 use elf_image::{Bytes, Image, Symbol, Symbols, Words, is_lawful};
-use reg_alloc::Home;
+use functions::program;
+use linking::linked;
+use reg_alloc::{Home, assign};
 use rv_machine::{Stop, TEXT, run_image};
-use rv_select::push_instruction;
+use rv_select::{all_has_code, push_instruction, select};
 use std::alloc::Global;
 use tac_form::{Instruction, Number, Operand, Size};
 use terra_words::BinaryOperator;
@@ -25,7 +35,7 @@ const LEAVE: u32 = 0x0000_8067;
 const HERE: Place = Place { line: 1, word: 1 };
 
 /// The most steps of a row.
-const STEPS: u64 = 1_000;
+const STEPS: u64 = 100_000;
 
 fn main(rt: HostRuntime) -> anyhow::Result<()> {
     let alloc = rt.alloc();
@@ -33,7 +43,11 @@ fn main(rt: HostRuntime) -> anyhow::Result<()> {
         let line = line?;
         let row = line.as_str();
         let words: Vec<&str> = row.split_whitespace().collect(alloc)?;
-        let answer = answer(alloc, &words)?;
+        let answer = if word_at(&words, 0) == "run" {
+            program_answer(alloc, &words)?
+        } else {
+            answer(alloc, &words)?
+        };
         println!(rt; "{row} = {answer}")?;
     }
     Ok(())
@@ -50,6 +64,27 @@ fn word_at<'a>(words: &[&'a str], place: usize) -> &'a str {
 /// A number that a word writes, and 0 where it writes none.
 fn number_at(words: &[&str], place: usize) -> u64 {
     word_at(words, place).parse::<u64>().unwrap_or(0)
+}
+
+/// What comes of a program.
+fn program_answer(alloc: Global, words: &[&str]) -> Result<String, NoMemory> {
+    let functions = program(alloc, word_at(words, 1))?;
+    let mut codes = Vec::new(alloc);
+    for function in functions.as_slice() {
+        if all_has_code(function) {
+            let homes = assign(alloc, function)?;
+            codes.push(select(alloc, function, &homes)?)?;
+        }
+    }
+    let text = linked(alloc, &codes)?;
+    let mut arguments = Vec::new(alloc);
+    for place in 2..words.len() {
+        arguments.push(number_at(words, place))?;
+    }
+    if arguments.len() > 8 {
+        return Ok(String::from_str(alloc, "more than eight arguments")?);
+    }
+    shown(alloc, run(alloc, text, &arguments)?)
 }
 
 /// What comes of a row, both ways.
@@ -104,17 +139,19 @@ fn result(
     push_instruction(&mut code, &homes, &compute)?;
     code.push(RESULT)?;
     code.push(LEAVE)?;
-    run(alloc, code)
+    run(alloc, code, &[])
 }
 
 /// How the run of a text stops, if there is an image with it.
-fn run(alloc: Global, code: Vec<u32>) -> Result<Option<Stop>, NoMemory> {
+fn run(alloc: Global, code: Vec<u32>, arguments: &[u64]) -> Result<Option<Stop>, NoMemory>
+    requires { length arguments.now ≤ 8 }
+{
     let image = image_of(alloc, code)?;
     if !is_lawful(&image) {
         return Ok(None);
     }
     let mut out = MemSink::new(alloc, 0, Vec::new(alloc))?;
-    let stop = run_image(alloc, &image, TEXT, &[], STEPS, &mut out)?;
+    let stop = run_image(alloc, &image, TEXT, arguments, STEPS, &mut out)?;
     Ok(Some(stop))
 }
 
@@ -132,7 +169,7 @@ fn image_of(alloc: Global, code: Vec<u32>) -> Result<Image, NoMemory> {
         statics: Bytes::new(alloc),
         memory: 65_536,
         heap: 0x4000_0000,
-        private: 512,
+        private: 131_072,
         exports,
     })
 }
@@ -141,6 +178,7 @@ fn shown(alloc: Global, stop: Option<Stop>) -> Result<String, NoMemory> {
     match stop {
         Some(Stop::Returned(value)) => Ok(format!(in alloc; "{value}")?),
         Some(Stop::TerraFault { kind: 2, place: _ }) => Ok(String::from_str(alloc, "fault")?),
+        Some(Stop::TerraFault { kind, place: _ }) => Ok(format!(in alloc; "fault {kind}")?),
         _ => Ok(String::from_str(alloc, "no result")?),
     }
 }
