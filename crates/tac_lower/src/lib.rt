@@ -4,10 +4,25 @@
 //! stand, go on from one another as the parts of the meaning do. That the code of a store's functions has the runs that their terms
 //! mean is the law of [`lowering_keeps_runs`], and that each way round its flow graph counts that of [`lowered_code_is_counted`];
 //! `specs/Needs.antt` says what both need of the terms. It isn't proved yet that what typing leaves has that, nor that the code fits
-//! and keeps its sizes (`LoweredIsGood` in `specs/Laws.antt`), and no function of this crate makes the code yet.
+//! and keeps its sizes (`LoweredIsGood` in `specs/Laws.antt`), as [`lower`] makes it.
 //! `proofs/Examples.antt` and `proofs/Mixed.antt` have the runs of small functions' code, computed by the checker.
 #![tactic(auto)]
 
+mod around;
+mod assigning;
+mod block;
+mod counting;
+mod emit;
+mod item;
 pub mod law;
+mod lower;
+mod number;
+mod operation;
+mod place;
+mod scope;
+mod term;
+mod value;
+mod work;
 
 pub use law::{lowered_code_is_counted, lowering_keeps_runs};
+pub use lower::lower;
