@@ -1,5 +1,5 @@
 -- What the code's values stand for. A view of the code: nothing is promised here.
-use Rattle.std.specs.Prelude.{ℕ, List, map}
+use Rattle.std.specs.Prelude.{ℕ, List, map, Option, Some, None, slice_get, slice_set}
 use Rattle.tac_lower.specs.Items as items
 use Rattle.tac_lower.specs.Items.{does, ends, skips, tests, repeats, repeats_unless, leaves, gives, fails}
 use Rattle.tac_lower.specs.Pieces as pieces
@@ -40,6 +40,19 @@ abbrev pub reaching : items.Ending → (blocks : ℕ) → items.Ending
 reaching (skips k) blocks = skips blocks
 reaching (tests a k) blocks = tests a blocks
 reaching e blocks = e
+
+-- the ending that an item is
+abbrev pub ending_in : Option items.Item → Option items.Ending
+ending_in (Some (ends e)) = Some e
+ending_in _ = None
+
+-- the forward ending at a position leads past so many blocks
+abbrev pub reached_by : List items.Item → (position blocks : ℕ) → Option items.Ending → List items.Item
+reached_by code position blocks (Some e) = slice_set code position (ends (reaching e blocks))
+reached_by code position blocks None = code
+
+abbrev pub reached : List items.Item → (position blocks : ℕ) → List items.Item
+reached code position blocks = reached_by code position blocks (ending_in (slice_get code position))
 
 abbrev pub want_of : Wanted → meanings.Wanted
 want_of wants.Value = meanings.the_value

@@ -1,6 +1,7 @@
 // Code in a line: instructions, and the ends of blocks.
 
 ghost use Rattle.std.specs.Prelude.{◌≡◌};
+ghost use Rattle.tac_lower.specs.Items.{left_by};
 ghost use Rattle.tac_lower.specs.Data.{ending_of, reaching};
 
 use tac_form::{Instruction, Operand, Part};
@@ -41,6 +42,21 @@ pub(crate) fn reaching(ending: Ending, blocks: u64) -> Ending
         Ending::Repeats(_) => ending,
         Ending::RepeatsUnless(_, _) => ending,
         Ending::Leaves => ending,
+        Ending::Gives(_) => ending,
+        Ending::Fails(_, _) => ending,
+    }
+}
+
+/// What leaves a loop leads past the blocks up to its end; any other ending stays.
+pub(crate) fn left_by(ending: Ending, behind: u64) -> Ending
+    ensures { ending_of result ≡ left_by (ending_of ending) behind }
+{
+    match ending {
+        Ending::Leaves => Ending::Skips(behind),
+        Ending::Skips(_) => ending,
+        Ending::Tests(_, _) => ending,
+        Ending::Repeats(_) => ending,
+        Ending::RepeatsUnless(_, _) => ending,
         Ending::Gives(_) => ending,
         Ending::Fails(_, _) => ending,
     }

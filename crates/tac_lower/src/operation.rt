@@ -31,18 +31,18 @@ pub(crate) fn operation(
     around: &Around<'_>,
     at: Place,
     of: TypeId,
-    operation: &Operation,
+    done: &Operation,
     operands: &[TypeId],
     values: &[Value],
     work: &mut Work,
 ) -> Result<Value, NoMemory>
-    ensures { Gave result_of result work.old work.new (operation (around_of around.now) at of operation.now operands.now (map result_of values.now) work.old.used) }
+    ensures { Gave result_of result work.old work.new (operation (around_of around.now) at of done.now operands.now (map result_of values.now) work.old.used) }
 {
     let types = around.types();
     let first = type_at(operands, 0);
     let x = word_at(values, 0);
     let y = word_at(values, 1);
-    match operation {
+    match done {
         Operation::Negate => {
             let zero = Operand::Constant(0);
             compute(BinaryOperator::Subtract, number_of(types, of), zero, x, work)
@@ -215,14 +215,14 @@ fn constructed(
 
 fn primitive(
     at: Place,
-    primitive: Primitive,
+    done: Primitive,
     values: &[Value],
     work: &mut Work,
 ) -> Result<Value, NoMemory>
-    ensures { Gave result_of result work.old work.new (primitive at primitive (map result_of values.now) work.old.used) }
+    ensures { Gave result_of result work.old work.new (primitive at done (map result_of values.now) work.old.used) }
 {
     let x = word_at(values, 0);
-    match primitive {
+    match done {
         Primitive::PutByte => {
             work.put(Instruction::PutByte(x))?;
             Ok(NO_WORD)

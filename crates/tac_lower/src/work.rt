@@ -1,13 +1,13 @@
 // Code in progress.
 
-ghost use Rattle.std.specs.Prelude.{◌≡◌, ◌++◌, ◌∷◌, ◌+◌, ◌-◌, [], List, drop, length, option_map, IfOk, OnOk};
+ghost use Rattle.std.specs.Prelude.{◌≡◌, ◌<◌, ◌++◌, ◌∷◌, ◌+◌, ◌-◌, [], List, drop, length, map, option_map, slice_get, take, IfOk, IfSome, OnOk};
 ghost use Rattle.tac_lower.specs.Items as items;
 ghost use Rattle.tac_lower.specs.Items.{count_ends, does, ends, loop_of, repeats, repeats_unless};
 ghost use Rattle.tac_lower.specs.Pieces.{bound, holder_of, with_area, with_temp};
-ghost use Rattle.tac_lower.specs.Data.{bound_of, ending_of, held_of, item_of, reaching};
+ghost use Rattle.tac_lower.specs.Data.{bound_of, ending_in, ending_of, held_of, item_of, reached, reaching};
 ghost use Rattle.tac_lower.specs.Works.{begun};
 
-use crate::item::{Ending, Item, reaching};
+use crate::item::{Ending, Item, left_by, reaching};
 use crate::value::{Bound, Holder};
 use std::alloc::Global;
 use std::marker::Model;
@@ -212,25 +212,14 @@ impl Work {
             self.new ≡ record self.old { code = front ++ ends (reaching e (count_ends code)) ∷ code } }
     {
         let blocks = self.ended.saturating_sub(mark.ended).saturating_sub(1);
-        if let Some(Item::Ends(ending)) = self.code.get_mut(mark.position) {
-            *ending = reaching(*ending, blocks);
-        }
+        close_at(&mut self.code, mark.position, blocks);
     }
 
     /// The code behind a mark is a whole loop's: what leaves it leads behind it.
     pub(crate) fn close_loop(&mut self, mark: Mark)
-        ensures { (front code : List items.Item) → self.old.code ≡ front ++ code → mark.position ≡ length front →
-            self.new ≡ record self.old { code = front ++ loop_of code } }
+        ensures { self.new ≡ record self.old { code = take mark.position self.old.code ++ loop_of (drop mark.position self.old.code) } }
     {
-        let mut behind = 0;
-        for i in (mark.position..self.code.len()).rev() {
-            if let Item::Ends(ending) = &mut self.code[i] {
-                if let Ending::Leaves = *ending {
-                    *ending = Ending::Skips(behind);
-                }
-                behind += 1;
-            }
-        }
+        leave_loop(&mut self.code, mark.position);
     }
 
     /// The items and the areas.
@@ -246,10 +235,47 @@ impl Work {
 fn find_in(scope: &[Bound], x: SymId) -> Option<Holder>
     ensures { option_map held_of result ≡ holder_of x (map bound_of scope.now) }
 {
-    for bound in scope {
-        if x.0 == bound.symbol.0 {
-            return Some(bound.holder);
+    for v in scope {
+        if x.0 == v.symbol.0 {
+            return Some(v.holder);
         }
     }
     None
+}
+
+/// The ending at a position, where an ending stands there.
+fn ending_at(code: &[Item], position: usize) -> Option<Ending>
+    ensures ending { option_map ending_of result ≡ ending_in (slice_get (map item_of code.now) position) }
+    ensures there { IfSome result (λ e. position < length code.now) }
+{
+    match code.get(position) {
+        Some(Item::Ends(ending)) => Some(*ending),
+        Some(Item::Does(_)) => None,
+        None => None,
+    }
+}
+
+/// The forward ending at a position leads past so many blocks.
+fn close_at(code: &mut [Item], position: usize, blocks: u64)
+    ensures { map item_of code.new ≡ reached (map item_of code.old) position blocks }
+{
+    if let Some(ending) = ending_at(code, position) {
+        code[position] = Item::Ends(reaching(ending, blocks));
+    }
+}
+
+/// What leaves the loop that begins at a position leads behind all the code.
+fn leave_loop(code: &mut [Item], start: usize)
+    ensures { map item_of code.new ≡ take start (map item_of code.old) ++ loop_of (drop start (map item_of code.old)) }
+{
+    let count = code.len();
+    let mut i = count;
+    let mut behind = 0;
+    while start < i {
+        i -= 1;
+        if let Some(ending) = ending_at(code, i) {
+            code[i] = Item::Ends(left_by(ending, behind));
+            behind += 1;
+        }
+    }
 }
