@@ -1,6 +1,9 @@
-//! Makes typed terms as the rows of standard input say, one row a line, runs the three-address code of functions of them, and writes each
-//! row that runs one with what came out. `stdin` and `stdout` are those of `meaning_rows`, written by `bench/meaning_rows` by its own
-//! reading of the rules. Temporaries hold a word of no meaning before they are written.
+//! Makes typed terms as the rows of standard input say, one row a line, runs the three-address code of functions of them, and writes
+//! each row that runs one with what came out.
+//!
+//! `stdin` and `stdout` are those of `meaning_rows`, written by `bench/meaning_rows` by its own reading of the rules: so the code of
+//! each function gives what the plain evaluator gives. Temporaries hold a word of no meaning before they are written. A row `lower`
+//! writes how much code a function has; `bench/lowering` counts what that takes.
 //!
 //! A row that adds a node takes its parts from a stack, and puts the node there. A node's place is its number.
 #![tactic(auto)]

@@ -33,6 +33,7 @@ pub fn row(work: &mut Work, word: &str, words: &[&str]) -> Result<Option<String>
             Ok(None)
         }
         "run" => run(work, words),
+        "lower" => lowered(work, FnId(n)),
         _ => Ok(Some(String::from_str(work.store.allocator(), "no such row")?)),
     }
 }
@@ -155,6 +156,19 @@ fn lower_all(work: &mut Work) -> Result<(), NoMemory> {
         work.codes.push(code)?;
     }
     Ok(())
+}
+
+/// `lower FUNCTION`: how many blocks and temporaries its code has
+fn lowered(work: &Work, f: FnId) -> Result<Option<String>, NoMemory> {
+    let alloc = work.store.allocator();
+    match lower(&work.store, &work.entries, f)? {
+        Some(code) => {
+            let blocks = code.blocks.as_slice().len();
+            let temps = code.temps;
+            Ok(Some(format!(in alloc; "{blocks} blocks, {temps} temporaries")?))
+        }
+        None => Ok(Some(String::from_str(alloc, "no code")?)),
+    }
 }
 
 /// `run FUNCTION MEMORY COUNT ARGUMENT..`

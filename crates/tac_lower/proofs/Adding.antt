@@ -86,3 +86,18 @@ gave-behind view (Ok y) w0 w1 w2 p go x same first second =
     let here : go x w1.used ≡ go p.result p.used = ap (λ (v : _). go v w1.used) same ∙ ap (λ (w : Made). go p.result w.used) first in
     (second.0 ∙ ap (λ (q : Piece _). q.result) here,
     second.1 ∙ ap (λ (q : Piece _). behind w1 q) here ∙ ap (λ (w : Made). behind w (go p.result p.used)) first ∙ sym (behind-then w0 p go))
+
+-- what changes the scope
+
+module _ (w : Made) (p : Piece Holders) (go : Holders → Used → Piece Holders) where
+  pub scoped-then : (n m k : ℕ) → k ≡ n + m → scoped w (then_piece p go) k ≡ scoped (scoped w p n) (go p.result p.used) m
+  scoped-then n m k sum =
+      let q = go p.result p.used in
+      ap (λ (c : List Item). record w { code = c; used = q.used; scope = q.result; next = w.next + k }) (sym (append_assoc w.code p.code q.code))
+      ∙ ap (λ (j : ℕ). record w { code = w.code ++ p.code ++ q.code; used = q.used; scope = q.result; next = j })
+      (ap (λ (j : ℕ). w.next + j) sum ∙ sym (add_assoc w.next n m))
+
+pub scoped-known : (w : Made) → scoped w (known w.scope w.used) 0 ≡ w
+scoped-known w =
+    ap (λ (c : List Item). record w { code = c; next = w.next + 0 }) (append-nil w.code)
+    ∙ ap (λ (n : ℕ). record w { next = n }) (add-zero w.next)

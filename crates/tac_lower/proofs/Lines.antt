@@ -2,15 +2,16 @@
 use Rattle.std.proofs.Common.{◌≡◌, refl, sym, ap, ◌∙◌, subst, ℕ, zero, suc, ◌+◌, ◌-◌, ◌<◌, ◌≤◌, Bool, true, false, List, [], ◌∷◌, ◌++◌, Option, Some, None, map, length, take, drop, get_or, set, slice_get, arith, zero-add, append_assoc, append-nil, drop-cons, take_all}
 use Rattle.std.specs.Prelude.{nat_eq, if◌then◌else◌}
 use Rattle.std.proofs.lemmas.Bool.{eq-eqb, ne_eqb}
-use Rattle.std.proofs.lemmas.List.{map-append, drop-map, length-map}
+use Rattle.std.proofs.lemmas.List.{map-append, drop-map, length-map, take-append-drop}
 use Rattle.std.proofs.lemmas.Grind.{common_steps}
 use Rattle.std.proofs.Math.Seq.{take-suc}
 use Rattle.std.proofs.Math.ListN.{drop_of_length-le}
 use Rattle.tl_base.specs.declared.ids.SymId.{SymId}
 use Rattle.tac_form.specs.declared.tac.Instruction.{Instruction}
 use Rattle.tac_form.specs.declared.tac.Block.{Block}
+use Rattle.tac_form.specs.declared.tac.Exit.{Exit}
 use Rattle.tac_lower.specs.Items as items
-use Rattle.tac_lower.specs.Items.{does, ends, skips, leaves, count_ends, left_by, loop_of, Draft, empty_draft, with_item, with_items}
+use Rattle.tac_lower.specs.Items.{does, ends, skips, leaves, count_ends, exit_of, left_by, loop_of, Draft, empty_draft, with_item, with_items}
 use Rattle.tac_lower.specs.Pieces.{Holders, holder_of}
 use Rattle.tac_lower.specs.Data.{bound_of, ending_in, ending_of, held_of, item_of, reached, reached_by, reaching}
 use Rattle.tac_lower.specs.declared.item.Ending.{Ending}
@@ -114,17 +115,22 @@ pub written-back : {A : Type 0} (xs ys : List A) (n : ℕ) → n ≡ length xs �
 written-back xs ys n count same =
     let past : length xs ≤ length ys = omega arith in
     ap (λ (l : List _). take n (ys ++ l)) (none-left xs (length ys) past) ∙ ap (λ (l : List _). take n l) (append-nil ys)
-    ∙ take_all ys n (omega (arith, count, same))
+    ∙ take_all n ys (omega (arith, count, same))
+
+-- nothing is left
+pub loop-none : (code : List items.Item) (start : ℕ) → length code ≤ start → code ≡ take start code ++ loop_of (drop start code)
+loop-none code start past =
+    sym (ap (λ (l : List items.Item). take start code ++ loop_of l) (none-left code start past) ∙ append-nil (take start code) ∙ take_all start code past)
 
 -- loops, from their ends on
 
-no-item : items.Item
+abbrev pub no-item : items.Item
 no-item = ends leaves
 
 -- the code so far, around the item before what is done
 module _ (cur orig : List items.Item) (i j : ℕ) (next : i ≡ j + 1) (within : i ≤ length orig)
     (so_far : cur ≡ take i orig ++ loop_of (drop i orig)) where
-  item : items.Item
+  pub item : items.Item
   item = get_or orig j no-item
 
   inside : j < length orig
@@ -223,9 +229,50 @@ pub items-append : (d : Draft) (xs ys : List items.Item) → with_items d (xs ++
 items-append d [] ys = refl
 items-append d (x ∷ xs) ys = items-append (with_item d x) xs ys
 
+abbrev pub draft : List Block → List Instruction → Draft
+draft blocks code = record { blocks = blocks; code = code }
+
 pub draft-more : (blocks : List Block) (code : List Instruction) (so_far : List Item) (item : Item) →
-    record { blocks = blocks; code = code } ≡ with_items empty_draft (map item_of so_far) →
-    with_item (record { blocks = blocks; code = code }) (item_of item) ≡ with_items empty_draft (map item_of (so_far ++ item ∷ []))
+    draft blocks code ≡ with_items empty_draft (map item_of so_far) →
+    with_item (draft blocks code) (item_of item) ≡ with_items empty_draft (map item_of (so_far ++ item ∷ []))
 draft-more blocks code so_far item same =
     ap (λ (d : Draft). with_item d (item_of item)) same ∙ sym (items-append empty_draft (map item_of so_far) (item_of item ∷ []))
     ∙ ap (λ (l : List items.Item). with_items empty_draft l) (sym (map-append item_of so_far (item ∷ [])))
+
+module _ (blocks new : List Block) (code left : List Instruction) (so_far : List Item) (item : Item)
+    (same : draft blocks code ≡ with_items empty_draft (map item_of so_far)) where
+  pub draft-does : (i : Instruction) → item ≡ kinds.Does i → new ≡ blocks → left ≡ code ++ i ∷ []
+      → draft new left ≡ with_items empty_draft (map item_of (so_far ++ item ∷ []))
+  draft-does i is kept push =
+      ap (λ (bs : List Block). draft bs left) kept ∙ ap (λ (l : List Instruction). draft blocks l) push
+      ∙ ap (λ (it : Item). with_item (draft blocks code) (item_of it)) (sym is)
+      ∙ draft-more blocks code so_far item same
+
+  pub draft-ends : (e : Ending) (b : Block) → item ≡ kinds.Ends e → new ≡ blocks ++ b ∷ [] → b.instructions ≡ code
+      → b.exit ≡ exit_of 0 (length blocks) (ending_of e) → left ≡ []
+      → draft new left ≡ with_items empty_draft (map item_of (so_far ++ item ∷ []))
+  draft-ends e b is push instructions exit none =
+      let made : b ≡ record { instructions = code; exit = exit_of 0 (length blocks) (ending_of e) } =
+      ap (λ (is : List Instruction). record { instructions = is; exit = b.exit }) instructions
+      ∙ ap (λ (x : Exit). record { instructions = code; exit = x }) exit in
+      ap (λ (l : List Instruction). draft new l) none
+      ∙ ap (λ (bs : List Block). draft bs []) (push ∙ ap (λ (d : Block). blocks ++ d ∷ []) made)
+      ∙ ap (λ (it : Item). with_item (draft blocks code) (item_of it)) (sym is)
+      ∙ draft-more blocks code so_far item same
+
+-- a loop that is left has as many ends
+pub count-left : (code lent new : List Item) (start n : ℕ) → n ≡ count_ends (map item_of code) → lent ≡ code
+    → map item_of new ≡ take start (map item_of lent) ++ loop_of (drop start (map item_of lent)) → n ≡ count_ends (map item_of new)
+count-left code lent new start n count same left =
+    let lines = map item_of code in
+    let whole : count_ends (take start lines) + count_ends (drop start lines) ≡ count_ends lines =
+    sym (count-append (take start lines) (drop start lines)) ∙ ap count_ends (take-append-drop start lines) in
+    let now : count_ends (map item_of new) ≡ count_ends (take start lines) + count_ends (loop_of (drop start lines)) =
+    ap count_ends (left ∙ ap (λ (l : List Item). take start (map item_of l) ++ loop_of (drop start (map item_of l))) same)
+    ∙ count-append (take start lines) (loop_of (drop start lines)) in
+    omega (arith, count, whole, now, count-loop (drop start lines))
+
+pub count-closed : (code lent new : List Item) (p k n : ℕ) → n ≡ count_ends (map item_of code) → lent ≡ code
+    → map item_of new ≡ reached (map item_of lent) p k → n ≡ count_ends (map item_of new)
+count-closed code lent new p k n count same made =
+    count ∙ sym (ap count_ends (made ∙ ap (λ (l : List Item). reached (map item_of l) p k) same) ∙ count-reached (map item_of code) p k)

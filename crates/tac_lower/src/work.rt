@@ -259,8 +259,9 @@ fn ending_at(code: &[Item], position: usize) -> Option<Ending>
 fn close_at(code: &mut [Item], position: usize, blocks: u64)
     ensures { map item_of code.new ≡ reached (map item_of code.old) position blocks }
 {
-    if let Some(ending) = ending_at(code, position) {
-        code[position] = Item::Ends(reaching(ending, blocks));
+    match ending_at(code, position) {
+        Some(ending) => code[position] = Item::Ends(reaching(ending, blocks)),
+        None => {}
     }
 }
 
@@ -269,13 +270,19 @@ fn leave_loop(code: &mut [Item], start: usize)
     ensures { map item_of code.new ≡ take start (map item_of code.old) ++ loop_of (drop start (map item_of code.old)) }
 {
     let count = code.len();
+    if count <= start {
+        return;
+    }
     let mut i = count;
     let mut behind = 0;
     while start < i {
         i -= 1;
-        if let Some(ending) = ending_at(code, i) {
-            code[i] = Item::Ends(left_by(ending, behind));
-            behind += 1;
+        match ending_at(code, i) {
+            Some(ending) => {
+                code[i] = Item::Ends(left_by(ending, behind));
+                behind += 1;
+            }
+            None => {}
         }
     }
 }
