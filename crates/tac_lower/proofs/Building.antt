@@ -9,10 +9,10 @@ use Rattle.tac_lower.specs.Works.{Made, behind, past, scoped}
 use Rattle.tac_lower.proofs.Adding.{same-made}
 use Rattle.tac_lower.proofs.Lines.{count-append}
 
-pub record Built (old new : Made) (code : List Item) (used : Used) (scope : Holders) (n : ℕ) : Type 0 where
-  pub code : new.code ≡ old.code ++ code
-  pub used : new.used ≡ used
-  pub scope : new.scope ≡ scope
+pub record Built (old new : Made) (X : List Item) (u : Used) (s : Holders) (n : ℕ) : Type 0 where
+  pub code : new.code ≡ old.code ++ X
+  pub used : new.used ≡ u
+  pub scope : new.scope ≡ s
   pub next : new.next ≡ old.next + n
 
 pub built-nothing : (w : Made) → Built w w [] w.used w.scope 0
@@ -66,21 +66,15 @@ module _ (w0 w w' : Made) (X : List Item) (u : Used) (s : Holders) (n : ℕ) (so
     next = further m (ap (λ (z : Made). z.next) step);
   }
 
-  -- a scope is left, in which others had come before those around
-  pub built-left : (count : ℕ) (inner outer : Holders) → s ≡ inner ++ outer → count ≡ length outer
-      → w' ≡ record w { scope = drop (length w.scope - count) w.scope } → drop (length inner) (inner ++ outer) ≡ outer
-      → length (inner ++ outer) ≡ length inner + length outer → Built w0 w' X u outer n
-  built-left count inner outer parts many step rest sum =
-      let held : w.scope ≡ inner ++ outer = so_far.scope ∙ parts in
-      let front : length (inner ++ outer) - length outer ≡ length inner = omega (arith, sum) in
-      record {
-        code = ap (λ (z : Made). z.code) step ∙ so_far.code;
-        used = ap (λ (z : Made). z.used) step ∙ so_far.used;
-        scope = ap (λ (z : Made). z.scope) step ∙ ap (λ (h : Holders). drop (length h - count) h) held
-            ∙ ap (λ (k : ℕ). drop (length (inner ++ outer) - k) (inner ++ outer)) many
-            ∙ ap (λ (k : ℕ). drop k (inner ++ outer)) front ∙ rest;
-        next = ap (λ (z : Made). z.next) step ∙ so_far.next;
-      }
+  -- a scope is left
+  pub built-left : (count : ℕ) (outer : Holders) → drop (length s - count) s ≡ outer
+      → w' ≡ record w { scope = drop (length w.scope - count) w.scope } → Built w0 w' X u outer n
+  built-left count outer rest step = record {
+    code = ap (λ (z : Made). z.code) step ∙ so_far.code;
+    used = ap (λ (z : Made). z.used) step ∙ so_far.used;
+    scope = ap (λ (z : Made). z.scope) step ∙ ap (λ (h : Holders). drop (length h - count) h) so_far.scope ∙ rest;
+    next = ap (λ (z : Made). z.next) step ∙ so_far.next;
+  }
 
 -- an ending leads past what stands behind it
 pub built-closed : (w0 w w' : Made) (X Y : List Item) (e : Ending) (u : Used) (s : Holders) (n position ended : ℕ)

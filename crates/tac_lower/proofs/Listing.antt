@@ -59,7 +59,7 @@ module _ (c : Around) (below : ℕ) (nodes : List TermId) (i : ℕ) (w : Made) (
         (sym (results ∙ ap (λ (l : List TermId). map result_of values ++ (pieces_of c below l w).result) (none-left nodes i past_end)
         ∙ append-nil (map result_of values)),
         sym (works ∙ ap (λ (l : List TermId). past w (pieces_of c below l w) (in_list (list_before c.store.now below l))) (none-left nodes i past_end)
-        ∙ past-known w []))
+        ∙ past-known {A = List Result} w []))
 
   -- targets
   module _ (R : List Target) (values : List code_target.Target)
@@ -93,7 +93,7 @@ module _ (c : Around) (below : ℕ) (nodes : List TermId) (i : ℕ) (w : Made) (
         (sym (results ∙ ap (λ (l : List TermId). map target_of values ++ (targets_of c below l w).result) (none-left nodes i past_end)
         ∙ append-nil (map target_of values)),
         sym (works ∙ ap (λ (l : List TermId). past w (targets_of c below l w) (in_list (list_before c.store.now below l))) (none-left nodes i past_end)
-        ∙ past-known w []))
+        ∙ past-known {A = List Target} w []))
 
   -- statements
   module _ (works : W ≡ scoped w (all_of c below (drop i nodes) w) (in_block (block_before c.store.now below (drop i nodes)))) where

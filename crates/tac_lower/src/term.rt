@@ -310,7 +310,8 @@ fn lower_scope(
 {
     let depth = work.depth();
     lower_block(around, below, nodes, work)?;
-    work.leave(depth)
+    work.leave(depth)?;
+    Ok(())
 }
 
 /// A test, and a block where it holds.

@@ -1,7 +1,148 @@
-use Rattle.std.proofs.Common.{◌+◌, arith}
+use Rattle.std.proofs.Common.{◌≡◌, refl, sym, ap, ◌∙◌, subst, ℕ, ◌+◌, suc, List, [], ◌∷◌, ◌++◌, length, arith, zero-add, append_assoc, ◌-◌}
+use Rattle.terra_term.specs.Events.{events_of, block_events, scope}
+use Rattle.terra_meaning.specs.Meaning.{in_expression, the_value, in_block, in_statement}
+use Rattle.terra_eval.specs.Trees.{expression_before, block_before}
+use Rattle.tac_form.specs.declared.tac.Operand.{Operand}
+use Rattle.tac_form.specs.declared.tac.Operand.TheVariants.{Temp}
+use Rattle.tac_form.specs.declared.tac.Instruction.TheVariants.{Copy}
+use Rattle.tac_lower.specs.Items.{Item, does, ends, skips, tests, repeats, count_ends, loop_of, repeats_unless}
+use Rattle.tac_lower.specs.Pieces.{Piece, Result, Used, Holders, a_word, with_temp, word_of, taken}
+use Rattle.tac_lower.specs.Lowering.{passed_over, piece, opposite, all, while_loop, repeat_loop}
+use Rattle.tac_lower.specs.Works.{Made}
+use Rattle.tac_lower.specs.Views.{around_of, both_tree, piece_at, piece_of, either_tree, all_of, if_tree, one_at, while_tree, repeat_tree}
+use Rattle.tac_lower.proofs.Building.{Built, built-past, built-item, built-nothing, built-temp, built-term, passed-built, built-plain, built-all, built-left, built-scoped, built-loop, tested-built}
+use Rattle.tac_lower.proofs.Passing.{declared_append, declared_scope}
 use Rattle.tl_base.specs.declared.ids.TermId.{TermId}
 use Rattle.tac_lower.proofs.Listing.{block-all, block-later, list-all, list-result, list-work, target-all, target-result, target-work}
+use Rattle.tac_lower.proofs.Leaving.{block-before, scope-left}
+use Rattle.tac_lower.proofs.Lines.{count-append}
 use Rattle.tac_lower.proofs.term.+lower.Goals as goal
+
+pub lower_both-returns : goal.lower_both-returns
+lower_both-returns t c =
+    let around = c.args.around.now in
+    let w0 = c.args.work.now in
+    let C = around_of around in
+    let ea = expression_before around.store.now c.args.below c.args.a in
+    let eb = expression_before around.store.now c.args.below c.args.b in
+    let n = in_expression ea in
+    let m = in_expression eb in
+    let d = w0.used.temps in
+    let t = c.in_ok-t.t in
+    let same_t : t ≡ d = c.in_ok-t.ensures.temp in
+    let w1 = c.temp.new.self in
+    let p = piece_of around the_value c.args.below c.args.a w1 in
+    let w2 = c.lower_expression.new.work in
+    let w3 = c.put.new.self in
+    let w4 = c.end.new.self in
+    let q = piece_of around the_value c.args.below c.args.b w4 in
+    let w5 = c.lower_expression-2.new.work in
+    let w6 = c.put-2.new.self in
+    let one = does (Copy t c.word.result) in
+    let two = does (Copy t c.word-2.result) in
+    let b1 = built-temp w0 w0 w1 [] w0.used w0.scope 0 (built-nothing w0) (with_temp w0.used) c.in_ok-t.ensures.work in
+    let b2 = built-term w0 w1 w2 [] (with_temp w0.used) w0.scope 0 b1 p n c.in_ok-first.ensures.1 in
+    let b3 = built-item w0 w2 w3 p.code p.used w0.scope (0 + n) b2 one c.in_ok-put.ensures in
+    let b4 = built-item w0 w3 w4 (p.code ++ one ∷ []) p.used w0.scope (0 + n) b3 (ends (tests (Temp t) 0)) c.in_ok-end.ensures in
+    let b5 = built-term w0 w4 w5 (p.code ++ one ∷ [] ++ ends (tests (Temp t) 0) ∷ []) p.used w0.scope (0 + n) b4 q m c.in_ok-second.ensures.1 in
+    let b6 = built-item w0 w5 w6 (p.code ++ one ∷ [] ++ ends (tests (Temp t) 0) ∷ [] ++ q.code) q.used w0.scope (0 + n + m) b5 two c.in_ok-put-2.ensures in
+    let X = p.code ++ one ∷ [] in
+    let A = q.code ++ two ∷ [] in
+    let shape : X ++ ends (tests (Temp t) 0) ∷ [] ++ q.code ++ two ∷ [] ≡ X ++ ends (tests (Temp t) 0) ∷ [] ++ A =
+    append_assoc (X ++ ends (tests (Temp t) 0) ∷ []) q.code (two ∷ []) in
+    let b7 = subst (λ (l : List Item). Built w0 w6 l q.used w0.scope (0 + n + m)) shape b6 in
+    let b8 = passed-built w0 w3 w6 c.end-2.new.self c.close.new.self X A (Temp t) p.used q.used w0.scope w0.scope (0 + n) (0 + n + m)
+        c.mark-mark.result.position c.mark-mark.result.ended b3 c.mark-mark.ensures.position c.mark-mark.ensures.ended b7 c.in_ok-end-2.ensures c.close.ensures in
+    let p0 = piece C the_value ea w0.next w0.scope (with_temp w0.used) in
+    let q0 = piece C the_value eb (w0.next + n) w0.scope p0.used in
+    let first : p ≡ p0 = ap (λ (w : Made). piece C the_value ea w.next w.scope w.used) c.in_ok-t.ensures.work in
+    let second : q ≡ q0 =
+    ap (λ (k : ℕ). piece C the_value eb k w4.scope w4.used) (b4.next ∙ ap (λ (j : ℕ). w0.next + j) (zero-add n))
+    ∙ ap (λ (h : Holders). piece C the_value eb (w0.next + n) h w4.used) b4.scope
+    ∙ ap (λ (u : Used). piece C the_value eb (w0.next + n) w0.scope u) (b4.used ∙ ap (λ (r : Piece Result). r.used) first) in
+    let words : c.word.result ≡ word_of p0.result = c.word.ensures ∙ ap word_of c.in_ok-first.ensures.0 ∙ ap (λ (r : Piece Result). word_of r.result) first in
+    let more : c.word-2.result ≡ word_of q0.result = c.word-2.ensures ∙ ap word_of c.in_ok-second.ensures.0 ∙ ap (λ (r : Piece Result). word_of r.result) second in
+    let code : X ++ passed_over (Temp t) A ≡ (p0.code ++ does (Copy d (word_of p0.result)) ∷ []) ++ passed_over (Temp d) (q0.code ++ does (Copy d (word_of q0.result)) ∷ []) =
+    ap (λ (k : ℕ). p.code ++ does (Copy k c.word.result) ∷ [] ++ passed_over (Temp k) (q.code ++ does (Copy k c.word-2.result) ∷ [])) same_t
+    ∙ ap (λ (o : Operand). p.code ++ does (Copy d o) ∷ [] ++ passed_over (Temp d) (q.code ++ does (Copy d c.word-2.result) ∷ [])) words
+    ∙ ap (λ (o : Operand). p.code ++ does (Copy d (word_of p0.result)) ∷ [] ++ passed_over (Temp d) (q.code ++ does (Copy d o) ∷ [])) more
+    ∙ ap (λ (r : Piece Result). r.code ++ does (Copy d (word_of p0.result)) ∷ [] ++ passed_over (Temp d) (q.code ++ does (Copy d (word_of q0.result)) ∷ [])) first
+    ∙ ap (λ (r : Piece Result). p0.code ++ does (Copy d (word_of p0.result)) ∷ [] ++ passed_over (Temp d) (r.code ++ does (Copy d (word_of q0.result)) ∷ [])) second in
+    let sum : 0 + n + m ≡ in_expression (both_tree around c.args.below c.args.a c.args.b) =
+    omega (arith, declared_append (events_of ea) (events_of eb)) in
+    (ap (λ (k : ℕ). a_word (Temp k)) same_t,
+    built-past w0 c.close.new.self (piece_at around (both_tree around c.args.below c.args.a c.args.b) w0) _ _ _ _ b8 code
+    (ap (λ (r : Piece Result). r.used) second) sum)
+
+pub lower_either-returns : goal.lower_either-returns
+lower_either-returns t c =
+    let around = c.args.around.now in
+    let w0 = c.args.work.now in
+    let C = around_of around in
+    let ea = expression_before around.store.now c.args.below c.args.a in
+    let eb = expression_before around.store.now c.args.below c.args.b in
+    let n = in_expression ea in
+    let m = in_expression eb in
+    let d = w0.used.temps in
+    let t = c.in_ok-t.t in
+    let same_t : t ≡ d = c.in_ok-t.ensures.temp in
+    let w1 = c.temp.new.self in
+    let p = piece_of around the_value c.args.below c.args.a w1 in
+    let w2 = c.lower_expression.new.work in
+    let w3 = c.put.new.self in
+    let wt = c.opposite.new.work in
+    let w4 = c.end.new.self in
+    let q = piece_of around the_value c.args.below c.args.b w4 in
+    let w5 = c.lower_expression-2.new.work in
+    let w6 = c.put-2.new.self in
+    let one = does (Copy t c.word.result) in
+    let two = does (Copy t c.word-2.result) in
+    let b1 = built-temp w0 w0 w1 [] w0.used w0.scope 0 (built-nothing w0) (with_temp w0.used) c.in_ok-t.ensures.work in
+    let b2 = built-term w0 w1 w2 [] (with_temp w0.used) w0.scope 0 b1 p n c.in_ok-first.ensures.1 in
+    let b3 = built-item w0 w2 w3 p.code p.used w0.scope (0 + n) b2 one c.in_ok-put.ensures in
+    let o = opposite (Temp t) w3.used in
+    let a = c.in_ok-test.test in
+    let bt = built-plain w0 w3 wt (p.code ++ one ∷ []) p.used w0.scope (0 + n) b3 o c.in_ok-test.ensures.1 in
+    let b4 = built-item w0 wt w4 (p.code ++ one ∷ [] ++ o.code) o.used w0.scope (0 + n) bt (ends (tests a 0)) c.in_ok-end.ensures in
+    let b5 = built-term w0 w4 w5 (p.code ++ one ∷ [] ++ o.code ++ ends (tests a 0) ∷ []) o.used w0.scope (0 + n) b4 q m c.in_ok-second.ensures.1 in
+    let b6 = built-item w0 w5 w6 (p.code ++ one ∷ [] ++ o.code ++ ends (tests a 0) ∷ [] ++ q.code) q.used w0.scope (0 + n + m) b5 two c.in_ok-put-2.ensures in
+    let X = p.code ++ one ∷ [] ++ o.code in
+    let A = q.code ++ two ∷ [] in
+    let shape : X ++ ends (tests a 0) ∷ [] ++ q.code ++ two ∷ [] ≡ X ++ ends (tests a 0) ∷ [] ++ A =
+    append_assoc (X ++ ends (tests a 0) ∷ []) q.code (two ∷ []) in
+    let b7 = subst (λ (l : List Item). Built w0 w6 l q.used w0.scope (0 + n + m)) shape b6 in
+    let b8 = passed-built w0 wt w6 c.end-2.new.self c.close.new.self X A a o.used q.used w0.scope w0.scope (0 + n) (0 + n + m)
+        c.mark-mark.result.position c.mark-mark.result.ended bt c.mark-mark.ensures.position c.mark-mark.ensures.ended b7 c.in_ok-end-2.ensures c.close.ensures in
+    let p0 = piece C the_value ea w0.next w0.scope (with_temp w0.used) in
+    let q0 = piece C the_value eb (w0.next + n) w0.scope (opposite (Temp d) p0.used).used in
+    let first : p ≡ p0 = ap (λ (w : Made). piece C the_value ea w.next w.scope w.used) c.in_ok-t.ensures.work in
+    let o0 = opposite (Temp d) p0.used in
+    let third : o ≡ o0 =
+    ap (λ (u : Used). opposite (Temp t) u) (b3.used ∙ ap (λ (r : Piece Result). r.used) first) ∙ ap (λ (k : ℕ). opposite (Temp k) p0.used) same_t in
+    let second : q ≡ q0 =
+    ap (λ (k : ℕ). piece C the_value eb k w4.scope w4.used) (b4.next ∙ ap (λ (j : ℕ). w0.next + j) (zero-add n))
+    ∙ ap (λ (h : Holders). piece C the_value eb (w0.next + n) h w4.used) b4.scope
+    ∙ ap (λ (u : Used). piece C the_value eb (w0.next + n) w0.scope u) (b4.used ∙ ap (λ (r : Piece Operand). r.used) third) in
+    let words : c.word.result ≡ word_of p0.result = c.word.ensures ∙ ap word_of c.in_ok-first.ensures.0 ∙ ap (λ (r : Piece Result). word_of r.result) first in
+    let more : c.word-2.result ≡ word_of q0.result = c.word-2.ensures ∙ ap word_of c.in_ok-second.ensures.0 ∙ ap (λ (r : Piece Result). word_of r.result) second in
+    let turned : a ≡ o0.result = c.in_ok-test.ensures.0 ∙ ap (λ (r : Piece Operand). r.result) third in
+    let put0 = p0.code ++ does (Copy d (word_of p0.result)) ∷ [] in
+    let put1 = q0.code ++ does (Copy d (word_of q0.result)) ∷ [] in
+    let front : p.code ++ one ∷ [] ≡ put0 =
+    ap (λ (k : ℕ). p.code ++ does (Copy k c.word.result) ∷ []) same_t ∙ ap (λ (x : Operand). p.code ++ does (Copy d x) ∷ []) words
+    ∙ ap (λ (r : Piece Result). r.code ++ does (Copy d (word_of p0.result)) ∷ []) first in
+    let last : A ≡ put1 =
+    ap (λ (k : ℕ). q.code ++ does (Copy k c.word-2.result) ∷ []) same_t ∙ ap (λ (x : Operand). q.code ++ does (Copy d x) ∷ []) more
+    ∙ ap (λ (r : Piece Result). r.code ++ does (Copy d (word_of q0.result)) ∷ []) second in
+    let code : X ++ passed_over a A ≡ put0 ++ (o0.code ++ passed_over o0.result put1) =
+    ap (λ (l : List Item). l ++ o.code ++ passed_over a A) front ∙ ap (λ (r : Piece Operand). put0 ++ r.code ++ passed_over a A) third
+    ∙ ap (λ (x : Operand). put0 ++ o0.code ++ passed_over x A) turned ∙ ap (λ (l : List Item). put0 ++ o0.code ++ passed_over o0.result l) last
+    ∙ append_assoc put0 o0.code (passed_over o0.result put1) in
+    let sum : 0 + n + m ≡ in_expression (either_tree around c.args.below c.args.a c.args.b) =
+    omega (arith, declared_append (events_of ea) (events_of eb)) in
+    (ap (λ (k : ℕ). a_word (Temp k)) same_t,
+    built-past w0 c.close.new.self (piece_at around (either_tree around c.args.below c.args.a c.args.b) w0) _ _ _ _ b8 code
+    (ap (λ (r : Piece Result). r.used) second) sum)
 
 pub lower_list-loop-node-preserved : goal.lower_list-loop-node-preserved
 lower_list-loop-node-preserved t c =
@@ -46,3 +187,156 @@ lower_block-loop-node-preserved t c =
 pub lower_block-returns : goal.lower_block-returns
 lower_block-returns t c =
     block-all c.args.around.now c.args.below c.args.nodes.now c.loop-node.node-index c.loop-node.work _ c.loop-node.invariant (omega arith)
+
+pub lower_scope-returns : goal.lower_scope-returns
+lower_scope-returns t c =
+    let around = c.args.around.now in
+    let w0 = c.args.work.now in
+    let block = block_before around.store.now c.args.below c.args.nodes.now in
+    let p = all_of around c.args.below c.args.nodes.now w0 in
+    let w1 = c.lower_block.new.work in
+    let b1 = built-scoped w0 w0 w1 [] w0.used w0.scope 0 (built-nothing w0) p (in_block block) c.in_ok-lower_block.ensures in
+    let b2 = built-left w0 w1 c.leave.new.self p.code p.used p.result (0 + in_block block) b1 c.depth-depth.result w0.scope
+        (scope-left w0.scope p.result c.depth-depth.result (block-before (around_of around) block w0.next w0.scope w0.used) c.depth-depth.ensures)
+        c.in_ok-leave.ensures in
+    let whole : Piece Holders = taken (λ (h : Holders). w0.scope) p in
+    built-all w0 c.leave.new.self whole (in_block block) p.code p.used w0.scope (0 + in_block block) b2 refl refl refl (zero-add (in_block block))
+
+pub lower_if-returns : goal.lower_if-returns
+lower_if-returns t c =
+    let around = c.args.around.now in
+    let w0 = c.args.work.now in
+    let tested = expression_before around.store.now c.args.below c.args.test in
+    let block = block_before around.store.now c.args.below c.args.block.now in
+    let p = piece_of around the_value c.args.below c.args.test w0 in
+    let n = in_expression tested in
+    let m = in_block block in
+    let w1 = c.lower_expression.new.work in
+    let w2 = c.end.new.self in
+    let a = all_of around c.args.below c.args.block.now w2 in
+    let w3 = c.lower_scope.new.work in
+    let b1 = built-term w0 w0 w1 [] w0.used w0.scope 0 (built-nothing w0) p n c.in_ok-v.ensures.1 in
+    let b2 = built-item w0 w1 w2 p.code p.used w0.scope (0 + n) b1 (ends (tests c.word.result 0)) c.in_ok-end.ensures in
+    let inner : Piece Holders = taken (λ (h : Holders). w2.scope) a in
+    let b3 = built-scoped w0 w2 w3 (p.code ++ ends (tests c.word.result 0) ∷ []) p.used w0.scope (0 + n) b2 inner m c.in_ok-lower_scope.ensures in
+    let b5 = passed-built w0 w1 w3 c.end-2.new.self c.close.new.self p.code a.code c.word.result p.used a.used w0.scope w2.scope (0 + n) (0 + n + m)
+        c.mark-mark.result.position c.mark-mark.result.ended b1 c.mark-mark.ensures.position c.mark-mark.ensures.ended b3 c.in_ok-end-2.ensures c.close.ensures in
+    let C = around_of around in
+    let same : a ≡ all C block (w0.next + n) w0.scope p.used =
+    ap (λ (k : ℕ). all C block k w2.scope w2.used) (b2.next ∙ ap (λ (j : ℕ). w0.next + j) (zero-add n))
+    ∙ ap (λ (h : Holders). all C block (w0.next + n) h w2.used) b2.scope ∙ ap (λ (u : Used). all C block (w0.next + n) w0.scope u) b2.used in
+    let word : c.word.result ≡ word_of p.result = c.word.ensures ∙ ap word_of c.in_ok-v.ensures.0 in
+    let sum : 0 + n + m ≡ in_statement (if_tree around c.args.below c.args.test c.args.block.now) =
+    omega (arith, declared_append (events_of tested) (scope (block_events block)), declared_scope (block_events block)) in
+    built-all w0 c.close.new.self (one_at around (if_tree around c.args.below c.args.test c.args.block.now) w0) _ _ _ _ _ b5
+    (ap (λ (o : Operand). p.code ++ passed_over o a.code) word ∙ ap (λ (q : Piece Holders). p.code ++ passed_over (word_of p.result) q.code) same)
+    (ap (λ (q : Piece Holders). q.used) same) b2.scope sum
+
+pub lower_while-returns : goal.lower_while-returns
+lower_while-returns t c =
+    let around = c.args.around.now in
+    let w0 = c.args.work.now in
+    let C = around_of around in
+    let tested = expression_before around.store.now c.args.below c.args.test in
+    let block = block_before around.store.now c.args.below c.args.body.now in
+    let n = in_expression tested in
+    let m = in_block block in
+    let s0 = ends (skips 0) in
+    let w1 = c.end.new.self in
+    let p = piece_of around the_value c.args.below c.args.test w1 in
+    let w2 = c.lower_expression.new.work in
+    let w3 = c.end-2.new.self in
+    let a = all_of around c.args.below c.args.body.now w3 in
+    let w4 = c.lower_scope.new.work in
+    let w5 = c.go_back.new.self in
+    let w6 = c.close.new.self in
+    let w7 = c.close_loop.new.self in
+    let t = c.word.result in
+    let b1 = built-item w0 w0 w1 [] w0.used w0.scope 0 (built-nothing w0) s0 c.in_ok-end.ensures in
+    let b2 = built-term w0 w1 w2 (s0 ∷ []) w0.used w0.scope 0 b1 p n c.in_ok-v.ensures.1 in
+    let b3 = built-item w0 w2 w3 (s0 ∷ p.code) p.used w0.scope (0 + n) b2 (ends (tests t 0)) c.in_ok-end-2.ensures in
+    let inner : Piece Holders = taken (λ (h : Holders). w3.scope) a in
+    let b4 = built-scoped w0 w3 w4 ((s0 ∷ p.code) ++ ends (tests t 0) ∷ []) p.used w0.scope (0 + n) b3 inner m c.in_ok-lower_scope.ensures in
+    let back = count_ends w4.code - c.mark-start.result.ended in
+    let Z = ends (tests t (suc (count_ends a.code))) ∷ (a.code ++ ends (repeats back) ∷ []) in
+    let b6 = tested-built w0 w2 w4 w5 w6 (s0 ∷ p.code) a.code t p.used a.used w0.scope w3.scope (0 + n) (0 + n + m)
+        c.mark-tested.result.position c.mark-tested.result.ended b2 c.mark-tested.ensures.position c.mark-tested.ensures.ended
+        (repeats back) b4 c.in_ok-go_back.ensures c.close.ensures in
+    let b7 = built-loop w0 w6 w7 (s0 ∷ []) (p.code ++ Z) a.used w3.scope (0 + n + m) c.mark-start.result.position b6
+        (c.mark-start.ensures.position ∙ ap (λ (l : List Item). length l) b1.code) c.close_loop.ensures in
+    let p0 = piece C the_value tested w0.next w0.scope w0.used in
+    let a0 = all C block (w0.next + n) w0.scope p0.used in
+    let first : p ≡ p0 = ap (λ (w : Made). piece C the_value tested w.next w.scope w.used) c.in_ok-end.ensures in
+    let second : a ≡ a0 =
+    ap (λ (k : ℕ). all C block k w3.scope w3.used) (b3.next ∙ ap (λ (j : ℕ). w0.next + j) (zero-add n))
+    ∙ ap (λ (h : Holders). all C block (w0.next + n) h w3.used) b3.scope
+    ∙ ap (λ (u : Used). all C block (w0.next + n) w0.scope u) (b3.used ∙ ap (λ (r : Piece Result). r.used) first) in
+    let word : t ≡ word_of p0.result = c.word.ensures ∙ ap word_of c.in_ok-v.ensures.0 ∙ ap (λ (r : Piece Result). word_of r.result) first in
+    let begin : c.mark-start.result.ended ≡ count_ends w0.code + 1 =
+    c.mark-start.ensures.ended ∙ ap count_ends b1.code ∙ count-append w0.code (s0 ∷ []) in
+    let test = ends (tests t 0) in
+    let all_ends : count_ends w4.code ≡ count_ends w0.code + count_ends ((s0 ∷ p.code) ++ test ∷ [] ++ a.code) =
+    ap count_ends b4.code ∙ count-append w0.code ((s0 ∷ p.code) ++ test ∷ [] ++ a.code) in
+    let rounds : back ≡ count_ends p.code + suc (count_ends a.code) =
+    omega (arith, begin, all_ends, count-append ((s0 ∷ p.code) ++ test ∷ []) a.code, count-append (s0 ∷ p.code) (test ∷ [])) in
+    let code : s0 ∷ loop_of (p.code ++ Z) ≡ while_loop p0.code (word_of p0.result) a0.code =
+    ap (λ (k : ℕ). s0 ∷ loop_of (p.code ++ ends (tests t (suc (count_ends a.code))) ∷ (a.code ++ ends (repeats k) ∷ []))) rounds
+    ∙ ap (λ (o : Operand). while_loop p.code o a.code) word ∙ ap (λ (r : Piece Result). while_loop r.code (word_of p0.result) a.code) first
+    ∙ ap (λ (r : Piece Holders). while_loop p0.code (word_of p0.result) r.code) second in
+    let sum : 0 + n + m ≡ in_statement (while_tree around c.args.below c.args.test c.args.body.now) =
+    omega (arith, declared_append (events_of tested) (scope (block_events block)), declared_scope (block_events block)) in
+    built-all w0 w7 (one_at around (while_tree around c.args.below c.args.test c.args.body.now) w0) _ _ _ _ _ b7 code
+    (ap (λ (r : Piece Holders). r.used) second) b3.scope sum
+
+pub lower_repeat-returns : goal.lower_repeat-returns
+lower_repeat-returns t c =
+    let around = c.args.around.now in
+    let w0 = c.args.work.now in
+    let C = around_of around in
+    let tested = expression_before around.store.now c.args.below c.args.test in
+    let block = block_before around.store.now c.args.below c.args.body.now in
+    let n = in_expression tested in
+    let m = in_block block in
+    let s0 = ends (skips 0) in
+    let w1 = c.end.new.self in
+    let a = all_of around c.args.below c.args.body.now w1 in
+    let w2 = c.lower_block.new.work in
+    let p = piece_of around the_value c.args.below c.args.test w2 in
+    let w3 = c.lower_expression.new.work in
+    let w4 = c.leave.new.self in
+    let w5 = c.go_back_unless.new.self in
+    let w6 = c.close_loop.new.self in
+    let t = c.word.result in
+    let b1 = built-item w0 w0 w1 [] w0.used w0.scope 0 (built-nothing w0) s0 c.in_ok-end.ensures in
+    let b2 = built-scoped w0 w1 w2 (s0 ∷ []) w0.used w0.scope 0 b1 a m c.in_ok-lower_block.ensures in
+    let b3 = built-term w0 w2 w3 (s0 ∷ a.code) a.used a.result (0 + m) b2 p n c.in_ok-v.ensures.1 in
+    let depth : c.depth-depth.result ≡ length w1.scope = c.depth-depth.ensures in
+    let b4 = built-left w0 w3 w4 ((s0 ∷ a.code) ++ p.code) p.used a.result (0 + m + n) b3 c.depth-depth.result w1.scope
+        (scope-left w1.scope a.result c.depth-depth.result (block-before C block w1.next w1.scope w1.used) depth) c.in_ok-leave.ensures in
+    let back = count_ends w4.code - c.mark-start.result.ended in
+    let last = ends (repeats_unless t back) in
+    let b5 = built-item w0 w4 w5 ((s0 ∷ a.code) ++ p.code) p.used w1.scope (0 + m + n) b4 last c.in_ok-go_back_unless.ensures in
+    let inside = a.code ++ p.code in
+    let b6 = built-loop w0 w5 w6 (s0 ∷ []) (inside ++ last ∷ []) p.used w1.scope (0 + m + n) c.mark-start.result.position b5
+        (c.mark-start.ensures.position ∙ ap (λ (l : List Item). length l) b1.code) c.close_loop.ensures in
+    let a0 = all C block w0.next w0.scope w0.used in
+    let p0 = piece C the_value tested (w0.next + m) a0.result a0.used in
+    let first : a ≡ a0 = ap (λ (w : Made). all C block w.next w.scope w.used) c.in_ok-end.ensures in
+    let second : p ≡ p0 =
+    ap (λ (k : ℕ). piece C the_value tested k w2.scope w2.used) (b2.next ∙ ap (λ (j : ℕ). w0.next + j) (zero-add m))
+    ∙ ap (λ (h : Holders). piece C the_value tested (w0.next + m) h w2.used) (b2.scope ∙ ap (λ (r : Piece Holders). r.result) first)
+    ∙ ap (λ (u : Used). piece C the_value tested (w0.next + m) a0.result u) (b2.used ∙ ap (λ (r : Piece Holders). r.used) first) in
+    let word : t ≡ word_of p0.result = c.word.ensures ∙ ap word_of c.in_ok-v.ensures.0 ∙ ap (λ (r : Piece Result). word_of r.result) second in
+    let begin : c.mark-start.result.ended ≡ count_ends w0.code + 1 =
+    c.mark-start.ensures.ended ∙ ap count_ends b1.code ∙ count-append w0.code (s0 ∷ []) in
+    let all_ends : count_ends w4.code ≡ count_ends w0.code + count_ends (s0 ∷ inside) =
+    ap count_ends b4.code ∙ count-append w0.code (s0 ∷ inside) in
+    let rounds : back ≡ count_ends inside = omega (arith, begin, all_ends) in
+    let code : s0 ∷ loop_of (inside ++ last ∷ []) ≡ repeat_loop (a0.code ++ p0.code) (word_of p0.result) =
+    ap (λ (k : ℕ). s0 ∷ loop_of (inside ++ ends (repeats_unless t k) ∷ [])) rounds
+    ∙ ap (λ (o : Operand). repeat_loop inside o) word ∙ ap (λ (r : Piece Holders). repeat_loop (r.code ++ p.code) (word_of p0.result)) first
+    ∙ ap (λ (r : Piece Result). repeat_loop (a0.code ++ r.code) (word_of p0.result)) second in
+    let sum : 0 + m + n ≡ in_statement (repeat_tree around c.args.below c.args.body.now c.args.test) =
+    omega (arith, declared_append (block_events block) (events_of tested), declared_scope (block_events block ++ events_of tested)) in
+    built-all w0 w6 (one_at around (repeat_tree around c.args.below c.args.body.now c.args.test) w0) _ _ _ _ _ b6 code
+    (ap (λ (r : Piece Result). r.used) second) b1.scope sum

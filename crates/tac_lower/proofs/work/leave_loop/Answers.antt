@@ -28,8 +28,8 @@ loop-i-preserved-in-Some c =
       ended = ap (λ (n : ℕ). n + 1) so_far.ended ∙ sym (turned-count cur orig i j next within so_far.so_far e there);
     }
 
-pub loop-i-preserved-in-None : goal.loop-i-preserved-in-None
-loop-i-preserved-in-None c =
+pub loop-i-preserved : goal.loop-i-preserved
+loop-i-preserved c =
     let so_far = c.loop-i.invariant in
     let cur = map item_of c.loop-i.code in
     let orig = map item_of c.args.code.now in

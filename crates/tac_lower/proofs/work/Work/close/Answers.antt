@@ -32,5 +32,7 @@ returns c = λ front code e whole place count.
     let made : map item_of c.close_at.new.code ≡ front ++ ends (reaching e (count_ends code)) ∷ code =
     c.close_at.ensures ∙ ap (λ (l : List Item). reached (map item_of l) p k) c.deref_mut.ensures.value
     ∙ reached-there lines front code e p k parts place blocks in
-    ap (λ (l : List items.Item). record (the_view s) { code = l }) made
+    let new = c.close_at.new.code in
+    let back : take s.code.len (new ++ drop (length new) s.code.items) ≡ new = grind (arith, common_steps) in
+    ap (λ (l : List items.Item). record (the_view s) { code = l }) (ap (λ (l : List Item). map item_of l) back ∙ made)
     ∙ ap (λ (w : Made). record w { code = front ++ ends (reaching e (count_ends code)) ∷ code }) (sym seen)
