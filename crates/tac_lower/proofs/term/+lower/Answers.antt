@@ -1,16 +1,16 @@
-use Rattle.std.proofs.Common.{◌≡◌, refl, sym, ap, ◌∙◌, subst, ℕ, ◌+◌, suc, List, [], ◌∷◌, ◌++◌, length, arith, zero-add, append_assoc, ◌-◌}
+use Rattle.std.proofs.Common.{◌≡◌, refl, sym, ap, ◌∙◌, subst, ℕ, ◌+◌, suc, List, [], ◌∷◌, ◌++◌, length, arith, zero-add, append_assoc, length-append, ◌-◌}
 use Rattle.terra_term.specs.Events.{events_of, block_events, scope}
 use Rattle.terra_meaning.specs.Meaning.{in_expression, the_value, in_block, in_statement}
 use Rattle.terra_eval.specs.Trees.{expression_before, block_before}
 use Rattle.tac_form.specs.declared.tac.Operand.{Operand}
 use Rattle.tac_form.specs.declared.tac.Operand.TheVariants.{Temp}
 use Rattle.tac_form.specs.declared.tac.Instruction.TheVariants.{Copy}
-use Rattle.tac_lower.specs.Items.{Item, does, ends, skips, tests, repeats, count_ends, loop_of, repeats_unless}
+use Rattle.tac_lower.specs.Items.{Item, does, ends, skips, tests, count_ends, repeats, loop_of, repeats_unless}
 use Rattle.tac_lower.specs.Pieces.{Piece, Result, Used, Holders, a_word, with_temp, word_of, taken}
-use Rattle.tac_lower.specs.Lowering.{passed_over, piece, opposite, all, while_loop, repeat_loop}
+use Rattle.tac_lower.specs.Lowering.{passed_over, piece, opposite, all, choice, while_loop, repeat_loop}
 use Rattle.tac_lower.specs.Works.{Made}
-use Rattle.tac_lower.specs.Views.{around_of, both_tree, piece_at, piece_of, either_tree, all_of, if_tree, one_at, while_tree, repeat_tree}
-use Rattle.tac_lower.proofs.Building.{Built, built-past, built-item, built-nothing, built-temp, built-term, passed-built, built-plain, built-all, built-left, built-scoped, built-loop, tested-built}
+use Rattle.tac_lower.specs.Views.{around_of, both_tree, piece_at, piece_of, either_tree, all_of, if_tree, one_at, choice_tree, while_tree, repeat_tree}
+use Rattle.tac_lower.proofs.Building.{Built, built-past, built-item, built-nothing, built-temp, built-term, passed-built, built-plain, built-all, built-left, built-scoped, built-closed, tested-built, built-loop}
 use Rattle.tac_lower.proofs.Passing.{declared_append, declared_scope}
 use Rattle.tl_base.specs.declared.ids.TermId.{TermId}
 use Rattle.tac_lower.proofs.Listing.{block-all, block-later, list-all, list-result, list-work, target-all, target-result, target-work}
@@ -231,6 +231,82 @@ lower_if-returns t c =
     built-all w0 c.close.new.self (one_at around (if_tree around c.args.below c.args.test c.args.block.now) w0) _ _ _ _ _ b5
     (ap (λ (o : Operand). p.code ++ passed_over o a.code) word ∙ ap (λ (q : Piece Holders). p.code ++ passed_over (word_of p.result) q.code) same)
     (ap (λ (q : Piece Holders). q.used) same) b2.scope sum
+
+pub lower_choice-returns : goal.lower_choice-returns
+lower_choice-returns t c =
+    let around = c.args.around.now in
+    let w0 = c.args.work.now in
+    let C = around_of around in
+    let tested = expression_before around.store.now c.args.below c.args.test in
+    let block = block_before around.store.now c.args.below c.args.block.now in
+    let others = block_before around.store.now c.args.below c.args.other.now in
+    let n = in_expression tested in
+    let m = in_block block in
+    let k = in_block others in
+    let s0 = ends (skips 0) in
+    let p = piece_of around the_value c.args.below c.args.test w0 in
+    let w1 = c.lower_expression.new.work in
+    let w2 = c.end.new.self in
+    let a = all_of around c.args.below c.args.block.now w2 in
+    let w3 = c.lower_scope.new.work in
+    let w4 = c.end-2.new.self in
+    let w5 = c.close.new.self in
+    let b = all_of around c.args.below c.args.other.now w5 in
+    let w6 = c.lower_scope-2.new.work in
+    let w7 = c.end-3.new.self in
+    let w8 = c.close-2.new.self in
+    let t = c.word.result in
+    let b1 = built-term w0 w0 w1 [] w0.used w0.scope 0 (built-nothing w0) p n c.in_ok-v.ensures.1 in
+    let b2 = built-item w0 w1 w2 p.code p.used w0.scope (0 + n) b1 (ends (tests t 0)) c.in_ok-end.ensures in
+    let inner : Piece Holders = taken (λ (h : Holders). w2.scope) a in
+    let b3 = built-scoped w0 w2 w3 (p.code ++ ends (tests t 0) ∷ []) p.used w0.scope (0 + n) b2 inner m c.in_ok-lower_scope.ensures in
+    let T = ends (tests t (suc (count_ends a.code))) in
+    let b5 = tested-built w0 w1 w3 w4 w5 p.code a.code t p.used a.used w0.scope w2.scope (0 + n) (0 + n + m)
+        c.mark-tested.result.position c.mark-tested.result.ended b1 c.mark-tested.ensures.position c.mark-tested.ensures.ended
+        (skips 0) b3 c.in_ok-end-2.ensures c.close.ensures in
+    let inner2 : Piece Holders = taken (λ (h : Holders). w5.scope) b in
+    let b6 = built-scoped w0 w5 w6 (p.code ++ T ∷ (a.code ++ s0 ∷ [])) a.used w2.scope (0 + n + m) b5 inner2 k c.in_ok-lower_scope-2.ensures in
+    let b7 = built-item w0 w6 w7 (p.code ++ T ∷ (a.code ++ s0 ∷ []) ++ b.code) b.used w5.scope (0 + n + m + k) b6 s0 c.in_ok-end-3.ensures in
+    let X = p.code ++ T ∷ a.code in
+    let Y = b.code ++ s0 ∷ [] in
+    let shape : p.code ++ T ∷ (a.code ++ s0 ∷ []) ++ b.code ++ s0 ∷ [] ≡ X ++ s0 ∷ Y =
+    append_assoc (p.code ++ T ∷ (a.code ++ s0 ∷ [])) b.code (s0 ∷ [])
+    ∙ ap (λ (l : List Item). l ++ Y) (sym (append_assoc p.code (T ∷ a.code) (s0 ∷ [])))
+    ∙ append_assoc X (s0 ∷ []) Y in
+    let test = ends (tests t 0) in
+    let len3 : length w3.code ≡ length (w0.code ++ X) =
+    ap (λ (l : List Item). length l) b3.code
+    ∙ omega (arith, length-append w0.code (p.code ++ test ∷ [] ++ a.code), length-append (p.code ++ test ∷ []) a.code, length-append p.code (test ∷ []),
+    length-append w0.code X, length-append p.code (T ∷ a.code)) in
+    let ends3 : count_ends w3.code ≡ count_ends (w0.code ++ X) =
+    ap count_ends b3.code
+    ∙ omega (arith, count-append w0.code (p.code ++ test ∷ [] ++ a.code), count-append (p.code ++ test ∷ []) a.code, count-append p.code (test ∷ []),
+    count-append w0.code X, count-append p.code (T ∷ a.code)) in
+    let b8 = built-closed w0 w7 w8 X Y (skips 0) b.used w5.scope (0 + n + m + k) c.mark-done.result.position c.mark-done.result.ended
+        (subst (λ (l : List Item). Built w0 w7 l b.used w5.scope (0 + n + m + k)) shape b7)
+        (c.mark-done.ensures.position ∙ len3) (c.mark-done.ensures.ended ∙ ends3) c.close-2.ensures in
+    let a0 = all C block (w0.next + n) w0.scope p.used in
+    let b0 = all C others (w0.next + n + m) w0.scope a0.used in
+    let second : a ≡ a0 =
+    ap (λ (j : ℕ). all C block j w2.scope w2.used) (b2.next ∙ ap (λ (j : ℕ). w0.next + j) (zero-add n))
+    ∙ ap (λ (h : Holders). all C block (w0.next + n) h w2.used) b2.scope ∙ ap (λ (u : Used). all C block (w0.next + n) w0.scope u) b2.used in
+    let at : w5.next ≡ w0.next + n + m = b5.next ∙ omega arith in
+    let third : b ≡ b0 =
+    ap (λ (j : ℕ). all C others j w5.scope w5.used) at
+    ∙ ap (λ (h : Holders). all C others (w0.next + n + m) h w5.used) (b5.scope ∙ b2.scope)
+    ∙ ap (λ (u : Used). all C others (w0.next + n + m) w0.scope u) (b5.used ∙ ap (λ (r : Piece Holders). r.used) second) in
+    let word : t ≡ word_of p.result = c.word.ensures ∙ ap word_of c.in_ok-v.ensures.0 in
+    let one : count_ends Y ≡ suc (count_ends b.code) = omega (arith, count-append b.code (s0 ∷ [])) in
+    let code : X ++ ends (skips (count_ends Y)) ∷ Y ≡ p.code ++ choice (word_of p.result) a0.code b0.code =
+    append_assoc p.code (T ∷ a.code) (ends (skips (count_ends Y)) ∷ Y)
+    ∙ ap (λ (j : ℕ). p.code ++ T ∷ (a.code ++ ends (skips j) ∷ Y)) one
+    ∙ ap (λ (o : Operand). p.code ++ choice o a.code b.code) word ∙ ap (λ (r : Piece Holders). p.code ++ choice (word_of p.result) r.code b.code) second
+    ∙ ap (λ (r : Piece Holders). p.code ++ choice (word_of p.result) a0.code r.code) third in
+    let sum : 0 + n + m + k ≡ in_statement (choice_tree around c.args.below c.args.test c.args.block.now c.args.other.now) =
+    omega (arith, declared_append (events_of tested ++ scope (block_events block)) (scope (block_events others)),
+    declared_append (events_of tested) (scope (block_events block)), declared_scope (block_events block), declared_scope (block_events others)) in
+    built-all w0 w8 (one_at around (choice_tree around c.args.below c.args.test c.args.block.now c.args.other.now) w0) _ _ _ _ _ b8 code
+    (ap (λ (r : Piece Holders). r.used) third) (b5.scope ∙ b2.scope) sum
 
 pub lower_while-returns : goal.lower_while-returns
 lower_while-returns t c =
