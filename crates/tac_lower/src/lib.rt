@@ -4,7 +4,7 @@
 //! stand, go on from one another as the parts of the meaning do. That the code of a store's functions has the runs that their terms
 //! mean is the law of [`lowering_keeps_runs`], and that each way round its flow graph counts that of [`lowered_code_is_counted`];
 //! `specs/Needs.antt` says what both need of the terms. It isn't proved yet that what typing leaves has that, nor that the code fits
-//! and keeps its sizes (`LoweredIsGood` in `specs/Laws.antt`), as [`lower`] makes it.
+//! and keeps its sizes (`LoweredIsGood` in `specs/Laws.antt`). [`lower`] makes the code.
 //! `proofs/Examples.antt` and `proofs/Mixed.antt` have the runs of small functions' code, computed by the checker.
 #![tactic(auto)]
 
