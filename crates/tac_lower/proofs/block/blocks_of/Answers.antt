@@ -10,4 +10,4 @@ loop-item-preserved-in-Continue-1 c =
 pub loop-item-preserved : goal.loop-item-preserved
 loop-item-preserved c =
     draft-ends c.loop-item.blocks.items c.push-in-Ends.new.self.items c.loop-item.code.items c.replace-ended.new.dest.items c.loop-item.yielded
-    c.in-Some.item c.loop-item.invariant c.in-Ends.ending _ c.in-Ends.is c.in_ok-push-in-Ends.ensures.items cc cc cc
+    c.in-Some.item c.loop-item.invariant c.in-Ends.ending _ c.in-Ends.is c.in_ok-push-in-Ends.ensures.items (cc) (cc) (cc)
