@@ -5,3 +5,4 @@ pub mod Rounds
 pub mod Taking
 pub mod Places
 pub mod Whole
+pub mod Fewest

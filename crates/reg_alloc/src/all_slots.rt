@@ -1,6 +1,7 @@
 // An assignment for code: for now each temporary has a slot of its own.
 
-ghost use Rattle.std.specs.Prelude.{◌≡◌, ◌<◌, true, IfOk};
+ghost use Rattle.std.specs.Prelude.{◌≡◌, ◌≤◌, true, length, IfOk, IsTrue};
+ghost use Rattle.tac_form.specs.Fits.{is_within};
 ghost use Rattle.reg_alloc.specs.Homes.{are_below, own_slots};
 ghost use Rattle.reg_alloc.specs.Right.{IsRight};
 
@@ -16,7 +17,8 @@ const TOO_MANY: usize = 1 << 40;
 
 /// A number above those of all temporaries: that of the code itself, or else the next power of two that serves.
 fn room_for(graph: &[FlowBlock], temps: u64) -> Result<usize, NoMemory>
-    ensures { IfOk result (λ count. are_below count graph.now ≡ true) }
+    ensures serves { IfOk result (λ count. are_below count graph.now ≡ true) }
+    ensures few { are_below temps graph.now ≡ true → IfOk result (λ count. count ≤ temps) }
 {
     let mut count = temps as usize;
     'grow: while !is_graph_below(graph, count) {
@@ -41,7 +43,9 @@ fn slots(alloc: Global, count: usize) -> Result<Vec<Option<Home>>, NoMemory>
 
 /// A right assignment for code. Each temporary has a slot of its own, so it takes no more than a walk over the code.
 pub fn assign(alloc: Global, tac: &Tac) -> Result<Assignment, NoMemory>
-    ensures { IfOk result (λ assignment. IsRight tac.now assignment) }
+    ensures right { IfOk result (λ assignment. IsRight tac.now assignment) }
+    // No more homes than temporaries, where the code names none but its own.
+    ensures few { IsTrue (is_within tac.now) → IfOk result (λ assignment. length assignment ≤ tac.now.temps) }
 {
     let graph = flow_graph(alloc, tac)?;
     let count = room_for(&graph, tac.temps)?;

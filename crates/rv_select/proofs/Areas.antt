@@ -111,7 +111,7 @@ area-home y base n bs m z (homes.Slot k) i s = ap number_of (s.outside (base + s
 put-here : {A : Type 0} (all : ℕ → A) (n : ℕ) (x : A) → put all n x n ≡ x
 put-here all n x = ap (λ b. if b then x else all n) (eq-eqb n n refl)
 
-put-other : {A : Type 0} (all : ℕ → A) (n k : ℕ) (x : A) → k ≢ n → put all n x k ≡ all k
+pub put-other : {A : Type 0} (all : ℕ → A) (n k : ℕ) (x : A) → k ≢ n → put all n x k ≡ all k
 put-other all n k x o = ap (λ b. if b then x else all k) (ne_eqb k n o)
 
 pub area-holds : (y : Layout) (Used Next : ℕ → Type 0) (w : World) (base n : ℕ) (bs : List ℕ) (m z : State) → Holds y Used w base m → Housed y Used → AreFewer Used Next →

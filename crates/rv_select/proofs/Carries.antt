@@ -1,5 +1,5 @@
 -- Each instruction at its place in a function's code.
-use Rattle.std.proofs.Common.{◌≡◌, ◌≢◌, ℕ, zero, suc, ◌+◌, ◌-◌, ◌%◌, ◌^◌, ◌<◌, ◌≤◌, Bool, true, false, ◌&&◌, ◌||◌, List, [], ◌∷◌, ◌++◌, length, Option, Some, None, refl, sym, ap, ◌∙◌, subst, ⊎_elim, inl, inr, arith}
+use Rattle.std.proofs.Common.{◌≡◌, ◌≢◌, ℕ, zero, suc, ◌+◌, ◌-◌, ◌%◌, ◌^◌, ◌<◌, ◌≤◌, Bool, true, false, not, ◌&&◌, ◌||◌, List, [], ◌∷◌, ◌++◌, length, Option, Some, None, refl, sym, ap, ◌∙◌, subst, ⊎_elim, inl, inr, arith}
 use Rattle.std.specs.Prelude.{if◌then◌else◌, nat_eq, nat_le, nat_lt, slice_get, unwrap_or, ◌⊎◌}
 use Rattle.std.specs.List.{list_all}
 use Rattle.std.proofs.lemmas.Bool.{cases_Bool, cases_eq, cases_lt, eq-eqb, eqb-true, leb-true, ltb-true}
@@ -19,6 +19,7 @@ use Rattle.tac_form.specs.declared.tac.Size.{Size}
 use Rattle.tac_form.specs.declared.tac.Operand.{Operand}
 use Rattle.tac_form.specs.declared.tac.Address.{Address}
 use Rattle.tac_form.specs.declared.tac.Address.TheVariants.{Word, Frame}
+use Rattle.tac_form.specs.declared.tac.Spot.{Spot}
 use Rattle.tac_form.specs.declared.tac.Spot.TheVariants as spots
 use Rattle.tac_form.specs.declared.tac.Operand.TheVariants.{Temp, Constant}
 use Rattle.tac_form.specs.declared.tac.Instruction.{Instruction}
@@ -28,10 +29,11 @@ use Rattle.tac_form.specs.Flow as tac
 use Rattle.tac_form.specs.Flow.{Program, area_size, bytes_of, step, width_of}
 use Rattle.tac_form.specs.Graph.{block_of, graph_of, instruction_reads, instruction_write, address_reads, operand_reads, step_of}
 use Rattle.tac_form.specs.Live.{InUse, has, is_written}
-use Rattle.tac_form.specs.Fits.{area_fits, area_there, operand_fits, place_fits, spot_fits}
+use Rattle.tac_form.specs.Fits.{are_apart, area_fits, area_there, instruction_fits, operand_fits, place_fits, spot_fits}
 use Rattle.tac_form.specs.Weights.{most_moved, words_of}
 use Rattle.rv_select.specs.Places.{IsRead, layout_of, value_in}
-use Rattle.rv_select.specs.Shapes.{loaded, range_written, shape_of, stored}
+use Rattle.rv_operators.specs.Runs.{Stands}
+use Rattle.rv_select.specs.Shapes.{bytes_moved, loaded, range_written, shape_of, some_moved, stored}
 use Rattle.rv_select.specs.Steps.{AreFewer, Carried, Comes, Ends, Follows, IsPlace, InstructionsAreCarried, StandsBefore, behind, with_temp, world_of}
 use Rattle.rv_select.proofs.Claims.{IsReached, address_in, with_region}
 use Rattle.rv_select.proofs.Lives.{housed, read-live, step-in-graph, use-follows, write-used}
@@ -41,6 +43,7 @@ use Rattle.rv_select.proofs.Regions.{insides, region-loads}
 use Rattle.rv_select.proofs.Stores.{region-stores}
 use Rattle.rv_select.proofs.Areas.{area-loads, area-stores}
 use Rattle.rv_select.proofs.Clears.{clears}
+use Rattle.rv_select.proofs.Transports.{area-moves, nothing-comes, nothing-moves, put-none, region-moves, some-is, stores-moved}
 use Rattle.rv_select.proofs.Printed.{byte-puts}
 use Rattle.rv_select.proofs.Ranges.{RangeWritten, range-inside, range-none, range-outside, ranges}
 use Rattle.rv_select.proofs.Allocs.{allocs}
@@ -86,7 +89,7 @@ written-next p code homes i s program base m d x e =
     write-used (graph_of code) s.here.block s.here.at d (block_of x.block) (step_of i) g.0 g.1 (ap (λ o. is_written o d) e ∙ eq-eqb d d refl)
 
 -- operands
-has-left : (xs ys : List ℕ) (t : ℕ) → has xs t ≡ true → has (xs ++ ys) t ≡ true
+pub has-left : (xs ys : List ℕ) (t : ℕ) → has xs t ≡ true → has (xs ++ ys) t ≡ true
 has-left [] ys t h = cc
 has-left (x ∷ xs) ys t h = ⊎_elim (λ e. ap (λ b. b || has (xs ++ ys) t) e) (λ e. ap (λ b. b || has (xs ++ ys) t) e ∙ has-left xs ys t (sym (ap (λ b. b || has xs t) e) ∙ h)) (cases_Bool (nat_eq x t))
 
@@ -94,7 +97,7 @@ or-second : (a b : Bool) → b ≡ true → (a || b) ≡ true
 or-second true b q = refl
 or-second false b q = q
 
-has-right : (xs ys : List ℕ) (t : ℕ) → has ys t ≡ true → has (xs ++ ys) t ≡ true
+pub has-right : (xs ys : List ℕ) (t : ℕ) → has ys t ≡ true → has (xs ++ ys) t ≡ true
 has-right [] ys t h = h
 has-right (x ∷ xs) ys t h = or-second (nat_eq x t) (has (xs ++ ys) t) (has-right xs ys t h)
 
@@ -508,6 +511,198 @@ carry-write p code homes at a b s program base m x =
     write-step p code homes at a b s program base m x (write-below p code homes at a b s program base m x) (write-none p code homes at a b s program base m x)
     (write-goes p code homes at a b s program base m x) (some-or-none (range_of s.region (value_in s.here.temps a) (value_in s.here.temps b)))
 
+-- a move fits where its spots do
+move-fits : (code : Tac) (to from : Spot) (size : ℕ) → instruction_fits code (Move to from size) ≡ true → ((spot_fits code size to ≡ true) × (spot_fits code size from ≡ true)) × (are_apart to from ≡ true)
+move-fits code to from size h =
+    let a = both-true ((spot_fits code size to && spot_fits code size from) && are_apart to from) (nat_le size most_moved) h in
+    let b = both-true (spot_fits code size to && spot_fits code size from) (are_apart to from) a.0 in
+    (both-true (spot_fits code size to) (spot_fits code size from) b.0, b.1)
+
+apart-areas : (n k : ℕ) → not (nat_eq n k) ≡ true → n ≢ k
+apart-areas n k h e = let t : nat_eq n k ≡ true = eq-eqb n k e in let none : false ≡ true = sym (ap not t) ∙ h in cc
+
+-- by what a read and a write of the region gives
+by-fetched : (at : Place) (s : tac.State) (o : Option (List ℕ)) (go : List ℕ → tac.Moved) (P : tac.Moved → Type 0) → ((bs : List ℕ) → o ≡ Some bs → P (go bs)) →
+    (o ≡ None → P (tac.fault BadAddress at s)) → P (tac.fetched at s o go)
+by-fetched at s None go P f g = g refl
+by-fetched at s (Some bs) go P f g = f bs refl
+
+by-written : (at : Place) (s : tac.State) (o : Option Contents) (P : tac.Moved → Type 0) → ((r : Contents) → o ≡ Some r → P (tac.Goes (tac.ahead (record s { region = r })))) →
+    (o ≡ None → P (tac.fault BadAddress at s)) → P (tac.written at s o)
+by-written at s None P f g = g refl
+by-written at s (Some r) P f g = f r refl
+
+address-same : (s : tac.State) (a : Address) → address_in (world_of s) a ≡ tac.address s a
+address-same s (Word (Temp t)) = refl
+address-same s (Word (Constant c)) = refl
+address-same s (Frame offset) = refl
+
+carry-area-move : (p : Program) (code : Tac) (homes : List (Option Home)) (n offset k other size : ℕ) (s : tac.State) (program : List (Option Instr)) (base : ℕ) (m : State) →
+    StandsBefore p code homes (Move (spots.Area n offset) (spots.Area k other) size) s program base m →
+    Carried (layout_of code homes) (graph_of code) program base 42 (shape_of (layout_of code homes) (Move (spots.Area n offset) (spots.Area k other) size)) s m (step p s)
+carry-area-move p code homes n offset k other zero s program base m x =
+    let fit = move-fits code (spots.Area n offset) (spots.Area k other) 0 x.fits in
+    let i : Instruction = Move (spots.Area n offset) (spots.Area k other) 0 in
+    let e1 = x.function in
+    let e2 = x.in_function in
+    let e3 = x.in_block in
+    rw (e1, e2, e3)
+    (by-test (λ moved. Carried (layout_of code homes) (graph_of code) program base 42 (shape_of (layout_of code homes) (Move (spots.Area n offset) (spots.Area k other) 0)) s m moved)
+    (nat_le (other + 0) (length (s.here.areas k))) _ _
+    (λ h.
+    by-test (λ moved. Carried (layout_of code homes) (graph_of code) program base 42 (shape_of (layout_of code homes) (Move (spots.Area n offset) (spots.Area k other) 0)) s m moved)
+    (nat_le offset (length (s.here.areas n))) _ _
+    (λ g. (
+      [],
+      nothing-written s.out,
+      nothing-comes (layout_of code homes) (used code s) (next code s) (world_of s) base n offset 42 program m x.stands (omega arith) (area-spot code n offset 0 fit.0.0 x.areas).0 x.holds
+          (housed code homes s.here.block s.here.at x.right) (fewer p code homes i s program base m x refl),
+    ))
+    (λ g. tt))
+    (λ h. tt))
+carry-area-move p code homes n offset k other (suc size) s program base m x =
+    let is : bytes_moved (layout_of code homes) (spots.Area n offset) (spots.Area k other) (suc size) ≡ some_moved (layout_of code homes) (spots.Area n offset) (spots.Area k other) (suc size) = some-is (layout_of code homes) (spots.Area n offset) (spots.Area k other) (suc size) (λ e. omega (arith, e)) in
+    let fit = move-fits code (spots.Area n offset) (spots.Area k other) (suc size) x.fits in
+    let to = area-spot code n offset (suc size) fit.0.0 x.areas in
+    let from = area-spot code k other (suc size) fit.0.1 x.areas in
+    let i : Instruction = Move (spots.Area n offset) (spots.Area k other) (suc size) in
+    let e1 = x.function in
+    let e2 = x.in_function in
+    let e3 = x.in_block in
+    subst (λ c. Carried (layout_of code homes) (graph_of code) program base 42 c s m (step p s)) (sym is)
+    (rw (e1, e2, e3)
+    (by-test (λ moved. Carried (layout_of code homes) (graph_of code) program base 42 (some_moved (layout_of code homes) (spots.Area n offset) (spots.Area k other) (suc size)) s m moved)
+    (nat_le (other + suc size) (length (s.here.areas k))) _ _
+    (λ h.
+    by-test (λ moved. Carried (layout_of code homes) (graph_of code) program base 42 (some_moved (layout_of code homes) (spots.Area n offset) (spots.Area k other) (suc size)) s m moved)
+    (nat_le offset (length (s.here.areas n))) _ _
+    (λ g. (
+      [],
+      nothing-written s.out,
+      area-moves (layout_of code homes) n offset k other (suc size) (used code s) (next code s) (world_of s) base program m (subst (λ c. Stands program m.pc c) is x.stands) to.0 from.0 (apart-areas n k fit.1)
+          (leb-true offset (length (s.here.areas n)) g) to.1 (leb-true (other + suc size) (length (s.here.areas k)) h) x.holds
+          (housed code homes s.here.block s.here.at x.right) (fewer p code homes i s program base m x refl),
+    ))
+    (λ g. tt))
+    (λ h. tt)))
+
+carry-region-move : (p : Program) (code : Tac) (homes : List (Option Home)) (n offset : ℕ) (at : Place) (a : Address) (size : ℕ) (s : tac.State) (program : List (Option Instr)) (base : ℕ) (m : State) →
+    StandsBefore p code homes (Move (spots.Area n offset) (spots.Region at a) size) s program base m →
+    Carried (layout_of code homes) (graph_of code) program base (words_of (Move (spots.Area n offset) (spots.Region at a) size))
+    (shape_of (layout_of code homes) (Move (spots.Area n offset) (spots.Region at a) size)) s m (step p s)
+carry-region-move p code homes n offset at a zero s program base m x =
+    let fit = move-fits code (spots.Area n offset) (spots.Region at a) 0 x.fits in
+    let i : Instruction = Move (spots.Area n offset) (spots.Region at a) 0 in
+    let weight : ℕ = words_of i in
+    let e1 = x.function in
+    let e2 = x.in_function in
+    let e3 = x.in_block in
+    let none : range_of s.region (tac.address s a) 0 ≡ Some [] = range-none s.region (tac.address s a) 0 refl in
+    rw (e1, e2, e3)
+    (by-fetched at s (range_of s.region (tac.address s a) 0) (λ bs. tac.to_spot (spots.Area n offset) bs s)
+    (λ moved. Carried (layout_of code homes) (graph_of code) program base (words_of (Move (spots.Area n offset) (spots.Region at a) 0))
+    (shape_of (layout_of code homes) (Move (spots.Area n offset) (spots.Region at a) 0)) s m moved)
+    (λ bs e.
+    let same : [] ≡ bs = cc in
+    subst
+    (λ z. Carried (layout_of code homes) (graph_of code) program base (words_of (Move (spots.Area n offset) (spots.Region at a) 0))
+    (shape_of (layout_of code homes) (Move (spots.Area n offset) (spots.Region at a) 0)) s m (tac.to_spot (spots.Area n offset) z s)) same
+    (by-test
+    (λ moved. Carried (layout_of code homes) (graph_of code) program base (words_of (Move (spots.Area n offset) (spots.Region at a) 0))
+    (shape_of (layout_of code homes) (Move (spots.Area n offset) (spots.Region at a) 0)) s m moved)
+    (nat_le offset (length (s.here.areas n))) _ _
+    (λ g. (
+      [],
+      nothing-written s.out,
+      nothing-comes (layout_of code homes) (used code s) (next code s) (world_of s) base n offset (words_of (Move (spots.Area n offset) (spots.Region at a) 0)) program m x.stands (omega arith)
+          (area-spot code n offset 0 fit.0.0 x.areas).0 x.holds (housed code homes s.here.block s.here.at x.right) (fewer p code homes i s program base m x refl),
+    ))
+    (λ g. tt)))
+    (λ e. let no : Some [] ≡ None = sym none ∙ e in cc))
+carry-region-move p code homes n offset at a (suc size) s program base m x =
+    let is : bytes_moved (layout_of code homes) (spots.Area n offset) (spots.Region at a) (suc size) ≡ some_moved (layout_of code homes) (spots.Area n offset) (spots.Region at a) (suc size) = some-is (layout_of code homes) (spots.Area n offset) (spots.Region at a) (suc size) (λ e. omega (arith, e)) in
+    let fit = move-fits code (spots.Area n offset) (spots.Region at a) (suc size) x.fits in
+    let i : Instruction = Move (spots.Area n offset) (spots.Region at a) (suc size) in
+    let to = area-spot code n offset (suc size) fit.0.0 x.areas in
+    let e1 = x.function in
+    let e2 = x.in_function in
+    let e3 = x.in_block in
+    let both =
+    region-moves (layout_of code homes) n offset at a (suc size) (used code s) (next code s) (world_of s) base program m (subst (λ c. Stands program m.pc c) is x.stands) (spot-place code at (suc size) a fit.0.1)
+    (address-reached code (used code s) s at (suc size) a fit.0.1 x.frame (reads p code homes i s program base m x)) (omega arith) to.0 to.1 x.holds
+    (housed code homes s.here.block s.here.at x.right) (fewer p code homes i s program base m x refl) in
+    let there = address-same s a in
+    subst (λ c. Carried (layout_of code homes) (graph_of code) program base (words_of (Move (spots.Area n offset) (spots.Region at a) (suc size))) c s m (step p s)) (sym is)
+    (rw (e1, e2, e3)
+    (by-fetched at s (range_of s.region (tac.address s a) (suc size)) (λ bs. tac.to_spot (spots.Area n offset) bs s)
+    (λ moved. Carried (layout_of code homes) (graph_of code) program base (words_of (Move (spots.Area n offset) (spots.Region at a) (suc size)))
+    (some_moved (layout_of code homes) (spots.Area n offset) (spots.Region at a) (suc size)) s m moved)
+    (λ bs e.
+    by-test
+    (λ moved. Carried (layout_of code homes) (graph_of code) program base (words_of (Move (spots.Area n offset) (spots.Region at a) (suc size)))
+    (some_moved (layout_of code homes) (spots.Area n offset) (spots.Region at a) (suc size)) s m moved)
+    (nat_le offset (length (s.here.areas n))) _ _
+    (λ g. ([], nothing-written s.out, both.0 bs (ap (λ z. range_of s.region z (suc size)) there ∙ e) (leb-true offset (length (s.here.areas n)) g)))
+    (λ g. tt))
+    (λ e. (refl, both.1 (ap (λ z. range_of s.region z (suc size)) there ∙ e)))))
+
+carry-move-out : (p : Program) (code : Tac) (homes : List (Option Home)) (at : Place) (a : Address) (n offset size : ℕ) (s : tac.State) (program : List (Option Instr)) (base : ℕ) (m : State) →
+    StandsBefore p code homes (Move (spots.Region at a) (spots.Area n offset) size) s program base m →
+    Carried (layout_of code homes) (graph_of code) program base (words_of (Move (spots.Region at a) (spots.Area n offset) size))
+    (shape_of (layout_of code homes) (Move (spots.Region at a) (spots.Area n offset) size)) s m (step p s)
+carry-move-out p code homes at a n offset zero s program base m x =
+    let i : Instruction = Move (spots.Region at a) (spots.Area n offset) 0 in
+    let e1 = x.function in
+    let e2 = x.in_function in
+    let e3 = x.in_block in
+    let none : put_bytes s.region (tac.address s a) [] ≡ Some s.region = put-none s.region (tac.address s a) in
+    rw (e1, e2, e3)
+    (by-test
+    (λ moved. Carried (layout_of code homes) (graph_of code) program base (words_of (Move (spots.Region at a) (spots.Area n offset) 0))
+    (shape_of (layout_of code homes) (Move (spots.Region at a) (spots.Area n offset) 0)) s m moved)
+    (nat_le (offset + 0) (length (s.here.areas n))) _ _
+    (λ h.
+    by-written at s (put_bytes s.region (tac.address s a) [])
+    (λ moved. Carried (layout_of code homes) (graph_of code) program base (words_of (Move (spots.Region at a) (spots.Area n offset) 0))
+    (shape_of (layout_of code homes) (Move (spots.Region at a) (spots.Area n offset) 0)) s m moved)
+    (λ r e.
+    let same : s.region ≡ r = cc in (
+      [],
+      nothing-written s.out,
+      subst (λ z. Comes (layout_of code homes) program (next code s) (with_region (world_of s) z) base (words_of (Move (spots.Region at a) (spots.Area n offset) 0))
+          (behind m (shape_of (layout_of code homes) (Move (spots.Region at a) (spots.Area n offset) 0))) [] m) same
+          (nothing-moves (layout_of code homes) (used code s) (next code s) (world_of s) base (words_of (Move (spots.Region at a) (spots.Area n offset) 0)) program m x.stands (omega arith) x.holds
+          (housed code homes s.here.block s.here.at x.right) (fewer p code homes i s program base m x refl)),
+    ))
+    (λ e. let no : Some s.region ≡ None = sym none ∙ e in cc))
+    (λ h. tt))
+carry-move-out p code homes at a n offset (suc size) s program base m x =
+    let is : bytes_moved (layout_of code homes) (spots.Region at a) (spots.Area n offset) (suc size) ≡ some_moved (layout_of code homes) (spots.Region at a) (spots.Area n offset) (suc size) = some-is (layout_of code homes) (spots.Region at a) (spots.Area n offset) (suc size) (λ e. omega (arith, e)) in
+    let fit = move-fits code (spots.Region at a) (spots.Area n offset) (suc size) x.fits in
+    let i : Instruction = Move (spots.Region at a) (spots.Area n offset) (suc size) in
+    let from = area-spot code n offset (suc size) fit.0.1 x.areas in
+    let e1 = x.function in
+    let e2 = x.in_function in
+    let e3 = x.in_block in
+    let there = address-same s a in
+    subst (λ c. Carried (layout_of code homes) (graph_of code) program base (words_of (Move (spots.Region at a) (spots.Area n offset) (suc size))) c s m (step p s)) (sym is)
+    (rw (e1, e2, e3)
+    (by-test
+    (λ moved. Carried (layout_of code homes) (graph_of code) program base (words_of (Move (spots.Region at a) (spots.Area n offset) (suc size)))
+    (some_moved (layout_of code homes) (spots.Region at a) (spots.Area n offset) (suc size)) s m moved)
+    (nat_le (offset + suc size) (length (s.here.areas n))) _ _
+    (λ h.
+    let both =
+    stores-moved (layout_of code homes) at a n offset (suc size) (used code s) (next code s) (world_of s) base program m (subst (λ c. Stands program m.pc c) is x.stands) (spot-place code at (suc size) a fit.0.0)
+    (address-reached code (used code s) s at (suc size) a fit.0.0 x.frame (λ t u. reads p code homes i s program base m x t (has-left (address_reads a) [] t u))) (omega arith) from.0
+    (leb-true (offset + suc size) (length (s.here.areas n)) h) x.holds (housed code homes s.here.block s.here.at x.right) (fewer p code homes i s program base m x refl) in
+    by-written at s (put_bytes s.region (tac.address s a) (part (s.here.areas n) offset (suc size)))
+    (λ moved. Carried (layout_of code homes) (graph_of code) program base (words_of (Move (spots.Region at a) (spots.Area n offset) (suc size)))
+    (some_moved (layout_of code homes) (spots.Region at a) (spots.Area n offset) (suc size)) s m moved)
+    (λ r e. ([], nothing-written s.out, both.0 r (ap (λ z. put_bytes s.region z (part (s.here.areas n) offset (suc size))) there ∙ e)))
+    (λ e. (refl, both.1 (ap (λ z. put_bytes s.region z (part (s.here.areas n) offset (suc size))) there ∙ e))))
+    (λ h. tt)))
+
 pub instructions : InstructionsAreCarried
 instructions p code homes (Compute d op form a b) s program base m h x = carry-compute p code homes d op form a b s program base m x
 instructions p code homes (TestDivisor at a) s program base m h x = carry-test p code homes at a s program base m x
@@ -517,7 +712,11 @@ instructions p code homes (Load d form (spots.Region at a)) s program base m h x
 instructions p code homes (Load d form (spots.Area n offset)) s program base m h x = carry-area-load p code homes d form n offset s program base m x
 instructions p code homes (Store (spots.Region at a) size b) s program base m h x = carry-store p code homes size at a b s program base m x
 instructions p code homes (Store (spots.Area n offset) size b) s program base m h x = carry-area-store p code homes size n offset b s program base m x
-instructions p code homes (Move to from size) s program base m h x = cc
+instructions p code homes (Move (spots.Area n offset) (spots.Area k other) size) s program base m h x = carry-area-move p code homes n offset k other size s program base m x
+instructions p code homes (Move (spots.Area n offset) (spots.Region at a) size) s program base m h x = carry-region-move p code homes n offset at a size s program base m x
+instructions p code homes (Move (spots.Region at a) (spots.Area n offset) size) s program base m h x = carry-move-out p code homes at a n offset size s program base m x
+instructions p code homes (Move (spots.Region at a) (spots.Region other b) size) s program base m h x =
+    let none : false ≡ true = (move-fits code (spots.Region at a) (spots.Region other b) size x.fits).1 in cc
 instructions p code homes (Clear n size) s program base m h x = carry-clear p code homes n size s program base m (leb-true size most_moved h) x
 instructions p code homes (Call to at f arguments) s program base m h x = cc
 instructions p code homes (CallValue to at sig a arguments) s program base m h x = cc

@@ -40,16 +40,16 @@ use Rattle.rv_select.proofs.Carries.{both-true, by-test, operand-read, place-sma
 use Rattle.rv_select.proofs.Jumps.{Jumped, jumps-there}
 
 -- the exit of a block in the flow graph
-exit-in-graph : (code : Tac) (b : Block) (block at : ℕ) → slice_get code.blocks block ≡ Some b → slice_get b.instructions at ≡ None →
+pub exit-in-graph : (code : Tac) (b : Block) (block at : ℕ) → slice_get code.blocks block ≡ Some b → slice_get b.instructions at ≡ None →
     (slice_get (graph_of code) block ≡ Some (block_of b)) × (slice_get (block_of b).steps at ≡ None)
 exit-in-graph code b block at e f =
     (slice_get-map block_of code.blocks block ∙ ap (option_map block_of) e, slice_get-map step_of b.instructions at ∙ ap (option_map step_of) f)
 
-or-left : (a b : Bool) → a ≡ true → (a || b) ≡ true
+pub or-left : (a b : Bool) → a ≡ true → (a || b) ≡ true
 or-left true b e = refl
 or-left false b e = cc
 
-or-second : (a b : Bool) → b ≡ true → (a || b) ≡ true
+pub or-second : (a b : Bool) → b ≡ true → (a || b) ≡ true
 or-second true b q = refl
 or-second false b q = q
 
@@ -62,7 +62,7 @@ exit-reads-live graph block at t f e g h = (
 )
 
 -- what is live where a block begins that follows is live before the exit
-next-live : (graph : List FlowBlock) (block at t : ℕ) (f : FlowBlock) (c : ℕ) → slice_get graph block ≡ Some f → slice_get f.steps at ≡ None →
+pub next-live : (graph : List FlowBlock) (block at t : ℕ) (f : FlowBlock) (c : ℕ) → slice_get graph block ≡ Some f → slice_get f.steps at ≡ None →
     ((k : ℕ) → read_within graph k c 0 t ≡ true → list_any (λ d. read_within graph k d 0 t) f.next ≡ true) → InUse graph c 0 t → InUse graph block at t
 next-live graph block at t f c e g h u =
     ⊎_elim
@@ -77,7 +77,7 @@ next-live graph block at t f c e g h u =
     u
 
 -- a jump to a block, from anywhere near the exit
-jump-comes : (y : Layout) (Used Next : ℕ → Type 0) (w : World) (base k weight from to : ℕ) (program : List (Option Instr)) (m n : State) →
+pub jump-comes : (y : Layout) (Used Next : ℕ → Type 0) (w : World) (base k weight from to : ℕ) (program : List (Option Instr)) (m n : State) →
     Holds y Used w base m → Housed y Used → AreFewer Used Next → Way program k m n → Near m n → n.pc ≡ from → from < 2 ^ 30 → to < 2 ^ 30 → to % 2 ≡ 0 →
     Stands program from (jump from to) → k + 2 ≤ weight → Comes y program Next w base weight to [] m
 jump-comes y Used Next w base k weight from to program m n p h f way near e small few even there enough =
@@ -86,7 +86,7 @@ jump-comes y Used Next w base k weight from to program m n p h f way near e smal
     (subst (λ q. q < 2 ^ 64) (sym j.pc) (omega arith)) (omega arith) enough j.pc
 
 -- a branch, over an operand that stands in x5, and the jump that it comes to
-low-near : (n : ℕ) → n < 2 ^ 30 → low n ≡ n
+pub low-near : (n : ℕ) → n < 2 ^ 30 → low n ≡ n
 unfolding low
 low-near n h = omega arith
 
@@ -127,7 +127,7 @@ branch-comes y Used Next w base v first second to taken_it A starts program m l 
         subst (λ q. Comes y program Next w base 19 q [] m) is
         (jump-comes y Used Next w base (length A + 1) 19 (m.pc + 4 * length A + 4) (starts second) program m n p h f way around (pc ∙ a) (omega arith) (blocks second).0 (blocks second).1 c (omega arith))
 
-zero-or-more : (n : ℕ) → (n ≡ 0) ⊎ ((k : ℕ) × (n ≡ suc k))
+pub zero-or-more : (n : ℕ) → (n ≡ 0) ⊎ ((k : ℕ) × (n ≡ suc k))
 zero-or-more zero = inl refl
 zero-or-more (suc k) = inr (k, refl)
 

@@ -35,7 +35,7 @@ use Rattle.rv_select.proofs.Homes.{Puts, put-count, put-home, region-small, take
 use Rattle.rv_select.proofs.Small.{applied-small}
 
 -- a word at a home depends on neither scratch registers nor the region
-home-keeps : (y : Layout) (base : ℕ) (m n : State) (h : Home) → IsHome y h → ((r : ℕ) → r ≢ 5 → r ≢ 6 → r ≢ 7 → n.registers r ≡ m.registers r) →
+pub home-keeps : (y : Layout) (base : ℕ) (m n : State) (h : Home) → IsHome y h → ((r : ℕ) → r ≢ 5 → r ≢ 6 → r ≢ 7 → n.registers r ≡ m.registers r) →
     n.private ≡ m.private → word_at base n h ≡ word_at base m h
 home-keeps y base m n (homes.Register x) i k p =
     k x (λ e. omega (arith, e, i.0)) (λ e. omega (arith, e, i.0)) (λ e. omega (arith, e, i.0))

@@ -230,7 +230,7 @@ unfolding place_of
 region-place region private a width h k = ap (λ o. place_in o (offset_in (2 ^ 32) private a width)) (region-offset region a width h k)
 
 -- the bytes of an access
-abbrev accessed : Contents → ℕ → ℕ → List ℕ
+abbrev pub accessed : Contents → ℕ → ℕ → List ℕ
 accessed r a size = part r.bytes (a - first_address) size
 
 accessed-count : (r : Contents) (a size : ℕ) → first_address ≤ a → a + size ≤ end_address r → length (accessed r a size) ≡ size
@@ -285,7 +285,7 @@ load-ends y d form Used Next w base most a code program m r p h h' u follows sma
     (pc-more n.pc (length b) ∙ behind-both code (i ∷ b) m.pc n.pc (low (n.pc + 4 * suc (length b))) r.pc refl)
 
 -- what a range is
-range-is : (r : Contents) (a size : ℕ) → 1 ≤ size → range_of r a size ≡ (if is_inside r a size then Some (accessed r a size) else None)
+pub range-is : (r : Contents) (a size : ℕ) → 1 ≤ size → range_of r a size ≡ (if is_inside r a size then Some (accessed r a size) else None)
 unfolding range_of
 range-is r a zero h = absurd (none h)
   where

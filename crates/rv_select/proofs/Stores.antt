@@ -33,14 +33,14 @@ use Rattle.rv_select.proofs.Moves.{near-holds, near-keeps, value-small}
 use Rattle.rv_select.proofs.Regions.{Reached, end-small, frame-reached, inside-true, insides, low-enough, outside-false, region-place, weaker, weaker-ends, word-inside, word-outside}
 
 -- the region after a store
-abbrev stored-region : Contents → ℕ → List ℕ → Contents
+abbrev pub stored-region : Contents → ℕ → List ℕ → Contents
 stored-region r a bs = record r { bytes = overwritten r.bytes (a - first_address) bs }
 
-stored-count : (r : Contents) (a : ℕ) (bs : List ℕ) → first_address ≤ a → a + length bs ≤ end_address r → length (stored-region r a bs).bytes ≡ length r.bytes
+pub stored-count : (r : Contents) (a : ℕ) (bs : List ℕ) → first_address ≤ a → a + length bs ≤ end_address r → length (stored-region r a bs).bytes ≡ length r.bytes
 stored-count r a bs h k = length-overwritten r.bytes bs (a - first_address) (omega arith)
 
 -- a region of the same length is lawful too, and ends at the same address
-lawful-still : (r s : Contents) → length s.bytes ≡ length r.bytes → s.heap ≡ r.heap → IsLawful r → IsLawful s
+pub lawful-still : (r s : Contents) → length s.bytes ≡ length r.bytes → s.heap ≡ r.heap → IsLawful r → IsLawful s
 lawful-still r s e h l = record {
   sized = subst (λ n. (n % 1024 ≡ 0) × (65536 ≤ n) × (n ≤ 67108864)) (sym e) l.sized;
   begun = subst (λ n. first_address ≤ n) (sym h) l.begun;
@@ -143,7 +143,7 @@ store-ends y size b Used Next w base most a code program m r p h f rb small low-
     }
 
 -- what a write of bytes to the region gives
-put-is : (r : Contents) (a : ℕ) (bs : List ℕ) → 1 ≤ length bs → put_bytes r a bs ≡ (if is_inside r a (length bs) then Some (stored-region r a bs) else None)
+pub put-is : (r : Contents) (a : ℕ) (bs : List ℕ) → 1 ≤ length bs → put_bytes r a bs ≡ (if is_inside r a (length bs) then Some (stored-region r a bs) else None)
 unfolding put_bytes
 put-is r a [] h = absurd (none h)
   where

@@ -14,16 +14,18 @@ use Rattle.tac_form.specs.declared.tac.Spot.TheVariants as spots
 use Rattle.tac_form.specs.declared.tac.Instruction.TheVariants.{Alloc, Call, CallValue, Clear, Compute, Copy, Load, Locate, Move, PutByte, Store, TestDivisor, Write}
 use Rattle.tac_form.specs.declared.tac.Exit.TheVariants.{Branch, Fail, Jump, Return}
 use Rattle.tac_form.specs.Flow.{bytes_of, width_of}
+use Rattle.tac_form.specs.Weights.{words_of}
 use Rattle.rv_operators.specs.Codes.{x0, x5, x6, code_of, zero_immediate}
 use Rattle.rv_operators.proofs.Short.{code-short}
 use Rattle.rv_select.specs.Places.{Layout, area_offset, home_of}
-use Rattle.rv_select.specs.Shapes.{area_reached, bounds_tested, branch_jumps, byte_taken, bytes_given, failed, framed, heap_aligned, limit_found, load_of, located, over, put_to, range_tested, reached, store_of, taken, write_call, x11, x12, zeros}
+use Rattle.rv_select.specs.Shapes.{all_carried, area_reached, bounds_tested, branch_jumps, byte_taken, bytes_given, failed, framed, from_area, heap_aligned, limit_found, load_of, located, over, put_to, range_tested, reached, store_of, taken, to_area, write_call, x11, x12, zeros}
 use Rattle.rv_select.specs.Steps.{ExitsKeepWithin, ShapesKeepWithin}
 use Rattle.rv_select.proofs.Frames.{framed-count}
 use Rattle.rv_select.proofs.Homes.{put-count, taken-count}
 use Rattle.rv_select.proofs.Faults.{failed-count}
 use Rattle.rv_select.proofs.Divisors.{located-count}
 use Rattle.rv_select.proofs.Clears.{zeros-count}
+use Rattle.rv_select.proofs.Transports.{area-count, carried-count, moved-count}
 use Rattle.rv_select.proofs.Printed.{byte-count}
 
 -- most words of two pieces of code
@@ -47,6 +49,12 @@ store-part y i b = both (taken y x6 b) (i ∷ []) 8 1 (taken-count y x6 b) (omeg
 
 range-count : (at : Place) → length (range_tested at) ≤ 16
 range-count at = let h : length (failed BadAddress at) ≤ 11 = failed-count BadAddress at in omega arith
+
+to-count : (y : Layout) (n offset size : ℕ) → size ≤ 128 → length (to_area y n offset size) ≤ 39
+to-count y n offset size h = both (area_reached y x6 n offset) (all_carried x5 x6 size) 3 36 (area-count y x6 n offset) (carried-count x5 x6 size h)
+
+from-count : (y : Layout) (n offset size : ℕ) → size ≤ 128 → length (from_area y n offset size) ≤ 39
+from-count y n offset size h = both (area_reached y x6 n offset) (all_carried x6 x5 size) 3 36 (area-count y x6 n offset) (carried-count x6 x5 size h)
 
 pub within : ShapesKeepWithin
 within y (Compute d op form a b) h =
@@ -80,7 +88,23 @@ within y (Store (spots.Area n offset) size b) h =
     more 11 12 _ (omega arith)
     (both (taken y x6 b) (framed (λ r far. instrs.Store (store_of size) r x6 far) (area_offset y n + offset)) 8 3 (taken-count y x6 b)
     (framed-count (λ r far. instrs.Store (store_of size) r x6 far) (area_offset y n + offset)))
-within y (Move to from size) h = cc
+within y (Move (spots.Area n offset) (spots.Area k other) size) h =
+    moved-count y (spots.Area n offset) (spots.Area k other) size 42
+    (both (area_reached y x5 n offset) (from_area y k other size) 3 39 (area-count y x5 n offset) (from-count y k other size (leb-true size 128 h))) (omega arith)
+within y (Move (spots.Area n offset) (spots.Region at (Word a)) size) h =
+    moved-count y (spots.Area n offset) (spots.Region at (Word a)) size 63
+    (more 62 63 _ (omega arith) (both (reached y at (Word a) size) (to_area y n offset size) 23 39 (word-reached y at a size) (to-count y n offset size (leb-true size 128 h)))) (omega arith)
+within y (Move (spots.Area n offset) (spots.Region at (Frame far)) size) h =
+    moved-count y (spots.Area n offset) (spots.Region at (Frame far)) size 48
+    (both (located far) (to_area y n offset size) 9 39 (located-count far) (to-count y n offset size (leb-true size 128 h))) (omega arith)
+within y (Move (spots.Region at (Word a)) (spots.Area n offset) size) h =
+    moved-count y (spots.Region at (Word a)) (spots.Area n offset) size 63
+    (more 62 63 _ (omega arith) (both (reached y at (Word a) size) (from_area y n offset size) 23 39 (word-reached y at a size) (from-count y n offset size (leb-true size 128 h)))) (omega arith)
+within y (Move (spots.Region at (Frame far)) (spots.Area n offset) size) h =
+    moved-count y (spots.Region at (Frame far)) (spots.Area n offset) size 48
+    (both (located far) (from_area y n offset size) 9 39 (located-count far) (from-count y n offset size (leb-true size 128 h))) (omega arith)
+within y (Move (spots.Region at a) (spots.Region other b) size) h =
+    moved-count y (spots.Region at a) (spots.Region other b) size (words_of (Move (spots.Region at a) (spots.Region other b) size)) (omega arith) (omega arith)
 within y (Clear n size) h =
     let most : size ≤ 128 = leb-true size 128 h in
     both (area_reached y x5 n 0) (zeros ((size + 7) / 8) 0) 3 16 (framed-count (λ r far. instrs.RegisterImmediate Addi x5 r far) (area_offset y n + 0))

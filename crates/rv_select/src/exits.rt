@@ -41,7 +41,7 @@ pub fn push_exit(
 }
 
 /// Where a block begins.
-fn start_of(starts: &[u64], block: u64) -> u64
+pub(crate) fn start_of(starts: &[u64], block: u64) -> u64
     ensures { result ≡ start_of starts.now block }
 {
     match starts.get(block as usize) {
@@ -70,7 +70,7 @@ fn distance(from: u64, to: u64) -> u64
 }
 
 /// A jump from an address to another.
-fn push_jump(code: &mut Vec<u32>, from: u64, to: u64) -> Result<(), NoMemory>
+pub(crate) fn push_jump(code: &mut Vec<u32>, from: u64, to: u64) -> Result<(), NoMemory>
     requires { from ≤ 2 ^ 32 }
     ensures { OnOk result (code.new.items ≡ code.old.items ++ map word_of (jump from to)) }
 {

@@ -13,6 +13,7 @@ use crate::emit::{
     X0, X5, X6, area_offset, constant_words, push_constant, push_frame_address, push_frame_load,
     push_frame_store, push_put, push_taken, put,
 };
+use crate::moving::push_bytes_moved;
 use crate::operands::{below_zero, immediate, offset, upper};
 use crate::outputs::{push_allocated, push_byte_put, push_range_written};
 use reg_alloc::Home;
@@ -59,6 +60,7 @@ pub fn push_instruction(
         Instruction::Locate(temp, offset) => push_address(code, homes, *temp, *offset),
         Instruction::Load(temp, form, spot) => push_loaded(code, homes, *temp, *form, *spot),
         Instruction::Store(spot, size, a) => push_stored(code, homes, *spot, *size, *a),
+        Instruction::Move(to, from, size) => push_bytes_moved(code, homes, *to, *from, *size),
         Instruction::Clear(area, size) => push_cleared(code, homes, *area, *size),
         Instruction::PutByte(a) => push_byte_put(code, homes, *a),
         Instruction::Write(at, a, b) => push_range_written(code, homes, *at, *a, *b),
@@ -107,7 +109,7 @@ fn push_computed(
 }
 
 /// x5 and x6 get operands.
-fn push_operands(
+pub(crate) fn push_operands(
     code: &mut Vec<u32>,
     homes: &[Option<Home>],
     a: Operand,
@@ -345,7 +347,7 @@ fn push_bounds_test(code: &mut Vec<u32>, at: Place, size: u64) -> Result<(), NoM
 }
 
 /// x5 gets the address of bytes in the region.
-fn push_reached(
+pub(crate) fn push_reached(
     code: &mut Vec<u32>,
     homes: &[Option<Home>],
     at: Place,
@@ -483,7 +485,7 @@ fn push_cleared(
 }
 
 /// A register gets the address of a byte of an area.
-fn push_area_address(
+pub(crate) fn push_area_address(
     code: &mut Vec<u32>,
     homes: &[Option<Home>],
     rd: Register,

@@ -6,16 +6,23 @@
 //! holds afterwards what three-address code sees then. The laws of `law` have that of each instruction.
 #![tactic(auto)]
 
+pub mod compared;
 mod emit;
 pub mod exits;
 pub mod instructions;
 pub mod law;
+mod moving;
 mod operands;
 mod outputs;
 
+pub use compared::push_compared;
 pub use exits::push_exit;
 pub use instructions::push_instruction;
-pub use law::{exits_are_carried, exits_keep_within, instructions_are_carried, shapes_keep_within};
+pub use law::{
+    calls_are_begun, calls_keep_within, compares_are_carried, compares_keep_within,
+    exits_are_carried, exits_keep_within, frames_keep_within, functions_are_entered,
+    functions_are_left, instructions_are_carried, parameters_are_received, shapes_keep_within,
+};
 
 #[cfg(test)]
 mod tests;

@@ -50,7 +50,8 @@ error_text place fault = decimal place.line ++ codes ":" ++ decimal place.word +
 -- raises a fault, with its place before its text, which is paid for
 abbrev pub raise : Place → Fault → SpecPlan
 raise place fault =
-    Pay (text_units (length (error_text place fault))) (with_text_of (error_text place fault) (λ text. Give (Raised (values.Text text) place)))
+    Pay (text_units (length (error_text place fault)))
+    (with_text_of (error_text place fault) (λ text. Give (Raised (values.Text text) place)))
 
 -- ---- questions
 
@@ -106,7 +107,7 @@ abbrev pub literal : List ℕ → Place → (TermId → SpecPlan) → SpecPlan
 literal bytes place go = Read (λ w. Write (after w place (Text bytes)) (on_became (became_of w (Text bytes)) place go))
 
 -- the values of a table, from 1 to its border
-abbrev values_below : ℕ → Pairs → List Value
+abbrev pub values_below : ℕ → Pairs → List Value
 values_below zero pairs = []
 values_below (suc n) pairs = values_below n pairs ++ value_at pairs (n + 1) ∷ []
 

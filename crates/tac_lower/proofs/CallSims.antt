@@ -25,7 +25,7 @@ use Rattle.tac_form.specs.declared.tac.Signature.{Signature}
 use Rattle.tac_form.specs.Flow as flow
 use Rattle.tac_form.specs.Flow.{Moved, Goes, Stops, act}
 use Rattle.tac_lower.specs.Pieces.{Used, with_temp, with_area, Piece, known, then_piece, Result, given, parts_of, word_at, rest, Holders}
-use Rattle.tac_lower.specs.Lowering.{lowered, type_of_name, call, call_value, signature_in}
+use Rattle.tac_lower.specs.Lowering.{lowered, code_of, unreached, are_narrow, parameter_types, type_of_name, call, call_value, signature_in}
 pub use Rattle.tac_lower.specs.Needs.{CallNeeds}
 use Rattle.tac_lower.proofs.Places.{Point, step_on, DoesAt}
 use Rattle.tac_lower.proofs.Standing.{Setting, Private, stands, one-step, operand-is, Fine, Grown, Means, Comes, Leaves}
@@ -47,7 +47,13 @@ same-signature : (store : Contents) (entries : List FnId) (ts : List TypeId) (of
     flow.has_signature (record { params = ts; result = of }) (option_map (lowered store entries) o) ≡ meaning.has_type
     (forms.Function ts of) o
 same-signature store entries ts of None = refl
-same-signature store entries ts of (Some k) = ap (λ b. b && nat_eq of.0 k.body.result.0) (same-types ts k.body.parameters)
+same-signature store entries ts of (Some k) = by (are_narrow store.types (parameter_types k))
+  where
+    by : (b : Bool) →
+        flow.has_signature (record { params = ts; result = of }) (Some (if b then code_of store entries k else unreached k))
+        ≡ meaning.has_type (forms.Function ts of) (Some k)
+    by true = ap (λ b. b && nat_eq of.0 k.body.result.0) (same-types ts k.body.parameters)
+    by false = ap (λ b. b && nat_eq of.0 k.body.result.0) (same-types ts k.body.parameters)
 
 both : (a b : Bool) → (a && b) ≡ true → (a ≡ true) × (b ≡ true)
 both true b h = (refl, h)
@@ -93,7 +99,8 @@ module _ (z : Setting) (m : ℕ) (st : Contents) (homes : List Home) (turns : �
           grown = grown-by true (bytes_at z.types of) u;
           over = λ t lt away. away;
           run = λ out q k s has whole_ fine knows less.
-              call_runs z m st calls names scope u at of f needs.0 vs needs.1 needs.3 true e (Call (goes_to true u) at f (parts_of rs)) q
+              call_runs z m st calls names scope u at of f needs.0 vs needs.1
+              (subst (λ l. are_narrow z.types l ≡ true) needs.2 needs.4) needs.3 true e (Call (goes_to true u) at f (parts_of rs)) q
               k s has.0
               (ap (λ l. flow.call z.program (goes_to true u) at f l (stands z q k s)) (values-are z scope u ts rs vs q k s knows.0))
               (are-values z scope u needs.0.body.parameters ts rs vs k needs.2 knows.0) whole_ fine less;
@@ -102,14 +109,15 @@ module _ (z : Setting) (m : ℕ) (st : Contents) (homes : List Home) (turns : �
           grown = grown-by false (bytes_at z.types of) u;
           over = λ t lt away. away;
           run = λ out q k s has whole_ fine knows less.
-              call_runs z m st calls names scope u at of f needs.0 vs needs.1 needs.3 false e (Call (goes_to false u) at f (parts_of rs))
+              call_runs z m st calls names scope u at of f needs.0 vs needs.1
+              (subst (λ l. are_narrow z.types l ≡ true) needs.2 needs.4) needs.3 false e (Call (goes_to false u) at f (parts_of rs))
               q k s has.0
               (ap (λ l. flow.call z.program (goes_to false u) at f l (stands z q k s)) (values-are z scope u ts rs vs q k s knows.0))
               (are-values z scope u needs.0.body.parameters ts rs vs k needs.2 knows.0) whole_ fine less;
         }
 
     -- a function that stands as a value
-    module _ (t : TypeId) (ts : List TypeId) (rs : List Result) (vs : List Value) where
+    module _ (t : TypeId) (ts : List TypeId) (rs : List Result) (vs : List Value) (narrow : are_narrow z.types ts ≡ true) where
       abbrev sig : Signature
       sig = record { params = ts; result = of }
 
@@ -160,7 +168,9 @@ module _ (z : Setting) (m : ℕ) (st : Contents) (homes : List Home) (turns : �
               Goal b q k s (call_here z m st f (behind vs) at s)
           good f kk there same a =
               let h = both (meaning.same_types ts kk.body.parameters) (nat_eq of.0 kk.body.result.0) same in
-              call_runs z m st calls names scope u at of f kk (behind vs) there (sym (same-id of kk.body.result h.1)) b e
+              call_runs z m st calls names scope u at of f kk (behind vs) there
+              (subst (λ l. are_narrow z.types l ≡ true) (types-same ts kk.body.parameters h.0) narrow) (sym (same-id of kk.body.result
+              h.1)) b e
               (instruction b) q k s stood a
               (are-values z scope u kk.body.parameters ts (rest rs) (behind vs) k (types-same ts kk.body.parameters h.0) behind_mean)
               whole_ fine less

@@ -19,7 +19,7 @@ use Rattle.tac_form.specs.Flow as flow
 use Rattle.tac_form.specs.Flow.{Program, Activation, Caller, Moved, Goes, Stops, steps, act, area_size}
 use Rattle.tac_lower.specs.Items.{does}
 use Rattle.tac_lower.specs.Pieces.{Used, with_temp, with_area, Piece, Result, given, parts_of, Holders}
-use Rattle.tac_lower.specs.Lowering.{type_of_name}
+use Rattle.tac_lower.specs.Lowering.{type_of_name, are_narrow, parameter_types}
 use Rattle.tac_lower.proofs.Places.{Point, step_on, DoesAt}
 use Rattle.tac_lower.proofs.Standing.{Setting, Private, stands, steps-add, one-step, Fine, Grown, Means, Comes, Leaves}
 use Rattle.tac_lower.proofs.Simulates.{AllMean, whole}
@@ -49,7 +49,8 @@ CallOk p types memory callers m of left (Ends r) = (j : ℕ) × (steps p j m ≡
 abbrev pub CallsOk : Program → Contents → (memory n : ℕ) → Type 0
 CallsOk p st memory n =
     (callers : List Caller) (top : ℕ) (f : FnId) (k : Callable) (vs : List Value) (at : Place) (here : Activation) (behind : List Caller)
-    (s : State) → callable_of st f ≡ Some k → AreValues st.types k.body.parameters vs → length s.region.bytes ≡ memory → top < 2 ^ 64 →
+    (s : State) → callable_of st f ≡ Some k → are_narrow st.types (parameter_types k) ≡ true → AreValues st.types k.body.parameters vs →
+    length s.region.bytes ≡ memory → top < 2 ^ 64 →
     s.left < n →
     CallOk p st.types memory callers (flow.enter at f (p.code f) vs top callers (beside here behind s)) k.body.result s.left
     (apply st p.entries n (length callers) top f vs at s)
@@ -108,7 +109,8 @@ module _ (z : Setting) (m : ℕ) (st : Contents) where
       counted s (λ s1. kept s.variables (apply store z.program.entries m (suc (length z.callers)) z.base g vs place s1))
 
   module _ (calls : CallsOk z.program store z.memory m) (names : List TypedName) (scope : Holders) (u : Used) (at : Place) (of : TypeId)
-      (f : FnId) (kk : Callable) (vs : List Value) (there : callable_of store f ≡ Some kk) (result : kk.body.result ≡ of) where
+      (f : FnId) (kk : Callable) (vs : List Value) (there : callable_of store f ≡ Some kk)
+      (narrow : are_narrow z.types (parameter_types kk) ≡ true) (result : kk.body.result ≡ of) where
     abbrev Goal : Bool → Point → Private → State → Got Value → Type 0
     Goal agg q k s g = Leaves z q k s (λ v s'. Comes z names scope q u k s (step_on q) names scope (used_by agg (bytes_at z.types of) u) s'
         (λ k1. Means z the_value of scope (used_by agg (bytes_at z.types of) u) (given (goes_to agg u)) k1 v)) g
@@ -201,7 +203,7 @@ module _ (z : Setting) (m : ℕ) (st : Contents) where
             let here = (stands z q k s).here in
             let entered = flow.enter at f (z.program.code f) vs z.base (caller agg q k ∷ z.callers) (beside here z.callers s1) in
             came (apply store z.program.entries m (suc (length z.callers)) z.base f vs at s1)
-            (calls (caller agg q k ∷ z.callers) z.base f kk vs at here z.callers s1 there values fine.sized
+            (calls (caller agg q k ∷ z.callers) z.base f kk vs at here z.callers s1 there narrow values fine.sized
             (let b = z.low in omega (arith, b))
             (omega (arith, e, less)))
           where

@@ -196,8 +196,8 @@ module _ (z : Setting) (m : ℕ) (st : Contents) (k : Callable) where
         block_acts z (suc m) st entries homes (call_here z m st) (suc m) w (OperationNeeds z.types (CallNeeds store)) (omega arith)
         (operation_sim z (suc m) st entries homes (call_here z m st) (suc m) (CallNeeds store)
         (λ names scope facts u at of ts rs us f h. call_sim z m st homes (suc m) calls code_is names scope facts u at of ts rs us f h)
-        (λ names scope facts u at of t ts rs us form. value_call_sim z m st homes (suc m) calls code_is names scope facts u at of t ts rs
-        us form))
+        (λ names scope facts u at of t ts rs us form narrow. value_call_sim z m st homes (suc m) calls code_is names scope facts u at of t
+        ts rs us narrow form))
         k.body.body (length k.body.parameters) w names1 D.result D.used needs.1
 
     pub body_grown : Grown tos.used B.used

@@ -13,6 +13,7 @@ use Rattle.tac_lower.specs.Lowering.{lowered}
 use Rattle.tac_lower.specs.Laws.{LoweringKeepsRuns}
 use Rattle.tac_lower.proofs.Standing.{SizedBy}
 use Rattle.tac_lower.proofs.Runs.{has_run}
+use Rattle.tac_lower.proofs.Typing.{body-needs}
 
 -- forms that aren't made of others
 abbrev is_plain : TypeForm → Type 0
@@ -48,7 +49,7 @@ sized-form (forms.Function params result) m e = ap bytes_by (e tt)
 sized-form (forms.Array t n) m e = tt
 sized-form (forms.Struct number place layout) m e = tt
 
-sizes : (types : List TypeForm) (t : TypeId) → SizedBy (form_at types t) (bytes_at types t)
+pub sizes : (types : List TypeForm) (t : TypeId) → SizedBy (form_at types t) (bytes_at types t)
 unfolding bytes_by
 sizes types t = by (slice_get types t.0) refl
   where
@@ -57,8 +58,9 @@ sizes types t = by (slice_get types t.0) refl
     by None e = ap bytes_by (past-measure types t.0 (past types t.0 e))
 
 pub lowering_keeps_runs : LoweringKeepsRuns lowered
-lowering_keeps_runs store p types ready lowered_are memory n f k arguments size statics there values =
+lowering_keeps_runs store p types are few lowered_are memory n f k arguments size statics there narrow values =
     let boolean_is : form_at store.types boolean ≡ forms.Bool =
     subst (λ l. form_at l boolean ≡ forms.Bool) (sym types.opened.1) refl in
     let unit_is : form_at store.types unit ≡ forms.Unit = subst (λ l. form_at l unit ≡ forms.Unit) (sym types.opened.1) refl in
-    has_run p store memory size.2 (sizes store.types) boolean_is unit_is lowered_are ready n f k arguments size statics there values
+    has_run p store memory size.2 (sizes store.types) boolean_is unit_is lowered_are
+    (λ g j at. body-needs store types p.entries few j (are g j at)) n f k arguments size statics there narrow values

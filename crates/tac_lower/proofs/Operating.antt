@@ -21,7 +21,7 @@ use Rattle.terra_meaning.specs.Running.{State, Got, Gives}
 use Rattle.terra_meaning.specs.Meaning.{Call, the_value, type_at, operated}
 use Rattle.tac_form.specs.declared.tac.Operand.TheVariants.{Constant}
 use Rattle.tac_lower.specs.Pieces.{Used, Piece, Result, a_word, an_area, an_offset, no_word, word_at, result_at, Holders, Around, whole_word, number_of, compute}
-use Rattle.tac_lower.specs.Lowering.{operation, extracted}
+use Rattle.tac_lower.specs.Lowering.{operation, extracted, are_narrow}
 pub use Rattle.tac_lower.specs.Needs.{NumberUnless, OperationNeeds}
 use Rattle.tac_lower.proofs.Standing.{Setting, Private, Means}
 use Rattle.tac_lower.proofs.Simulates.{Fact, one_of, all_of, AllMean, Sim}
@@ -153,7 +153,7 @@ module _ (z : Setting) (n : ℕ) (st : Contents) (entries : List FnId) (homes : 
     (rs : List Result) (vs : List Value) (f : FnId) → CallNeeds f ts of →
     Does z n st entries homes call turns CallNeeds names scope facts u at of ts rs vs (operations.Call f))
     (value_calls : (names : List TypedName) (scope : Holders) (facts : List Fact) (u : Used) (at : Place) (of t : TypeId) (ts : List TypeId)
-    (rs : List Result) (vs : List Value) → form_at z.types t ≡ forms.Function ts of →
+    (rs : List Result) (vs : List Value) → form_at z.types t ≡ forms.Function ts of → are_narrow z.types ts ≡ true →
     Does z n st entries homes call turns CallNeeds names scope facts u at of (t ∷ ts) rs vs operations.CallValue) where
   pub operation_sim : (names : List TypedName) (scope : Holders) (facts : List Fact) (u : Used) (at : Place) (of : TypeId) (op : Operation)
       (ts : List TypeId) (rs : List Result) (vs : List Value) → OperationNeeds z.types CallNeeds op ts of →
@@ -179,6 +179,6 @@ module _ (z : Setting) (n : ℕ) (st : Contents) (entries : List FnId) (homes : 
       primitive_sim z n names scope facts u of ts rs vs at p needs
   operation_sim names scope facts u at of operations.CallValue [] rs vs needs = absurd needs
   operation_sim names scope facts u at of operations.CallValue (t ∷ ts) rs vs needs =
-      value_calls names scope facts u at of t ts rs vs needs
+      value_calls names scope facts u at of t ts rs vs needs.0 needs.1
   operation_sim names scope facts u at of (operations.Construct offsets) ts rs vs needs =
       construct_sim u of offsets ts rs vs needs.0 needs.1

@@ -23,7 +23,7 @@ use Rattle.tac_form.specs.declared.tac.Tac.{Tac}
 use Rattle.tac_form.specs.Flow as flow
 use Rattle.tac_form.specs.Flow.{Program, Activation, Caller, Moved, Goes, Stops, steps, begun, TacRun}
 use Rattle.tac_lower.specs.Items.{empty_draft}
-use Rattle.tac_lower.specs.Lowering.{lowered, ending}
+use Rattle.tac_lower.specs.Lowering.{lowered, code_of, unreached, are_narrow, parameter_types, ending}
 use Rattle.tac_lower.specs.Needs.{BodyNeeds}
 use Rattle.tac_lower.specs.Laws.{HasRun}
 use Rattle.tac_lower.proofs.Places.{start_of}
@@ -43,11 +43,11 @@ module _ (p : Program) (st : Contents) (memory : ℕ) (room : memory ≤ 6710886
   abbrev frame : Callable → ℕ
   frame k = (frame_of st.types k.body).size
 
-  abbrev setting : (f : FnId) (k : Callable) → List Caller → (top : ℕ) → p.code f ≡ Some (lowered st p.entries k) → frame k ≤ top →
+  abbrev setting : (f : FnId) (k : Callable) → List Caller → (top : ℕ) → p.code f ≡ Some (code_of st p.entries k) → frame k ≤ top →
       top < 2 ^ 64 → Setting
   setting f k callers top there le low = record {
     program = p;
-    tac = lowered st p.entries k;
+    tac = code_of st p.entries k;
     function = f;
     base = top - frame k;
     callers = callers;
@@ -61,24 +61,28 @@ module _ (p : Program) (st : Contents) (memory : ℕ) (room : memory ≤ 6710886
     unit_is = unit_is;
   }
 
-  code-there : (f : FnId) (k : Callable) → callable_of st f ≡ Some k → p.code f ≡ Some (lowered st p.entries k)
-  code-there f k there = code_is f ∙ ap (option_map (lowered st p.entries)) there
+  code-there : (f : FnId) (k : Callable) → callable_of st f ≡ Some k → are_narrow st.types (parameter_types k) ≡ true →
+      p.code f ≡ Some (code_of st p.entries k)
+  code-there f k there narrow =
+      code_is f ∙ ap (option_map (lowered st p.entries)) there
+      ∙ ap (λ b. Some (if b then code_of st p.entries k else unreached k)) narrow
 
   -- what a call is below a function with so many callers
   abbrev below : (m depth : ℕ) → Calls
   below m depth base g vs place s = counted s (λ s1. kept s.variables (apply st p.entries m (suc depth) base g vs place s1))
 
   entered_ok : (m : ℕ) → CallsOk p st memory m → (callers : List Caller) (top : ℕ) (f : FnId) (k : Callable) (vs : List Value) (at : Place)
-      (here : Activation) (behind : List Caller) (s : State) → callable_of st f ≡ Some k → AreValues st.types k.body.parameters vs →
+      (here : Activation) (behind : List Caller) (s : State) → callable_of st f ≡ Some k →
+      are_narrow st.types (parameter_types k) ≡ true → AreValues st.types k.body.parameters vs →
       length s.region.bytes ≡ memory → top < 2 ^ 64 → s.left < suc m →
-      CallOk p st.types memory callers (flow.enter at f (Some (lowered st p.entries k)) vs top callers (beside here behind s))
+      CallOk p st.types memory callers (flow.enter at f (Some (code_of st p.entries k)) vs top callers (beside here behind s))
       k.body.result s.left
       (entered st p.entries (below m (length callers)) (suc m) (length callers) top at (Some k) vs s)
-  entered_ok m calls callers top f k vs at here behind s there values sized low less =
+  entered_ok m calls callers top f k vs at here behind s there narrow values sized low less =
       by (nat_le most_calls (length callers)) (nat_lt top (heap_limit s.region + frame k)) refl
     where
       tac : Tac
-      tac = lowered st p.entries k
+      tac = code_of st p.entries k
 
       fresh_call : Activation
       fresh_call = record { function = f; block = 0; at = 0; temps = λ t. 0; areas = λ n. []; base = top - frame k }
@@ -102,7 +106,7 @@ module _ (p : Program) (st : Contents) (memory : ℕ) (room : memory ≤ 6710886
       inside e =
           let enough = ltb-false top (heap_limit s.region + frame k) e in
           let le : frame k ≤ top = omega (arith, enough) in
-          let z = setting f k callers top (code-there f k there) le low in
+          let z = setting f k callers top (code-there f k there narrow) le low in
           let h : functions.BodyNeeds z m st k = needs f k there in
           let whole_ = grown-none (B z m st k).used in
           let k0 : Private = record { temps = λ t. 0; areas = λ n. [] } in
@@ -129,21 +133,21 @@ module _ (p : Program) (st : Contents) (memory : ℕ) (room : memory ≤ 6710886
 
   -- calls do what they mean, however deep they go
   pub apply_ok : (n : ℕ) → CallsOk p st memory n
-  apply_ok zero callers top f k vs at here behind s there values sized low less = absurd (omega (arith, less))
-  apply_ok (suc m) callers top f k vs at here behind s there values sized low less =
+  apply_ok zero callers top f k vs at here behind s there narrow values sized low less = absurd (omega (arith, less))
+  apply_ok (suc m) callers top f k vs at here behind s there narrow values sized low less =
       subst (λ o. CallOk p st.types memory callers (flow.enter at f (p.code f) vs top callers (beside here behind s)) k.body.result s.left
       (entered st p.entries (below m (length callers)) (suc m) (length callers) top at o vs s)) (sym there)
       (subst (λ o. CallOk p st.types memory callers (flow.enter at f o vs top callers (beside here behind s)) k.body.result s.left
-      (entered st p.entries (below m (length callers)) (suc m) (length callers) top at (Some k) vs s)) (sym (code-there f k there))
-      (entered_ok m (λ callers1 top1 f1 k1 vs1 at1 here1 behind1 s1 there1 values1 sized1 low1 less1.
-      apply_ok m callers1 top1 f1 k1 vs1 at1 here1 behind1 s1 there1 values1 sized1 low1 less1)
-      callers top f k vs at here behind s there values sized low less))
+      (entered st p.entries (below m (length callers)) (suc m) (length callers) top at (Some k) vs s)) (sym (code-there f k there narrow))
+      (entered_ok m (λ callers1 top1 f1 k1 vs1 at1 here1 behind1 s1 there1 narrow1 values1 sized1 low1 less1.
+      apply_ok m callers1 top1 f1 k1 vs1 at1 here1 behind1 s1 there1 narrow1 values1 sized1 low1 less1)
+      callers top f k vs at here behind s there narrow values sized low less))
 
   -- a function as the entry
   pub has_run : (n : ℕ) (f : FnId) (k : Callable) (vs : List Value) → IsMemorySize memory → length (static_bytes st) ≤ memory / 2 →
-      callable_of st f ≡ Some k → AreValues st.types k.body.parameters vs →
+      callable_of st f ≡ Some k → are_narrow st.types (parameter_types k) ≡ true → AreValues st.types k.body.parameters vs →
       HasRun p (static_bytes st) memory n f vs (meaning st p.entries memory n f vs)
-  has_run n f k vs size statics there values = record {
+  has_run n f k vs size statics there narrow values = record {
     runs = runs;
     alone = λ q h. one-run p (static_bytes st) memory n f vs (meaning st p.entries memory n f vs) q runs h;
   }
@@ -172,7 +176,7 @@ module _ (p : Program) (st : Contents) (memory : ℕ) (room : memory ≤ 6710886
       runs_so at (Ends r) g = g
 
       same_place : flow.place_of (p.code f) ≡ place_in (callable_of st f)
-      same_place = ap flow.place_of (code-there f k there) ∙ ap place_in (sym there)
+      same_place = ap flow.place_of (code-there f k there narrow) ∙ ap place_in (sym there)
 
       runs : TacRun p (static_bytes st) memory n f vs (meaning st p.entries memory n f vs)
       runs =
@@ -180,5 +184,5 @@ module _ (p : Program) (st : Contents) (memory : ℕ) (room : memory ≤ 6710886
           let less : n < suc n = omega arith in
           let low : end_address region < 2 ^ 64 = let e = size.2 in omega (arith, long, e) in
           let r = runs_so at (apply st p.entries (suc n) 0 (end_address region) f vs at s)
-          (apply_ok (suc n) [] (end_address region) f k vs at nowhere [] s there values long low less) in
+          (apply_ok (suc n) [] (end_address region) f k vs at nowhere [] s there narrow values long low less) in
           (r.0, ap (λ a. steps p r.0 (flow.enter a f (p.code f) vs (end_address region) [] (beside nowhere [] s))) same_place ∙ r.1)

@@ -32,7 +32,7 @@ use Rattle.tac_form.specs.declared.tac.Block.{Block}
 use Rattle.tac_form.specs.Fits.{Counted, blocks_count}
 use Rattle.tac_lower.specs.Items.{Item, does, ends, Ending, skips, tests, repeats, repeats_unless, leaves, gives, fails, count_ends, loop_of, exit_of, Draft, empty_draft, with_item, with_items}
 use Rattle.tac_lower.specs.Pieces.{Used, with_temp, with_area, Piece, known, doing, then_piece, taken, Result, a_word, an_area, an_offset, no_word, word_of, part_of, address_of, word_at, result_at, rest, whole_word, number_of, is_bool, given, compute, copied, located, loaded_bit, loaded_area, loaded_word, loaded, stored_part, stored, placed, Holder, in_temp, at_offset, Holders, holder_of, Around, declare_at, declare, declare_all, first_of}
-use Rattle.tac_lower.specs.Lowering.{reached, variable, entry, element, extracted, constructed, call, call_value, signature_in, operation, target_at, aimed, Target, to_temp, to_place, assigned, assigned_all, passed_over, choice, counting, runs, counted_on, while_loop, piece, pieces, targets, one, all, around, ending, received, lowered}
+use Rattle.tac_lower.specs.Lowering.{reached, variable, entry, element, extracted, constructed, call, call_value, signature_in, operation, target_at, aimed, Target, to_temp, to_place, assigned, assigned_all, passed_over, choice, counting, runs, counted_on, while_loop, piece, pieces, targets, one, all, around, ending, received, code_of, unreached, are_narrow, parameter_types, lowered}
 use Rattle.tac_lower.specs.Needs.{Needs, NeedsAll, NeedsTargets, NeedsOne, NeedsBlock, BodyNeeds, in_let, declared_names, names_after, names_after_one, OperationNeeds, CallNeeds}
 
 -- code that doesn't leave a loop around it
@@ -493,8 +493,8 @@ ending-stays k = by (nat_eq k.body.result.0 unit.0)
     by true = (tt, tt)
     by false = (tt, tt)
 
-pub code-counted : (store : Contents) (entries : List FnId) (k : Callable) → BodyNeeds store entries k → Counted (lowered store entries k)
-code-counted store entries k needs =
+reached-counted : (store : Contents) (entries : List FnId) (k : Callable) → BodyNeeds store entries k → Counted (code_of store entries k)
+reached-counted store entries k needs =
     let c = around store entries k in
     let tos = received store.types k.body.parameters (record { temps = 0; areas = [] }) in
     let D = declare_all c k.at k.body.parameters (map given tos.result) 0 [] tos.used in
@@ -507,3 +507,10 @@ code-counted store entries k needs =
     (length k.body.parameters) w
     (declared_names k.body.parameters []) D.result D.used refl needs.1))
     (ending-stays k)) refl
+
+pub code-counted : (store : Contents) (entries : List FnId) (k : Callable) → BodyNeeds store entries k → Counted (lowered store entries k)
+code-counted store entries k needs = by (are_narrow store.types (parameter_types k))
+  where
+    by : (b : Bool) → Counted (if b then code_of store entries k else unreached k)
+    by true = reached-counted store entries k needs
+    by false = refl

@@ -1,5 +1,5 @@
 -- The code of a typed term, by recursion on the term, as the meaning of terms goes.
-use Rattle.std.specs.Prelude.{ℕ, suc, ◌+◌, ◌-◌, ◌^◌, Bool, true, false, nat_eq, if◌then◌else◌, List, [], ◌∷◌, ◌++◌, length, Option, Some, None, map}
+use Rattle.std.specs.Prelude.{ℕ, suc, ◌+◌, ◌-◌, ◌^◌, Bool, true, false, ◌&&◌, nat_eq, nat_le, if◌then◌else◌, List, [], ◌∷◌, ◌++◌, length, Option, Some, None, map}
 use Rattle.tl_base.specs.declared.place.Place.{Place}
 use Rattle.tl_base.specs.declared.ids.TypeId.{TypeId}
 use Rattle.tl_base.specs.declared.ids.FnId.{FnId}
@@ -18,6 +18,7 @@ use Rattle.terra_term.specs.declared.lists.TypedName.{TypedName}
 use Rattle.terra_term.specs.TypedTerms.{Expression, typed, Constant', Variable, Global, Operate, Both, Either, Dereference, Select, Follow, Element, Index, Address, Decay, Let, Expressions, no_more, then_one, Statement, statement, Var, Assign, If, IfElse, While, Repeat, For, Do, Break, Finish, Return, Perform, Statements, done, and_then, type_of, place_of}
 use Rattle.terra_term.specs.Stores.{Contents, Callable}
 use Rattle.terra_term.specs.Sizes.{body_size}
+use Rattle.terra_term.specs.WellTyped.{widest}
 use Rattle.terra_meaning.specs.Values.{form_at, bytes_at, target_of}
 use Rattle.terra_meaning.specs.Frames.{frame_of}
 use Rattle.terra_meaning.specs.Meaning.{constant, types_of, type_at, in_expression, in_list, in_statement, in_block, Wanted, the_value, the_address}
@@ -27,6 +28,7 @@ use Rattle.tac_form.specs.declared.tac.Operand.TheVariants.{Temp, Constant}
 use Rattle.tac_form.specs.declared.tac.Spot.TheVariants as spots
 use Rattle.tac_form.specs.declared.tac.Destination.{Destination}
 use Rattle.tac_form.specs.declared.tac.Instruction.TheVariants.{Compute, TestDivisor, Copy, Clear, Call, CallValue, PutByte, Write, Alloc}
+use Rattle.tac_form.specs.declared.tac.Exit.TheVariants.{Fail}
 use Rattle.tac_form.specs.declared.tac.Signature.{Signature}
 use Rattle.tac_form.specs.declared.tac.Tac.{Tac}
 use Rattle.tac_lower.specs.Items.{Item, does, ends, skips, tests, repeats, repeats_unless, leaves, gives, fails, count_ends, loop_of, blocks_of}
@@ -367,14 +369,22 @@ body_piece c k tos u =
     then_piece (declare_all c k.at k.body.parameters (map given tos) 0 [] u)
     (λ scope u'. all c k.body.body (length k.body.parameters) scope u')
 
--- the code of a function of a store, where these functions stand as values
-abbrev pub lowered : Contents → List FnId → Callable → Tac
-lowered store entries k =
+-- types whose values are passed: a value has at most so many bytes
+abbrev pub are_narrow : List TypeForm → List TypeId → Bool
+are_narrow types [] = true
+are_narrow types (t ∷ ts) = nat_le (bytes_at types t) widest && are_narrow types ts
+
+abbrev pub parameter_types : Callable → List TypeId
+parameter_types k = map type_of_name k.body.parameters
+
+-- the code of a function that calls reach
+abbrev pub code_of : Contents → List FnId → Callable → Tac
+code_of store entries k =
     let tos = received store.types k.body.parameters nothing_used in
     let r = body_piece (around store entries k) k tos.result tos.used in
     record {
       nodes = (body_size k.body).nodes;
-      signature = record { params = map type_of_name k.body.parameters; result = k.body.result };
+      signature = record { params = parameter_types k; result = k.body.result };
       place = k.at;
       frame = (frame_of store.types k.body).size;
       temps = r.used.temps;
@@ -382,3 +392,21 @@ lowered store entries k =
       parameters = tos.result;
       blocks = blocks_of (r.code ++ ending k ∷ []);
     }
+
+-- A function with a parameter that no value goes to, since it is too wide, is called nowhere. It may stand as a value all the
+-- same, and so has code.
+abbrev pub unreached : Callable → Tac
+unreached k = record {
+  nodes = (body_size k.body).nodes;
+  signature = record { params = parameter_types k; result = k.body.result };
+  place = k.at;
+  frame = 0;
+  temps = 0;
+  areas = [];
+  parameters = [];
+  blocks = record { instructions = []; exit = Fail NoReturn k.at } ∷ [];
+}
+
+-- the code of a function of a store, where these functions stand as values
+abbrev pub lowered : Contents → List FnId → Callable → Tac
+lowered store entries k = if are_narrow store.types (parameter_types k) then code_of store entries k else unreached k

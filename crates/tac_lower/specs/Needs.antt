@@ -21,7 +21,7 @@ use Rattle.terra_term.specs.WellTyped.{Within}
 use Rattle.terra_meaning.specs.Values.{form_at, bytes_at, is_aggregate, target_of, IsValue}
 use Rattle.terra_meaning.specs.Frames.{Home, by_value, in_frame, home_at, frame_of}
 use Rattle.terra_meaning.specs.Meaning.{Wanted, the_value, the_address, constant, types_of, type_at, in_expression, in_list, in_statement, in_block}
-use Rattle.tac_lower.specs.Lowering.{type_of_name}
+use Rattle.tac_lower.specs.Lowering.{type_of_name, are_narrow}
 
 -- types and words
 
@@ -119,10 +119,11 @@ abbrev pub EntriesFit : List TypeForm → (size : ℕ) → List ℕ → List Typ
 EntriesFit types size (o ∷ os) (t ∷ ts) = (o + bytes_at types t ≤ size) × EntriesFit types size os ts
 EntriesFit types size _ _ = Unit {0}
 
--- the callee of a call is there, with parameters of these types and this result
+-- the callee of a call is there, with parameters of these types, which values have, and this result
 abbrev pub CallNeeds : Contents → FnId → List TypeId → TypeId → Type 0
 CallNeeds store f ts of =
-    (k : Callable) × (callable_of store f ≡ Some k) × (ts ≡ map type_of_name k.body.parameters) × (k.body.result ≡ of)
+    (k : Callable) × (callable_of store f ≡ Some k) × (ts ≡ map type_of_name k.body.parameters) × (k.body.result ≡ of) ×
+    (are_narrow store.types ts ≡ true)
 
 -- what operations need of the types of their operands and their results
 abbrev pub OperationNeeds : List TypeForm → (FnId → List TypeId → TypeId → Type 0) → Operation → List TypeId → TypeId → Type 0
@@ -139,7 +140,8 @@ OperationNeeds types Called (operations.Extract offset) (t ∷ ts) of =
 OperationNeeds types Called (operations.Call f) ts of = Called f ts of
 OperationNeeds types Called (operations.Primitive p) ts of = PrimitiveNeeds types p of
 OperationNeeds types Called operations.CallValue [] of = ⊥
-OperationNeeds types Called operations.CallValue (t ∷ ts) of = form_at types t ≡ forms.Function ts of
+OperationNeeds types Called operations.CallValue (t ∷ ts) of =
+    (form_at types t ≡ forms.Function ts of) × (are_narrow types ts ≡ true)
 OperationNeeds types Called (operations.Construct offsets) ts of =
     (is_aggregate types of ≡ true) × EntriesFit types (bytes_at types of) offsets ts
 

@@ -1,0 +1,18 @@
+//! What typing means: a plan for each kind of node of a body, for a check, and for a layout, in `specs/`.
+//!
+//! The plans speak of the nodes of terms and of the world by their lists. The types here are those that the code of the three layers
+//! needs as well: what a body is typed in (`typing`) and where in it a node is (`site`), what pays a unit (`job`), how it ends (`end`),
+//! and what is asked (`question`).
+#![tactic(auto)]
+
+pub mod end;
+pub mod job;
+pub mod question;
+pub mod site;
+pub mod typing;
+
+pub use end::{BodyEnd, CheckEnd, LayoutEnd, PartEnd};
+pub use job::{BodyJob, CheckJob, LayoutTask, Operand, OperandList, Reached, ReachedList};
+pub use question::{BodyQuestion, CheckAnswer, CheckQuestion, LayoutQuestion};
+pub use site::Site;
+pub use typing::Typing;

@@ -1,0 +1,268 @@
+-- A comparison and its branch as one.
+use Rattle.std.proofs.Common.{◌≡◌, ◌≢◌, ℕ, zero, suc, ◌+◌, ◌*◌, ◌%◌, ◌^◌, ◌<◌, ◌≤◌, Bool, true, false, not, ◌&&◌, ◌||◌, List, [], ◌∷◌, ◌++◌, length, map, Option, Some, None, refl, sym, ap, ◌∙◌, subst, ⊎_elim, inl, inr, arith}
+use Rattle.std.specs.Prelude.{if◌then◌else◌, nat_eq, nat_le, nat_lt, int_lt, slice_get, ◌⊎◌}
+use Rattle.std.specs.List.{list_any}
+use Rattle.std.proofs.lemmas.Bool.{cases_Bool, eq-eqb, ne_eqb, eqb-true}
+use Rattle.std.proofs.lemmas.List.{length-append}
+use Rattle.rv_isa.specs.declared.instr.Instr.{Instr}
+use Rattle.rv_isa.specs.declared.operation.BranchCondition.{BranchCondition}
+use Rattle.rv_isa.specs.declared.operation.BranchCondition.TheVariants.{Eq, Ne, Lt, Ltu, Ge, Geu}
+use Rattle.rv_isa.specs.declared.operand.Register.{Register}
+use Rattle.rv_isa.specs.Table.{word_of}
+use Rattle.reg_alloc.specs.declared.assignment.Home.{Home}
+use Rattle.rv_machine.specs.Word.{low, signed}
+use Rattle.rv_machine.specs.Arithmetic.{is_taken}
+use Rattle.rv_machine.specs.Machine.{State, GoesOn, value_at}
+use Rattle.terra_words.specs.declared.words.Width.{Width}
+use Rattle.terra_words.specs.declared.words.BinaryOperator.{BinaryOperator}
+use Rattle.terra_words.specs.declared.words.BinaryOperator.TheVariants.{Add, Subtract, Multiply, Divide, Modulo, Xor, And, Or, ShiftLeft, ShiftRight, Equal, NotEqual, Less, LessEqual, Greater, GreaterEqual}
+use Rattle.terra_words.specs.Words.{applied, divides, flag, is_less}
+use Rattle.tac_form.specs.declared.tac.Number.{Number}
+use Rattle.tac_form.specs.declared.tac.Operand.{Operand}
+use Rattle.tac_form.specs.declared.tac.Operand.TheVariants.{Temp, Constant}
+use Rattle.tac_form.specs.declared.tac.Edge.{Edge}
+use Rattle.tac_form.specs.declared.tac.Instruction.{Instruction}
+use Rattle.tac_form.specs.declared.tac.Instruction.TheVariants.{Compute}
+use Rattle.tac_form.specs.declared.tac.Exit.TheVariants.{Branch}
+use Rattle.tac_form.specs.declared.tac.Tac.{Tac}
+use Rattle.tac_form.specs.Flow as tac
+use Rattle.tac_form.specs.Flow.{Goes, Program, put, step, steps, width_of}
+use Rattle.terra_words.specs.Runs.{Stuck}
+use Rattle.tac_form.specs.Graph.{block_of, exit_next, graph_of, instruction_reads, operand_reads, step_of}
+use Rattle.tac_form.specs.Live.{InUse, IsLive, has, is_written, read_within}
+use Rattle.tac_form.specs.Fits.{operand_fits}
+use Rattle.rv_operators.specs.Codes.{is_comparison, x5, x6}
+use Rattle.rv_operators.specs.Runs.{Stands}
+use Rattle.rv_operators.proofs.Values.{signed-less}
+use Rattle.rv_select.specs.Places.{Holds, Housed, IsRead, Layout, World, layout_of, value_in}
+use Rattle.rv_select.specs.Shapes.{jump, taken}
+use Rattle.rv_select.specs.Compared.{ComparesAreCarried, ComparesKeepWithin, StandsAtCompare, below_condition, chosen, compared, compared_shape, condition_of, least_condition, left_of, operands_taken, right_of}
+use Rattle.rv_select.specs.Steps.{AreFewer, Comes, Left, with_temp, world_of}
+use Rattle.rv_select.proofs.Straight.{Loads, Scratch, loads-five, loads-six, scratch-both}
+use Rattle.rv_select.proofs.Ways.{Near, Way, at_pc, near-both, near-pc, scratch-near, stands-back, stands-front, straight-way, way-both}
+use Rattle.rv_select.proofs.Homes.{take-operand, taken-count}
+use Rattle.rv_select.proofs.Moves.{fewer-holds, scratch-holds, value-small}
+use Rattle.rv_select.proofs.Numbers.{pushed_words}
+use Rattle.rv_select.proofs.Faults.{branch-way}
+use Rattle.rv_select.proofs.Areas.{put-other}
+use Rattle.rv_select.proofs.Lives.{housed, read-live, step-in-graph, use-follows}
+use Rattle.rv_select.proofs.Carries.{both-true, by-test, has-left, has-right, operand-read}
+use Rattle.rv_select.proofs.Leaves.{exit-in-graph, jump-comes, low-near, next-live, or-left, or-second, zero-or-more}
+
+-- the result of a comparison, as its branch sees it
+flag-is : (b : Bool) → not (nat_eq (flag b) 0) ≡ b
+flag-is true = refl
+flag-is false = refl
+
+-- whether a word is below another, with a sign and without
+less : (b : Bool) (x y : ℕ) → x < 2 ^ 64 → y < 2 ^ 64 → (u v : ℕ) → u ≡ x → v ≡ y →
+    is_taken (below_condition b) u v ≡ (if b then nat_lt ((x + 2 ^ 63) % 2 ^ 64) ((y + 2 ^ 63) % 2 ^ 64) else nat_lt x y)
+less true x y h k u v e g = ap (λ z. int_lt (signed z) (signed v)) e ∙ (ap (λ z. int_lt (signed x) (signed z)) g ∙ signed-less x y h k)
+less false x y h k u v e g = ap (λ z. nat_lt z v) e ∙ ap (λ z. nat_lt x z) g
+
+least : (b : Bool) (x y : ℕ) → x < 2 ^ 64 → y < 2 ^ 64 → (u v : ℕ) → u ≡ x → v ≡ y →
+    is_taken (least_condition b) u v ≡ not (if b then nat_lt ((x + 2 ^ 63) % 2 ^ 64) ((y + 2 ^ 63) % 2 ^ 64) else nat_lt x y)
+least true x y h k u v e g = ap (λ z. not (int_lt (signed z) (signed v))) e ∙ (ap (λ z. not (int_lt (signed x) (signed z))) g ∙ ap not (signed-less x y h k))
+least false x y h k u v e g = ap (λ z. not (nat_lt z v)) e ∙ ap (λ z. not (nat_lt x z)) g
+
+compare-is : (w : Width) (op : BinaryOperator) (x y : ℕ) → is_comparison op ≡ true → x < 2 ^ 64 → y < 2 ^ 64 →
+    (m : State) → m.registers 5 ≡ x → m.registers 6 ≡ y → is_taken (condition_of w.signed op) (value_at m (left_of op)) (value_at m (right_of op)) ≡ not (nat_eq (applied w op x y) 0)
+unfolding applied
+compare-is w Equal x y c h k m e g = ap (λ v. nat_eq v (m.registers 6)) e ∙ (ap (λ v. nat_eq x v) g ∙ sym (flag-is (nat_eq x y)))
+compare-is w NotEqual x y c h k m e g = ap (λ v. not (nat_eq v (m.registers 6))) e ∙ (ap (λ v. not (nat_eq x v)) g ∙ sym (flag-is (not (nat_eq x y))))
+compare-is w Less x y c h k m e g = less w.signed x y h k (m.registers 5) (m.registers 6) e g ∙ sym (flag-is (is_less w x y))
+compare-is w Greater x y c h k m e g = less w.signed y x k h (m.registers 6) (m.registers 5) g e ∙ sym (flag-is (is_less w y x))
+compare-is w LessEqual x y c h k m e g = least w.signed y x k h (m.registers 6) (m.registers 5) g e ∙ sym (flag-is (not (is_less w y x)))
+compare-is w GreaterEqual x y c h k m e g = least w.signed x y h k (m.registers 5) (m.registers 6) e g ∙ sym (flag-is (not (is_less w x y)))
+compare-is w Add x y c h k m e g = cc
+compare-is w Subtract x y c h k m e g = cc
+compare-is w Multiply x y c h k m e g = cc
+compare-is w Divide x y c h k m e g = cc
+compare-is w Modulo x y c h k m e g = cc
+compare-is w Xor x y c h k m e g = cc
+compare-is w And x y c h k m e g = cc
+compare-is w Or x y c h k m e g = cc
+compare-is w ShiftLeft x y c h k m e g = cc
+compare-is w ShiftRight x y c h k m e g = cc
+
+-- a branch on two registers, and the jump that it comes to
+chosen-comes : (y : Layout) (Used Next : ℕ → Type 0) (w : World) (base first second to weight : ℕ) (condition : BranchCondition) (a b : Register) (taken_it : Bool) (A : List Instr) (program : List (Option Instr)) (m k : State) →
+    Scratch A m k → Holds y Used w base m → Housed y Used → AreFewer Used Next → length A + 3 ≤ weight → length A ≤ 16 → m.pc + 256 ≤ 2 ^ 30 →
+    (first < 2 ^ 30) × (first % 2 ≡ 0) → (second < 2 ^ 30) × (second % 2 ≡ 0) → Stands program m.pc (A ++ chosen condition a b (m.pc + 4 * length A) first second) →
+    is_taken condition (value_at k a) (value_at k b) ≡ taken_it → (if taken_it then first else second) ≡ to → Comes y program Next w base weight to [] m
+chosen-comes y Used Next w base first second to weight condition a b taken_it A program m k l p h f enough short near first-near second-near there e is =
+    let at : ℕ = m.pc + 4 * length A in
+    let at-is : k.pc ≡ at = l.behind ∙ low-near at (omega arith) in
+    let B : List Instr = chosen condition a b at first second in
+    let rest : Stands program k.pc B = subst (λ q. Stands program q B) (sym l.behind) (stands-back program m.pc A B p.pc there) in
+    let one : Way program (length A) m k = straight-way program A m k (stands-front program m.pc A B there) l.straight l.goes in
+    let t : ℕ = if taken_it then low (k.pc + 12) else low (k.pc + 4) in
+    let n : State = at_pc k t in
+    let two : Way program 1 k n = branch-way program condition a b 12 k taken_it (omega arith) (omega arith) rest.0 e in
+    let way : Way program (length A + 1) m n = way-both program (length A) 1 m k n one two in
+    let around : Near m n = near-both m k n (scratch-near A m k l) (near-pc k t) in
+    let next : low (k.pc + 4) ≡ at + 4 = ap (λ q. low (q + 4)) at-is ∙ low-near (at + 4) (omega arith) in
+    let both : Stands program (at + 4) (jump (at + 4) second ++ jump (at + 12) first) = subst (λ q. Stands program q (jump (at + 4) second ++ jump (at + 12) first)) next rest.1 in
+    let third : low (at + 4 + 4 * 2) ≡ at + 12 = low-near (at + 4 + 4 * 2) (omega arith) ∙ omega arith in
+    let last : Stands program (at + 12) (jump (at + 12) first) =
+    subst (λ q. Stands program q (jump (at + 12) first)) third (stands-back program (at + 4) (jump (at + 4) second) (jump (at + 12) first) (omega arith) both) in
+    let nearer : Stands program (at + 4) (jump (at + 4) second) = stands-front program (at + 4) (jump (at + 4) second) (jump (at + 12) first) both in
+    let far-is : low (k.pc + 12) ≡ at + 12 = ap (λ q. low (q + 12)) at-is ∙ low-near (at + 12) (omega arith) in
+    choose taken_it n around way next far-is nearer last is refl
+  where
+    choose : (t : Bool) (n : State) → Near m n → Way program (length A + 1) m n → low (k.pc + 4) ≡ m.pc + 4 * length A + 4 → low (k.pc + 12) ≡ m.pc + 4 * length A + 12 →
+        Stands program (m.pc + 4 * length A + 4) (jump (m.pc + 4 * length A + 4) second) → Stands program (m.pc + 4 * length A + 12) (jump (m.pc + 4 * length A + 12) first) →
+        (if t then first else second) ≡ to → n.pc ≡ (if t then low (k.pc + 12) else low (k.pc + 4)) → Comes y program Next w base weight to [] m
+    choose true n around way i j c d is pc =
+        subst (λ q. Comes y program Next w base weight q [] m) is
+        (jump-comes y Used Next w base (length A + 1) weight (m.pc + 4 * length A + 12) first program m n p h f way around (pc ∙ j) (omega arith) first-near.0 first-near.1 d (omega arith))
+    choose false n around way i j c d is pc =
+        subst (λ q. Comes y program Next w base weight q [] m) is
+        (jump-comes y Used Next w base (length A + 1) weight (m.pc + 4 * length A + 4) second program m n p h f way around (pc ∙ i) (omega arith) second-near.0 second-near.1 c (omega arith))
+
+-- what is in use but for a temporary
+abbrev without : (ℕ → Type 0) → ℕ → ℕ → Type 0
+without Used d t = Used t × (t ≢ d)
+
+-- a temporary that isn't in use may have any word
+unread-holds : (y : Layout) (Used : ℕ → Type 0) (w : World) (base d v : ℕ) (m : State) → Holds y Used w base m → Holds y (without Used d) (with_temp w d v) base m
+unread-holds y Used w base d v m p = record {
+  frame = p.frame;
+  pc = p.pc;
+  values = λ t u. p.values t u.0 ∙ sym (put-other w.temps d t v u.1);
+  words = λ t u. subst (λ x. x < 2 ^ 64) (sym (put-other w.temps d t v u.1)) (p.words t u.0);
+  areas = p.areas;
+  short = p.short;
+  area_bytes = p.area_bytes;
+  region = p.region;
+  bytes = p.bytes;
+  lawful = p.lawful;
+  heap = p.heap;
+  limit = p.limit;
+  placed = p.placed;
+  above = p.above;
+  below = p.below;
+  depth = p.depth;
+}
+
+-- the comparison at its place
+module _ (p : Program) (code : Tac) (homes : List (Option Home)) (d : ℕ) (op : BinaryOperator) (form : Number) (a b : Operand) (e f : Edge) (starts : ℕ → ℕ) (s : tac.State)
+    (program : List (Option Instr)) (base : ℕ) (m : State) (x : StandsAtCompare p code homes d op form a b e f starts s program base m) where
+  abbrev y : Layout
+  y = layout_of code homes
+
+  abbrev used : ℕ → Type 0
+  used = InUse (graph_of code) s.here.block s.here.at
+
+  abbrev va : ℕ
+  va = value_in s.here.temps a
+
+  abbrev vb : ℕ
+  vb = value_in s.here.temps b
+
+  abbrev result : ℕ
+  result = applied (width_of form) op va vb
+
+  abbrev after_it : tac.State
+  after_it = tac.ahead (tac.set_temp d result s)
+
+  abbrev A : List Instr
+  A = operands_taken y a b
+
+  all-housed : Housed y used
+  all-housed = housed code homes s.here.block s.here.at x.right
+
+  reads-here : (t : ℕ) → has (instruction_reads (Compute d op form a b)) t ≡ true → used t
+  reads-here t h =
+      let g = step-in-graph code x.block (Compute d op form a b) s.here.block s.here.at x.in_function x.in_block in
+      inl (read-live (graph_of code) s.here.block s.here.at t (block_of x.block) (step_of (Compute d op form a b)) g.0 g.1 h)
+
+  -- what is in use where a block begins that follows
+  next-here : (c : ℕ) → (IsLive (graph_of code) c 0 d → ⊥) → ((q : ℕ → Bool) → q c ≡ true → list_any q (exit_next (Branch (Temp d) e f)) ≡ true) → AreFewer (without used d) (InUse (graph_of code) c 0)
+  next-here c unread h t u =
+      let g = exit-in-graph code x.block s.here.block (suc s.here.at) x.in_function x.last in
+      let k = step-in-graph code x.block (Compute d op form a b) s.here.block s.here.at x.in_function x.in_block in
+      let differs : t ≢ d =
+      λ same. ⊎_elim (λ live. unread (subst (λ i. IsLive (graph_of code) c 0 i) same live)) (λ w. let none : false ≡ true = w in cc) u in
+      let behind : InUse (graph_of code) s.here.block (suc s.here.at) t =
+      next-live (graph_of code) s.here.block (suc s.here.at) t (block_of x.block) c g.0 g.1
+      (λ i r. ap (λ ns. list_any (λ j. read_within (graph_of code) i j 0 t) ns) (ap exit_next x.is) ∙ h (λ j. read_within (graph_of code) i j 0 t) r) u in (
+        ⊎_elim (λ w. absurd (differs (sym (eqb-true d t w)))) (λ o. o)
+            (use-follows (graph_of code) s.here.block s.here.at t (block_of x.block) (step_of (Compute d op form a b)) k.0 k.1 behind),
+        differs,
+      )
+
+  fits-both : ((nat_lt d code.temps && operand_fits code a) ≡ true) × (operand_fits code b ≡ true)
+  fits-both = both-true (nat_lt d code.temps && operand_fits code a) (operand_fits code b) x.fits
+
+  read-a : IsRead used a
+  read-a = operand-read code used a (both-true (nat_lt d code.temps) (operand_fits code a) fits-both.0).1 (λ t u. reads-here t (has-left (operand_reads a) (operand_reads b) t u))
+
+  read-b : IsRead used b
+  read-b = operand-read code used b fits-both.1 (λ t u. reads-here t (has-right (operand_reads a) (operand_reads b) t u))
+
+  compare-comes : (taken_it : Bool) (c : ℕ) → not (nat_eq result 0) ≡ taken_it → (if taken_it then e.block else f.block) ≡ c → (IsLive (graph_of code) c 0 d → ⊥) →
+      ((q : ℕ → Bool) → q c ≡ true → list_any q (exit_next (Branch (Temp d) e f)) ≡ true) → Comes y program (InUse (graph_of code) c 0) (world_of after_it) base 42 (starts c) [] m
+  compare-comes taken_it c is block unread h =
+      let l : Loads 5 (taken y x5 a) m va = take-operand y x5 used (world_of s) base m a (λ q. omega (arith, q)) x.holds all-housed read-a in
+      let q : Holds y used (world_of s) base l.after = scratch-holds y used (world_of s) base (taken y x5 a) m l.after x.holds all-housed (loads-five (taken y x5 a) m va l) in
+      let k : Loads 6 (taken y x6 b) l.after vb = take-operand y x6 used (world_of s) base l.after b (λ i. omega (arith, i)) q all-housed read-b in
+      let five : k.after.registers 5 ≡ va = k.keeps 5 (λ i. omega (arith, i)) (λ i. omega (arith, i)) ∙ l.gives in
+      let both : Scratch A m k.after = scratch-both (taken y x5 a) (taken y x6 b) m l.after k.after (loads-five (taken y x5 a) m va l) (loads-six (taken y x6 b) l.after vb k) in
+      let few : length A ≤ 16 = omega (arith, length-append (taken y x5 a) (taken y x6 b), taken-count y x5 a, taken-count y x6 b) in
+      chosen-comes y (without used d) (InUse (graph_of code) c 0) (world_of after_it) base (starts e.block) (starts f.block) (starts c) 42 (condition_of form.signed op) (left_of op) (right_of op) taken_it A program m k.after
+      both (unread-holds y used (world_of s) base d result m x.holds) (record { homes = λ t u. all-housed.homes t u.0; apart = λ t u i j g. all-housed.apart t u i.0 j.0 g }) (next-here c unread h)
+      (omega arith) few x.near (x.blocks e.block) (x.blocks f.block) x.stands
+      (compare-is (width_of form) op va vb x.compares (value-small used y (world_of s) base m a x.holds read-a) (value-small used y (world_of s) base m b x.holds read-b) k.after five k.gives ∙ is)
+      (chosen-start taken_it c block)
+    where
+      chosen-start : (t : Bool) (c : ℕ) → (if t then e.block else f.block) ≡ c → (if t then starts e.block else starts f.block) ≡ starts c
+      chosen-start true c i = ap starts i
+      chosen-start false c i = ap starts i
+
+  pub carry-leave : Left y (graph_of code) program base 42 starts s m (step p after_it)
+  carry-leave =
+      let first : result ≢ 0 → Comes y program (InUse (graph_of code) e.block 0) (world_of after_it) base 42 (starts e.block) [] m =
+      λ n. compare-comes true e.block (ap not (ne_eqb result 0 n)) refl x.first_unread (λ q g. or-left (q e.block) (q f.block || false) g) in
+      let second : result ≡ 0 → Comes y program (InUse (graph_of code) f.block 0) (world_of after_it) base 42 (starts f.block) [] m =
+      λ n. compare-comes false f.block (ap not (eq-eqb result 0 n)) refl x.second_unread (λ q g. or-second (q e.block) (q f.block || false) (or-left (q f.block) false g)) in
+      let same : tac.operand after_it (Temp d) ≡ result = ap (λ t. if t then result else s.here.temps d) (eq-eqb d d refl) in
+      let e1 = x.function in
+      let e2 = x.in_function in
+      let e3 = x.last in
+      let e4 = x.is in
+      rw (e1, e2, e3) (rw e4 (rw same
+      (by-test (λ moved. Left y (graph_of code) program base 42 starts s m moved) (nat_eq result 0) _ _
+      (λ z.
+      let comes = second (eqb-true result 0 z) in
+      by-test (λ moved. Left y (graph_of code) program base 42 starts s m moved) f.counts _ _
+      (λ c. ⊎_elim (λ k. rw k tt) (λ k. let q = k.1 in rw q (refl, comes)) (zero-or-more s.left)) (λ c. (refl, comes)))
+      (λ z.
+      let comes = first (λ o. let t : nat_eq result 0 ≡ true = eq-eqb result 0 o in let none : true ≡ false = sym t ∙ z in cc) in
+      by-test (λ moved. Left y (graph_of code) program base 42 starts s m moved) e.counts _ _
+      (λ c. ⊎_elim (λ k. rw k tt) (λ k. let q = k.1 in rw q (refl, comes)) (zero-or-more s.left)) (λ c. (refl, comes))))))
+
+pub compares : ComparesAreCarried
+compares p code homes d op form a b e f starts s program base m x =
+    let leave = carry-leave p code homes d op form a b e f starts s program base m x in
+    let e1 = x.function in
+    let e2 = x.in_function in
+    let e3 = x.in_block in
+    let zero : Bool = divides op && nat_eq (tac.operand s b) 0 in
+    let first : step p s ≡ (if zero then tac.stop s Stuck else Goes (tac.ahead (tac.set_temp d (applied (width_of form) op (tac.operand s a) (tac.operand s b)) s))) = rw (e1, e2, e3) refl in
+    subst (λ moved. Left (layout_of code homes) (graph_of code) program base 42 starts s m (steps p 1 moved)) (sym first)
+    (by-test (λ moved. Left (layout_of code homes) (graph_of code) program base 42 starts s m (steps p 1 moved)) zero _ _ (λ h. tt) (λ h. leave))
+
+-- how many words there are
+compared-count : (y : Layout) (signed : Bool) (op : BinaryOperator) (a b : Operand) (at first second : ℕ) → length (operands_taken y a b ++ compared signed op at first second) ≡ length (operands_taken y a b) + 5
+compared-count y signed op a b at first second = length-append (operands_taken y a b) (compared signed op at first second)
+
+pub compares-within : ComparesKeepWithin
+compares-within y op form a b e f at other starts others = (
+  omega (arith, compared-count y form.signed op a b (at + 4 * length (operands_taken y a b)) (starts e.block) (starts f.block), length-append (taken y x5 a) (taken y x6 b), taken-count y x5 a, taken-count y x6 b),
+  compared-count y form.signed op a b (at + 4 * length (operands_taken y a b)) (starts e.block) (starts f.block)
+      ∙ sym (compared-count y form.signed op a b (other + 4 * length (operands_taken y a b)) (others e.block) (others f.block)),
+)
+
+pub operand_words : (old : List ℕ) (y : Layout) (a b : Operand) → (length (old ++ map word_of (operands_taken y a b)) ≡ length old + length (operands_taken y a b)) × (length (operands_taken y a b) ≤ 16)
+operand_words old y a b = (pushed_words old (operands_taken y a b), omega (arith, length-append (taken y x5 a) (taken y x6 b), taken-count y x5 a, taken-count y x6 b))

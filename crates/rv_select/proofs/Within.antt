@@ -1,0 +1,95 @@
+-- The code of calls, and that of entering and leaving functions, keeps within its weight.
+use Rattle.std.proofs.Common.{◌≡◌, ℕ, zero, suc, ◌+◌, ◌-◌, ◌*◌, ◌^◌, ◌≤◌, Bool, true, false, List, [], ◌∷◌, ◌++◌, length, refl, sym, ap, ◌∙◌, subst, ⊎_elim, arith}
+use Rattle.std.specs.Prelude.{if◌then◌else◌, nat_le}
+use Rattle.std.proofs.lemmas.Bool.{cases_Bool, le-leb, leb-true}
+use Rattle.std.proofs.lemmas.List.{length-append}
+use Rattle.rv_isa.specs.declared.instr.Instr.{Instr}
+use Rattle.rv_isa.specs.declared.instr.Instr.TheVariants.{Jalr, RegisterRegister, Store}
+use Rattle.rv_isa.specs.declared.operation.RegisterOp.TheVariants.{Add, Sub}
+use Rattle.rv_isa.specs.declared.operation.StoreOp.TheVariants.{Sd}
+use Rattle.tac_form.specs.declared.tac.Destination.TheVariants.{Temp}
+use Rattle.tac_form.specs.declared.tac.Part.{Part}
+use Rattle.rv_operators.specs.Codes.{x0, x5, x6, zero_immediate}
+use Rattle.rv_select.specs.Numbers.{below_zero, constant, lower_of, register_of, short_constant}
+use Rattle.rv_select.specs.Places.{Layout, home_of}
+use Rattle.rv_select.specs.Shapes.{far_part, fault_call, jump, limit_found, place_number, put_to, x2, x7, x8, x10, x11}
+use Rattle.rv_select.specs.Entering.{arguments_stored, entered, frames_given, frames_taken, stack_tested, x1, most_arguments, put_back, saved, stack_branch, stored_below}
+use Rattle.rv_select.specs.Calls.{call_begun, call_ended, called, call_jump, depth_tested, one_more, part_taken, passed}
+use Rattle.rv_select.specs.Frames.{CallsKeepWithin, FramesKeepWithin}
+use Rattle.rv_select.proofs.Enters.{saved-count}
+use Rattle.rv_select.proofs.Homes.{put-count}
+use Rattle.rv_select.proofs.Numbers.{constant-count, short-count}
+use Rattle.rv_select.proofs.Passes.{below-count, part-count}
+use Rattle.rv_select.proofs.Quits.{put-back-count}
+
+-- most words of two pieces of code
+both : (a b : List Instr) (n k : ℕ) → length a ≤ n → length b ≤ k → length (a ++ b) ≤ n + k
+both a b n k h g = omega (arith, length-append a b)
+
+passed-count : (y : Layout) (i : ℕ) (ps : List Part) → length (passed y i ps) ≤ 11 * length ps
+passed-count y i [] = omega arith
+passed-count y i (p ∷ ps) =
+    let A = part_taken y x5 p in
+    let B = stored_below x5 (8 * (i + 1)) in
+    let C = passed y (i + 1) ps in
+    let a : length A ≤ 8 = part-count y x5 p in
+    let b : length B ≤ 3 = below-count x5 (8 * (i + 1)) in
+    let c : length C ≤ 11 * length ps = passed-count y (i + 1) ps in
+    let one : length (A ++ (B ++ C)) ≤ 8 + (3 + 11 * length ps) = both A (B ++ C) 8 (3 + 11 * length ps) a (both B C 3 (11 * length ps) b c) in
+    omega (arith, one)
+
+-- the machine's arguments are stored near the frame
+near-one : (x : ℕ) (n : ℕ) → n ≤ 2048 → length (stored_below (register_of x) n) ≤ 1
+near-one x n h =
+    subst
+    (λ b. length (if b then Store Sd x2 (register_of x) (below_zero (n - 1)) ∷ [] else far_part (2 ^ 32 - n) ++ Store Sd x7 (register_of x) (lower_of (2 ^ 32 - n)) ∷ []) ≤ 1)
+    (sym (le-leb n 2048 h)) (omega arith)
+
+arguments-count : (n i : ℕ) → n + i ≤ 8 → length (arguments_stored n i) ≤ n
+arguments-count zero i h = omega arith
+arguments-count (suc n) i h =
+    let one : length (arguments_stored (suc n) i) ≤ 1 + n =
+    both (stored_below (register_of (10 + i)) (8 * (i + 1))) (arguments_stored n (i + 1)) 1 n (near-one (10 + i) (8 * (i + 1)) (omega (arith, h))) (arguments-count n (i + 1) (omega (arith, h))) in
+    omega (arith, one)
+
+most-eight : (n : ℕ) → most_arguments n ≤ 8
+most-eight n = either (nat_le n 8) refl
+  where
+    either : (b : Bool) → nat_le n 8 ≡ b → (if b then n else 0) ≤ 8
+    either true e = leb-true n 8 e
+    either false e = omega arith
+
+pub frames-within : FramesKeepWithin
+frames-within code y bytes at last v =
+    let n : ℕ = most_arguments (length code.parameters) in
+    let args : length (arguments_stored n 0) ≤ n = arguments-count n 0 (omega (arith, most-eight (length code.parameters))) in
+    let eight : length (arguments_stored n 0) ≤ 8 = omega (arith, args, most-eight (length code.parameters)) in
+    let place : length (constant x11 (place_number code.place)) ≤ 8 = constant-count x11 (place_number code.place) in
+    let begins : length (arguments_stored n 0 ++ constant x11 (place_number code.place)) ≤ 8 + 8 =
+    both (arguments_stored n 0) (constant x11 (place_number code.place)) 8 8 eight place in
+    let five : length (constant x5 code.frame) ≤ 8 = constant-count x5 code.frame in
+    let tested : length (constant x5 code.frame ++ (limit_found ++ stack_branch)) ≤ 8 + 9 = both (constant x5 code.frame) (limit_found ++ stack_branch) 8 9 five (omega arith) in
+    let short : length (short_constant x6 bytes) ≤ 2 = short-count x6 bytes in
+    let keeps : length (saved y 10 18) ≤ 10 = saved-count y 10 18 in
+    let taken : length (short_constant x6 bytes) + (2 + length (saved y 10 18)) ≤ 14 = omega (arith, short, keeps) in
+    let enters : length (entered y bytes code.frame) ≤ 17 + 15 =
+    both (stack_tested code.frame) (frames_taken y bytes) 17 15 tested (omega (arith, length-append (short_constant x6 bytes) (RegisterRegister Sub x2 x2 x6 ∷ Store Sd x2 x1 zero_immediate ∷ saved y 10 18), taken)) in
+    let backs : length (put_back y 10 18) ≤ 10 = put-back-count y 10 18 in
+    let gives : length (frames_given bytes code.frame) ≤ 8 + 5 =
+    both (constant x5 code.frame) (RegisterRegister Add x8 x8 x5 ∷ (short_constant x6 bytes ++ (RegisterRegister Add x2 x2 x6 ∷ Jalr x0 x1 zero_immediate ∷ []))) 8 5 five (omega (arith, length-append (short_constant x6 bytes) (RegisterRegister Add x2 x2 x6 ∷ Jalr x0 x1 zero_immediate ∷ []), short)) in
+    let leaves : length (put_back y 10 18 ++ frames_given bytes code.frame) ≤ 10 + 13 = both (put_back y 10 18) (frames_given bytes code.frame) 10 13 backs gives in
+    (omega (arith, begins, enters, leaves), both (part_taken y x10 v) (jump (at + 4 * length (part_taken y x10 v)) last) 8 2 (part-count y x10 v) (omega arith))
+
+pub calls-within : CallsKeepWithin
+calls-within y sizes places at d place f arguments =
+    let A = constant x11 (place_number place) in
+    let P = passed y 0 arguments in
+    let first : length A ≤ 8 = constant-count x11 (place_number place) in
+    let parts : length P ≤ 11 * length arguments = passed-count y 0 arguments in
+    let tail : length (P ++ one_more) ≤ 11 * length arguments + 1 = both P one_more (11 * length arguments) 1 parts (omega arith) in
+    let deep : length (depth_tested ++ (P ++ one_more)) ≤ 5 + (11 * length arguments + 1) = both depth_tested (P ++ one_more) 5 (11 * length arguments + 1) (omega arith) tail in
+    let begins : length (A ++ (depth_tested ++ (P ++ one_more))) ≤ 8 + (5 + (11 * length arguments + 1)) = both A (depth_tested ++ (P ++ one_more)) 8 (5 + (11 * length arguments + 1)) first deep in
+    let put : length (put_to (home_of y d)) ≤ 3 = put-count (home_of y d) in
+    let whole : length (called y sizes places at (Temp d) place f arguments) ≤ 8 + (5 + (11 * length arguments + 1)) + (2 + 5) =
+    both (A ++ (depth_tested ++ (P ++ one_more))) (call_jump (at + 4 * length (call_begun y place arguments)) (places f) ++ call_ended y sizes (Temp d)) (8 + (5 + (11 * length arguments + 1))) (2 + 5) begins (omega (arith, put)) in
+    omega (arith, whole)

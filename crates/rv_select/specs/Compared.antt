@@ -1,0 +1,108 @@
+-- A comparison at a block's end and the branch on its result, as one branch of the machine.
+use Rattle.std.specs.Prelude.{◌≡◌, ℕ, suc, ◌+◌, ◌*◌, ◌%◌, ◌^◌, ◌<◌, ◌≤◌, Bool, true, false, IsTrue, List, [], ◌∷◌, ◌++◌, length, Option, Some, None, slice_get}
+use Rattle.rv_isa.specs.declared.instr.Instr.{Instr}
+use Rattle.rv_isa.specs.declared.instr.Instr.TheVariants as instrs
+use Rattle.rv_isa.specs.declared.operation.BranchCondition.{BranchCondition}
+use Rattle.rv_isa.specs.declared.operation.BranchCondition.TheVariants.{Eq, Ne, Lt, Ltu, Ge, Geu}
+use Rattle.rv_isa.specs.declared.operand.Register.{Register}
+use Rattle.reg_alloc.specs.declared.assignment.Home.{Home}
+use Rattle.reg_alloc.specs.Right.{IsRight}
+use Rattle.rv_machine.specs.Machine.{State}
+use Rattle.terra_words.specs.declared.words.BinaryOperator.{BinaryOperator}
+use Rattle.terra_words.specs.declared.words.BinaryOperator.TheVariants.{Equal, NotEqual, Less, LessEqual, Greater, GreaterEqual}
+use Rattle.tac_form.specs.declared.tac.Number.{Number}
+use Rattle.tac_form.specs.declared.tac.Operand.{Operand}
+use Rattle.tac_form.specs.declared.tac.Operand.TheVariants.{Temp}
+use Rattle.tac_form.specs.declared.tac.Edge.{Edge}
+use Rattle.tac_form.specs.declared.tac.Instruction.TheVariants.{Compute}
+use Rattle.tac_form.specs.declared.tac.Exit.TheVariants.{Branch}
+use Rattle.tac_form.specs.declared.tac.Block.{Block}
+use Rattle.tac_form.specs.declared.tac.Tac.{Tac}
+use Rattle.tac_form.specs.Flow as tac
+use Rattle.tac_form.specs.Flow.{Goes, Program, steps}
+use Rattle.tac_form.specs.Fits.{instruction_fits}
+use Rattle.tac_form.specs.Graph.{graph_of}
+use Rattle.tac_form.specs.Live.{InUse, IsLive}
+use Rattle.tac_form.specs.Weights.{exit_words, words_of}
+use Rattle.rv_operators.specs.Codes.{is_comparison, x5, x6}
+use Rattle.rv_operators.specs.Runs.{Stands}
+use Rattle.rv_select.specs.Places.{Layout, Holds, layout_of}
+use Rattle.rv_select.specs.Shapes.{jump, offset_of, taken}
+use Rattle.rv_select.specs.Steps.{Left, world_of}
+
+-- the branches on "below" and on "not below", of numbers with a sign and without
+abbrev pub below_condition : Bool → BranchCondition
+below_condition true = Lt
+below_condition false = Ltu
+
+abbrev pub least_condition : Bool → BranchCondition
+least_condition true = Ge
+least_condition false = Geu
+
+-- the condition under which a comparison of x5 and x6 is true, and its registers, which change places for two of them
+abbrev pub condition_of : (signed : Bool) → BinaryOperator → BranchCondition
+condition_of signed Equal = Eq
+condition_of signed Less = below_condition signed
+condition_of signed Greater = below_condition signed
+condition_of signed LessEqual = least_condition signed
+condition_of signed GreaterEqual = least_condition signed
+condition_of signed _ = Ne
+
+abbrev pub left_of : BinaryOperator → Register
+left_of Greater = x6
+left_of LessEqual = x6
+left_of _ = x5
+
+abbrev pub right_of : BinaryOperator → Register
+right_of Greater = x5
+right_of LessEqual = x5
+right_of _ = x6
+
+-- a branch over a jump to the second block, to a jump to the first
+abbrev pub chosen : BranchCondition → (a b : Register) → (at first second : ℕ) → List Instr
+chosen condition a b at first second = instrs.Branch condition a b (offset_of 12) ∷ (jump (at + 4) second ++ jump (at + 12) first)
+
+abbrev pub compared : Bool → BinaryOperator → (at first second : ℕ) → List Instr
+compared signed op at first second = chosen (condition_of signed op) (left_of op) (right_of op) at first second
+
+abbrev pub operands_taken : Layout → (a b : Operand) → List Instr
+operands_taken y a b = taken y x5 a ++ taken y x6 b
+
+abbrev pub compared_shape : Layout → (at : ℕ) → (starts : ℕ → ℕ) → BinaryOperator → Number → (a b : Operand) → (e f : Edge) → List Instr
+compared_shape y at starts op form a b e f =
+    operands_taken y a b ++ compared form.signed op (at + 4 * length (operands_taken y a b)) (starts e.block) (starts f.block)
+
+-- Where a function's code stands at the last instruction of a block, a comparison, whose result the block's branch tests and nothing
+-- reads after that: its temporary is live at the begin of neither block. So no home gets it.
+pub record StandsAtCompare (p : Program) (code : Tac) (homes : List (Option Home)) (d : ℕ) (op : BinaryOperator) (form : Number) (a b : Operand) (e f : Edge)
+    (starts : ℕ → ℕ) (s : tac.State) (program : List (Option Instr)) (base : ℕ) (m : State) : Type 0 where
+  pub block : Block
+  pub function : p.code s.here.function ≡ Some code
+  pub in_function : slice_get code.blocks s.here.block ≡ Some block
+  pub in_block : slice_get block.instructions s.here.at ≡ Some (Compute d op form a b)
+  pub last : slice_get block.instructions (suc s.here.at) ≡ None
+  pub is : block.exit ≡ Branch (Temp d) e f
+  pub compares : IsTrue (is_comparison op)
+  pub fits : IsTrue (instruction_fits code (Compute d op form a b))
+  pub first_unread : IsLive (graph_of code) e.block 0 d → ⊥
+  pub second_unread : IsLive (graph_of code) f.block 0 d → ⊥
+  pub right : IsRight code homes
+  pub near : m.pc + 256 ≤ 2 ^ 30
+  pub blocks : (b : ℕ) → (starts b < 2 ^ 30) × (starts b % 2 ≡ 0)
+  pub stands : Stands program m.pc (compared_shape (layout_of code homes) m.pc starts op form a b e f)
+  pub holds : Holds (layout_of code homes) (InUse (graph_of code) s.here.block s.here.at) (world_of s) base m
+
+-- The code carries out the two steps, within the weight of both.
+abbrev pub ComparesAreCarried : Type 0
+ComparesAreCarried =
+    (p : Program) (code : Tac) (homes : List (Option Home)) (d : ℕ) (op : BinaryOperator) (form : Number) (a b : Operand) (e f : Edge)
+    (starts : ℕ → ℕ) (s : tac.State) (program : List (Option Instr)) (base : ℕ) (m : State) →
+    StandsAtCompare p code homes d op form a b e f starts s program base m →
+    Left (layout_of code homes) (graph_of code) program base (words_of (Compute d op form a b) + exit_words (Branch (Temp d) e f)) starts s m (steps p 2 (Goes s))
+
+-- It has fewer words than the two, and as many wherever it and the blocks stand.
+abbrev pub ComparesKeepWithin : Type 0
+ComparesKeepWithin =
+    (y : Layout) (op : BinaryOperator) (form : Number) (a b : Operand) (e f : Edge) (at other : ℕ) (starts others : ℕ → ℕ) →
+    (length (compared_shape y at starts op form a b e f) ≤ 21)
+    × (length (compared_shape y at starts op form a b e f) ≡ length (compared_shape y other others op form a b e f))

@@ -1,0 +1,162 @@
+// The words of a comparison and the branch on its result.
+
+ghost use Rattle.std.specs.Prelude.{◌≡◌, ◌+◌, ◌^◌, ◌≤◌, [], ◌∷◌, ◌++◌, map, length, IfOk, OnOk};
+ghost use Rattle.rv_isa.specs.Table.{word_of};
+ghost use Rattle.rv_select.specs.Places.{with_homes};
+ghost use Rattle.rv_select.specs.Compared.{below_condition, chosen, compared, compared_shape, condition_of, least_condition, left_of, operands_taken, right_of};
+ghost use Rattle.rv_select.specs.Shapes.{start_of};
+
+use crate::emit::{X5, X6, put};
+use crate::exits::{push_jump, start_of};
+use crate::instructions::push_operands;
+use crate::operands::offset;
+use reg_alloc::Home;
+use rv_isa::{BranchCondition, Instr, Register};
+use tac_form::{Edge, Number, Operand};
+use terra_words::BinaryOperator;
+use tl_base::NoMemory;
+
+/// The words of a block's last instruction, a comparison, and of its exit, a branch on the comparison's result, by the address at
+/// which they stand and those at which the blocks begin. They serve where the result is read by that branch alone: where its
+/// temporary is live at the begin of neither block. No home gets the result then.
+///
+/// Where `select` finds such a block, it calls this in place of `push_instruction` for the last instruction and of `push_exit`; the
+/// law `compares_are_carried` is for both steps at once, and `compares_keep_within` bounds the words. Any other block is as before.
+pub fn push_compared(
+    code: &mut Vec<u32>,
+    homes: &[Option<Home>],
+    at: u64,
+    starts: &[u64],
+    operator: BinaryOperator,
+    form: Number,
+    a: Operand,
+    b: Operand,
+    first: Edge,
+    second: Edge,
+) -> Result<(), NoMemory>
+    requires { at + 256 ≤ 2 ^ 30 }
+    ensures { OnOk result (code.new.items ≡ code.old.items ++ map word_of (compared_shape (with_homes homes.now) at (start_of starts.now) operator form a b first second)) }
+{
+    let words = push_counted(code, homes, a, b)?;
+    let to = start_of(starts, first.block);
+    let other = start_of(starts, second.block);
+    push_test(code, form.signed, operator, at + 4 * words, to, other)
+}
+
+/// x5 and x6 get operands. The answer is how many words that takes.
+#[tactic(auto, using(crate::proofs::Compares::operand_words))]
+fn push_counted(
+    code: &mut Vec<u32>,
+    homes: &[Option<Home>],
+    a: Operand,
+    b: Operand,
+) -> Result<u64, NoMemory>
+    ensures code { OnOk result (code.new.items ≡ code.old.items ++ map word_of (operands_taken (with_homes homes.now) a b)) }
+    ensures words { IfOk result (λ words. words ≡ length (operands_taken (with_homes homes.now) a b)) }
+    ensures few { IfOk result (λ words. words ≤ 16) }
+{
+    let before = code.len();
+    push_operands(code, homes, a, b)?;
+    Ok((code.len() - before) as u64)
+}
+
+/// The branch on a comparison of x5 and x6, and the jumps.
+fn push_test(
+    code: &mut Vec<u32>,
+    signed: bool,
+    operator: BinaryOperator,
+    at: u64,
+    first: u64,
+    second: u64,
+) -> Result<(), NoMemory>
+    requires { at + 12 ≤ 2 ^ 32 }
+    ensures { OnOk result (code.new.items ≡ code.old.items ++ map word_of (compared signed operator at first second)) }
+{
+    let condition = condition_of(signed, operator);
+    push_chosen(
+        code,
+        condition,
+        left_of(operator),
+        right_of(operator),
+        at,
+        first,
+        second,
+    )
+}
+
+/// A branch over a jump to the second block, to a jump to the first.
+fn push_chosen(
+    code: &mut Vec<u32>,
+    condition: BranchCondition,
+    rs1: Register,
+    rs2: Register,
+    at: u64,
+    first: u64,
+    second: u64,
+) -> Result<(), NoMemory>
+    requires { at + 12 ≤ 2 ^ 32 }
+    ensures { OnOk result (code.new.items ≡ code.old.items ++ map word_of (chosen condition rs1 rs2 at first second)) }
+{
+    put(
+        code,
+        Instr::Branch {
+            condition,
+            rs1,
+            rs2,
+            offset: offset(12),
+        },
+    )?;
+    push_jump(code, at + 4, second)?;
+    push_jump(code, at + 12, first)
+}
+
+/// The condition under which a comparison is true.
+fn condition_of(signed: bool, operator: BinaryOperator) -> BranchCondition
+    ensures { result ≡ condition_of signed operator }
+{
+    match operator {
+        BinaryOperator::Equal => BranchCondition::Eq,
+        BinaryOperator::Less | BinaryOperator::Greater => below_condition(signed),
+        BinaryOperator::LessEqual | BinaryOperator::GreaterEqual => least_condition(signed),
+        _ => BranchCondition::Ne,
+    }
+}
+
+fn below_condition(signed: bool) -> BranchCondition
+    ensures { result ≡ below_condition signed }
+{
+    if signed {
+        BranchCondition::Lt
+    } else {
+        BranchCondition::Ltu
+    }
+}
+
+fn least_condition(signed: bool) -> BranchCondition
+    ensures { result ≡ least_condition signed }
+{
+    if signed {
+        BranchCondition::Ge
+    } else {
+        BranchCondition::Geu
+    }
+}
+
+/// The register of the left side: two comparisons turn round.
+fn left_of(operator: BinaryOperator) -> Register
+    ensures { result.number ≡ (left_of operator).number }
+{
+    match operator {
+        BinaryOperator::Greater | BinaryOperator::LessEqual => X6,
+        _ => X5,
+    }
+}
+
+fn right_of(operator: BinaryOperator) -> Register
+    ensures { result.number ≡ (right_of operator).number }
+{
+    match operator {
+        BinaryOperator::Greater | BinaryOperator::LessEqual => X5,
+        _ => X6,
+    }
+}
