@@ -25,7 +25,7 @@ pub declared-before : (c : Around) (at : Place) (x : TypedName) (v : Option Resu
 declared-before c at x v k scope u =
     let one = one-before c.store.types at x v (home_at c.homes k) scope u in (one.0 ∷ [], one.1)
 
-before-both : (outer middle all : Holders) → Before outer middle → Before middle all → Before outer all
+pub before-both : (outer middle all : Holders) → Before outer middle → Before middle all → Before outer all
 before-both outer middle all first second =
     (second.0 ++ first.0, second.1 ∙ ap (λ (h : Holders). second.0 ++ h) first.1 ∙ sym (append_assoc second.0 first.0 outer))
 

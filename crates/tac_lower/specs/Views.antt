@@ -7,14 +7,16 @@ use Rattle.terra_term.specs.Planted.{nowhere}
 use Rattle.terra_term.specs.TypedTerms as typed
 use Rattle.terra_term.specs.Stores.{contents_of}
 use Rattle.terra_meaning.specs.Meaning as meanings
-use Rattle.terra_eval.specs.Trees.{block_before, expression_before, list_before, statement_before}
+use Rattle.terra_eval.specs.Trees.{block_before, callable_tree, expression_before, list_before, statement_before}
+use Rattle.terra_eval.specs.declared.nodes.Callable.{Callable}
 use Rattle.terra_eval.specs.Views.{home_of}
 use Rattle.tac_lower.specs.Pieces as forms
+use Rattle.tac_form.specs.declared.tac.Destination.{Destination}
 use Rattle.tac_form.specs.declared.tac.Operand.TheVariants.{Temp}
 use Rattle.tac_form.specs.declared.tac.Instruction.TheVariants.{Copy}
 use Rattle.tac_lower.specs.Items.{does}
-use Rattle.tac_lower.specs.Pieces.{Piece, Result, Holders, a_word, declare, number_of, then_piece, with_temp, word_at, word_of}
-use Rattle.tac_lower.specs.Lowering.{Target, aimed, all, counted_on, counting, one, piece, pieces, runs, targets, while_loop}
+use Rattle.tac_lower.specs.Pieces.{Piece, Result, Holders, a_word, declare, nothing_used, number_of, then_piece, with_temp, word_at, word_of}
+use Rattle.tac_lower.specs.Lowering.{Target, aimed, all, body_piece, counted_on, counting, one, piece, pieces, received, runs, targets, while_loop}
 use Rattle.tac_lower.specs.Works.{Made}
 use Rattle.tac_lower.specs.declared.around.Around.{Around}
 
@@ -88,3 +90,10 @@ for_of c below at x vs body w =
       code = does (Copy k.value (word_at vs 0)) ∷ while_loop t.code (word_of t.result) (a.code ++ counted_on k ∷ []);
       used = a.used;
     }
+
+-- a function: where its parameters go, and the code of their declarations and of its body
+abbrev pub destinations_of : Around → Callable → Piece (List Destination)
+destinations_of c k = received c.store.now.types k.parameters.now nothing_used
+
+abbrev pub parts_of_body : Around → Callable → Piece Holders
+parts_of_body c k = let tos = destinations_of c k in body_piece (around_of c) (callable_tree c.store.now k) tos.result tos.used

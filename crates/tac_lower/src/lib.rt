@@ -12,11 +12,11 @@
 mod around;
 mod assigning;
 mod block;
+mod callable;
 mod counting;
 mod emit;
 mod item;
 pub mod law;
-mod lower;
 mod number;
 mod operation;
 mod place;
@@ -25,5 +25,5 @@ mod term;
 mod value;
 mod work;
 
+pub use callable::lower;
 pub use law::{lowered_code_is_counted, lowered_code_is_sized, lowering_keeps_runs};
-pub use lower::lower;

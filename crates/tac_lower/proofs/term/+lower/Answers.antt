@@ -1,20 +1,23 @@
-use Rattle.std.proofs.Common.{◌≡◌, refl, sym, ap, ◌∙◌, subst, ℕ, ◌+◌, suc, List, [], ◌∷◌, ◌++◌, length, arith, zero-add, append_assoc, length-append, ◌-◌}
+use Rattle.std.proofs.Common.{◌≡◌, refl, sym, ap, ◌∙◌, subst, ℕ, ◌+◌, ◌-◌, suc, List, [], ◌∷◌, ◌++◌, Option, Some, map, length, arith, zero-add, append_assoc, length-append}
+use Rattle.terra_types.specs.declared.types.TypeForm.{TypeForm}
 use Rattle.terra_term.specs.Events.{events_of, block_events, scope}
 use Rattle.terra_meaning.specs.Meaning.{in_expression, the_value, in_block, in_statement}
 use Rattle.terra_eval.specs.Trees.{expression_before, block_before}
+use Rattle.tac_form.specs.declared.tac.Number.{Number}
 use Rattle.tac_form.specs.declared.tac.Operand.{Operand}
 use Rattle.tac_form.specs.declared.tac.Operand.TheVariants.{Temp}
 use Rattle.tac_form.specs.declared.tac.Instruction.TheVariants.{Copy}
 use Rattle.tac_lower.specs.Items.{Item, does, ends, skips, tests, count_ends, repeats, loop_of, repeats_unless}
-use Rattle.tac_lower.specs.Pieces.{Piece, Result, Used, Holders, a_word, with_temp, word_of, taken}
-use Rattle.tac_lower.specs.Lowering.{passed_over, piece, opposite, all, choice, while_loop, repeat_loop}
+use Rattle.tac_lower.specs.Pieces.{Piece, Result, Used, Holders, a_word, declare, number_of, with_temp, word_at, word_of, taken}
+use Rattle.tac_lower.specs.Lowering.{Counting, all, choice, counted_on, counting, opposite, passed_over, piece, repeat_loop, runs, while_loop}
+use Rattle.tac_lower.specs.Data.{counting_of, result_of}
 use Rattle.tac_lower.specs.Works.{Made}
-use Rattle.tac_lower.specs.Views.{around_of, both_tree, piece_at, piece_of, either_tree, all_of, if_tree, one_at, choice_tree, while_tree, repeat_tree}
+use Rattle.tac_lower.specs.Views.{around_of, both_tree, piece_at, piece_of, either_tree, all_of, if_tree, one_at, choice_tree, for_of, while_tree, repeat_tree}
 use Rattle.tac_lower.proofs.Building.{Built, built-past, built-item, built-nothing, built-temp, built-term, passed-built, built-plain, built-all, built-left, built-scoped, built-closed, tested-built, built-loop}
 use Rattle.tac_lower.proofs.Passing.{declared_append, declared_scope}
 use Rattle.tl_base.specs.declared.ids.TermId.{TermId}
 use Rattle.tac_lower.proofs.Listing.{block-all, block-later, list-all, list-result, list-work, target-all, target-result, target-work}
-use Rattle.tac_lower.proofs.Leaving.{block-before, scope-left}
+use Rattle.tac_lower.proofs.Leaving.{Before, before-both, block-before, declared-before, scope-left}
 use Rattle.tac_lower.proofs.Lines.{count-append}
 use Rattle.tac_lower.proofs.term.+lower.Goals as goal
 
@@ -416,3 +419,113 @@ lower_repeat-returns t c =
     omega (arith, declared_append (block_events block) (events_of tested), declared_scope (block_events block ++ events_of tested)) in
     built-all w0 w6 (one_at around (repeat_tree around c.args.below c.args.body.now c.args.test) w0) _ _ _ _ _ b6 code
     (ap (λ (r : Piece Result). r.used) second) b1.scope sum
+
+pub lower_for-returns : goal.lower_for-returns
+lower_for-returns t c =
+    let around = c.args.around.now in
+    let w0 = c.args.work.now in
+    let C = around_of around in
+    let at = c.args.at in
+    let x = c.args.name in
+    let vs = map result_of c.args.bounds.now in
+    let block = block_before around.store.now c.args.below c.args.body.now in
+    let m = in_block block in
+    let s0 = ends (skips 0) in
+    let d = c.in_ok-value.value in
+    let d0 = w0.used.temps in
+    let same_d : d ≡ d0 = c.in_ok-value.ensures.temp in
+    let u0 = with_temp w0.used in
+    let w1 = c.temp.new.self in
+    let w2 = c.put.new.self in
+    let w3 = c.end.new.self in
+    let w4 = c.runs.new.work in
+    let w5 = c.end-2.new.self in
+    let w6 = c.declare.new.work in
+    let w7 = c.lower_block.new.work in
+    let w8 = c.leave.new.self in
+    let w9 = c.put-2.new.self in
+    let w10 = c.go_back.new.self in
+    let w11 = c.close.new.self in
+    let w12 = c.close_loop.new.self in
+    let k = counting_of c.counting_with-k.result in
+    let o = c.word.result in
+    let copy = does (Copy d c.word_at.result) in
+    let copy0 = does (Copy d0 (word_at vs 0)) in
+    let F = copy ∷ s0 ∷ [] in
+    let b1 = built-temp w0 w0 w1 [] w0.used w0.scope 0 (built-nothing w0) u0 c.in_ok-value.ensures.work in
+    let b2 = built-item w0 w1 w2 [] u0 w0.scope 0 b1 copy c.in_ok-put.ensures in
+    let b3 = built-item w0 w2 w3 (copy ∷ []) u0 w0.scope 0 b2 s0 c.in_ok-end.ensures in
+    let q = runs k w3.used in
+    let b4 = built-plain w0 w3 w4 F u0 w0.scope 0 b3 q c.in_ok-test.ensures.1 in
+    let test = ends (tests o 0) in
+    let b5 = built-item w0 w4 w5 (F ++ q.code) q.used w0.scope 0 b4 test c.in_ok-end-2.ensures in
+    let X5 = F ++ q.code ++ test ∷ [] in
+    let given : Option Result = Some (a_word (Temp d)) in
+    let given0 : Option Result = Some (a_word (Temp d0)) in
+    let p1 = declare C at x given w5.next w5.scope w5.used in
+    let b6 = built-scoped w0 w5 w6 X5 q.used w0.scope 0 b5 p1 1 c.in_ok-declare.ensures in
+    let p2 = all C block w6.next w6.scope w6.used in
+    let b7 = built-scoped w0 w6 w7 (X5 ++ p1.code) p1.used p1.result (0 + 1) b6 p2 m c.in_ok-lower_block.ensures in
+    let inner : Before p1.result p2.result =
+    subst (λ (h : Holders). Before h p2.result) b6.scope (block-before C block w6.next w6.scope w6.used) in
+    let before : Before w5.scope p2.result =
+    before-both w5.scope p1.result p2.result (declared-before C at x given w5.next w5.scope w5.used) inner in
+    let b8 = built-left w0 w7 w8 (X5 ++ p1.code ++ p2.code) p2.used p2.result (0 + 1 + m) b7 c.depth-depth.result w5.scope
+        (scope-left w5.scope p2.result c.depth-depth.result before c.depth-depth.ensures) c.in_ok-leave.ensures in
+    let y = does c.counted_on.result in
+    let Y = y ∷ [] in
+    let b9 = built-item w0 w8 w9 (X5 ++ p1.code ++ p2.code) p2.used w5.scope (0 + 1 + m) b8 y c.in_ok-put-2.ensures in
+    let A = p1.code ++ p2.code ++ Y in
+    let shape : X5 ++ p1.code ++ p2.code ++ Y ≡ X5 ++ A =
+    ap (λ (l : List Item). l ++ Y) (append_assoc X5 p1.code p2.code) ∙ append_assoc X5 (p1.code ++ p2.code) Y in
+    let b10 = subst (λ (l : List Item). Built w0 w9 l p2.used w5.scope (0 + 1 + m)) shape b9 in
+    let back = count_ends w9.code - c.mark-start.result.ended in
+    let Z = ends (tests o (suc (count_ends A))) ∷ (A ++ ends (repeats back) ∷ []) in
+    let b11 = tested-built w0 w4 w9 w10 w11 (F ++ q.code) A o q.used p2.used w0.scope w5.scope 0 (0 + 1 + m)
+        c.mark-tested.result.position c.mark-tested.result.ended b4 c.mark-tested.ensures.position c.mark-tested.ensures.ended
+        (repeats back) b10 c.in_ok-go_back.ensures c.close.ensures in
+    let b12 = built-loop w0 w11 w12 F (q.code ++ Z) p2.used w5.scope (0 + 1 + m) c.mark-start.result.position b11
+        (c.mark-start.ensures.position ∙ ap (λ (l : List Item). length l) b3.code) c.close_loop.ensures in
+    let number = number_of around.store.now.types x.of in
+    let k0 = counting number vs d0 in
+    let numbers : c.number_of.result ≡ number =
+    c.number_of.ensures ∙ ap (λ (ts : List TypeForm). number_of ts x.of) c.types.ensures in
+    let counted : k ≡ k0 =
+    c.counting_with-k.ensures ∙ ap (λ (n : Number). counting n vs d) numbers ∙ ap (λ (j : ℕ). counting number vs j) same_d in
+    let q0 = runs k0 u0 in
+    let first : q ≡ q0 = ap (λ (z : Counting). runs z w3.used) counted ∙ ap (λ (u : Used). runs k0 u) b3.used in
+    let p10 = declare C at x given0 w0.next w0.scope q0.used in
+    let at5 : w5.next ≡ w0.next = omega (arith, b5.next) in
+    let second : p1 ≡ p10 =
+    ap (λ (j : ℕ). declare C at x given j w5.scope w5.used) at5
+    ∙ ap (λ (h : Holders). declare C at x given w0.next h w5.used) b5.scope
+    ∙ ap (λ (u : Used). declare C at x given w0.next w0.scope u) (b5.used ∙ ap (λ (r : Piece Result). r.used) first)
+    ∙ ap (λ (j : ℕ). declare C at x (Some (a_word (Temp j))) w0.next w0.scope q0.used) same_d in
+    let p20 = all C block (suc w0.next) p10.result p10.used in
+    let at6 : w6.next ≡ suc w0.next = omega (arith, b6.next) in
+    let third : p2 ≡ p20 =
+    ap (λ (j : ℕ). all C block j w6.scope w6.used) at6
+    ∙ ap (λ (h : Holders). all C block (suc w0.next) h w6.used) (b6.scope ∙ ap (λ (r : Piece Holders). r.result) second)
+    ∙ ap (λ (u : Used). all C block (suc w0.next) p10.result u) (b6.used ∙ ap (λ (r : Piece Holders). r.used) second) in
+    let word : o ≡ word_of q0.result = c.word.ensures ∙ ap word_of c.in_ok-test.ensures.0 ∙ ap (λ (r : Piece Result). word_of r.result) first in
+    let copied : copy ≡ copy0 =
+    ap (λ (j : ℕ). does (Copy j c.word_at.result)) same_d ∙ ap (λ (z : Operand). does (Copy d0 z)) c.word_at.ensures in
+    let last : y ≡ counted_on k0 = c.counted_on.ensures ∙ ap (λ (z : Counting). counted_on z) counted in
+    let body : A ≡ p10.code ++ p20.code ++ counted_on k0 ∷ [] =
+    ap (λ (r : Piece Holders). r.code ++ p2.code ++ Y) second ∙ ap (λ (r : Piece Holders). p10.code ++ r.code ++ Y) third
+    ∙ ap (λ (i : Item). p10.code ++ p20.code ++ i ∷ []) last in
+    let begin : c.mark-start.result.ended ≡ count_ends w0.code + 1 =
+    c.mark-start.ensures.ended ∙ ap count_ends b3.code ∙ count-append w0.code F in
+    let all_ends : count_ends w9.code ≡ count_ends w0.code + count_ends (X5 ++ A) = ap count_ends b10.code ∙ count-append w0.code (X5 ++ A) in
+    let rounds : back ≡ count_ends q.code + suc (count_ends A) =
+    omega (arith, begin, all_ends, count-append X5 A, count-append (F ++ q.code) (test ∷ [])) in
+    let B = p10.code ++ p20.code ++ counted_on k0 ∷ [] in
+    let code : F ++ loop_of (q.code ++ Z) ≡ copy0 ∷ while_loop q0.code (word_of q0.result) B =
+    ap (λ (j : ℕ). F ++ loop_of (q.code ++ ends (tests o (suc (count_ends A))) ∷ (A ++ ends (repeats j) ∷ []))) rounds
+    ∙ ap (λ (i : Item). i ∷ while_loop q.code o A) copied
+    ∙ ap (λ (z : Operand). copy0 ∷ while_loop q.code z A) word
+    ∙ ap (λ (r : Piece Result). copy0 ∷ while_loop r.code (word_of q0.result) A) first
+    ∙ ap (λ (l : List Item). copy0 ∷ while_loop q0.code (word_of q0.result) l) body in
+    let sum : 0 + 1 + m ≡ suc m = omega arith in
+    built-all w0 w12 (for_of around c.args.below at x vs c.args.body.now w0) _ _ _ _ _ b12 code
+    (ap (λ (r : Piece Holders). r.used) third) b5.scope sum
