@@ -2,6 +2,7 @@
 use Rattle.std.proofs.Common.{◌≡◌, refl, sym, ap, ◌∙◌, subst, ℕ, ◌+◌, ◌<◌, ◌≤◌, Bool, true, false, List, [], ◌∷◌, ◌++◌, Option, Some, None, map, length, drop, get_or, slice_get, arith, append_assoc, append-nil, zero-add}
 use Rattle.std.specs.Prelude.{◌&&◌, if◌then◌else◌, option_map}
 use Rattle.std.proofs.lemmas.Bool.{le-leb, lt-leb}
+use Rattle.tl_base.specs.declared.place.Place.{Place}
 use Rattle.tl_base.specs.declared.ids.FnId.{FnId}
 use Rattle.tl_base.specs.declared.ids.TermId.{TermId}
 use Rattle.tl_base.specs.declared.ids.TypeId.{TypeId}
@@ -25,7 +26,6 @@ use Rattle.tac_form.specs.declared.tac.Destination.{Destination}
 use Rattle.tac_form.specs.declared.tac.Signature.{Signature}
 use Rattle.tac_form.specs.declared.tac.Tac.{Tac}
 use Rattle.tac_lower.specs.Items.{Item, blocks_of}
-use Rattle.tac_lower.specs.Pieces as forms
 use Rattle.tac_lower.specs.Pieces.{Holders, Piece, Result, Used, declare_all, destination, given, known}
 use Rattle.tac_lower.specs.Lowering.{all, are_narrow, body_piece, code_of, ending, received, type_of_name}
 use Rattle.tac_lower.specs.Works.{Made, begun, behind, scoped}
@@ -154,40 +154,42 @@ module _ (c : Around) (k : Callable) (w0 w1 w2 w3 w4 : Made) (tos : List Destina
 
 -- all of the code
 
+abbrev tac : (nodes : ℕ) → Signature → Place → (frame temps : ℕ) → List ℕ → List Destination → List Block → Tac
+tac nodes sig place frame temps areas tos bs = record {
+  nodes = nodes;
+  signature = sig;
+  place = place;
+  frame = frame;
+  temps = temps;
+  areas = areas;
+  parameters = tos;
+  blocks = bs;
+}
+
 pub code-made : (c : Around) (k : Callable) (f : frames.Frame) (nodes temps size : ℕ) (sig : Signature) (areas : List ℕ) (tos : List Destination)
     (bs : List Block) (items : List Item) → f ≡ frame_of c.store.now.types (callable_tree c.store.now k).body
     → map home_of c.homes.now ≡ f.homes → size ≡ f.size → nodes ≡ (body_size (callable_tree c.store.now k).body).nodes
     → sig ≡ record { params = map type_of_name k.parameters.now; result = k.result }
     → temps ≡ (parts_of_body c k).used.temps → areas ≡ (parts_of_body c k).used.areas → tos ≡ (destinations_of c k).result
     → items ≡ (parts_of_body c k).code ++ ending (callable_tree c.store.now k) ∷ [] → bs ≡ blocks_of items
-    → ◌≡◌ {A = Tac} (record { nodes = nodes; signature = sig; place = k.at; frame = size; temps = temps; areas = areas; parameters = tos; blocks = bs })
-    (code_of (contents_of c.store.now) c.entries.now (callable_tree c.store.now k))
+    → tac nodes sig k.at size temps areas tos bs ≡ code_of (contents_of c.store.now) c.entries.now (callable_tree c.store.now k)
 code-made c k f nodes temps size sig areas tos bs items frame homes sizes count same_sig same_temps same_areas places code blocks =
     let K = callable_tree c.store.now k in
     let F = frame_of c.store.now.types K.body in
     let S : Signature = record { params = map type_of_name k.parameters.now; result = k.result } in
     let N = (body_size K.body).nodes in
-    let tail = ending K ∷ [] in
     let P = destinations_of c k in
-    let at = λ (h : List Home). body_piece (record { store = contents_of c.store.now; entries = c.entries.now; homes = h }) K P.result P.used in
-    let made = λ (h : List Home). ◌≡◌ {A = Tac}
-        (record { nodes = nodes; signature = sig; place = k.at; frame = size; temps = temps; areas = areas; parameters = tos; blocks = bs })
-        (record { nodes = N; signature = S; place = k.at; frame = F.size; temps = (at h).used.temps; areas = (at h).used.areas; parameters = P.result;
-        blocks = blocks_of ((at h).code ++ tail) }) in
+    let B = parts_of_body c k in
     let all_homes : map home_of c.homes.now ≡ F.homes = homes ∙ ap (λ (g : frames.Frame). g.homes) frame in
-    let here : made (map home_of c.homes.now) =
-    ap (λ (n : ℕ). record { nodes = n; signature = sig; place = k.at; frame = size; temps = temps; areas = areas; parameters = tos; blocks = bs }) count
-    ∙ ap (λ (s : Signature). record { nodes = N; signature = s; place = k.at; frame = size; temps = temps; areas = areas; parameters = tos; blocks = bs }) same_sig
-    ∙ ap (λ (n : ℕ). record { nodes = N; signature = S; place = k.at; frame = n; temps = temps; areas = areas; parameters = tos; blocks = bs })
-    (sizes ∙ ap (λ (g : frames.Frame). g.size) frame)
-    ∙ ap (λ (n : ℕ). record { nodes = N; signature = S; place = k.at; frame = F.size; temps = n; areas = areas; parameters = tos; blocks = bs }) same_temps
-    ∙ ap (λ (l : List ℕ). record { nodes = N; signature = S; place = k.at; frame = F.size; temps = (parts_of_body c k).used.temps; areas = l;
-    parameters = tos; blocks = bs }) same_areas
-    ∙ ap (λ (l : List Destination). record { nodes = N; signature = S; place = k.at; frame = F.size; temps = (parts_of_body c k).used.temps;
-    areas = (parts_of_body c k).used.areas; parameters = l; blocks = bs }) places
-    ∙ ap (λ (l : List Block). record { nodes = N; signature = S; place = k.at; frame = F.size; temps = (parts_of_body c k).used.temps;
-    areas = (parts_of_body c k).used.areas; parameters = P.result; blocks = l }) (blocks ∙ ap (λ (l : List Item). blocks_of l) code) in
-    subst made all_homes here
+    let sizes2 : size ≡ F.size = sizes ∙ ap (λ (g : frames.Frame). g.size) frame in
+    let blocks2 : bs ≡ blocks_of (B.code ++ ending K ∷ []) = blocks ∙ ap (λ (l : List Item). blocks_of l) code in
+    ap (λ (n : ℕ). tac n sig k.at size temps areas tos bs) count ∙ ap (λ (s : Signature). tac N s k.at size temps areas tos bs) same_sig
+    ∙ ap (λ (n : ℕ). tac N S k.at n temps areas tos bs) sizes2 ∙ ap (λ (n : ℕ). tac N S k.at F.size n areas tos bs) same_temps
+    ∙ ap (λ (l : List ℕ). tac N S k.at F.size B.used.temps l tos bs) same_areas
+    ∙ ap (λ (l : List Destination). tac N S k.at F.size B.used.temps B.used.areas l bs) places
+    ∙ ap (λ (l : List Block). tac N S k.at F.size B.used.temps B.used.areas P.result l) blocks2
+    ∙ ap (λ (p : Piece Holders). tac N S k.at F.size p.used.temps p.used.areas P.result (blocks_of (p.code ++ ending K ∷ [])))
+    (ap (λ (h : List Home). body_piece (record { store = contents_of c.store.now; entries = c.entries.now; homes = h }) K P.result P.used) all_homes)
 
 -- nodes
 

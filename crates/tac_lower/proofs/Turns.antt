@@ -106,7 +106,7 @@ module _ (types : List TypeForm) (store : Held) (below : ℕ) (nodes : List Term
       sym (so_far
       ∙ ap (λ (l : List TermId). behind w (assigned_all types (list_before store below l) (map target_of (drop i targets)) (map result_of (drop i values)) w.used))
       (none-left nodes i past)
-      ∙ behind-known w tt)
+      ∙ behind-known {A = Unit {0}} w tt)
 
   no-target : (d : TermId) → i < length nodes → length targets ≤ i → w ≡ W
   no-target d within past =
@@ -115,7 +115,7 @@ module _ (types : List TypeForm) (store : Held) (below : ℕ) (nodes : List Term
       (turn nodes i d within)
       ∙ ap (λ (l : List Target). behind w (assigned_all types (list_before store below (get_or nodes i d ∷ drop (i + 1) nodes)) (map target_of l)
       (map result_of (drop i values)) w.used)) (none-left targets i past)
-      ∙ behind-known w tt)
+      ∙ behind-known {A = Unit {0}} w tt)
 
   pub assign-end : min (length nodes) (length targets) ≤ i → w ≡ W
   assign-end past =
@@ -148,14 +148,14 @@ module _ (types : List TypeForm) (n : ℕ) (os : List ℕ) (ts : List TypeId) (v
   no-offset : length os ≤ i → w ≡ W
   no-offset past =
       sym (so_far ∙ ap (λ (l : List ℕ). behind w (constructed types n l (drop i ts) (map result_of (drop i values)) w.used)) (none-left os i past)
-      ∙ behind-known w tt)
+      ∙ behind-known {A = Unit {0}} w tt)
 
   no-type : i < length os → length ts ≤ i → w ≡ W
   no-type one past =
       sym (so_far ∙ ap (λ (l : List ℕ). behind w (constructed types n l (drop i ts) (map result_of (drop i values)) w.used)) (turn os i 0 one)
       ∙ ap (λ (l : List TypeId). behind w (constructed types n (get_or os i 0 ∷ drop (i + 1) os) l (map result_of (drop i values)) w.used))
       (none-left ts i past)
-      ∙ behind-known w tt)
+      ∙ behind-known {A = Unit {0}} w tt)
 
   no-value : (t : TypeId) → i < length os → i < length ts → length values ≤ i → w ≡ W
   no-value t one two past =
@@ -164,7 +164,7 @@ module _ (types : List TypeForm) (n : ℕ) (os : List ℕ) (ts : List TypeId) (v
       (turn ts i t two)
       ∙ ap (λ (l : List Value). behind w (constructed types n (get_or os i 0 ∷ drop (i + 1) os) (get_or ts i t ∷ drop (i + 1) ts) (map result_of l) w.used))
       (none-left values i past)
-      ∙ behind-known w tt)
+      ∙ behind-known {A = Unit {0}} w tt)
 
   pub entries-end : min (min (length os) (length ts)) (length values) ≤ i → w ≡ W
   entries-end past =

@@ -1,7 +1,7 @@
 use Rattle.std.proofs.Common.{◌≡◌, sym, ap, ◌∙◌, subst, ℕ, ◌≤◌, ◌<◌, min, length, arith}
 use Rattle.tl_base.specs.declared.ids.TypeId.{TypeId}
-use Rattle.tac_lower.specs.declared.value.Value.{Value}
-use Rattle.tac_lower.specs.declared.value.Value.TheVariants.{Area}
+use Rattle.tac_form.specs.declared.tac.Operand.TheVariants.{Temp}
+use Rattle.tac_lower.specs.declared.value.Value.TheVariants.{Word}
 use Rattle.tac_lower.proofs.Turns.{entries-end, entry-later}
 use Rattle.tac_lower.proofs.operation.constructed.Goals as goal
 
@@ -15,7 +15,7 @@ loop-i-preserved c =
     let some : i < min (min (length os) (length ts)) (length vs) =
     subst (λ (n : ℕ). i < n) (c.min-count.ensures ∙ ap (λ (n : ℕ). min n (length vs)) c.min.ensures) c.loop-i-test.true in
     entry-later c.args.types.now c.args.n os ts vs i c.loop-i.work _ c.loop-i.invariant
-    t (Area 0) c.stored.new.work (omega (arith, some)) (omega (arith, some)) (omega (arith, some)) c.in_ok-stored.ensures
+    t (Word (Temp 0)) c.stored.new.work (omega (arith, some)) (omega (arith, some)) (omega (arith, some)) c.in_ok-stored.ensures
 
 pub returns : goal.returns
 returns c =

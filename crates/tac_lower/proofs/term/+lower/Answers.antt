@@ -1,24 +1,28 @@
 use Rattle.std.proofs.Common.{◌≡◌, refl, sym, ap, ◌∙◌, subst, ℕ, ◌+◌, ◌-◌, suc, List, [], ◌∷◌, ◌++◌, Option, Some, map, length, arith, zero-add, append_assoc, length-append}
 use Rattle.terra_types.specs.declared.types.TypeForm.{TypeForm}
 use Rattle.terra_term.specs.Events.{events_of, block_events, scope}
-use Rattle.terra_meaning.specs.Meaning.{in_expression, the_value, in_block, in_statement}
-use Rattle.terra_eval.specs.Trees.{expression_before, block_before}
+use Rattle.terra_meaning.specs.Meaning.{in_block, in_expression, in_list, in_statement, the_value}
+use Rattle.terra_term.specs.declared.lists.TypedName.{TypedName}
+use Rattle.terra_eval.specs.Trees.{block_before, expression_before, list_before}
 use Rattle.tac_form.specs.declared.tac.Number.{Number}
 use Rattle.tac_form.specs.declared.tac.Operand.{Operand}
 use Rattle.tac_form.specs.declared.tac.Operand.TheVariants.{Temp}
 use Rattle.tac_form.specs.declared.tac.Instruction.TheVariants.{Copy}
 use Rattle.tac_lower.specs.Items.{Item, does, ends, skips, tests, count_ends, repeats, loop_of, repeats_unless}
-use Rattle.tac_lower.specs.Pieces.{Piece, Result, Used, Holders, a_word, declare, number_of, with_temp, word_at, word_of, taken}
-use Rattle.tac_lower.specs.Lowering.{Counting, all, choice, counted_on, counting, opposite, passed_over, piece, repeat_loop, runs, while_loop}
-use Rattle.tac_lower.specs.Data.{counting_of, result_of}
-use Rattle.tac_lower.specs.Works.{Made}
-use Rattle.tac_lower.specs.Views.{around_of, both_tree, piece_at, piece_of, either_tree, all_of, if_tree, one_at, choice_tree, for_of, while_tree, repeat_tree}
+use Rattle.tac_lower.specs.Pieces.{Piece, Result, Used, Holders, a_word, declare, declare_all, number_of, with_temp, word_at, word_of, taken}
+use Rattle.tac_lower.specs.Lowering.{Counting, all, assigned_all, choice, counted_on, counting, opposite, passed_over, piece, repeat_loop, runs, while_loop}
+use Rattle.tac_lower.specs.Data.{counting_of, result_of, target_of, want_of}
+use Rattle.tac_lower.specs.Works.{Declared, Made, Put, past, scoped}
+use Rattle.tac_lower.specs.declared.value.Value.{Value}
+use Rattle.tac_lower.specs.declared.value.Target as code_target
+use Rattle.tac_lower.specs.Views.{around_of, both_tree, piece_at, piece_of, pieces_of, targets_of, either_tree, all_of, if_tree, one_at, choice_tree, for_of, while_tree, repeat_tree}
 use Rattle.tac_lower.proofs.Building.{Built, built-past, built-item, built-nothing, built-temp, built-term, passed-built, built-plain, built-all, built-left, built-scoped, built-closed, tested-built, built-loop}
 use Rattle.tac_lower.proofs.Passing.{declared_append, declared_scope}
 use Rattle.tl_base.specs.declared.ids.TermId.{TermId}
 use Rattle.tac_lower.proofs.Listing.{block-all, block-later, list-all, list-result, list-work, target-all, target-result, target-work}
 use Rattle.tac_lower.proofs.Leaving.{Before, before-both, block-before, declared-before, scope-left}
 use Rattle.tac_lower.proofs.Lines.{count-append}
+use Rattle.tac_lower.proofs.Arms.{address-arm, assign-arm, do-arm, element-arm, for-arm, index-arm, let-arm, var-arm}
 use Rattle.tac_lower.proofs.term.+lower.Goals as goal
 
 pub lower_both-returns : goal.lower_both-returns
@@ -529,3 +533,128 @@ lower_for-returns t c =
     let sum : 0 + 1 + m ≡ suc m = omega arith in
     built-all w0 w12 (for_of around c.args.below at x vs c.args.body.now w0) _ _ _ _ _ b12 code
     (ap (λ (r : Piece Holders). r.used) third) b5.scope sum
+
+pub lower_expression-returns-in_ok-v-in-Element-2 : goal.lower_expression-returns-in_ok-v-in-Element-2
+lower_expression-returns-in_ok-v-in-Element-2 t c =
+    let e = c.in-Some.e in
+    element-arm c.args.around.now (want_of c.args.want) c.args.below c.args.node e.at e.of e.form.now c.in-Some.ensures.tree
+    c.reached-in-Element.result c.args.work.now c.reached-in-Element.new.work c.types-types.result.now c.bytes_at.result
+    c.word-in-Element.result c.word-in-Element-2.result c.types-types.ensures c.bytes_at.ensures c.in-Element.a c.in-Element.i
+    c.in_ok-v-in-Element.v c.in_ok-array-in-Element.array c.in_ok-n-in-Element.n c.in_ok-v-in-Element-2.v
+    c.lower_expression-in-Element.new.work c.located.new.work c.lower_expression-in-Element-2.new.work c.element.new.work c.in-Element.is
+    c.in_ok-v-in-Element.ensures.0 c.in_ok-v-in-Element.ensures.1 c.in_ok-array-in-Element.ensures.0 c.in_ok-array-in-Element.ensures.1
+    c.in_ok-n-in-Element.ensures.0 c.in_ok-n-in-Element.ensures.1 c.word-in-Element.ensures c.word-in-Element-2.ensures
+    c.in_ok-v-in-Element-2.ensures.0 c.in_ok-v-in-Element-2.ensures.1 c.reached-in-Element.ensures
+
+pub lower_expression-returns-in_ok-v-in-Index-2 : goal.lower_expression-returns-in_ok-v-in-Index-2
+lower_expression-returns-in_ok-v-in-Index-2 t c =
+    let e = c.in-Some.e in
+    index-arm c.args.around.now (want_of c.args.want) c.args.below c.args.node e.at e.of e.form.now c.in-Some.ensures.tree
+    c.reached-in-Index.result c.args.work.now c.reached-in-Index.new.work c.types-types.result.now c.bytes_at-in-Index.result
+    c.word-in-Index.result c.word-in-Index-2.result c.types-types.ensures c.bytes_at-in-Index.ensures c.in-Index.p c.in-Index.i
+    c.in_ok-v-in-Index.v c.in_ok-n-in-Index.n c.in_ok-v-in-Index-2.v
+    c.lower_expression-in-Index.new.work c.lower_expression-in-Index-2.new.work c.element-in-Index.new.work c.in-Index.is
+    c.in_ok-v-in-Index.ensures.0 c.in_ok-v-in-Index.ensures.1 c.in_ok-n-in-Index.ensures.0 c.in_ok-n-in-Index.ensures.1
+    c.word-in-Index.ensures c.word-in-Index-2.ensures c.in_ok-v-in-Index-2.ensures.0 c.in_ok-v-in-Index-2.ensures.1 c.reached-in-Index.ensures
+
+pub lower_expression-returns-in_ok-v-in-Address : goal.lower_expression-returns-in_ok-v-in-Address
+lower_expression-returns-in_ok-v-in-Address t c =
+    let e = c.in-Some.e in
+    address-arm c.args.around.now (want_of c.args.want) c.args.below c.args.node e.at e.of e.form.now c.in-Some.ensures.tree
+    c.located-in-Address.result c.args.work.now c.located-in-Address.new.work c.in-Address.place c.in_ok-v-in-Address.v
+    c.lower_expression-in-Address.new.work c.in-Address.is c.in_ok-v-in-Address.ensures.0 c.in_ok-v-in-Address.ensures.1 c.located-in-Address.ensures
+
+pub lower_expression-returns-in_ok-leave-in-Let : goal.lower_expression-returns-in_ok-leave-in-Let
+lower_expression-returns-in_ok-leave-in-Let t c =
+    let e = c.in-Some.e in
+    let around = c.args.around.now in
+    let w0 = c.args.work.now in
+    let b = c.args.node.0 in
+    let first = c.in_ok-lower_block-in-Let.ensures
+        ∙ ap (λ (l : List TermId). scoped w0 (all_of around b l w0) (in_block (block_before around.store.now b l))) c.as_slice.ensures in
+    let-arm around (want_of c.args.want) c.args.below c.args.node e.at e.of e.form.now c.in-Some.ensures.tree w0 c.in-Let.block c.in-Let.value
+    c.in_ok-v-in-Let.v c.lower_block.new.work c.lower_expression-in-Let.new.work c.leave.new.self c.depth-depth.result c.in-Let.is first
+    c.in_ok-v-in-Let.ensures.0 c.in_ok-v-in-Let.ensures.1 c.depth-depth.ensures c.in_ok-leave-in-Let.ensures
+
+pub lower_statement-returns-in_ok-values-in-Var : goal.lower_statement-returns-in_ok-values-in-Var
+lower_statement-returns-in_ok-values-in-Var t c =
+    let s = c.in-Some.s in
+    let around = c.args.around.now in
+    let w0 = c.args.work.now in
+    let b = c.args.node.0 in
+    let w1 = c.lower_list.new.work in
+    let w = c.declare_all.new.work in
+    let r = c.declare_all.result in
+    let C = around_of around in
+    let same = c.in_ok-values-in-Var.ensures.0 ∙ ap (λ (l : List TermId). (pieces_of around b l w0).result) c.as_slice.ensures in
+    let first = c.in_ok-values-in-Var.ensures.1
+        ∙ ap (λ (l : List TermId). past w0 (pieces_of around b l w0) (in_list (list_before around.store.now b l))) c.as_slice.ensures in
+    let named : Declared r w1 w (declare_all C s.at c.in-Var.names (map result_of c.deref.result.now) w1.next w1.scope w1.used) (length c.in-Var.names) =
+    subst (λ (l : List TypedName). Declared r w1 w (declare_all C s.at l (map result_of c.deref.result.now) w1.next w1.scope w1.used) (length l))
+    c.as_slice-in-Var.ensures c.declare_all.ensures in
+    let given = subst (λ (l : List Value). Declared r w1 w (declare_all C s.at c.in-Var.names (map result_of l) w1.next w1.scope w1.used) (length c.in-Var.names))
+        c.deref.ensures.value named in
+    var-arm around c.args.below c.args.node s.at s.doing.now c.in-Some.ensures.tree r w0 w c.in-Var.names c.in-Var.values
+    (map result_of c.in_ok-values-in-Var.values.items) w1 c.in-Var.is same first given
+
+pub lower_statement-returns-in_ok-places-in-Assign : goal.lower_statement-returns-in_ok-places-in-Assign
+lower_statement-returns-in_ok-places-in-Assign t c =
+    let s = c.in-Some.s in
+    let around = c.args.around.now in
+    let store = around.store.now in
+    let w0 = c.args.work.now in
+    let b = c.args.node.0 in
+    let w1 = c.lower_list-in-Assign.new.work in
+    let w2 = c.lower_targets.new.work in
+    let w = c.assigned_all.new.work in
+    let r = c.assigned_all.result in
+    let goals = c.in-Assign.targets in
+    let places = c.in_ok-places-in-Assign.places.items in
+    let values = c.in_ok-values-in-Assign.values.items in
+    let same = c.in_ok-values-in-Assign.ensures.0 ∙ ap (λ (l : List TermId). (pieces_of around b l w0).result) c.as_slice-in-Assign.ensures in
+    let first = c.in_ok-values-in-Assign.ensures.1
+        ∙ ap (λ (l : List TermId). past w0 (pieces_of around b l w0) (in_list (list_before store b l))) c.as_slice-in-Assign.ensures in
+    let same1 = c.in_ok-places-in-Assign.ensures.0 ∙ ap (λ (l : List TermId). (targets_of around b l w1).result) c.as_slice-nodes.ensures in
+    let second = c.in_ok-places-in-Assign.ensures.1
+        ∙ ap (λ (l : List TermId). past w1 (targets_of around b l w1) (in_list (list_before store b l))) c.as_slice-nodes.ensures in
+    let one = subst (λ (l : List TermId). Put r w2 w (assigned_all store.types (list_before store b l) (map target_of c.deref-in-Assign.result.now)
+        (map result_of c.deref-in-Assign-2.result.now) w2.used)) c.as_slice-nodes.ensures c.assigned_all.ensures in
+    let two = subst (λ (l : List code_target.Target). Put r w2 w (assigned_all store.types (list_before store b goals) (map target_of l)
+        (map result_of c.deref-in-Assign-2.result.now) w2.used)) c.deref-in-Assign.ensures.value one in
+    let three = subst (λ (l : List Value). Put r w2 w (assigned_all store.types (list_before store b goals) (map target_of places)
+        (map result_of l) w2.used)) c.deref-in-Assign-2.ensures.value two in
+    assign-arm around c.args.below c.args.node s.at s.doing.now c.in-Some.ensures.tree r w0 w goals c.in-Assign.values (map target_of places)
+    (map result_of values) w1 w2 c.in-Assign.is same first same1 second three
+
+pub lower_statement-returns-in_ok-values-in-For : goal.lower_statement-returns-in_ok-values-in-For
+lower_statement-returns-in_ok-values-in-For t c =
+    let s = c.in-Some.s in
+    let around = c.args.around.now in
+    let store = around.store.now in
+    let w0 = c.args.work.now in
+    let b = c.args.node.0 in
+    let w1 = c.lower_list-in-For.new.work in
+    let w = c.lower_for.new.work in
+    let r = c.lower_for.result in
+    let x = c.in-For.name in
+    let same = c.in_ok-values-in-For.ensures.0 ∙ ap (λ (l : List TermId). (pieces_of around b l w0).result) c.as_slice-in-For.ensures in
+    let first = c.in_ok-values-in-For.ensures.1
+        ∙ ap (λ (l : List TermId). past w0 (pieces_of around b l w0) (in_list (list_before store b l))) c.as_slice-in-For.ensures in
+    let one = subst (λ (l : List TermId). Declared r w1 w (for_of around b s.at x (map result_of c.deref-in-For.result.now) l w1)
+        (suc (in_block (block_before store b l)))) c.as_slice-in-For-2.ensures c.lower_for.ensures in
+    let two = subst (λ (l : List Value). Declared r w1 w (for_of around b s.at x (map result_of l) c.in-For.body w1)
+        (suc (in_block (block_before store b c.in-For.body)))) c.deref-in-For.ensures.value one in
+    for-arm around c.args.below c.args.node s.at s.doing.now c.in-Some.ensures.tree r w0 w x c.in-For.bounds c.in-For.body
+    (map result_of c.in_ok-values-in-For.values.items) w1 c.in-For.is same first two
+
+pub lower_statement-returns-in-Do : goal.lower_statement-returns-in-Do
+lower_statement-returns-in-Do t c =
+    let s = c.in-Some.s in
+    let around = c.args.around.now in
+    let w0 = c.args.work.now in
+    let b = c.args.node.0 in
+    let w = c.lower_scope.new.work in
+    let r = c.lower_scope.result in
+    let done = subst (λ (l : List TermId). Declared r w0 w (taken (λ (h : Holders). w0.scope) (all_of around b l w0)) (in_block (block_before around.store.now b l)))
+        c.as_slice-in-Do.ensures c.lower_scope.ensures in
+    do-arm around c.args.below c.args.node s.at s.doing.now c.in-Some.ensures.tree r w0 w c.in-Do.body c.in-Do.is done
