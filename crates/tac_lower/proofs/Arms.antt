@@ -38,18 +38,16 @@ recounted view r old new p n k same passed = subst (λ (j : ℕ). Passed view r 
 -- A piece of a term, and what changes the scope from it on.
 module _ (r : Result (Unit {0}) NoMemory) {B : Type 0} (w0 w1 w2 : Made) (p : Piece B) (G : B → Made → Piece Holders) (x : B) (n m k : ℕ)
     (same : x ≡ p.result) (first : w1 ≡ past w0 p n) (sum : k ≡ n + m) where
-  go : B → Used → Piece Holders
+  abbrev go : B → Used → Piece Holders
   go v u = G v (record (past w0 p n) { used = u })
 
   both : scoped w0 (then_piece p go) k ≡ scoped (past w0 p n) (go p.result p.used) m
-  unfolding go
   both =
       let q = go p.result p.used in
       same-made (scoped w0 (then_piece p go) k) (scoped (past w0 p n) q m) (sym (append_assoc w0.code p.code q.code)) refl refl
       (ap (λ (j : ℕ). w0.next + j) sum ∙ sym (add_assoc w0.next n m))
 
   pub declared-after : Declared r w1 w2 (G x w1) m → Declared r w0 w2 (then_piece p (λ v u. G v (record (past w0 p n) { used = u }))) k
-  unfolding go
   declared-after = by r
     where
       here : G x w1 ≡ G p.result (past w0 p n)
