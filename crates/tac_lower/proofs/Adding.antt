@@ -52,9 +52,10 @@ pub gave-after : {A B C : Type 0} (view : A → C) (r : Result A NoMemory) (w0 w
 gave-after view (Err e) w0 w1 w2 p G x n same first second = tt
 gave-after view (Ok y) w0 w1 w2 p G x n same first second =
     let go = λ (v : _) (u : Used). G v (record (past w0 p n) { used = u }) in
-    let here : G x w1 ≡ G p.result (past w0 p n) = ap (λ (v : _). G v w1) same ∙ ap (λ (w : Made). G p.result w) first in
-    (second.0 ∙ ap (λ (q : Piece _). q.result) here,
-    second.1 ∙ ap (λ (q : Piece _). behind w1 q) here ∙ ap (λ (w : Made). behind w (G p.result (past w0 p n))) first ∙ sym (past-behind w0 p go n))
+    let here : G x w1 ≡ G p.result (past w0 p n) = ap (λ (v : _). G v w1) same ∙ ap (λ (w : Made). G p.result w) first in (
+      second.0 ∙ ap (λ (q : Piece _). q.result) here,
+      second.1 ∙ ap (λ (q : Piece _). behind w1 q) here ∙ ap (λ (w : Made). behind w (G p.result (past w0 p n))) first ∙ sym (past-behind w0 p go n),
+    )
 
 -- A piece of a term, and a term from it on.
 pub passed-after : {A B C : Type 0} (view : A → C) (r : Result A NoMemory) (w0 w1 w2 : Made) (p : Piece B) (G : B → Made → Piece C) (x : B) (n m k : ℕ)
@@ -63,9 +64,10 @@ pub passed-after : {A B C : Type 0} (view : A → C) (r : Result A NoMemory) (w0
 passed-after view (Err e) w0 w1 w2 p G x n m k same first sum second = tt
 passed-after view (Ok y) w0 w1 w2 p G x n m k same first sum second =
     let go = λ (v : _) (u : Used). G v (record (past w0 p n) { used = u }) in
-    let here : G x w1 ≡ G p.result (past w0 p n) = ap (λ (v : _). G v w1) same ∙ ap (λ (w : Made). G p.result w) first in
-    (second.0 ∙ ap (λ (q : Piece _). q.result) here,
-    second.1 ∙ ap (λ (q : Piece _). past w1 q m) here ∙ ap (λ (w : Made). past w (G p.result (past w0 p n)) m) first ∙ sym (past-then w0 p go n m k sum))
+    let here : G x w1 ≡ G p.result (past w0 p n) = ap (λ (v : _). G v w1) same ∙ ap (λ (w : Made). G p.result w) first in (
+      second.0 ∙ ap (λ (q : Piece _). q.result) here,
+      second.1 ∙ ap (λ (q : Piece _). past w1 q m) here ∙ ap (λ (w : Made). past w (G p.result (past w0 p n)) m) first ∙ sym (past-then w0 p go n m k sum),
+    )
 
 -- A piece without terms, and a term from it on.
 pub passed-behind : {A B C : Type 0} (view : A → C) (r : Result A NoMemory) (w0 w1 w2 : Made) (p : Piece B) (G : B → Made → Piece C) (x : B) (n : ℕ)
@@ -74,18 +76,20 @@ pub passed-behind : {A B C : Type 0} (view : A → C) (r : Result A NoMemory) (w
 passed-behind view (Err e) w0 w1 w2 p G x n same first second = tt
 passed-behind view (Ok y) w0 w1 w2 p G x n same first second =
     let go = λ (v : _) (u : Used). G v (record (behind w0 p) { used = u }) in
-    let here : G x w1 ≡ G p.result (behind w0 p) = ap (λ (v : _). G v w1) same ∙ ap (λ (w : Made). G p.result w) first in
-    (second.0 ∙ ap (λ (q : Piece _). q.result) here,
-    second.1 ∙ ap (λ (q : Piece _). past w1 q n) here ∙ ap (λ (w : Made). past w (G p.result (behind w0 p)) n) first ∙ sym (behind-past w0 p go n))
+    let here : G x w1 ≡ G p.result (behind w0 p) = ap (λ (v : _). G v w1) same ∙ ap (λ (w : Made). G p.result w) first in (
+      second.0 ∙ ap (λ (q : Piece _). q.result) here,
+      second.1 ∙ ap (λ (q : Piece _). past w1 q n) here ∙ ap (λ (w : Made). past w (G p.result (behind w0 p)) n) first ∙ sym (behind-past w0 p go n),
+    )
 
 -- A piece without terms, and another from it on.
 pub gave-behind : {A B C : Type 0} (view : A → C) (r : Result A NoMemory) (w0 w1 w2 : Made) (p : Piece B) (go : B → Used → Piece C) (x : B)
     → x ≡ p.result → w1 ≡ behind w0 p → Gave view r w1 w2 (go x w1.used) → Gave view r w0 w2 (then_piece p go)
 gave-behind view (Err e) w0 w1 w2 p go x same first second = tt
 gave-behind view (Ok y) w0 w1 w2 p go x same first second =
-    let here : go x w1.used ≡ go p.result p.used = ap (λ (v : _). go v w1.used) same ∙ ap (λ (w : Made). go p.result w.used) first in
-    (second.0 ∙ ap (λ (q : Piece _). q.result) here,
-    second.1 ∙ ap (λ (q : Piece _). behind w1 q) here ∙ ap (λ (w : Made). behind w (go p.result p.used)) first ∙ sym (behind-then w0 p go))
+    let here : go x w1.used ≡ go p.result p.used = ap (λ (v : _). go v w1.used) same ∙ ap (λ (w : Made). go p.result w.used) first in (
+      second.0 ∙ ap (λ (q : Piece _). q.result) here,
+      second.1 ∙ ap (λ (q : Piece _). behind w1 q) here ∙ ap (λ (w : Made). behind w (go p.result p.used)) first ∙ sym (behind-then w0 p go),
+    )
 
 -- what changes the scope
 

@@ -160,17 +160,18 @@ module _ (c : Around) (want : Wanted) (below : ℕ) (node : TermId) (at : Place)
       let b1 = built-scoped w0 w0 w1 [] w0.used w0.scope 0 (built-nothing w0) A m first in
       let b2 = built-term w0 w1 w2 A.code A.used A.result (0 + m) b1 p n second in
       let b3 = built-left w0 w2 w3 (A.code ++ p.code) p.used A.result (0 + m + n) b2 depth w0.scope
-          (scope-left w0.scope A.result depth (block-before C ss w0.next w0.scope w0.used) count) left in
+      (scope-left w0.scope A.result depth (block-before C ss w0.next w0.scope w0.used) count) left in
       let p0 = piece C the_value e (w0.next + m) A.result A.used in
       let there : p ≡ p0 = ap (λ (z : Made). piece C the_value e z.next z.scope z.used) first in
       let whole = expression_tree c.store.now node.0 at of (expressions.Let block a) in
       let sum : 0 + m + n ≡ in_expression whole =
       omega (arith, declared_append (block_events ss) (events_of e), declared_scope (block_events ss ++ events_of e)) in
       subst (λ (x : Expression). Passed result_of (Ok v) w0 w3 (piece C want x w0.next w0.scope w0.used) (in_expression x))
-      (sym (tree ∙ ap (λ (g : TypedExpression). expression_tree c.store.now node.0 at of g) is))
-      (same ∙ ap (λ (q : Piece pieces.Result). q.result) there,
-      built-past w0 w3 (piece C want whole w0.next w0.scope w0.used) _ _ _ _ b3 (ap (λ (q : Piece pieces.Result). A.code ++ q.code) there)
-      (ap (λ (q : Piece pieces.Result). q.used) there) sum)
+      (sym (tree ∙ ap (λ (g : TypedExpression). expression_tree c.store.now node.0 at of g) is)) (
+        same ∙ ap (λ (q : Piece pieces.Result). q.result) there,
+        built-past w0 w3 (piece C want whole w0.next w0.scope w0.used) _ _ _ _ b3 (ap (λ (q : Piece pieces.Result). A.code ++ q.code) there)
+            (ap (λ (q : Piece pieces.Result). q.used) there) sum,
+      )
 
 -- statements
 

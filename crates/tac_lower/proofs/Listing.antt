@@ -55,11 +55,12 @@ module _ (c : Around) (below : ℕ) (nodes : List TermId) (i : ℕ) (w : Made) (
         ∙ ap (λ (z : Made). past z (pieces_of c below (drop (i + 1) nodes) z) (in_list es)) (sym first)
 
     pub list-all : length nodes ≤ i → (map result_of values ≡ R) × (w ≡ W)
-    list-all past_end =
-        (sym (results ∙ ap (λ (l : List TermId). map result_of values ++ (pieces_of c below l w).result) (none-left nodes i past_end)
-        ∙ append-nil (map result_of values)),
-        sym (works ∙ ap (λ (l : List TermId). past w (pieces_of c below l w) (in_list (list_before c.store.now below l))) (none-left nodes i past_end)
-        ∙ past-known {A = List Result} w []))
+    list-all past_end = (
+      sym (results ∙ ap (λ (l : List TermId). map result_of values ++ (pieces_of c below l w).result) (none-left nodes i past_end)
+          ∙ append-nil (map result_of values)),
+      sym (works ∙ ap (λ (l : List TermId). past w (pieces_of c below l w) (in_list (list_before c.store.now below l))) (none-left nodes i past_end)
+          ∙ past-known {A = List Result} w []),
+    )
 
   -- targets
   module _ (R : List Target) (values : List code_target.Target)
@@ -89,11 +90,12 @@ module _ (c : Around) (below : ℕ) (nodes : List TermId) (i : ℕ) (w : Made) (
         ∙ ap (λ (z : Made). past z (targets_of c below (drop (i + 1) nodes) z) (in_list es)) (sym first)
 
     pub target-all : length nodes ≤ i → (map target_of values ≡ R) × (w ≡ W)
-    target-all past_end =
-        (sym (results ∙ ap (λ (l : List TermId). map target_of values ++ (targets_of c below l w).result) (none-left nodes i past_end)
-        ∙ append-nil (map target_of values)),
-        sym (works ∙ ap (λ (l : List TermId). past w (targets_of c below l w) (in_list (list_before c.store.now below l))) (none-left nodes i past_end)
-        ∙ past-known {A = List Target} w []))
+    target-all past_end = (
+      sym (results ∙ ap (λ (l : List TermId). map target_of values ++ (targets_of c below l w).result) (none-left nodes i past_end)
+          ∙ append-nil (map target_of values)),
+      sym (works ∙ ap (λ (l : List TermId). past w (targets_of c below l w) (in_list (list_before c.store.now below l))) (none-left nodes i past_end)
+          ∙ past-known {A = List Target} w []),
+    )
 
   -- statements
   module _ (works : W ≡ scoped w (all_of c below (drop i nodes) w) (in_block (block_before c.store.now below (drop i nodes)))) where

@@ -122,11 +122,11 @@ module _ (c : Around) (k : Callable) (w0 w1 w2 w3 w4 : Made) (tos : List Destina
   W2 = scoped W1 D (length k.parameters.now)
 
   first : w1 ≡ W1
-  unfolding (P, W1)
+  unfolding P W1
   first = one ∙ ap (λ (z : Made). record z { used = (received c.store.now.types k.parameters.now z.used).used }) start
 
   second : w2 ≡ W2
-  unfolding (W1, D, W2)
+  unfolding W1 D W2
   second =
       two ∙ ap (λ (l : List Result). scoped w1 (declare_all (around_of c) k.at k.parameters.now l w1.next w1.scope w1.used) (length k.parameters.now))
       (values ∙ ap (λ (l : List Destination). map given l) parts-places)
@@ -136,7 +136,7 @@ module _ (c : Around) (k : Callable) (w0 w1 w2 w3 w4 : Made) (tos : List Destina
   B = all (around_of c) (callable_tree c.store.now k).body.body (length k.parameters.now) D.result D.used
 
   body : all_of c k.node k.body.now W2 ≡ B
-  unfolding (W1, W2, B)
+  unfolding W1 W2 B
   body =
       ap (λ (j : ℕ). all (around_of c) (callable_tree c.store.now k).body.body j D.result D.used) (zero-add (length k.parameters.now))
 
@@ -144,12 +144,12 @@ module _ (c : Around) (k : Callable) (w0 w1 w2 w3 w4 : Made) (tos : List Destina
   third = three ∙ ap (λ (z : Made). scoped z (all_of c k.node k.body.now z) m) second ∙ ap (λ (p : Piece Holders). scoped W2 p m) body
 
   pub parts-code : w4.code ≡ (parts_of_body c k).code ++ ending (callable_tree c.store.now k) ∷ []
-  unfolding (P, W1, D, W2, B)
+  unfolding P W1 D W2 B
   parts-code =
       ap (λ (z : Made). z.code) four ∙ ap (λ (z : Made). z.code ++ i ∷ []) third ∙ ap (λ (x : Item). D.code ++ B.code ++ x ∷ []) last
 
   pub parts-used : w4.used ≡ (parts_of_body c k).used
-  unfolding (P, W1, D, W2, B)
+  unfolding P W1 D W2 B
   parts-used = ap (λ (z : Made). z.used) four ∙ ap (λ (z : Made). z.used) third
 
 -- all of the code

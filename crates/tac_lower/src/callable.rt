@@ -23,7 +23,10 @@ use crate::term::lower_body;
 use crate::value::{NO_WORD, Value, given};
 use crate::work::Work;
 use std::alloc::{AllocError, Global};
-use tac_form::{Block, BlockList, Destination, DestinationList, Exit, InstructionList, Signature, SizeList, Tac, TypeIds};
+use tac_form::{
+    Block, BlockList, Destination, DestinationList, Exit, InstructionList, Signature, SizeList,
+    Tac, TypeIds,
+};
 use terra_eval::frame::frame_of;
 use terra_eval::nodes::{Callable, callable_of};
 use terra_eval::types::bytes_at;
@@ -78,7 +81,12 @@ fn nodes_in(store: &Store, node: TermId) -> Result<u64, NoMemory>
 }
 
 /// The code of a function that is typed, of so many nodes.
-fn lower_callable(store: &Store, entries: &[FnId], k: &Callable<'_>, nodes: u64) -> Result<Tac, NoMemory>
+fn lower_callable(
+    store: &Store,
+    entries: &[FnId],
+    k: &Callable<'_>,
+    nodes: u64,
+) -> Result<Tac, NoMemory>
     requires { nodes ≡ (body_size (callable_tree store.now k.now).body).nodes }
     ensures { IfOk result (λ code. code ≡ lowered (contents_of store.now) entries.now (callable_tree store.now k.now)) }
 {
@@ -131,7 +139,11 @@ fn code_of(store: &Store, entries: &[FnId], k: &Callable<'_>, nodes: u64) -> Res
 }
 
 /// The code of a function's parameters, its body and its end; gives where the parameters go.
-fn lower_parts(around: &Around<'_>, k: &Callable<'_>, work: &mut Work) -> Result<Vec<Destination>, NoMemory>
+fn lower_parts(
+    around: &Around<'_>,
+    k: &Callable<'_>,
+    work: &mut Work,
+) -> Result<Vec<Destination>, NoMemory>
     requires { work.now ≡ begun }
     ensures parameters { IfOk result (λ tos. tos.items ≡ (destinations_of around.now k.now).result) }
     ensures code { OnOk result (work.new.code ≡ (parts_of_body around.now k.now).code ++ ending (callable_tree around.now.store.now k.now) ∷ []) }

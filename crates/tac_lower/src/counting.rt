@@ -90,7 +90,13 @@ fn either_way(k: Counting, below: Operand, work: &mut Work) -> Result<Value, NoM
     let word = whole_word();
     let falling = compute(BinaryOperator::And, word, falls.word(), above.word(), work)?;
     let rising = compute(BinaryOperator::And, word, rises.word(), below, work)?;
-    compute(BinaryOperator::Or, word, falling.word(), rising.word(), work)
+    compute(
+        BinaryOperator::Or,
+        word,
+        falling.word(),
+        rising.word(),
+        work,
+    )
 }
 
 /// The value of a `for` goes on.

@@ -99,12 +99,7 @@ fn loaded_area(size: u64, from: Spot, work: &mut Work) -> Result<Value, NoMemory
     Ok(Value::Area(n))
 }
 
-fn loaded_word(
-    types: &Types,
-    of: TypeId,
-    from: Spot,
-    work: &mut Work,
-) -> Result<Value, NoMemory>
+fn loaded_word(types: &Types, of: TypeId, from: Spot, work: &mut Work) -> Result<Value, NoMemory>
     ensures { Gave result_of result work.old work.new (loaded_word types.now of from work.old.used) }
 {
     let t = work.temp()?;
@@ -154,11 +149,7 @@ fn stored_part(
     ensures { Put result work.old work.new (stored_part types.now of to (result_of v) work.old.used) }
 {
     match v {
-        Value::Area(n) => work.put(Instruction::Move(
-            to,
-            Spot::Area(n, 0),
-            bytes_at(types, of),
-        )),
+        Value::Area(n) => work.put(Instruction::Move(to, Spot::Area(n, 0), bytes_at(types, of))),
         Value::Word(a) => work.put(Instruction::Store(to, number_of(types, of).size, a)),
         Value::Offset(_) => work.put(Instruction::Store(
             to,

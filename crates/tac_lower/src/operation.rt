@@ -45,7 +45,13 @@ pub(crate) fn operation(
     match done {
         Operation::Negate => {
             let zero = Operand::Constant(0);
-            compute(BinaryOperator::Subtract, number_of(types, of), zero, x, work)
+            compute(
+                BinaryOperator::Subtract,
+                number_of(types, of),
+                zero,
+                x,
+                work,
+            )
         }
         Operation::Not => not(types, of, x, work),
         Operation::Binary(operator) => {

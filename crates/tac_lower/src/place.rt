@@ -89,5 +89,11 @@ pub(crate) fn element(
 {
     let size = Operand::Constant(size);
     let distance = compute(BinaryOperator::Multiply, whole_word(), index, size, work)?;
-    compute(BinaryOperator::Add, whole_word(), from, distance.word(), work)
+    compute(
+        BinaryOperator::Add,
+        whole_word(),
+        from,
+        distance.word(),
+        work,
+    )
 }

@@ -7,6 +7,7 @@ use Rattle.tac_lower.specs.Items.{ends}
 use Rattle.tac_lower.specs.Pieces.{given}
 use Rattle.tac_lower.specs.Lowering.{received}
 use Rattle.tac_lower.specs.Data.{ending_of, result_of}
+use Rattle.tac_lower.specs.Works.{Made}
 use Rattle.tac_lower.specs.declared.value.Value.{Value}
 use Rattle.tac_lower.proofs.Receiving.{parts-code, parts-places, parts-used}
 use Rattle.tac_lower.proofs.callable.lower_parts.Goals as goal
@@ -17,7 +18,7 @@ returns-clause-parameters c =
     let k = c.args.k.now in
     let w0 = c.args.work.now in
     c.in_ok-parameters.ensures.parameters ∙ ap (λ (ts : List TypeForm). (received ts k.parameters.now w0.used).result) c.types.ensures
-    ∙ ap (λ (z : _). (received around.store.now.types k.parameters.now z.used).result) c.requires
+    ∙ ap (λ (z : Made). (received around.store.now.types k.parameters.now z.used).result) c.requires
 
 pub returns-clause-code : goal.returns-clause-code
 returns-clause-code c =
@@ -26,9 +27,9 @@ returns-clause-code c =
     let w0 = c.args.work.now in
     let places = c.in_ok-parameters.ensures.parameters ∙ ap (λ (ts : List TypeForm). (received ts k.parameters.now w0.used).result) c.types.ensures in
     let one = c.in_ok-parameters.ensures.work
-        ∙ ap (λ (ts : List TypeForm). record w0 { used = (received ts k.parameters.now w0.used).used }) c.types.ensures in
+    ∙ ap (λ (ts : List TypeForm). record w0 { used = (received ts k.parameters.now w0.used).used }) c.types.ensures in
     let values = ap (λ (l : List Value). map result_of l) c.deref-2.ensures.value ∙ c.in_ok-values.ensures
-        ∙ ap (λ (l : List Destination). map given l) c.deref.ensures.value in
+    ∙ ap (λ (l : List Destination). map given l) c.deref.ensures.value in
     parts-code around k w0 c.received.new.work c.declare_all.new.work c.lower_body.new.work c.end.new.self c.in_ok-parameters.parameters.items
     (map result_of c.deref-2.result.now) (ends (ending_of c.ending.result)) (in_block (block_before around.store.now k.node k.body.now))
     c.requires places one values c.in_ok-declare_all.ensures c.in_ok-lower_body.ensures c.in_ok-end.ensures (c.ending.ensures around.store.now)
@@ -40,9 +41,9 @@ returns-clause-used c =
     let w0 = c.args.work.now in
     let places = c.in_ok-parameters.ensures.parameters ∙ ap (λ (ts : List TypeForm). (received ts k.parameters.now w0.used).result) c.types.ensures in
     let one = c.in_ok-parameters.ensures.work
-        ∙ ap (λ (ts : List TypeForm). record w0 { used = (received ts k.parameters.now w0.used).used }) c.types.ensures in
+    ∙ ap (λ (ts : List TypeForm). record w0 { used = (received ts k.parameters.now w0.used).used }) c.types.ensures in
     let values = ap (λ (l : List Value). map result_of l) c.deref-2.ensures.value ∙ c.in_ok-values.ensures
-        ∙ ap (λ (l : List Destination). map given l) c.deref.ensures.value in
+    ∙ ap (λ (l : List Destination). map given l) c.deref.ensures.value in
     parts-used around k w0 c.received.new.work c.declare_all.new.work c.lower_body.new.work c.end.new.self c.in_ok-parameters.parameters.items
     (map result_of c.deref-2.result.now) (ends (ending_of c.ending.result)) (in_block (block_before around.store.now k.node k.body.now))
     c.requires places one values c.in_ok-declare_all.ensures c.in_ok-lower_body.ensures c.in_ok-end.ensures (c.ending.ensures around.store.now)

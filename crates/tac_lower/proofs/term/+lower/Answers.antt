@@ -59,7 +59,7 @@ lower_both-returns t c =
     append_assoc (X ++ ends (tests (Temp t) 0) ∷ []) q.code (two ∷ []) in
     let b7 = subst (λ (l : List Item). Built w0 w6 l q.used w0.scope (0 + n + m)) shape b6 in
     let b8 = passed-built w0 w3 w6 c.end-2.new.self c.close.new.self X A (Temp t) p.used q.used w0.scope w0.scope (0 + n) (0 + n + m)
-        c.mark-mark.result.position c.mark-mark.result.ended b3 c.mark-mark.ensures.position c.mark-mark.ensures.ended b7 c.in_ok-end-2.ensures c.close.ensures in
+    c.mark-mark.result.position c.mark-mark.result.ended b3 c.mark-mark.ensures.position c.mark-mark.ensures.ended b7 c.in_ok-end-2.ensures c.close.ensures in
     let p0 = piece C the_value ea w0.next w0.scope (with_temp w0.used) in
     let q0 = piece C the_value eb (w0.next + n) w0.scope p0.used in
     let first : p ≡ p0 = ap (λ (w : Made). piece C the_value ea w.next w.scope w.used) c.in_ok-t.ensures.work in
@@ -76,10 +76,11 @@ lower_both-returns t c =
     ∙ ap (λ (r : Piece Result). r.code ++ does (Copy d (word_of p0.result)) ∷ [] ++ passed_over (Temp d) (q.code ++ does (Copy d (word_of q0.result)) ∷ [])) first
     ∙ ap (λ (r : Piece Result). p0.code ++ does (Copy d (word_of p0.result)) ∷ [] ++ passed_over (Temp d) (r.code ++ does (Copy d (word_of q0.result)) ∷ [])) second in
     let sum : 0 + n + m ≡ in_expression (both_tree around c.args.below c.args.a c.args.b) =
-    omega (arith, declared_append (events_of ea) (events_of eb)) in
-    (ap (λ (k : ℕ). a_word (Temp k)) same_t,
-    built-past w0 c.close.new.self (piece_at around (both_tree around c.args.below c.args.a c.args.b) w0) _ _ _ _ b8 code
-    (ap (λ (r : Piece Result). r.used) second) sum)
+    omega (arith, declared_append (events_of ea) (events_of eb)) in (
+      ap (λ (k : ℕ). a_word (Temp k)) same_t,
+      built-past w0 c.close.new.self (piece_at around (both_tree around c.args.below c.args.a c.args.b) w0) _ _ _ _ b8 code
+          (ap (λ (r : Piece Result). r.used) second) sum,
+    )
 
 pub lower_either-returns : goal.lower_either-returns
 lower_either-returns t c =
@@ -119,7 +120,7 @@ lower_either-returns t c =
     append_assoc (X ++ ends (tests a 0) ∷ []) q.code (two ∷ []) in
     let b7 = subst (λ (l : List Item). Built w0 w6 l q.used w0.scope (0 + n + m)) shape b6 in
     let b8 = passed-built w0 wt w6 c.end-2.new.self c.close.new.self X A a o.used q.used w0.scope w0.scope (0 + n) (0 + n + m)
-        c.mark-mark.result.position c.mark-mark.result.ended bt c.mark-mark.ensures.position c.mark-mark.ensures.ended b7 c.in_ok-end-2.ensures c.close.ensures in
+    c.mark-mark.result.position c.mark-mark.result.ended bt c.mark-mark.ensures.position c.mark-mark.ensures.ended b7 c.in_ok-end-2.ensures c.close.ensures in
     let p0 = piece C the_value ea w0.next w0.scope (with_temp w0.used) in
     let q0 = piece C the_value eb (w0.next + n) w0.scope (opposite (Temp d) p0.used).used in
     let first : p ≡ p0 = ap (λ (w : Made). piece C the_value ea w.next w.scope w.used) c.in_ok-t.ensures.work in
@@ -146,10 +147,11 @@ lower_either-returns t c =
     ∙ ap (λ (x : Operand). put0 ++ o0.code ++ passed_over x A) turned ∙ ap (λ (l : List Item). put0 ++ o0.code ++ passed_over o0.result l) last
     ∙ append_assoc put0 o0.code (passed_over o0.result put1) in
     let sum : 0 + n + m ≡ in_expression (either_tree around c.args.below c.args.a c.args.b) =
-    omega (arith, declared_append (events_of ea) (events_of eb)) in
-    (ap (λ (k : ℕ). a_word (Temp k)) same_t,
-    built-past w0 c.close.new.self (piece_at around (either_tree around c.args.below c.args.a c.args.b) w0) _ _ _ _ b8 code
-    (ap (λ (r : Piece Result). r.used) second) sum)
+    omega (arith, declared_append (events_of ea) (events_of eb)) in (
+      ap (λ (k : ℕ). a_word (Temp k)) same_t,
+      built-past w0 c.close.new.self (piece_at around (either_tree around c.args.below c.args.a c.args.b) w0) _ _ _ _ b8 code
+          (ap (λ (r : Piece Result). r.used) second) sum,
+    )
 
 pub lower_list-loop-node-preserved : goal.lower_list-loop-node-preserved
 lower_list-loop-node-preserved t c =
@@ -204,8 +206,8 @@ lower_scope-returns t c =
     let w1 = c.lower_block.new.work in
     let b1 = built-scoped w0 w0 w1 [] w0.used w0.scope 0 (built-nothing w0) p (in_block block) c.in_ok-lower_block.ensures in
     let b2 = built-left w0 w1 c.leave.new.self p.code p.used p.result (0 + in_block block) b1 c.depth-depth.result w0.scope
-        (scope-left w0.scope p.result c.depth-depth.result (block-before (around_of around) block w0.next w0.scope w0.used) c.depth-depth.ensures)
-        c.in_ok-leave.ensures in
+    (scope-left w0.scope p.result c.depth-depth.result (block-before (around_of around) block w0.next w0.scope w0.used) c.depth-depth.ensures)
+    c.in_ok-leave.ensures in
     let whole : Piece Holders = taken (λ (h : Holders). w0.scope) p in
     built-all w0 c.leave.new.self whole (in_block block) p.code p.used w0.scope (0 + in_block block) b2 refl refl refl (zero-add (in_block block))
 
@@ -227,7 +229,7 @@ lower_if-returns t c =
     let inner : Piece Holders = taken (λ (h : Holders). w2.scope) a in
     let b3 = built-scoped w0 w2 w3 (p.code ++ ends (tests c.word.result 0) ∷ []) p.used w0.scope (0 + n) b2 inner m c.in_ok-lower_scope.ensures in
     let b5 = passed-built w0 w1 w3 c.end-2.new.self c.close.new.self p.code a.code c.word.result p.used a.used w0.scope w2.scope (0 + n) (0 + n + m)
-        c.mark-mark.result.position c.mark-mark.result.ended b1 c.mark-mark.ensures.position c.mark-mark.ensures.ended b3 c.in_ok-end-2.ensures c.close.ensures in
+    c.mark-mark.result.position c.mark-mark.result.ended b1 c.mark-mark.ensures.position c.mark-mark.ensures.ended b3 c.in_ok-end-2.ensures c.close.ensures in
     let C = around_of around in
     let same : a ≡ all C block (w0.next + n) w0.scope p.used =
     ap (λ (k : ℕ). all C block k w2.scope w2.used) (b2.next ∙ ap (λ (j : ℕ). w0.next + j) (zero-add n))
@@ -269,8 +271,8 @@ lower_choice-returns t c =
     let b3 = built-scoped w0 w2 w3 (p.code ++ ends (tests t 0) ∷ []) p.used w0.scope (0 + n) b2 inner m c.in_ok-lower_scope.ensures in
     let T = ends (tests t (suc (count_ends a.code))) in
     let b5 = tested-built w0 w1 w3 w4 w5 p.code a.code t p.used a.used w0.scope w2.scope (0 + n) (0 + n + m)
-        c.mark-tested.result.position c.mark-tested.result.ended b1 c.mark-tested.ensures.position c.mark-tested.ensures.ended
-        (skips 0) b3 c.in_ok-end-2.ensures c.close.ensures in
+    c.mark-tested.result.position c.mark-tested.result.ended b1 c.mark-tested.ensures.position c.mark-tested.ensures.ended
+    (skips 0) b3 c.in_ok-end-2.ensures c.close.ensures in
     let inner2 : Piece Holders = taken (λ (h : Holders). w5.scope) b in
     let b6 = built-scoped w0 w5 w6 (p.code ++ T ∷ (a.code ++ s0 ∷ [])) a.used w2.scope (0 + n + m) b5 inner2 k c.in_ok-lower_scope-2.ensures in
     let b7 = built-item w0 w6 w7 (p.code ++ T ∷ (a.code ++ s0 ∷ []) ++ b.code) b.used w5.scope (0 + n + m + k) b6 s0 c.in_ok-end-3.ensures in
@@ -283,15 +285,27 @@ lower_choice-returns t c =
     let test = ends (tests t 0) in
     let len3 : length w3.code ≡ length (w0.code ++ X) =
     ap (λ (l : List Item). length l) b3.code
-    ∙ omega (arith, length-append w0.code (p.code ++ test ∷ [] ++ a.code), length-append (p.code ++ test ∷ []) a.code, length-append p.code (test ∷ []),
-    length-append w0.code X, length-append p.code (T ∷ a.code)) in
+    ∙ omega (
+      arith,
+      length-append w0.code (p.code ++ test ∷ [] ++ a.code),
+      length-append (p.code ++ test ∷ []) a.code,
+      length-append p.code (test ∷ []),
+      length-append w0.code X,
+      length-append p.code (T ∷ a.code),
+    ) in
     let ends3 : count_ends w3.code ≡ count_ends (w0.code ++ X) =
     ap count_ends b3.code
-    ∙ omega (arith, count-append w0.code (p.code ++ test ∷ [] ++ a.code), count-append (p.code ++ test ∷ []) a.code, count-append p.code (test ∷ []),
-    count-append w0.code X, count-append p.code (T ∷ a.code)) in
+    ∙ omega (
+      arith,
+      count-append w0.code (p.code ++ test ∷ [] ++ a.code),
+      count-append (p.code ++ test ∷ []) a.code,
+      count-append p.code (test ∷ []),
+      count-append w0.code X,
+      count-append p.code (T ∷ a.code),
+    ) in
     let b8 = built-closed w0 w7 w8 X Y (skips 0) b.used w5.scope (0 + n + m + k) c.mark-done.result.position c.mark-done.result.ended
-        (subst (λ (l : List Item). Built w0 w7 l b.used w5.scope (0 + n + m + k)) shape b7)
-        (c.mark-done.ensures.position ∙ len3) (c.mark-done.ensures.ended ∙ ends3) c.close-2.ensures in
+    (subst (λ (l : List Item). Built w0 w7 l b.used w5.scope (0 + n + m + k)) shape b7)
+    (c.mark-done.ensures.position ∙ len3) (c.mark-done.ensures.ended ∙ ends3) c.close-2.ensures in
     let a0 = all C block (w0.next + n) w0.scope p.used in
     let b0 = all C others (w0.next + n + m) w0.scope a0.used in
     let second : a ≡ a0 =
@@ -310,8 +324,13 @@ lower_choice-returns t c =
     ∙ ap (λ (o : Operand). p.code ++ choice o a.code b.code) word ∙ ap (λ (r : Piece Holders). p.code ++ choice (word_of p.result) r.code b.code) second
     ∙ ap (λ (r : Piece Holders). p.code ++ choice (word_of p.result) a0.code r.code) third in
     let sum : 0 + n + m + k ≡ in_statement (choice_tree around c.args.below c.args.test c.args.block.now c.args.other.now) =
-    omega (arith, declared_append (events_of tested ++ scope (block_events block)) (scope (block_events others)),
-    declared_append (events_of tested) (scope (block_events block)), declared_scope (block_events block), declared_scope (block_events others)) in
+    omega (
+      arith,
+      declared_append (events_of tested ++ scope (block_events block)) (scope (block_events others)),
+      declared_append (events_of tested) (scope (block_events block)),
+      declared_scope (block_events block),
+      declared_scope (block_events others),
+    ) in
     built-all w0 w8 (one_at around (choice_tree around c.args.below c.args.test c.args.block.now c.args.other.now) w0) _ _ _ _ _ b8 code
     (ap (λ (r : Piece Holders). r.used) third) (b5.scope ∙ b2.scope) sum
 
@@ -343,10 +362,10 @@ lower_while-returns t c =
     let back = count_ends w4.code - c.mark-start.result.ended in
     let Z = ends (tests t (suc (count_ends a.code))) ∷ (a.code ++ ends (repeats back) ∷ []) in
     let b6 = tested-built w0 w2 w4 w5 w6 (s0 ∷ p.code) a.code t p.used a.used w0.scope w3.scope (0 + n) (0 + n + m)
-        c.mark-tested.result.position c.mark-tested.result.ended b2 c.mark-tested.ensures.position c.mark-tested.ensures.ended
-        (repeats back) b4 c.in_ok-go_back.ensures c.close.ensures in
+    c.mark-tested.result.position c.mark-tested.result.ended b2 c.mark-tested.ensures.position c.mark-tested.ensures.ended
+    (repeats back) b4 c.in_ok-go_back.ensures c.close.ensures in
     let b7 = built-loop w0 w6 w7 (s0 ∷ []) (p.code ++ Z) a.used w3.scope (0 + n + m) c.mark-start.result.position b6
-        (c.mark-start.ensures.position ∙ ap (λ (l : List Item). length l) b1.code) c.close_loop.ensures in
+    (c.mark-start.ensures.position ∙ ap (λ (l : List Item). length l) b1.code) c.close_loop.ensures in
     let p0 = piece C the_value tested w0.next w0.scope w0.used in
     let a0 = all C block (w0.next + n) w0.scope p0.used in
     let first : p ≡ p0 = ap (λ (w : Made). piece C the_value tested w.next w.scope w.used) c.in_ok-end.ensures in
@@ -395,13 +414,13 @@ lower_repeat-returns t c =
     let b3 = built-term w0 w2 w3 (s0 ∷ a.code) a.used a.result (0 + m) b2 p n c.in_ok-v.ensures.1 in
     let depth : c.depth-depth.result ≡ length w1.scope = c.depth-depth.ensures in
     let b4 = built-left w0 w3 w4 ((s0 ∷ a.code) ++ p.code) p.used a.result (0 + m + n) b3 c.depth-depth.result w1.scope
-        (scope-left w1.scope a.result c.depth-depth.result (block-before C block w1.next w1.scope w1.used) depth) c.in_ok-leave.ensures in
+    (scope-left w1.scope a.result c.depth-depth.result (block-before C block w1.next w1.scope w1.used) depth) c.in_ok-leave.ensures in
     let back = count_ends w4.code - c.mark-start.result.ended in
     let last = ends (repeats_unless t back) in
     let b5 = built-item w0 w4 w5 ((s0 ∷ a.code) ++ p.code) p.used w1.scope (0 + m + n) b4 last c.in_ok-go_back_unless.ensures in
     let inside = a.code ++ p.code in
     let b6 = built-loop w0 w5 w6 (s0 ∷ []) (inside ++ last ∷ []) p.used w1.scope (0 + m + n) c.mark-start.result.position b5
-        (c.mark-start.ensures.position ∙ ap (λ (l : List Item). length l) b1.code) c.close_loop.ensures in
+    (c.mark-start.ensures.position ∙ ap (λ (l : List Item). length l) b1.code) c.close_loop.ensures in
     let a0 = all C block w0.next w0.scope w0.used in
     let p0 = piece C the_value tested (w0.next + m) a0.result a0.used in
     let first : a ≡ a0 = ap (λ (w : Made). all C block w.next w.scope w.used) c.in_ok-end.ensures in
@@ -475,7 +494,7 @@ lower_for-returns t c =
     let before : Before w5.scope p2.result =
     before-both w5.scope p1.result p2.result (declared-before C at x given w5.next w5.scope w5.used) inner in
     let b8 = built-left w0 w7 w8 (X5 ++ p1.code ++ p2.code) p2.used p2.result (0 + 1 + m) b7 c.depth-depth.result w5.scope
-        (scope-left w5.scope p2.result c.depth-depth.result before c.depth-depth.ensures) c.in_ok-leave.ensures in
+    (scope-left w5.scope p2.result c.depth-depth.result before c.depth-depth.ensures) c.in_ok-leave.ensures in
     let y = does c.counted_on.result in
     let Y = y ∷ [] in
     let b9 = built-item w0 w8 w9 (X5 ++ p1.code ++ p2.code) p2.used w5.scope (0 + 1 + m) b8 y c.in_ok-put-2.ensures in
@@ -486,10 +505,10 @@ lower_for-returns t c =
     let back = count_ends w9.code - c.mark-start.result.ended in
     let Z = ends (tests o (suc (count_ends A))) ∷ (A ++ ends (repeats back) ∷ []) in
     let b11 = tested-built w0 w4 w9 w10 w11 (F ++ q.code) A o q.used p2.used w0.scope w5.scope 0 (0 + 1 + m)
-        c.mark-tested.result.position c.mark-tested.result.ended b4 c.mark-tested.ensures.position c.mark-tested.ensures.ended
-        (repeats back) b10 c.in_ok-go_back.ensures c.close.ensures in
+    c.mark-tested.result.position c.mark-tested.result.ended b4 c.mark-tested.ensures.position c.mark-tested.ensures.ended
+    (repeats back) b10 c.in_ok-go_back.ensures c.close.ensures in
     let b12 = built-loop w0 w11 w12 F (q.code ++ Z) p2.used w5.scope (0 + 1 + m) c.mark-start.result.position b11
-        (c.mark-start.ensures.position ∙ ap (λ (l : List Item). length l) b3.code) c.close_loop.ensures in
+    (c.mark-start.ensures.position ∙ ap (λ (l : List Item). length l) b3.code) c.close_loop.ensures in
     let number = number_of around.store.now.types x.of in
     let k0 = counting number vs d0 in
     let numbers : c.number_of.result ≡ number =
@@ -571,7 +590,7 @@ lower_expression-returns-in_ok-leave-in-Let t c =
     let w0 = c.args.work.now in
     let b = c.args.node.0 in
     let first = c.in_ok-lower_block-in-Let.ensures
-        ∙ ap (λ (l : List TermId). scoped w0 (all_of around b l w0) (in_block (block_before around.store.now b l))) c.as_slice.ensures in
+    ∙ ap (λ (l : List TermId). scoped w0 (all_of around b l w0) (in_block (block_before around.store.now b l))) c.as_slice.ensures in
     let-arm around (want_of c.args.want) c.args.below c.args.node e.at e.of e.form.now c.in-Some.ensures.tree w0 c.in-Let.block c.in-Let.value
     c.in_ok-v-in-Let.v c.lower_block.new.work c.lower_expression-in-Let.new.work c.leave.new.self c.depth-depth.result c.in-Let.is first
     c.in_ok-v-in-Let.ensures.0 c.in_ok-v-in-Let.ensures.1 c.depth-depth.ensures c.in_ok-leave-in-Let.ensures
@@ -588,12 +607,12 @@ lower_statement-returns-in_ok-values-in-Var t c =
     let C = around_of around in
     let same = c.in_ok-values-in-Var.ensures.0 ∙ ap (λ (l : List TermId). (pieces_of around b l w0).result) c.as_slice.ensures in
     let first = c.in_ok-values-in-Var.ensures.1
-        ∙ ap (λ (l : List TermId). past w0 (pieces_of around b l w0) (in_list (list_before around.store.now b l))) c.as_slice.ensures in
+    ∙ ap (λ (l : List TermId). past w0 (pieces_of around b l w0) (in_list (list_before around.store.now b l))) c.as_slice.ensures in
     let named : Declared r w1 w (declare_all C s.at c.in-Var.names (map result_of c.deref.result.now) w1.next w1.scope w1.used) (length c.in-Var.names) =
     subst (λ (l : List TypedName). Declared r w1 w (declare_all C s.at l (map result_of c.deref.result.now) w1.next w1.scope w1.used) (length l))
     c.as_slice-in-Var.ensures c.declare_all.ensures in
     let given = subst (λ (l : List Value). Declared r w1 w (declare_all C s.at c.in-Var.names (map result_of l) w1.next w1.scope w1.used) (length c.in-Var.names))
-        c.deref.ensures.value named in
+    c.deref.ensures.value named in
     var-arm around c.args.below c.args.node s.at s.doing.now c.in-Some.ensures.tree r w0 w c.in-Var.names c.in-Var.values
     (map result_of c.in_ok-values-in-Var.values.items) w1 c.in-Var.is same first given
 
@@ -613,16 +632,16 @@ lower_statement-returns-in_ok-places-in-Assign t c =
     let values = c.in_ok-values-in-Assign.values.items in
     let same = c.in_ok-values-in-Assign.ensures.0 ∙ ap (λ (l : List TermId). (pieces_of around b l w0).result) c.as_slice-in-Assign.ensures in
     let first = c.in_ok-values-in-Assign.ensures.1
-        ∙ ap (λ (l : List TermId). past w0 (pieces_of around b l w0) (in_list (list_before store b l))) c.as_slice-in-Assign.ensures in
+    ∙ ap (λ (l : List TermId). past w0 (pieces_of around b l w0) (in_list (list_before store b l))) c.as_slice-in-Assign.ensures in
     let same1 = c.in_ok-places-in-Assign.ensures.0 ∙ ap (λ (l : List TermId). (targets_of around b l w1).result) c.as_slice-nodes.ensures in
     let second = c.in_ok-places-in-Assign.ensures.1
-        ∙ ap (λ (l : List TermId). past w1 (targets_of around b l w1) (in_list (list_before store b l))) c.as_slice-nodes.ensures in
+    ∙ ap (λ (l : List TermId). past w1 (targets_of around b l w1) (in_list (list_before store b l))) c.as_slice-nodes.ensures in
     let one = subst (λ (l : List TermId). Put r w2 w (assigned_all store.types (list_before store b l) (map target_of c.deref-in-Assign.result.now)
-        (map result_of c.deref-in-Assign-2.result.now) w2.used)) c.as_slice-nodes.ensures c.assigned_all.ensures in
+    (map result_of c.deref-in-Assign-2.result.now) w2.used)) c.as_slice-nodes.ensures c.assigned_all.ensures in
     let two = subst (λ (l : List code_target.Target). Put r w2 w (assigned_all store.types (list_before store b goals) (map target_of l)
-        (map result_of c.deref-in-Assign-2.result.now) w2.used)) c.deref-in-Assign.ensures.value one in
+    (map result_of c.deref-in-Assign-2.result.now) w2.used)) c.deref-in-Assign.ensures.value one in
     let three = subst (λ (l : List Value). Put r w2 w (assigned_all store.types (list_before store b goals) (map target_of places)
-        (map result_of l) w2.used)) c.deref-in-Assign-2.ensures.value two in
+    (map result_of l) w2.used)) c.deref-in-Assign-2.ensures.value two in
     assign-arm around c.args.below c.args.node s.at s.doing.now c.in-Some.ensures.tree r w0 w goals c.in-Assign.values (map target_of places)
     (map result_of values) w1 w2 c.in-Assign.is same first same1 second three
 
@@ -639,11 +658,11 @@ lower_statement-returns-in_ok-values-in-For t c =
     let x = c.in-For.name in
     let same = c.in_ok-values-in-For.ensures.0 ∙ ap (λ (l : List TermId). (pieces_of around b l w0).result) c.as_slice-in-For.ensures in
     let first = c.in_ok-values-in-For.ensures.1
-        ∙ ap (λ (l : List TermId). past w0 (pieces_of around b l w0) (in_list (list_before store b l))) c.as_slice-in-For.ensures in
+    ∙ ap (λ (l : List TermId). past w0 (pieces_of around b l w0) (in_list (list_before store b l))) c.as_slice-in-For.ensures in
     let one = subst (λ (l : List TermId). Declared r w1 w (for_of around b s.at x (map result_of c.deref-in-For.result.now) l w1)
-        (suc (in_block (block_before store b l)))) c.as_slice-in-For-2.ensures c.lower_for.ensures in
+    (suc (in_block (block_before store b l)))) c.as_slice-in-For-2.ensures c.lower_for.ensures in
     let two = subst (λ (l : List Value). Declared r w1 w (for_of around b s.at x (map result_of l) c.in-For.body w1)
-        (suc (in_block (block_before store b c.in-For.body)))) c.deref-in-For.ensures.value one in
+    (suc (in_block (block_before store b c.in-For.body)))) c.deref-in-For.ensures.value one in
     for-arm around c.args.below c.args.node s.at s.doing.now c.in-Some.ensures.tree r w0 w x c.in-For.bounds c.in-For.body
     (map result_of c.in_ok-values-in-For.values.items) w1 c.in-For.is same first two
 
@@ -656,5 +675,5 @@ lower_statement-returns-in-Do t c =
     let w = c.lower_scope.new.work in
     let r = c.lower_scope.result in
     let done = subst (λ (l : List TermId). Declared r w0 w (taken (λ (h : Holders). w0.scope) (all_of around b l w0)) (in_block (block_before around.store.now b l)))
-        c.as_slice-in-Do.ensures c.lower_scope.ensures in
+    c.as_slice-in-Do.ensures c.lower_scope.ensures in
     do-arm around c.args.below c.args.node s.at s.doing.now c.in-Some.ensures.tree r w0 w c.in-Do.body c.in-Do.is done
