@@ -105,38 +105,34 @@ module _ (c : Around) (k : Callable) (w0 w1 w2 w3 w4 : Made) (tos : List Destina
     (three : w3 ≡ scoped w2 (all_of c k.node k.body.now w2) m)
     (four : w4 ≡ record w3 { code = w3.code ++ i ∷ [] })
     (last : i ≡ ending (callable_tree c.store.now k)) where
-  P : Piece (List Destination)
+  abbrev P : Piece (List Destination)
   P = destinations_of c k
 
   pub parts-places : tos ≡ P.result
-  unfolding P
   parts-places = places ∙ ap (λ (z : Made). (received c.store.now.types k.parameters.now z.used).result) start
 
-  W1 : Made
+  abbrev W1 : Made
   W1 = record begun { used = P.used }
 
-  D : Piece Holders
+  abbrev D : Piece Holders
   D = declare_all (around_of c) k.at k.parameters.now (map given P.result) 0 [] P.used
 
-  W2 : Made
+  abbrev W2 : Made
   W2 = scoped W1 D (length k.parameters.now)
 
   first : w1 ≡ W1
-  unfolding P W1
   first = one ∙ ap (λ (z : Made). record z { used = (received c.store.now.types k.parameters.now z.used).used }) start
 
   second : w2 ≡ W2
-  unfolding W1 D W2
   second =
       two ∙ ap (λ (l : List Result). scoped w1 (declare_all (around_of c) k.at k.parameters.now l w1.next w1.scope w1.used) (length k.parameters.now))
       (values ∙ ap (λ (l : List Destination). map given l) parts-places)
       ∙ ap (λ (z : Made). scoped z (declare_all (around_of c) k.at k.parameters.now (map given P.result) z.next z.scope z.used) (length k.parameters.now)) first
 
-  B : Piece Holders
+  abbrev B : Piece Holders
   B = all (around_of c) (callable_tree c.store.now k).body.body (length k.parameters.now) D.result D.used
 
   body : all_of c k.node k.body.now W2 ≡ B
-  unfolding W1 W2 B
   body =
       ap (λ (j : ℕ). all (around_of c) (callable_tree c.store.now k).body.body j D.result D.used) (zero-add (length k.parameters.now))
 
@@ -144,12 +140,10 @@ module _ (c : Around) (k : Callable) (w0 w1 w2 w3 w4 : Made) (tos : List Destina
   third = three ∙ ap (λ (z : Made). scoped z (all_of c k.node k.body.now z) m) second ∙ ap (λ (p : Piece Holders). scoped W2 p m) body
 
   pub parts-code : w4.code ≡ (parts_of_body c k).code ++ ending (callable_tree c.store.now k) ∷ []
-  unfolding P W1 D W2 B
   parts-code =
       ap (λ (z : Made). z.code) four ∙ ap (λ (z : Made). z.code ++ i ∷ []) third ∙ ap (λ (x : Item). D.code ++ B.code ++ x ∷ []) last
 
   pub parts-used : w4.used ≡ (parts_of_body c k).used
-  unfolding P W1 D W2 B
   parts-used = ap (λ (z : Made). z.used) four ∙ ap (λ (z : Made). z.used) third
 
 -- all of the code
@@ -190,37 +184,3 @@ code-made c k f nodes temps size sig areas tos bs items frame homes sizes count 
     ∙ ap (λ (l : List Block). tac N S k.at F.size B.used.temps B.used.areas P.result l) blocks2
     ∙ ap (λ (p : Piece Holders). tac N S k.at F.size p.used.temps p.used.areas P.result (blocks_of (p.code ++ ending K ∷ [])))
     (ap (λ (h : List Home). body_piece (record { store = contents_of c.store.now; entries = c.entries.now; homes = h }) K P.result P.used) all_homes)
-
--- nodes
-
-body-of : Option typed.Item → Option typed.Body
-body-of (Some (typed.body b)) = Some b
-body-of (Some (typed.expression e)) = None
-body-of (Some (typed.doing s)) = None
-body-of None = None
-
-module _ (s : Held) (f : FnId) (function : Function) (node : TermId)
-    (there : slice_get s.functions f.0 ≡ Some function) (made : typed_in function.state ≡ Some node) where
-  abbrev callable-with : typed.Body → stores.Callable
-  callable-with b = record { at = function.place; body = b }
-
-  callable-is : (o : Option typed.Item) → slice_get (typed_trees s.typed) node.0 ≡ o
-      → callable_of (contents_of s) f ≡ option_map callable-with (body-of o)
-  callable-is (Some (typed.expression e)) tree = rw (there, made, tree) refl
-  callable-is (Some (typed.doing d)) tree = rw (there, made, tree) refl
-  callable-is (Some (typed.body b)) tree = rw (there, made, tree) refl
-  callable-is None tree = rw (there, made, tree) refl
-
-  pub nodes-found : (n : ℕ) → option_map (λ item. (typed_item_size item).nodes) (slice_get (typed_trees s.typed) node.0) ≡ Some n
-      → (k : stores.Callable) → callable_of (contents_of s) f ≡ Some k → n ≡ (body_size k.body).nodes
-  nodes-found n sized k is = by (slice_get (typed_trees s.typed) node.0) sized (sym (callable-is (slice_get (typed_trees s.typed) node.0) refl) ∙ is)
-    where
-      by : (o : Option typed.Item) → option_map (λ item. (typed_item_size item).nodes) o ≡ Some n → option_map callable-with (body-of o) ≡ Some k
-          → n ≡ (body_size k.body).nodes
-      by (Some (typed.body b)) sized is =
-          let count : (body_size b).nodes ≡ n = cc sized in
-          let whole : callable-with b ≡ k = cc is in
-          sym count ∙ ap (λ (z : stores.Callable). (body_size z.body).nodes) whole
-      by (Some (typed.expression e)) sized is = absurd (cc is)
-      by (Some (typed.doing d)) sized is = absurd (cc is)
-      by None sized is = absurd (cc is)
