@@ -112,7 +112,7 @@ place-small at h =
     let w : at.word < 2 ^ 32 = ltb-true at.word (2 ^ 32) b.1 in
     omega arith
 
-nothing-written : (out : List ℕ) → out ≡ out ++ []
+pub nothing-written : (out : List ℕ) → out ≡ out ++ []
 nothing-written out = sym (append-nil out)
 
 carry-copy : (p : Program) (code : Tac) (homes : List (Option Home)) (d : ℕ) (a : Operand) (s : tac.State) (program : List (Option Instr)) (base : ℕ) (m : State) →

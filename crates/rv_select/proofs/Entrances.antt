@@ -22,7 +22,7 @@ use Rattle.rv_select.proofs.Returns.{BackIn, goes-back}
 use Rattle.rv_select.proofs.Straight.{low-below}
 use Rattle.rv_select.proofs.Ways.{Way, way-both}
 
-more-ends : (program : List (Option Instr)) (kind : FaultKind) (at : Place) (weight whole : ℕ) (m : State) → weight ≤ whole → Ends program kind at weight m → Ends program kind at whole m
+pub more-ends : (program : List (Option Instr)) (kind : FaultKind) (at : Place) (weight whole : ℕ) (m : State) → weight ≤ whole → Ends program kind at weight m → Ends program kind at whole m
 more-ends program kind at weight whole m h e = record { steps = e.steps; last = e.last; few = omega (arith, h, e.few); runs = e.runs }
 
 pc-both : (p a b n k : ℕ) → a ≡ low (p + 4 * n) → b ≡ low (a + 4 * k) → b ≡ low (p + 4 * (n + k))

@@ -54,7 +54,7 @@ or-second true b q = refl
 or-second false b q = q
 
 -- what an exit reads is live before it
-exit-reads-live : (graph : List FlowBlock) (block at t : ℕ) (f : FlowBlock) → slice_get graph block ≡ Some f → slice_get f.steps at ≡ None → has f.reads t ≡ true → IsLive graph block at t
+pub exit-reads-live : (graph : List FlowBlock) (block at t : ℕ) (f : FlowBlock) → slice_get graph block ≡ Some f → slice_get f.steps at ≡ None → has f.reads t ≡ true → IsLive graph block at t
 exit-reads-live graph block at t f e g h = (
   1,
   ap (λ o. at_place o at (λ c. read_within graph 0 c 0 t) (read_within graph 0 block (suc at) t) t) e

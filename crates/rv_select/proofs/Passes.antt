@@ -160,7 +160,7 @@ beneath-holds y Used w base m n p h s small = record {
   depth = s.keeps 28 (λ e. omega (arith, e)) (λ e. omega (arith, e)) (λ e. omega (arith, e)) ∙ p.depth;
 }
 
-saves-beneath : (code : List Instr) (at v : ℕ) (m : State) (s : Saves code m at (low_bytes 8 v)) → at + 8 ≤ length m.private → Beneath (at + 8) m s.after
+pub saves-beneath : (code : List Instr) (at v : ℕ) (m : State) (s : Saves code m at (low_bytes 8 v)) → at + 8 ≤ length m.private → Beneath (at + 8) m s.after
 saves-beneath code at v m s room = record {
   keeps = s.keeps;
   region = s.region;

@@ -64,7 +64,7 @@ words-keep y base last (d ∷ ds) (v ∷ vs) m n k l h =
     ap number_of (k.outside (base + (last + 8 * length ds)) 8 (omega arith) (inr (omega (arith, l)))) in
     (subst (λ z. IsWordOf v z) (sym same) h.0, words-keep y base last ds vs m n k l h.1)
 
-housed-fewer : (y : Layout) (U V : ℕ → Type 0) → ((t : ℕ) → V t → U t) → Housed y U → Housed y V
+pub housed-fewer : (y : Layout) (U V : ℕ → Type 0) → ((t : ℕ) → V t → U t) → Housed y U → Housed y V
 housed-fewer y U V f h = record { homes = λ t u. h.homes t (f t u); apart = λ t u a b e. h.apart t u (f t a) (f u b) e }
 
 -- All parameters are taken.

@@ -45,7 +45,7 @@ near-one x n h =
     (λ b. length (if b then Store Sd x2 (register_of x) (below_zero (n - 1)) ∷ [] else far_part (2 ^ 32 - n) ++ Store Sd x7 (register_of x) (lower_of (2 ^ 32 - n)) ∷ []) ≤ 1)
     (sym (le-leb n 2048 h)) (omega arith)
 
-arguments-count : (n i : ℕ) → n + i ≤ 8 → length (arguments_stored n i) ≤ n
+pub arguments-count : (n i : ℕ) → n + i ≤ 8 → length (arguments_stored n i) ≤ n
 arguments-count zero i h = omega arith
 arguments-count (suc n) i h =
     let one : length (arguments_stored (suc n) i) ≤ 1 + n =

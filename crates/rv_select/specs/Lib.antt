@@ -8,9 +8,13 @@ pub mod Shapes
 pub mod Steps
 -- How a function is entered and left.
 pub mod Entering
--- Calls and returns.
+-- Calls and returns, and the code of a whole function.
 pub mod Calls
 -- What the code that enters and leaves functions promises.
 pub mod Frames
 -- A comparison and its branch as one.
 pub mod Compared
+-- A program of several functions, and what the machine holds for the calls that wait.
+pub mod Waiting
+-- Runs of a whole program, and how many steps they take.
+pub mod Whole

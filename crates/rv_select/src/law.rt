@@ -2,6 +2,8 @@
 
 ghost use Rattle.rv_select.specs.Compared.{ComparesAreCarried, ComparesKeepWithin};
 ghost use Rattle.rv_select.specs.Frames.{CallsAreBegun, CallsKeepWithin, FramesKeepWithin, FunctionsAreEntered, FunctionsAreLeft, ParametersAreReceived};
+ghost use Rattle.rv_select.specs.Waiting.{CallersGoOnWaiting};
+ghost use Rattle.rv_select.specs.Whole.{EntriesAreCarried, ProgramsAreCarried, RunsAreCarried, StepsAreCarried};
 ghost use Rattle.rv_select.specs.Steps.{ExitsAreCarried, ExitsKeepWithin, InstructionsAreCarried, ShapesKeepWithin};
 
 /// The code of an instruction carries it out: from each state of the machine that holds what three-address code sees in a state, it
@@ -65,4 +67,32 @@ pub fn compares_are_carried()
 /// It has fewer words than the two, and as many wherever it stands.
 pub fn compares_keep_within()
     ensures { ComparesKeepWithin }
+{}
+
+/// Callers go on waiting while a function keeps what they rest on.
+pub fn callers_go_on_waiting()
+    ensures { CallersGoOnWaiting }
+{}
+
+/// Each step of a program whose functions stand in the machine is carried out: calls and returns too.
+pub fn steps_are_carried()
+    ensures { StepsAreCarried }
+{}
+
+/// So is each run of three-address code: the machine's run ends as it does, with the same output, in no more steps than the words that are
+/// still before it and those of a function for each count that is left; and where more counts are needed, it has taken as many steps.
+pub fn runs_are_carried()
+    ensures { RunsAreCarried }
+{}
+
+/// From its start, with at most eight words as arguments, the machine comes to where the first block of a function begins that has none as
+/// its caller, or the run ends where the data stack has no room for its frame.
+pub fn entries_are_carried()
+    ensures { EntriesAreCarried }
+{}
+
+/// The run of a program in the machine, from its start, ends as that of three-address code does at a count, with the same output, in at most
+/// as many times a function's words as one more than the count.
+pub fn programs_are_carried()
+    ensures { ProgramsAreCarried }
 {}

@@ -342,7 +342,7 @@ conversion n a false b false c d e h f =
     first (inl x) = bool (or_cases b false (and_parts a (b || false) x).1)
     first (inr x) = second (or_cases (c && false) ((d && false) || (e && false)) x)
 
-declared-count : (xs : List TypedName) → 0 + length (declared_in (declares_all xs)) ≡ length xs
+pub declared-count : (xs : List TypedName) → 0 + length (declared_in (declares_all xs)) ≡ length xs
 declared-count [] = refl
 declared-count (x ∷ xs) = let e = declared-count xs in omega (arith, e)
 
@@ -363,7 +363,7 @@ module _ (store : Contents) (are : AreTypes store.types) (entries : List FnId) (
   abbrev types : List TypeForm
   types = store.types
 
-  boolean-is : (of : TypeId) → same of boolean ≡ true → form_at types of ≡ forms.Bool
+  pub boolean-is : (of : TypeId) → same of boolean ≡ true → form_at types of ≡ forms.Bool
   boolean-is of h =
       subst (λ t. form_at types t ≡ forms.Bool) (sym (same-id of boolean h))
       (subst (λ l. form_at l boolean ≡ forms.Bool) (sym are.opened.1) refl)
@@ -386,11 +386,11 @@ module _ (store : Contents) (are : AreTypes store.types) (entries : List FnId) (
   unit-nothing : (of : TypeId) → same of unit ≡ true → IsValue types of (word 0)
   unit-nothing of h = value-by types of forms.Unit 0 (unit-is of h) refl (wrapped-zero forms.Unit)
 
-  plain-boolean : (of : TypeId) → same of boolean ≡ true → is_aggregate types of ≡ false
+  pub plain-boolean : (of : TypeId) → same of boolean ≡ true → is_aggregate types of ≡ false
   plain-boolean of h = subst (λ g. is_aggregate (g ∷ []) (record { 0 = 0 }) ≡ false) (sym (boolean-is of h)) refl
 
   -- constants
-  constant-value : (of : TypeId) (k : Constant) → typing.constant_typed store of k ≡ true → IsValue types of (word (constant entries k))
+  pub constant-value : (of : TypeId) (k : Constant) → typing.constant_typed store of k ≡ true → IsValue types of (word (constant entries k))
   constant-value of (constants.Number x) h = word-value types of x (form_at types of) refl h
   constant-value of (constants.Truth b) h = value-by types of forms.Bool (flag b) (boolean-is of h) refl (bool-again b)
   constant-value of constants.Nil h = nil-value types of (form_at types of) refl h
@@ -514,7 +514,7 @@ module _ (store : Contents) (are : AreTypes store.types) (entries : List FnId) (
   not-empty (forms.Function ps r) h e none = absurd (no h)
   not-empty (forms.Struct n p l) h e none = absurd (no h)
 
-  operation-needs : (op : Operation) (ts : List TypeId) (of : TypeId) → typing.all_usable store ts ≡ true →
+  pub operation-needs : (op : Operation) (ts : List TypeId) (of : TypeId) → typing.all_usable store ts ≡ true →
       typing.operation_typed store op ts of ≡ true →
       OperationNeeds types (CallNeeds store) op ts of
   operation-needs operations.Negate ts of usable h = integer-number (form_at types of) (and_parts _ (typing.is_integer store of) h).1

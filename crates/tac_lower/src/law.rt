@@ -1,6 +1,6 @@
 // What lowered code does and keeps. Each function does nothing, and its clause is a law.
 
-ghost use Rattle.tac_lower.specs.Laws.{LoweredIsCounted, LoweredIsSized, LoweringKeepsRuns};
+ghost use Rattle.tac_lower.specs.Laws.{LoweredIsCounted, LoweredIsGood, LoweredIsSized, LoweringKeepsRuns};
 ghost use Rattle.tac_lower.specs.Lowering.{lowered};
 
 /// The code of a store's functions has the runs that their typed terms mean, and no others, at every count: the same value or
@@ -19,4 +19,12 @@ pub fn lowered_code_is_counted()
 /// most 136 private bytes for each, and 65,536 more.
 pub fn lowered_code_is_sized()
     ensures { LoweredIsSized lowered }
+{}
+
+/// Machine code can be made of a typed function's code, where the function has at most 131,072 typed nodes and a place in a text:
+/// each block, temporary and area that the code names is there, each access lies within the frame or the area that it names, no area
+/// has more than 128 bytes, and the temporaries that are live where the code is entered are those where its parameters go. Each way
+/// round its flow graph counts, and it keeps its words and private bytes.
+pub fn lowered_code_is_good()
+    ensures { LoweredIsGood lowered }
 {}

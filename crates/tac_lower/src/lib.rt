@@ -3,9 +3,9 @@
 //! `specs/Lowering.antt` says which code a function has, by recursion on its term: pieces of code, which are the same wherever they
 //! stand, go on from one another as the parts of the meaning do. That the code of a typed store's functions has the runs that their
 //! terms mean is the law of [`lowering_keeps_runs`], that each way round its flow graph counts that of [`lowered_code_is_counted`],
-//! and that it keeps its words and private bytes that of [`lowered_code_is_sized`]. `specs/Needs.antt` says what the proofs use of
-//! typed terms. It isn't proved yet that all that the code names is there (`LoweredIsGood` in `specs/Laws.antt`). A function with a
-//! parameter too wide to be a value is called nowhere; its code faults at once. [`lower`] makes the code.
+//! that it keeps its words and private bytes that of [`lowered_code_is_sized`], and that machine code can be made of it that of
+//! [`lowered_code_is_good`]. `specs/Needs.antt` says what the proofs use of typed terms. A function with a parameter too wide to be
+//! a value is called nowhere; its code faults at once. [`lower`] makes the code.
 //! `proofs/Examples.antt` and `proofs/Mixed.antt` have the runs of small functions' code, computed by the checker.
 #![tactic(auto)]
 
@@ -26,4 +26,6 @@ mod value;
 mod work;
 
 pub use callable::lower;
-pub use law::{lowered_code_is_counted, lowered_code_is_sized, lowering_keeps_runs};
+pub use law::{
+    lowered_code_is_counted, lowered_code_is_good, lowered_code_is_sized, lowering_keeps_runs,
+};

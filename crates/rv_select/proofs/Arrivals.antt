@@ -1,0 +1,178 @@
+-- How the machine comes into a function that is called.
+use Rattle.std.proofs.Common.{◌≡◌, ◌≢◌, ℕ, zero, suc, ◌+◌, ◌-◌, ◌*◌, ◌%◌, ◌^◌, ◌<◌, ◌≤◌, Bool, true, false, ◌&&◌, List, [], ◌∷◌, ◌++◌, length, take, drop, Option, Some, None, refl, sym, ap, ◌∙◌, subst, ⊎_elim, inl, inr, arith}
+use Rattle.std.specs.Prelude.{if◌then◌else◌, slice_get}
+use Rattle.std.proofs.Math.Nat.{suc-mul}
+use Rattle.rv_isa.specs.declared.instr.Instr.{Instr}
+use Rattle.tl_base.specs.declared.place.Place.{Place}
+use Rattle.terra_memory.specs.Numbers.{number_of}
+use Rattle.terra_memory.specs.Region.{Contents, IsLawful, end_address, heap_limit}
+use Rattle.tac_form.specs.declared.tac.Part.{Part}
+use Rattle.tac_form.specs.declared.tac.Part.TheVariants as parts
+use Rattle.tac_form.specs.declared.tac.Destination.{Destination}
+use Rattle.tac_form.specs.Flow as tac
+use Rattle.tac_form.specs.Flow.{Activation, operand, value_of, values_of}
+use Rattle.rv_machine.specs.Word.{low}
+use Rattle.rv_machine.specs.Machine.{State}
+use Rattle.rv_select.specs.Places.{AreBytes, Holds, Keeps, Layout, World, area_offset, frame_bytes, private_word, uses}
+use Rattle.rv_select.specs.Steps.{world_of}
+use Rattle.rv_select.specs.Entering.{kept_offset}
+use Rattle.rv_select.specs.Frames.{Enters, HasWords, IsWordOf, part_value, seen, without_words}
+use Rattle.rv_select.specs.Waiting.{HasRoom, restored}
+use Rattle.rv_select.proofs.Backs.{part-is}
+use Rattle.rv_select.proofs.Callings.{Begun, JumpedTo}
+use Rattle.rv_select.proofs.Returns.{if-is}
+use Rattle.rv_select.proofs.Straight.{low-small}
+use Rattle.rv_select.proofs.Waits.{SameAbove, lasting}
+
+-- A call has entered its function: the frame below the caller's has the return address and what is kept for the caller.
+pub record InFunction (z : Layout) (base bottom placed depth link : ℕ) (m n : State) : Type 0 where
+  pub pointer : n.registers 2 ≡ 2 ^ 32 + bottom
+  pub eight : n.registers 8 ≡ placed
+  pub three : n.registers 3 ≡ m.registers 3
+  pub four : n.registers 4 ≡ m.registers 4
+  pub waiting : n.registers 28 ≡ depth
+  pub region : n.region ≡ m.region
+  pub long : length n.private ≡ length m.private
+  pub bytes : AreBytes m.private → AreBytes n.private
+  pub link_is : private_word n bottom ≡ link
+  pub kept : (r : ℕ) → 18 ≤ r → r < 28 → m.registers r < 2 ^ 64 →
+      (if uses z r then private_word n (bottom + kept_offset r) else n.registers r) ≡ m.registers r
+  pub above : (at k : ℕ) → base ≤ at → take k (drop at n.private) ≡ take k (drop at m.private)
+
+pub enters-call : (program : List (Option Instr)) (y z : Layout) (base bytes frame placed target to link : ℕ) (w : World) (at : Place)
+    (ps : List Part) (rest : List Instr) (m : State)
+    (b : Begun program y base w at ps rest m) (j : JumpedTo program target b.after)
+    (e : Enters program z (base - bytes) (placed - frame) to j.after) → 88 ≤ bytes → bytes ≤ base →
+    low (b.after.pc + 8) ≡ link → link < 2 ^ 64 → InFunction z base (base - bytes) (placed - frame) (suc w.depth) link m e.after
+enters-call program y z base bytes frame placed target to link w at ps rest m b j e least room link-is small = record {
+  pointer = e.pointer;
+  eight = e.placed;
+  three = others 3 (λ q. omega (arith, q)) (λ q. omega (arith, q)) (λ q. omega (arith, q)) (λ q. omega (arith, q)) (λ q. omega (arith, q))
+      (λ q. omega (arith, q)) (λ q. omega (arith, q)) (λ q. omega (arith, q));
+  four = others 4 (λ q. omega (arith, q)) (λ q. omega (arith, q)) (λ q. omega (arith, q)) (λ q. omega (arith, q)) (λ q. omega (arith, q))
+      (λ q. omega (arith, q)) (λ q. omega (arith, q)) (λ q. omega (arith, q));
+  waiting = e.others 28 (λ q. omega (arith, q)) (λ q. omega (arith, q)) (λ q. omega (arith, q)) (λ q. omega (arith, q))
+      (λ q. omega (arith, q))
+      ∙ (j.others 28 (λ q. omega (arith, q)) (λ q. omega (arith, q)) ∙ b.waiting);
+  region = e.region ∙ (j.region ∙ b.region);
+  long = e.long ∙ (ap length j.private ∙ b.long);
+  bytes = λ are. e.bytes (subst AreBytes (sym j.private) (b.bytes are));
+  link_is = e.link ∙ (ap low (j.link ∙ link-is) ∙ low-small link small);
+  kept = λ r lo hi few.
+      sym (if-is (uses z r) (m.registers r) (private_word e.after (base - bytes + kept_offset r)) (e.after.registers r)
+      (λ u. sym (e.kept r lo hi u ∙ (ap low (before r lo hi) ∙ low-small (m.registers r) few)))
+      (λ u. sym (e.others r (λ q. omega (arith, q, lo)) (λ q. omega (arith, q, lo)) (λ q. omega (arith, q, lo)) (λ q. omega (arith, q, lo))
+      (λ q. omega (arith, q, lo)) ∙ before r lo hi)));
+  above = λ a k o. e.above a k (higher base bytes a least room o) ∙ (ap (λ q. take k (drop a q)) j.private ∙ b.above a k o);
+}
+  where
+    higher : (base bytes a : ℕ) → 88 ≤ bytes → bytes ≤ base → base ≤ a → base - bytes + 88 ≤ a
+    higher base bytes a h k o = omega (arith, h, k, o)
+
+    before : (r : ℕ) → 18 ≤ r → r < 28 → j.after.registers r ≡ m.registers r
+    before r lo hi =
+        j.others r (λ q. omega (arith, q, lo)) (λ q. omega (arith, q, lo))
+        ∙ b.others r (λ q. omega (arith, q, lo)) (λ q. omega (arith, q, lo)) (λ q. omega (arith, q, lo)) (λ q. omega (arith, q, lo))
+        (λ q. omega (arith, q, hi))
+
+    others : (r : ℕ) → r ≢ 1 → r ≢ 2 → r ≢ 5 → r ≢ 6 → r ≢ 7 → r ≢ 8 → r ≢ 11 → r ≢ 28 → e.after.registers r ≡ m.registers r
+    others r one two five six seven eight eleven more = e.others r two five six seven eight ∙
+        (j.others r one five ∙ b.others r five six seven eleven more)
+
+-- the caller's registers and memory, as the function will put them back
+pub same-after : (z : Layout) (base bottom placed depth link : ℕ) (m n q : State) → InFunction z base bottom placed depth link m n →
+    Keeps (without_words z) bottom n q → bottom + frame_bytes (without_words z) ≤ base →
+    SameAbove base m (restored z bottom q)
+same-after z base bottom placed depth link m n q f k below = record {
+  registers = λ r lo hi few.
+      sym (if-is (uses z r) (m.registers r) (private_word q (bottom + kept_offset r)) (q.registers r)
+      (λ u. sym (ap number_of (k.outside (bottom + kept_offset r) 8 (omega arith) (inl (omega (arith, lo, hi)))) ∙ used r lo hi few u))
+      (λ u. sym (k.registers r (lasting r lo hi) u ∙ unused r lo hi few u)));
+  private = λ at c o. k.outside at c (omega (arith, o, below)) (inr (omega (arith, o, below))) ∙ f.above at c o;
+  long = k.long ∙ f.long;
+}
+  where
+    used : (r : ℕ) → 18 ≤ r → r < 28 → m.registers r < 2 ^ 64 → uses z r ≡ true → private_word n (bottom + kept_offset r) ≡ m.registers r
+    used r lo hi few u = sym (ap (λ c. if c then private_word n (bottom + kept_offset r) else n.registers r) u) ∙ f.kept r lo hi few
+
+    unused : (r : ℕ) → 18 ≤ r → r < 28 → m.registers r < 2 ^ 64 → uses z r ≡ false → n.registers r ≡ m.registers r
+    unused r lo hi few u = sym (ap (λ c. if c then private_word n (bottom + kept_offset r) else n.registers r) u) ∙ f.kept r lo hi few
+
+pub link-after : (z : Layout) (base bottom placed depth link : ℕ) (m n q : State) → InFunction z base bottom placed depth link m n →
+    Keeps (without_words z) bottom n q → private_word q bottom ≡ link
+link-after z base bottom placed depth link m n q f k = ap number_of (k.outside bottom 8 (omega arith) (inl (omega arith))) ∙ f.link_is
+
+-- the parts' words, as the function finds them
+pub has-words : (y : Layout) (base : ℕ) (s : tac.State) (bottom last top i : ℕ) (ds : List Destination) (ps : List Part) (n : State) →
+    length ds ≡ length ps → bottom + (last + 8 * length ds) + 8 * i ≡ top →
+    ((k : ℕ) (p : Part) → slice_get ps k ≡ Some p → private_word n (top - 8 * (i + k + 1)) ≡ part_value y base (world_of s) p) →
+    ((k : ℕ) (p : Part) → slice_get ps k ≡ Some p → part_value y base (world_of s) p < 2 ^ 64) → HasWords bottom last ds (values_of s ps) n
+has-words y base s bottom last top i [] [] n same sum words small = tt
+has-words y base s bottom last top i [] (p ∷ ps) n same sum words small = tt
+has-words y base s bottom last top i (d ∷ ds) [] n same sum words small = tt
+has-words y base s bottom last top i (d ∷ ds) (p ∷ ps) n same sum words small =
+    let first : top - 8 * (i + 0 + 1) ≡ bottom + (last + 8 * length ds) = omega (arith, sum) in (
+      one p (ap (λ a. private_word n a) (sym first) ∙ words 0 p refl) (small 0 p refl),
+      has-words y base s bottom last top (suc i) ds ps n (omega (arith, same)) (omega (arith, sum))
+          (λ k q e. ap (λ a. private_word n (top - 8 * a)) (sums i k) ∙ words (suc k) q e) (λ k q e. small (suc k) q e),
+    )
+  where
+    sums : (i k : ℕ) → suc i + k + 1 ≡ i + suc k + 1
+    sums i k = omega arith
+
+    one : (p : Part) → private_word n (bottom + (last + 8 * length ds)) ≡ part_value y base (world_of s) p →
+        part_value y base (world_of s) p < 2 ^ 64 →
+        IsWordOf (value_of s p) (private_word n (bottom + (last + 8 * length ds)))
+    one (parts.Word a) e h = (e ∙ part-is y base s a, subst (λ x. x < 2 ^ 64) (part-is y base s a) h)
+    one (parts.Area k) e h = tt
+
+-- below the frame there is room for each call that may be made then
+pub room-next : (most depth base bytes : ℕ) → HasRoom most depth base → depth < 511 → bytes ≤ most → (bytes ≤ base) ×
+    HasRoom most (suc depth) (base - bytes)
+room-next most depth base bytes h shallow few = go h.rest h.calls h.room
+  where
+    more : (x : ℕ) → x + most ≤ base → bytes ≤ base
+    more x e = omega (arith, e, few)
+
+    less : (x : ℕ) → x + most ≤ base → x ≤ base - bytes
+    less x e = omega (arith, e, few)
+
+    go : (rest : ℕ) → rest + depth ≡ 511 → rest * most ≤ base → (bytes ≤ base) × HasRoom most (suc depth) (base - bytes)
+    go zero e r = absurd (omega (arith, e, shallow))
+    go (suc k) e r =
+        let split : suc k * most ≡ k * most + most = suc-mul k most in
+        let whole : k * most + most ≤ base = subst (λ x. x ≤ base) split r in
+        (more (k * most) whole, record { rest = k; calls = omega (arith, e); room = less (k * most) whole })
+
+-- what the function's first instruction finds, before it takes its parameters
+pub begin-holds : (z : Layout) (base bottom placed depth link : ℕ) (region : Contents) (a : Activation) (m n : State) →
+    InFunction z base bottom placed depth link m n → a.base ≡ placed → ((k : ℕ) → a.areas k ≡ []) →
+    bottom + frame_bytes z ≤ length n.private → length m.private ≤ 603979776 → AreBytes m.private → n.pc < 2 ^ 64 →
+    m.region ≡ region.bytes → AreBytes region.bytes → IsLawful region →
+    m.registers 3 ≡ region.heap → m.registers 4 ≡ end_address region → heap_limit region ≤ placed → placed ≤ end_address region →
+    Holds (without_words z) (λ t. ⊥) (seen a region depth) bottom n
+begin-holds z base bottom placed depth link region a m n f base-is none within private bytes pc same are lawful heap limit above below =
+    record {
+      frame = record {
+        pointer = f.pointer;
+        within = omega (arith, within);
+        private = subst (λ x. x ≤ 603979776) (sym f.long) private;
+        bytes =
+            f.bytes bytes;
+      };
+      pc = pc;
+      values = λ t u. absurd u;
+      words = λ t u. absurd u;
+      areas = λ k l. subst (λ bs. take (length bs) (drop (bottom + area_offset z k) n.private) ≡ bs) (sym (none k)) refl;
+      short = λ k l. subst (λ bs. length bs ≤ 128) (sym (none k)) (omega arith);
+      area_bytes = λ k l. subst AreBytes (sym (none k)) tt;
+      region = f.region ∙ same;
+      bytes = are;
+      lawful = lawful;
+      heap = f.three ∙ heap;
+      limit = f.four ∙ limit;
+      placed = f.eight ∙ sym base-is;
+      above = subst (λ x. heap_limit region ≤ x) (sym base-is) above;
+      below = subst (λ x. x ≤ end_address region) (sym base-is) below;
+      depth = f.waiting;
+    }

@@ -1,0 +1,478 @@
+-- A return of three-address code is carried out.
+use Rattle.std.proofs.Common.{◌≡◌, ◌≢◌, ℕ, zero, suc, ◌+◌, ◌-◌, ◌*◌, ◌%◌, ◌^◌, ◌<◌, ◌≤◌, Bool, true, false, ◌&&◌, List, [], ◌∷◌, ◌++◌, length, take, drop, Option, Some, None, refl, sym, ap, ◌∙◌, subst, ⊎_elim, inl, inr, arith}
+use Rattle.std.specs.Prelude.{if◌then◌else◌, nat_eq, slice_get, ◌⊎◌}
+use Rattle.std.specs.List.{list_all}
+use Rattle.std.proofs.lemmas.Bool.{cases_eq, eq-eqb, ltb-true}
+use Rattle.std.proofs.lemmas.List.{length-append}
+use Rattle.tl_base.specs.declared.ids.FnId.{FnId}
+use Rattle.tl_base.specs.declared.place.Place.{Place}
+use Rattle.rv_isa.specs.declared.instr.Instr.{Instr}
+use Rattle.tac_form.specs.declared.tac.Operand.{Operand}
+use Rattle.tac_form.specs.declared.tac.Operand.TheVariants as operands
+use Rattle.tac_form.specs.declared.tac.Part.{Part}
+use Rattle.tac_form.specs.declared.tac.Part.TheVariants as parts
+use Rattle.tac_form.specs.declared.tac.Destination.{Destination}
+use Rattle.tac_form.specs.declared.tac.Destination.TheVariants.{Temp, Area}
+use Rattle.tac_form.specs.declared.tac.Exit.{Exit}
+use Rattle.tac_form.specs.declared.tac.Exit.TheVariants.{Return}
+use Rattle.tac_form.specs.declared.tac.Instruction.TheVariants.{Call}
+use Rattle.tac_form.specs.declared.tac.Block.{Block}
+use Rattle.tac_form.specs.declared.tac.Tac.{Tac}
+use Rattle.tac_form.specs.Flow as tac
+use Rattle.tac_form.specs.Flow.{Activation, Caller, Program, give, given, operand, put, step, value_of}
+use Rattle.tac_form.specs.Fits.{area_there, exit_fits, operand_fits, part_fits}
+use Rattle.tac_form.specs.Graph.{block_of, destination_write, exit_reads, graph_of, operand_reads, step_of}
+use Rattle.tac_form.specs.Live.{InUse, has}
+use Rattle.terra_words.specs.Runs.{Value, word, bytes}
+use Rattle.terra_memory.specs.Numbers.{number_of}
+use Rattle.terra_memory.specs.Region.{IsLawful, end_address, heap_limit}
+use Rattle.reg_alloc.specs.declared.assignment.Home.{Home}
+use Rattle.rv_machine.specs.Word.{low}
+use Rattle.rv_machine.specs.Machine.{Ran, State, after_step, run_of, stands, unless_returned}
+use Rattle.rv_machine.specs.Machine as machine
+use Rattle.rv_machine.specs.declared.stops.Stop.TheVariants as stops
+use Rattle.rv_operators.specs.Runs.{Stands}
+use Rattle.rv_select.specs.Places.{AreBytes, Holds, Housed, Keeps, Layout, World, frame_bytes, home_of, layout_of, private_word, value_in}
+use Rattle.rv_select.specs.Shapes.{put_to, start_of}
+use Rattle.rv_select.specs.Steps.{Comes, with_temp, world_of}
+use Rattle.rv_select.specs.Calls.{blocks_length, call_begun, call_ended, call_jump, head_code, last_address}
+use Rattle.rv_select.specs.Frames.{is_word}
+use Rattle.rv_select.specs.Waiting.{Arrives, Finishes, HasRoom, Image, IsLinked, IsPlaced, StandsIn, Stepped, Waiting, Waits, block_takes_words, entries_of, place_in, restored, takes_word}
+use Rattle.rv_select.proofs.Carries.{by-test, nothing-written, operand-read}
+use Rattle.rv_select.proofs.Finds.{FoundFunction, stands-next}
+use Rattle.rv_select.proofs.Leaves.{exit-in-graph, exit-reads-live}
+use Rattle.rv_select.proofs.Lives.{housed, step-in-graph, write-used}
+use Rattle.rv_select.proofs.Moves.{then-put, value-small}
+use Rattle.rv_select.proofs.Homes.{put-count}
+use Rattle.rv_select.proofs.Passes.{IsPartRead, part_value}
+use Rattle.rv_select.proofs.Receives.{housed-fewer}
+use Rattle.rv_select.proofs.Returns.{BackIn, HeldIn, Resumes, UsedBut, back-holds, goes-back, resumes}
+use Rattle.rv_select.proofs.Stands.{AtExit, AtPlace, at-exit, at-instruction, both-true, exit-within, list-all-get, the-function, within-parts}
+use Rattle.rv_select.proofs.Straight.{low-below, low-small}
+use Rattle.rv_select.proofs.Waits.{SameAbove, restored-same, waits-keeps, waits-same, waits-within}
+use Rattle.rv_select.proofs.Ways.{Way, near-same, way-both, way-none}
+
+-- at address 0 the run is over
+pub run-returned : (program : List (Option Instr)) (z : State) (more : ℕ) → z.pc ≡ 0 →
+    run_of program z more ≡ stands (stops.Returned (z.registers 10)) z
+run-returned program z zero e = ap (λ b. if b then stands (stops.Returned (z.registers 10)) z else stands stops.Unfinished z)
+    (eq-eqb z.pc 0 e)
+run-returned program z (suc more) e =
+    ap (λ b. if b then stands (stops.Returned (z.registers 10)) z else after_step (machine.step program z) z
+    (λ next. run_of program next more)) (eq-eqb z.pc 0 e)
+
+-- what a return reads
+part-read : (code : Tac) (x : List (Option Home)) (block : Block) (b k : ℕ) (v : Part) → exit_fits code (Return v) ≡ true →
+    slice_get code.blocks b ≡ Some block → slice_get block.instructions k ≡ None →
+    block.exit ≡ Return v → IsPartRead (layout_of code x) (InUse (graph_of code) b k) v
+part-read code x block b k (parts.Word a) fits e g is =
+    let q = exit-in-graph code block b k e g in
+    operand-read code (InUse (graph_of code) b k) a fits
+    (λ t h. inl (exit-reads-live (graph_of code) b k t (block_of block) q.0 q.1 (ap (λ z. has (exit_reads z) t) is ∙ h)))
+part-read code x block b k (parts.Area n) fits e g is = ltb-true n (length code.areas) fits
+
+pub part-is : (y : Layout) (base : ℕ) (s : tac.State) (a : Operand) → part_value y base (world_of s) (parts.Word a) ≡ operand s a
+part-is y base s (operands.Temp t) = refl
+part-is y base s (operands.Constant c) = refl
+
+link-small : (at n : ℕ) → at + 4 * n + 256 ≤ 2 ^ 30 → at % 4 ≡ 0 → (k : ℕ) → k + 2 ≤ n → ((at + 4 * k + 8) % 2 ≡ 0) ×
+    (at + 4 * k + 8 < 2 ^ 63)
+link-small at n h e k l = (omega (arith, e), omega (arith, h, l))
+
+-- The caller's code behind a call.
+record BehindCall (p : Program) (image : Image) (program : List (Option Instr)) (code : Tac) (f : FnId) (b before d at behind : ℕ) : Type 0
+  where
+    stands : Stands program behind (call_ended (layout_of code (image f).homes) code.areas (Temp d))
+    even : behind % 2 ≡ 0
+    small : behind + 256 ≤ 2 ^ 30 + 8
+    next : place_in p image code (image f) b (suc before) ≡ behind + 4 * (2 + length (put_to (home_of (layout_of code (image f).homes) d)))
+    near : behind + 4 * (2 + length (put_to (home_of (layout_of code (image f).homes) d))) + 256 ≤ 2 ^ 30
+
+behind-call : (p : Program) (image : Image) (program : List (Option Instr)) (most : ℕ) (code : Tac) (f : FnId) (b before d : ℕ)
+    (block : Block) (place : Place) (callee : FnId) (arguments : List Part) →
+    IsPlaced p image program most code (image f) → slice_get code.blocks b ≡ Some block →
+    slice_get block.instructions before ≡ Some (Call (Temp d) place callee arguments) →
+    BehindCall p image program code f b before d (place_in p image code (image f) b before)
+    (place_in p image code (image f) b before + 4 * length (call_begun (layout_of code (image f).homes) place arguments) + 8)
+behind-call p image program most code f b before d block place callee arguments pl e g =
+    made (place_in p image code (image f) b before)
+    (at-instruction p image program most code (image f) b before block (Call (Temp d) place callee arguments) pl e g)
+  where
+    made : (at : ℕ) → AtPlace p image program code (image f) b before (Call (Temp d) place callee arguments) at →
+        BehindCall p image program code f b before d at (at + 4 * length (call_begun (layout_of code (image f).homes) place arguments) + 8)
+    made at found =
+        let y : Layout = layout_of code (image f).homes in
+        let A : List Instr = call_begun y place arguments in
+        let J : List Instr = call_jump (at + 4 * length A) (entries_of p image callee) in
+        let E : List Instr = call_ended y code.areas (Temp d) in
+        let P : List Instr = put_to (home_of y d) in
+        let count : length (A ++ (J ++ E)) ≡ length A + (2 + (2 + length P)) = omega (arith, length-append A (J ++ E)) in
+        let after-a : Stands program (at + 4 * length A) (J ++ E) = stands-next program at A (J ++ E) (omega (arith, found.near, count))
+        found.stands in
+        let eight : at + 4 * length A + 4 * 2 ≡ at + 4 * length A + 8 = omega arith in
+        record {
+          stands = subst (λ q. Stands program q E) eight
+              (stands-next program (at + 4 * length A) J E (omega (arith, found.near, count)) after-a);
+          even = omega (arith, found.aligned);
+          small = omega (arith, found.near, count);
+          next = found.next ∙ omega (arith, count);
+          near = omega (arith, found.near, count);
+        }
+
+pc-put : (q n p t : ℕ) → p ≡ low (q + 4 * 2) → t ≡ low (p + 4 * n) → q + 4 * (2 + n) + 256 ≤ 2 ^ 30 → t ≡ q + 4 * (2 + n)
+unfolding low
+pc-put q n p t e g h = omega arith
+
+some-same : (d t : ℕ) → Some d ≡ Some t → d ≡ t
+some-same d t e = cc
+
+-- the result goes to where the caller takes it, once the machine holds all else
+put-result : (p : Program) (image : Image) (program : List (Option Instr)) (most size : ℕ) → IsLinked p image program most →
+    (s : tac.State) (a : Activation) (d v : ℕ) (cs : List Caller) (code : Tac) (up placed k pc : ℕ) (m n : State) →
+    p.code a.function ≡ Some code → Way program k m n → 1 ≤ k → k ≤ 36 →
+    Holds (layout_of code (image a.function).homes) (UsedBut (InUse (graph_of code) a.block a.at) (Temp d))
+    (record { temps = a.temps; areas = a.areas; region = s.region; placed = a.base; depth = length cs }) up n →
+    InUse (graph_of code) a.block a.at d → v < 2 ^ 64 → n.registers 5 ≡ v →
+    Stands program n.pc (put_to (home_of (layout_of code (image a.function).homes) d)) →
+    low (n.pc + 4 * length (put_to (home_of (layout_of code (image a.function).homes) d))) ≡ place_in p image code (image a.function)
+    a.block a.at →
+    a.base + code.frame ≤ end_address s.region → length s.region.bytes ≡ size → HasRoom most (length cs) up →
+    Waits p image most size cs (private_word n up) (up + frame_bytes (layout_of code (image a.function).homes)) (a.base + code.frame)
+    (restored (layout_of code (image a.function).homes) up n) →
+    Arrives p image program most size 39 [] (record s { here = record a { temps = put a.temps d v }; callers = cs }) m
+put-result p image program most size linked s a d v cs code up placed k pc m n function way some few hold nextd small five there target
+    frame region room waits =
+    let yc : Layout = layout_of code (image a.function).homes in
+    let U : ℕ → Type 0 = InUse (graph_of code) a.block a.at in
+    let wc : World = record { temps = a.temps; areas = a.areas; region = s.region; placed = a.base; depth = length cs } in
+    let h : Housed yc U = housed code (image a.function).homes a.block a.at (linked a.function code function).right in
+    finish
+    (then-put yc (UsedBut U (Temp d)) U wc up d v 0 3 (low (n.pc + 4 * length (put_to (home_of yc d)))) program n n hold
+    (housed-fewer yc U (UsedBut U (Temp d)) (λ t u. u.0) h) h nextd
+    (λ t u. ⊎_elim (λ e. inl e) (λ o. inr (u, λ e. o (sym (some-same d t e)))) (cases_eq t d)) (way-none program n) (near-same n) hold.pc
+    five small (omega arith) there refl)
+  where
+    finish : Comes (layout_of code (image a.function).homes) program (InUse (graph_of code) a.block a.at)
+        (record { temps = put a.temps d v; areas = a.areas; region = s.region; placed = a.base; depth = length cs }) up 3
+        (low (n.pc + 4 * length (put_to (home_of (layout_of code (image a.function).homes) d)))) [] n →
+        Arrives p image program most size 39 [] (record s { here = record a { temps = put a.temps d v }; callers = cs }) m
+    finish c = record {
+      steps = k + c.steps;
+      after = c.after;
+      base = up;
+      some = omega (arith, some);
+      few = omega (arith, few, c.few);
+      runs = λ more.
+          let split : k + c.steps + more ≡ k + (c.steps + more) = omega arith in
+          ap (run_of program m) split ∙ (way.runs (c.steps + more) ∙ c.runs more);
+      stands = record {
+        code = code;
+        function = function;
+        pc = c.at ∙ target;
+        holds = c.holds;
+        frame = frame;
+        region = region;
+        room = room;
+        waits = waits-keeps p image program most size (layout_of code (image a.function).homes) cs up (a.base + code.frame) n c.after
+            linked c.keeps waits;
+      };
+    }
+
+-- The machine is back in a caller: x10 has the result, and all else is as the caller waits for it.
+pub record IsBack (s : tac.State) (depth up over link v : ℕ) (M n : State) : Type 0 where
+  pub same : SameAbove up M n
+  pub pc : n.pc ≡ link
+  pub ten : n.registers 10 ≡ v
+  pub small : v < 2 ^ 64
+  pub pointer : n.registers 2 ≡ 2 ^ 32 + up
+  pub waiting : n.registers 28 ≡ suc depth
+  pub private : length n.private ≤ 603979776
+  pub are_bytes : AreBytes n.private
+  pub region : n.region ≡ s.region.bytes
+  pub bytes : AreBytes s.region.bytes
+  pub lawful : IsLawful s.region
+  pub heap : n.registers 3 ≡ s.region.heap
+  pub limit : n.registers 4 ≡ end_address s.region
+  pub placed : n.registers 8 ≡ over
+  pub above : heap_limit s.region ≤ over
+  pub below : over ≤ end_address s.region
+
+-- what the caller sees, but for its temporaries and areas
+abbrev outer : tac.State → Activation → (over depth : ℕ) → World
+outer s a over depth = record { temps = a.temps; areas = a.areas; region = s.region; placed = over; depth = depth }
+
+after-same : (program : List (Option Instr)) (y : Layout) (Used : ℕ → Type 0) (w : World) (base v up : ℕ) (rest : List Instr) (M n : State)
+    → SameAbove up M n →
+    (r : Resumes program y Used w base v rest n) → SameAbove up M r.after
+after-same program y Used w base v up rest M n s r = record {
+  registers = λ z l u small. r.same z (λ e. omega (arith, e, l)) (λ e. omega (arith, e, u)) ∙ s.registers z l u small;
+  private = λ at k o. ap (λ z. take k (drop at z)) r.private ∙ s.private at k o;
+  long = ap length r.private ∙ s.long;
+}
+
+after-held : (program : List (Option Instr)) (y : Layout) (Used : ℕ → Type 0) (s : tac.State) (a : Activation)
+    (depth up over link v base : ℕ) (rest : List Instr) (M n : State) →
+    IsBack s depth up over link v M n → (r : Resumes program y Used (outer s a over depth) base v rest n) →
+    HeldIn (outer s a over depth) r.after
+after-held program y Used s a depth up over link v base rest M n b r = record {
+  region = r.region ∙ b.region;
+  bytes = b.bytes;
+  lawful = b.lawful;
+  heap = r.same 3 (λ e. omega (arith, e)) (λ e. omega (arith, e)) ∙ b.heap;
+  limit = r.same 4 (λ e. omega (arith, e)) (λ e. omega (arith, e)) ∙ b.limit;
+  placed = r.same 8 (λ e. omega (arith, e)) (λ e. omega (arith, e)) ∙ b.placed;
+  above = b.above;
+  below = b.below;
+  depth = r.waiting;
+}
+
+low-word : (p : ℕ) → low p < 2 ^ 64
+unfolding low
+low-word p = omega arith
+
+-- the caller's instruction behind the call
+abbrev behind_of : (p : Program) (image : Image) (most : ℕ) (c : Caller) (depth link base placed : ℕ) (m : State) →
+    Waiting p image most c depth link base placed m → ℕ
+behind_of p image most c depth link base placed m W =
+    place_in p image W.code (image c.waits.function) c.waits.block W.before
+    + 4 * length (call_begun (layout_of W.code (image c.waits.function).homes) W.place W.arguments) + 8
+
+-- the result of a call that was made from a caller that waits
+pub to-caller : (p : Program) (image : Image) (program : List (Option Instr)) (most size : ℕ) → IsLinked p image program most →
+    (s : tac.State) (a : Activation) (d v : ℕ) (cs : List Caller)
+    (up over link k : ℕ) (M m n : State) → (W : Waiting p image most (record { waits = a; to = Temp d }) (length cs) link up over M) →
+    Waits p image most size cs (private_word M up) (up + frame_bytes (layout_of W.code (image a.function).homes)) (over + W.code.frame)
+    (restored (layout_of W.code (image a.function).homes) up M) →
+    length s.region.bytes ≡ size → Way program k m n → 1 ≤ k → k ≤ 34 → IsBack s (length cs) up over link v M n →
+    Arrives p image program most size 39 [] (record s { here = record a { temps = put a.temps d v }; callers = cs }) m
+to-caller p image program most size linked s a d v cs up over link k M m n W rest sized way some few b =
+    let q : ℕ = behind_of p image most (record { waits = a; to = Temp d }) (length cs) link up over M W in
+    let bc = behind-call p image program most W.code a.function a.block W.before d W.block W.place W.callee W.arguments
+    (linked a.function W.code W.function) W.in_function W.in_block in
+    let here : n.pc ≡ q = b.pc ∙ W.returns in
+    let shallow : length cs < 2 ^ 63 = omega (arith, W.room.calls) in
+    let r = resumes program (layout_of W.code (image a.function).homes) (UsedBut (InUse (graph_of W.code) a.block a.at) (Temp d))
+    (outer s a over (length cs)) up v
+    (put_to (home_of (layout_of W.code (image a.function).homes) d)) n b.ten b.small b.waiting shallow
+    (subst (λ z. Stands program z (call_ended (layout_of W.code (image a.function).homes) W.code.areas (Temp d))) (sym here) bc.stands) in
+    landed W rest q bc here r
+  where
+    frame-within : (bs : List ℕ) (over frame : ℕ) → a.base ≡ over → length bs ≡ size → over + frame ≤ 2 ^ 30 + size →
+        a.base + frame ≤ 2 ^ 30 + length bs
+    frame-within bs over frame e g h = omega (arith, e, g, h)
+
+    next-used : (W : Waiting p image most (record { waits = a; to = Temp d }) (length cs) link up over M) →
+        InUse (graph_of W.code) a.block a.at d
+    next-used W =
+        let g = step-in-graph W.code W.block (Call (Temp d) W.place W.callee W.arguments) a.block W.before W.in_function W.in_block in
+        subst (λ z. InUse (graph_of W.code) a.block z d) (sym W.at)
+        (write-used (graph_of W.code) a.block W.before d (block_of W.block) (step_of (Call (Temp d) W.place W.callee W.arguments)) g.0 g.1
+        (eq-eqb d d refl))
+
+    landed : (W : Waiting p image most (record { waits = a; to = Temp d }) (length cs) link up over M) →
+        Waits p image most size cs (private_word M up) (up + frame_bytes (layout_of W.code (image a.function).homes)) (over + W.code.frame)
+        (restored (layout_of W.code (image a.function).homes) up M) →
+        (q : ℕ) → BehindCall p image program W.code a.function a.block W.before d
+        (place_in p image W.code (image a.function) a.block W.before) q → n.pc ≡ q →
+        Resumes program (layout_of W.code (image a.function).homes) (UsedBut (InUse (graph_of W.code) a.block a.at) (Temp d))
+        (outer s a over (length cs)) up v
+        (put_to (home_of (layout_of W.code (image a.function).homes) d)) n →
+        Arrives p image program most size 39 [] (record s { here = record a { temps = put a.temps d v }; callers = cs }) m
+    landed W rest q bc here r =
+        let yc : Layout = layout_of W.code (image a.function).homes in
+        let U : ℕ → Type 0 = InUse (graph_of W.code) a.block a.at in
+        let w : World = outer s a over (length cs) in
+        let same : SameAbove up M r.after = after-same program yc (UsedBut U (Temp d)) w up v up (put_to (home_of yc d)) M n b.same r in
+        let whole = waits-within p image most size cs (private_word M up) (up + frame_bytes yc) (over + W.code.frame) (restored yc up M)
+        rest in
+        let one : up + frame_bytes yc ≤ length M.private = whole.0 in
+        let two : over + W.code.frame ≤ 2 ^ 30 + size = whole.1 in
+        let word : private_word r.after up ≡ private_word M up = ap number_of (same.private up 8 (omega arith)) in
+        let held : Holds yc (UsedBut U (Temp d)) w up r.after =
+        back-holds p image program most (length cs) link up over (record { waits = a; to = Temp d }) w M r.after linked W same
+        (after-held program yc (UsedBut U (Temp d)) s a (length cs) up over link v up (put_to (home_of yc d)) M n b r)
+        (subst (λ z. up + frame_bytes yc ≤ z) (sym same.long) one) (subst (λ z. length z ≤ 603979776) (sym r.private) b.private)
+        (subst AreBytes (sym r.private) b.are_bytes)
+        (subst (λ z. z < 2 ^ 64) (sym r.pc) (low-word (n.pc + 4 * 2)))
+        (r.same 2 (λ e. omega (arith, e)) (λ e. omega (arith, e)) ∙ b.pointer) in
+        let waits : Waits p image most size cs (private_word r.after up) (up + frame_bytes yc) (over + W.code.frame)
+        (restored yc up r.after) =
+        subst (λ z. Waits p image most size cs z (up + frame_bytes yc) (over + W.code.frame) (restored yc up r.after)) (sym word)
+        (waits-same p image program most size cs (private_word M up) (up + frame_bytes yc) (over + W.code.frame) (restored yc up M)
+        (restored yc up r.after) linked
+        (restored-same yc up (frame_bytes yc) M r.after same) rest) in
+        let target : low (r.after.pc + 4 * length (put_to (home_of yc d))) ≡ place_in p image W.code (image a.function) a.block a.at =
+        pc-put q (length (put_to (home_of yc d))) r.after.pc (low (r.after.pc + 4 * length (put_to (home_of yc d))))
+        (r.pc ∙ ap (λ z. low (z + 4 * 2)) here) refl bc.near
+        ∙ (sym bc.next ∙ ap (λ z. place_in p image W.code (image a.function) a.block z) (sym W.at)) in
+        put-result p image program most size linked s a d v cs W.code up 0 (k + 2) 0 m r.after W.function
+        (way-both program k 2 m n r.after way r.way) (omega (arith, some)) (omega (arith, few))
+        (subst (λ z. Holds yc (UsedBut U (Temp d)) (outer s a z (length cs)) up r.after) (sym W.placed_is) held) (next-used W) b.small
+        r.five r.there target
+        (frame-within s.region.bytes over W.code.frame W.placed_is sized two) sized W.room
+        (subst (λ z. Waits p image most size cs (private_word r.after up) (up + frame_bytes yc) (z + W.code.frame)
+        (restored yc up r.after)) (sym W.placed_is) waits)
+
+-- the value of a part that is a word
+word-part : (y : Layout) (base : ℕ) (s : tac.State) (v : Part) (k : ℕ) → value_of s v ≡ word k → part_value y base (world_of s) v ≡ k
+word-part y base s (parts.Word a) k g = let same : operand s a ≡ k = cc in part-is y base s a ∙ same
+word-part y base s (parts.Area n) k g = cc
+
+-- what the machine holds once a function is left
+left-back : (program : List (Option Instr)) (y : Layout) (Used : ℕ → Type 0) (s : tac.State) (base frame link v depth : ℕ) (m : State) →
+    Holds y Used (world_of s) base m →
+    (b : BackIn program y (frame_bytes y) base (s.here.base + frame) link v m) → length s.callers ≡ suc depth → v < 2 ^ 64 →
+    s.here.base + frame ≤ end_address s.region →
+    IsBack s depth (base + frame_bytes y) (s.here.base + frame) link v (restored y base m) b.after
+left-back program y Used s base frame link v depth m h b deep small fits = record {
+  same = b.same;
+  pc = b.pc;
+  ten = b.ten;
+  small = small;
+  pointer = b.pointer;
+  waiting = b.others 28 (inr (inr refl)) ∙ (h.depth ∙ deep);
+  private = subst (λ z. length z ≤ 603979776) (sym b.private) h.frame.private;
+  are_bytes = subst AreBytes (sym b.private) h.frame.bytes;
+  region = b.region ∙ h.region;
+  bytes = h.bytes;
+  lawful = h.lawful;
+  heap = b.others 3 (inl refl) ∙ h.heap;
+  limit = b.others 4 (inr (inl refl)) ∙ h.limit;
+  placed = b.eight;
+  above = more-above (heap_limit s.region) s.here.base frame h.above;
+  below = fits;
+}
+  where
+    more-above : (a p f : ℕ) → a ≤ p → a ≤ p + f
+    more-above a p f e = omega (arith, e)
+
+-- where a waiting caller goes on: an even number of one word
+link-even : (p : Program) (image : Image) (program : List (Option Instr)) (most : ℕ) → IsLinked p image program most →
+    (a : Activation) (d depth link up over : ℕ) (M : State) →
+    Waiting p image most (record { waits = a; to = Temp d }) depth link up over M → (link % 2 ≡ 0) × (link < 2 ^ 64)
+link-even p image program most linked a d depth link up over M W =
+    let bc = behind-call p image program most W.code a.function a.block W.before d W.block W.place W.callee W.arguments
+    (linked a.function W.code W.function) W.in_function W.in_block in (
+      subst (λ z. z % 2 ≡ 0) (sym W.returns) bc.even,
+      subst (λ z. z < 2 ^ 64) (sym W.returns)
+          (small-is (behind_of p image most (record { waits = a; to = Temp d }) depth link up over M W) bc.small),
+    )
+  where
+    small-is : (n : ℕ) → n + 256 ≤ 2 ^ 30 + 8 → n < 2 ^ 64
+    small-is n e = omega (arith, e)
+
+-- to a caller, wherever the result goes
+to-one : (p : Program) (image : Image) (program : List (Option Instr)) (most size : ℕ) → IsLinked p image program most →
+    (s : tac.State) (base : ℕ) (m : State) (y : Layout) (Used : ℕ → Type 0) (frame : ℕ) →
+    Holds y Used (world_of s) base m → s.here.base + frame ≤ end_address s.region → length s.region.bytes ≡ size →
+    (a : Activation) (to : Destination) (cs : List Caller) (v : Part) (link : ℕ) → length s.callers ≡ suc (length cs) →
+    IsPartRead y Used v →
+    (W : Waiting p image most (record { waits = a; to = to }) (length cs) link (base + frame_bytes y) (s.here.base + frame)
+    (restored y base m)) →
+    Waits p image most size cs (private_word m (base + frame_bytes y))
+    (base + frame_bytes y + frame_bytes (layout_of W.code (image a.function).homes)) (s.here.base + frame + W.code.frame)
+    (restored (layout_of W.code (image a.function).homes) (base + frame_bytes y) (restored y base m)) →
+    (link % 2 ≡ 0 → link < 2 ^ 64 → BackIn program y (frame_bytes y) base (s.here.base + frame) link (part_value y base (world_of s) v) m) →
+    Stepped p image program most size 39 s m (given (value_of s v) (Some W.code) (record { waits = a; to = to }) cs s)
+to-one p image program most size linked s base m y Used frame h fits sized a (Temp d) cs (parts.Word o) link depth reads W rest back =
+    let e = link-even p image program most linked a d (length cs) link (base + frame_bytes y) (s.here.base + frame) (restored y base m) W in
+    let same : part_value y base (world_of s) (parts.Word o) ≡ operand s o = part-is y base s o in
+    let small : operand s o < 2 ^ 64 = subst (λ k. k < 2 ^ 64) same (value-small Used y (world_of s) base m o h reads) in
+    let b : BackIn program y (frame_bytes y) base (s.here.base + frame) link (operand s o) m =
+    subst (λ k. BackIn program y (frame_bytes y) base (s.here.base + frame) link k m) same (back e.0 e.1) in (
+      [],
+      nothing-written s.out,
+      to-caller p image program most size linked s a d (operand s o) cs (base + frame_bytes y) (s.here.base + frame) link b.steps
+          (restored y base m) m b.after W rest sized b.way b.some b.few
+          (left-back program y Used s base frame link (operand s o) (length cs) m h b depth small fits),
+    )
+to-one p image program most size linked s base m y Used frame h fits sized a (Temp d) cs (parts.Area n) link depth reads W rest back = tt
+to-one p image program most size linked s base m y Used frame h fits sized a (Area k) cs v link depth reads W rest back =
+    let pl : IsPlaced p image program most W.code (image a.function) = linked a.function W.code W.function in
+    let all : list_all block_takes_words W.code.blocks ≡ true =
+    (both-true (list_all is_word W.code.parameters) (list_all block_takes_words W.code.blocks) pl.words).1 in
+    let block : list_all takes_word W.block.instructions ≡ true = list-all-get block_takes_words W.code.blocks a.block W.block all
+    W.in_function in
+    let none : false ≡ true = list-all-get takes_word W.block.instructions W.before (Call (Area k) W.place W.callee W.arguments) block
+    W.in_block in
+    absurd (no-way none)
+  where
+    no-way : false ≡ true → ⊥
+    no-way e = cc
+
+-- how many steps a return takes at most
+abbrev pub return_most : List Caller → ℕ
+return_most [] = 36
+return_most (c ∷ cs) = 39
+
+-- a function returns
+pub return-steps : (p : Program) (image : Image) (program : List (Option Instr)) (most size : ℕ) → IsLinked p image program most →
+    (s : tac.State) (base : ℕ) (m : State)
+    (x : StandsIn p image program most size s base m) (block : Block) (v : Part) → slice_get x.code.blocks s.here.block ≡ Some block →
+    slice_get block.instructions s.here.at ≡ None → block.exit ≡ Return v →
+    Stepped p image program most size (return_most s.callers) s m (step p s)
+return-steps p image program most size linked s base m x block v in-f in-b is =
+    let e1 = x.function in
+    rw (e1, in-f, in-b) (rw is (go s.callers refl x.waits))
+  where
+    reads : IsPartRead (layout_of x.code (image s.here.function).homes) (InUse (graph_of x.code) s.here.block s.here.at) v
+    reads =
+        part-read x.code (image s.here.function).homes block s.here.block s.here.at v
+        (ap (exit_fits x.code) (sym is) ∙ exit-within x.code s.here.block block
+        (within-parts p image program most x.code (image s.here.function) (linked s.here.function x.code x.function)).blocks in-f)
+        in-f in-b is
+
+    last-even : (at n : ℕ) → at % 4 ≡ 0 → (at + 4 * n) % 2 ≡ 0
+    last-even at n e = omega (arith, e)
+
+    placed-small : (n k : ℕ) → n ≤ 2 ^ 30 + k → k ≤ 67108864 → n < 2 ^ 63
+    placed-small n k e h = omega (arith, e, h)
+
+    last-small : (n : ℕ) → n + 256 ≤ 2 ^ 30 → n < 2 ^ 30
+    last-small n e = omega (arith, e)
+
+    back : (link : ℕ) → private_word m base ≡ link → link % 2 ≡ 0 → link < 2 ^ 64 →
+        BackIn program (layout_of x.code (image s.here.function).homes) (frame_bytes (layout_of x.code (image s.here.function).homes)) base
+        (s.here.base + x.code.frame) link
+        (part_value (layout_of x.code (image s.here.function).homes) base (world_of s) v) m
+    back link e even small =
+        let pl : IsPlaced p image program most x.code (image s.here.function) = linked s.here.function x.code x.function in
+        let y : Layout = layout_of x.code (image s.here.function).homes in
+        let f : FoundFunction program y x.code (entries_of p image) (image s.here.function).at = the-function p image program most x.code
+        (image s.here.function) pl in
+        let at : AtExit p image program x.code (image s.here.function) (Return v)
+        (place_in p image x.code (image s.here.function) s.here.block s.here.at) =
+        subst (λ z. AtExit p image program x.code (image s.here.function) z
+        (place_in p image x.code (image s.here.function) s.here.block s.here.at)) is
+        (at-exit p image program most x.code (image s.here.function) s.here.block s.here.at block pl in-f in-b) in
+        let here : AtExit p image program x.code (image s.here.function) (Return v) m.pc =
+        subst (λ q. AtExit p image program x.code (image s.here.function) (Return v) q) (sym x.pc) at in
+        goes-back program y (InUse (graph_of x.code) s.here.block s.here.at) (world_of s) base x.code.frame
+        (last_address y x.code (image s.here.function).at) link 0 v m x.holds
+        (housed x.code (image s.here.function).homes s.here.block s.here.at pl.right) reads here.near
+        (last-small (last_address y x.code (image s.here.function).at) f.near)
+        (last-even (image s.here.function).at (length (head_code y x.code) + blocks_length y x.code.areas x.code.blocks) pl.aligned)
+        (placed-small (s.here.base + x.code.frame) (length s.region.bytes) x.frame x.holds.lawful.sized.2) e even small here.stands f.leaves
+
+    go : (cs : List Caller) → s.callers ≡ cs →
+        Waits p image most size cs (private_word m base) (base + frame_bytes (layout_of x.code (image s.here.function).homes))
+        (s.here.base + x.code.frame)
+        (restored (layout_of x.code (image s.here.function).homes) base m) →
+        Stepped p image program most size (return_most cs) s m (give p (value_of s v) cs s)
+    go [] e w =
+        let b = back 0 w.0 refl (omega arith) in (
+          refl,
+          record {
+            steps = b.steps;
+            last = b.after;
+            few = omega (arith, b.few);
+            runs = λ more. b.way.runs more ∙ run-returned program b.after more b.pc;
+            gives = λ k g. b.ten ∙ word-part (layout_of x.code (image s.here.function).homes) base s v k g;
+          },
+        )
+    go (c ∷ cs) e w =
+        let found = w.0.function in
+        rw found
+        (to-one p image program most size linked s base m (layout_of x.code (image s.here.function).homes)
+        (InUse (graph_of x.code) s.here.block s.here.at) x.code.frame x.holds x.frame x.region
+        c.waits c.to cs v (private_word m base) (ap length e) reads w.0 w.1 (λ even small. back (private_word m base) refl even small))

@@ -1,0 +1,287 @@
+-- Steps and runs of a program of several functions.
+use Rattle.std.proofs.Common.{◌≡◌, ◌≢◌, ℕ, zero, suc, ◌+◌, ◌-◌, ◌*◌, ◌<◌, ◌≤◌, Bool, true, false, ◌&&◌, List, [], ◌∷◌, ◌++◌, length, append_assoc, Option, Some, None, refl, sym, ap, ◌∙◌, subst, inl, inr, arith}
+use Rattle.std.specs.Prelude.{slice_get}
+use Rattle.std.specs.List.{list_all}
+use Rattle.std.proofs.lemmas.List.{append-nil}
+use Rattle.tl_base.specs.declared.ids.FnId.{FnId}
+use Rattle.tl_base.specs.declared.place.Place.{Place}
+use Rattle.rv_isa.specs.declared.instr.Instr.{Instr}
+use Rattle.rv_machine.specs.Machine.{Ran, State, after_output, run_of}
+use Rattle.terra_words.specs.Runs.{Fault, More, Over, Returned, Run, Stuck, Value}
+use Rattle.tac_form.specs.declared.tac.Part.{Part}
+use Rattle.tac_form.specs.declared.tac.Destination.{Destination}
+use Rattle.tac_form.specs.declared.tac.Exit.{Exit}
+use Rattle.tac_form.specs.declared.tac.Exit.TheVariants.{Branch, Fail, Jump, Return}
+use Rattle.tac_form.specs.declared.tac.Instruction.{Instruction}
+use Rattle.tac_form.specs.declared.tac.Instruction.TheVariants.{Alloc, Call, CallValue, Clear, Compute, Copy, Load, Locate, Move, PutByte, Store, TestDivisor, Write}
+use Rattle.tac_form.specs.declared.tac.Block.{Block}
+use Rattle.tac_form.specs.declared.tac.Tac.{Tac}
+use Rattle.tac_form.specs.Flow as tac
+use Rattle.tac_form.specs.Flow.{Goes, Program, Stops, step, steps}
+use Rattle.tac_form.specs.Weights.{exit_words, words_of}
+use Rattle.rv_select.specs.Shapes.{has_exit_shape, has_shape}
+use Rattle.rv_select.specs.Steps.{Ends}
+use Rattle.rv_select.specs.Calls.{block_has_code, has_code, has_exit_code}
+use Rattle.rv_select.specs.Waiting.{Arrives, Finishes, Image, IsLinked, IsPlaced, StandsIn, Stepped}
+use Rattle.rv_select.specs.Whole.{AreShort, Ended, RunFails, RunGoesOn, RunReturns, RunsAreCarried, StepsAreCarried, steps_left}
+use Rattle.rv_select.proofs.Backs.{return-steps, return_most}
+use Rattle.rv_select.proofs.Calling.{call-step}
+use Rattle.rv_select.proofs.Falls.{FallsIf, falls-call, falls-exit, falls-inner, falls-return}
+use Rattle.rv_select.proofs.Inner.{act-stays, leave-to}
+use Rattle.rv_select.proofs.Stands.{both-true, list-all-get}
+use Rattle.rv_select.proofs.Through.{exit-step, inner-step}
+
+-- A step is carried out, and takes no more than is taken off what is left.
+pub record Done (p : Program) (image : Image) (program : List (Option Instr)) (most size words : ℕ) (s : tac.State) (m : State)
+    (moved : tac.Moved) : Type 0 where
+  pub bound : ℕ
+  pub stepped : Stepped p image program most size bound s m moved
+  pub falls : AreShort p words → FallsIf p words bound s moved
+
+pub a-step : (p : Program) (image : Image) (program : List (Option Instr)) (most size words : ℕ) → IsLinked p image program most →
+    (s : tac.State) (base : ℕ) (m : State) →
+    StandsIn p image program most size s base m → Done p image program most size words s m (step p s)
+a-step p image program most size words linked s base m x = in-block (slice_get x.code.blocks s.here.block) refl
+  where
+    pl : IsPlaced p image program most x.code (image s.here.function)
+    pl = linked s.here.function x.code x.function
+
+    stuck : slice_get x.code.blocks s.here.block ≡ None → Done p image program most size words s m (step p s)
+    stuck e = let e1 = x.function in rw (e1, e) (record { bound = 0; stepped = tt; falls = λ short. tt })
+
+    parts : (block : Block) → slice_get x.code.blocks s.here.block ≡ Some block → (list_all has_code block.instructions ≡ true) ×
+        (has_exit_code block.exit ≡ true)
+    parts block e = both-true (list_all has_code block.instructions) (has_exit_code block.exit)
+        (list-all-get block_has_code x.code.blocks s.here.block block pl.has_code e)
+
+    inside : (block : Block) (i : Instruction) → slice_get x.code.blocks s.here.block ≡ Some block →
+        slice_get block.instructions s.here.at ≡ Some i → has_shape i ≡ true →
+        Done p image program most size words s m (step p s)
+    inside block i e g h = record {
+      bound = words_of i;
+      stepped = inner-step p image program most size linked s base m x block i e g h;
+      falls = λ short. falls-inner p words x.code block i s (step p s) x.function e g
+          (let e1 = x.function in rw (e1, e, g) (act-stays p i s h));
+    }
+
+    leaving : (block : Block) → slice_get x.code.blocks s.here.block ≡ Some block → slice_get block.instructions s.here.at ≡ None →
+        has_exit_shape block.exit ≡ true →
+        Done p image program most size words s m (step p s)
+    leaving block e g h = record {
+      bound = exit_words block.exit;
+      stepped = exit-step p image program most size linked s base m x block e g h;
+      falls = λ short. falls-exit p words x.code block s (step p s) x.function e pl.counted (short s.here.function x.code x.function)
+          (let e1 = x.function in rw (e1, e, g) (leave-to p block.exit s h));
+    }
+
+    returns : (block : Block) (v : Part) → slice_get x.code.blocks s.here.block ≡ Some block →
+        slice_get block.instructions s.here.at ≡ None → block.exit ≡ Return v →
+        Done p image program most size words s m (step p s)
+    returns block v e g is = record {
+      bound = return_most s.callers;
+      stepped = return-steps p image program most size linked s base m x block v e g is;
+      falls = λ short. falls-return p words x.code block v s x.function e g is;
+    }
+
+    calls : (block : Block) (to : Destination) (place : Place) (f : FnId) (arguments : List Part) →
+        slice_get x.code.blocks s.here.block ≡ Some block →
+        slice_get block.instructions s.here.at ≡ Some (Call to place f arguments) → Done p image program most size words s m (step p s)
+    calls block to place f arguments e g = record {
+      bound = 49 + 17 * length arguments;
+      stepped = call-step p image program most size linked s base m x block to place f arguments e g;
+      falls = λ short. falls-call p words short x.code block to place f arguments s x.function e g
+          (λ callee h. pl.passes s.here.block s.here.at block to place f arguments callee e g h);
+    }
+
+    an-exit : (block : Block) → slice_get x.code.blocks s.here.block ≡ Some block → slice_get block.instructions s.here.at ≡ None →
+        (exit : Exit) → block.exit ≡ exit → has_exit_code exit ≡ true →
+        Done p image program most size words s m (step p s)
+    an-exit block e g (Return v) is h = returns block v e g is
+    an-exit block e g (Jump d) is h = leaving block e g (ap has_exit_shape is ∙ h)
+    an-exit block e g (Branch a d f) is h = leaving block e g (ap has_exit_shape is ∙ h)
+    an-exit block e g (Fail kind at) is h = leaving block e g (ap has_exit_shape is ∙ h)
+
+    an-instruction : (block : Block) → slice_get x.code.blocks s.here.block ≡ Some block → (i : Instruction) →
+        slice_get block.instructions s.here.at ≡ Some i → has_code i ≡ true →
+        Done p image program most size words s m (step p s)
+    an-instruction block e (Call to place f arguments) g h = calls block to place f arguments e g
+    an-instruction block e (CallValue to place sig a arguments) g h = cc
+    an-instruction block e (Compute d op form a b) g h = inside block (Compute d op form a b) e g h
+    an-instruction block e (TestDivisor place a) g h = inside block (TestDivisor place a) e g h
+    an-instruction block e (Copy d a) g h = inside block (Copy d a) e g h
+    an-instruction block e (Locate d offset) g h = inside block (Locate d offset) e g h
+    an-instruction block e (Load d form spot) g h = inside block (Load d form spot) e g h
+    an-instruction block e (Store spot n a) g h = inside block (Store spot n a) e g h
+    an-instruction block e (Move to from n) g h = inside block (Move to from n) e g h
+    an-instruction block e (Clear n k) g h = inside block (Clear n k) e g h
+    an-instruction block e (PutByte a) g h = inside block (PutByte a) e g h
+    an-instruction block e (Write place a b) g h = inside block (Write place a b) e g h
+    an-instruction block e (Alloc d a) g h = inside block (Alloc d a) e g h
+
+    at-it : (block : Block) → slice_get x.code.blocks s.here.block ≡ Some block → (o : Option Instruction) →
+        slice_get block.instructions s.here.at ≡ o → Done p image program most size words s m (step p s)
+    at-it block e None g = an-exit block e g block.exit refl (parts block e).1
+    at-it block e (Some i) g = an-instruction block e i g (list-all-get has_code block.instructions s.here.at i (parts block e).0 g)
+
+    in-block : (o : Option Block) → slice_get x.code.blocks s.here.block ≡ o → Done p image program most size words s m (step p s)
+    in-block None e = stuck e
+    in-block (Some block) e = at-it block e (slice_get block.instructions s.here.at) refl
+
+pub steps-carried : StepsAreCarried
+steps-carried p image program most size s base m linked x = let d = a-step p image program most size 0 linked s base m x in
+    (d.bound, d.stepped)
+
+-- a run that is over stays so
+steps-stopped : (p : Program) (k : ℕ) (r : Run) → steps p k (Stops r) ≡ Stops r
+steps-stopped p zero r = refl
+steps-stopped p (suc k) r = refl
+
+nothing-first : (r : Ran) → r ≡ after_output [] r
+nothing-first r = refl
+
+both-outputs : (a b : List ℕ) (r : Ran) → after_output a (after_output b r) ≡ after_output (a ++ b) r
+both-outputs a b r = ap (λ o. record { stop = r.stop; state = r.state; output = o }) (sym (append_assoc a b r.output))
+
+-- outputs one after the other
+outs-both : (s t out a b : List ℕ) → t ≡ s ++ a → out ≡ t ++ b → out ≡ s ++ (a ++ b)
+outs-both s t out a b e f = f ∙ (ap (λ z. z ++ b) e ∙ append_assoc s a b)
+
+-- a bound on what a step and all that follows take
+abbrev pub FallsTo : Program → (words top bound : ℕ) → tac.State → tac.Moved → Type 0
+FallsTo p words top bound s (Goes t) = (bound + steps_left p words t ≤ top) × (s.left ≤ suc t.left)
+FallsTo p words top bound s (Stops (Over (Returned v) out)) = bound ≤ top
+FallsTo p words top bound s (Stops (Over (Fault kind at) out)) = bound ≤ top
+FallsTo p words top bound s (Stops (Over Stuck out)) = Unit {0}
+FallsTo p words top bound s (Stops (More out)) = Unit {0}
+
+falls-to : (p : Program) (words bound : ℕ) (s : tac.State) (moved : tac.Moved) → FallsIf p words bound s moved →
+    FallsTo p words (steps_left p words s) bound s moved
+falls-to p words bound s (Goes t) h = h
+falls-to p words bound s (Stops (Over (Returned v) out)) h = h
+falls-to p words bound s (Stops (Over (Fault kind at) out)) h = h
+falls-to p words bound s (Stops (Over Stuck out)) h = tt
+falls-to p words bound s (Stops (More out)) h = tt
+
+-- some steps, and a run from there
+then-ended : (p : Program) (image : Image) (program : List (Option Instr)) (most size words bound top : ℕ) (out : List ℕ) (s t : tac.State)
+    (m : State) (r : Run) → t.out ≡ s.out ++ out →
+    (a : Arrives p image program most size bound out t m) → bound + steps_left p words t ≤ top → s.left ≤ suc t.left →
+    Ended program (steps_left p words t) t a.after r → Ended program top s m r
+then-ended p image program most size words bound top out s t m (Over (Returned v) all) e a falls counts (rest, o, d) = (
+  out ++ rest,
+  outs-both s.out t.out all out rest e o,
+  record {
+    count = a.steps + d.count;
+    last = d.last;
+    few = sum (steps_left p words t) top a.steps d.count falls a.few d.few;
+    runs = λ more.
+        let split : a.steps + d.count + more ≡ a.steps + (d.count + more) = omega arith in
+        ap (run_of program m) split ∙ (a.runs (d.count + more) ∙ (ap (after_output out) (d.runs more) ∙ both-outputs out rest _));
+    gives = d.gives;
+  },
+)
+  where
+    sum : (l n k c : ℕ) → bound + l ≤ n → k ≤ bound → c ≤ l → k + c ≤ n
+    sum l n k c f g h = omega (arith, f, g, h)
+then-ended p image program most size words bound top out s t m (Over (Fault kind at) all) e a falls counts (rest, o, d) = (
+  out ++ rest,
+  outs-both s.out t.out all out rest e o,
+  record {
+    count = a.steps + d.count;
+    last = d.last;
+    few = sum (steps_left p words t) top a.steps d.count falls a.few d.few;
+    runs = λ more.
+        let split : a.steps + d.count + more ≡ a.steps + (d.count + more) = omega arith in
+        ap (run_of program m) split ∙ (a.runs (d.count + more) ∙ (ap (after_output out) (d.runs more) ∙ both-outputs out rest _));
+  },
+)
+  where
+    sum : (l n k c : ℕ) → bound + l ≤ n → k ≤ bound → c ≤ l → k + c ≤ n
+    sum l n k c f g h = omega (arith, f, g, h)
+then-ended p image program most size words bound top out s t m (Over Stuck all) e a falls counts d = tt
+then-ended p image program most size words bound top out s t m (More all) e a falls counts (rest, o, d) = (
+  out ++ rest,
+  outs-both s.out t.out all out rest e o,
+  record {
+    count = a.steps + d.count;
+    after = d.after;
+    enough = least s.left t.left a.steps d.count counts a.some d.enough;
+    few = sum (steps_left p words t) top a.steps d.count falls a.few d.few;
+    runs = λ more.
+        let split : a.steps + d.count + more ≡ a.steps + (d.count + more) = omega arith in
+        ap (run_of program m) split ∙ (a.runs (d.count + more) ∙ (ap (after_output out) (d.runs more) ∙ both-outputs out rest _));
+  },
+)
+  where
+    sum : (l n k c : ℕ) → bound + l ≤ n → k ≤ bound → c ≤ l → k + c ≤ n
+    sum l n k c f g h = omega (arith, f, g, h)
+
+    least : (l n k c : ℕ) → l ≤ suc n → 1 ≤ k → n ≤ c → l ≤ k + c
+    least l n k c f g h = omega (arith, f, g, h)
+
+-- the step by which the run is over
+at-end : (p : Program) (image : Image) (program : List (Option Instr)) (most size words bound top : ℕ) (s : tac.State) (m : State)
+    (r : Run) → Stepped p image program most size bound s m (Stops r) →
+    FallsTo p words top bound s (Stops r) → Ended program top s m r
+at-end p image program most size words bound top s m (Over (Returned v) out) (e, d) falls = (
+  [],
+  sym (append-nil s.out ∙ sym e),
+  record {
+    count = d.steps;
+    last = d.last;
+    few = under d.steps top d.few falls;
+    runs = λ more. d.runs more;
+    gives = d.gives;
+  },
+)
+  where
+    under : (a b : ℕ) → a ≤ bound → bound ≤ b → a ≤ b
+    under a b h g = omega (arith, h, g)
+at-end p image program most size words bound top s m (Over (Fault kind at) out) (e, d) falls = (
+  [],
+  sym (append-nil s.out ∙ sym e),
+  record {
+    count = d.steps;
+    last = d.last;
+    few = under d.steps top d.few falls;
+    runs = λ more. d.runs more;
+  },
+)
+  where
+    under : (a b : ℕ) → a ≤ bound → bound ≤ b → a ≤ b
+    under a b h g = omega (arith, h, g)
+at-end p image program most size words bound top s m (Over Stuck out) d falls = tt
+at-end p image program most size words bound top s m (More out) (e, none) falls = (
+  [],
+  sym (append-nil s.out ∙ sym e),
+  record {
+    count = 0;
+    after = m;
+    enough = omega (arith, none);
+    few = omega arith;
+    runs = λ more. let same : 0 + more ≡ more = omega arith in ap (run_of program m) same ∙ nothing-first (run_of program m more);
+  },
+)
+
+same-run : (a b : Run) → Stops a ≡ Stops b → a ≡ b
+same-run a b e = cc
+
+pub behind-step : (p : Program) (image : Image) (program : List (Option Instr)) (most size words k bound top : ℕ) (r : Run) (s : tac.State)
+    (m : State) →
+    ((t : tac.State) (base : ℕ) (n : State) → StandsIn p image program most size t base n → steps p k (Goes t) ≡ Stops r →
+    Ended program (steps_left p words t) t n r) → (moved : tac.Moved) →
+    Stepped p image program most size bound s m moved → FallsTo p words top bound s moved → steps p k moved ≡ Stops r →
+    Ended program top s m r
+behind-step p image program most size words k bound top r s m more (Goes t) (out, e, a) falls ends =
+    then-ended p image program most size words bound top out s t m r e a falls.0 falls.1 (more t a.base a.after a.stands ends)
+behind-step p image program most size words k bound top r s m more (Stops q) d falls ends =
+    let same : q ≡ r = same-run q r (sym (steps-stopped p k q) ∙ ends) in
+    subst (λ z. Ended program top s m z) same (at-end p image program most size words bound top s m q d falls)
+
+pub runs-carried : RunsAreCarried
+runs-carried p image program most size words zero r s base m linked short x e = cc
+runs-carried p image program most size words (suc k) r s base m linked short x e =
+    let d = a-step p image program most size words linked s base m x in
+    behind-step p image program most size words k d.bound (steps_left p words s) r s m
+    (λ t b n y g. runs-carried p image program most size words k r t b n linked short y g) (step p s) d.stepped
+    (falls-to p words d.bound s (step p s) (d.falls short)) e

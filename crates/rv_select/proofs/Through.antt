@@ -1,0 +1,297 @@
+-- Steps that stay within a function, in a program of several functions.
+use Rattle.std.proofs.Common.{◌≡◌, ◌≢◌, ℕ, zero, suc, ◌+◌, ◌-◌, ◌*◌, ◌%◌, ◌^◌, ◌<◌, ◌≤◌, Bool, true, false, ◌&&◌, List, [], ◌∷◌, ◌++◌, length, Option, Some, None, refl, sym, ap, ◌∙◌, subst, inl, inr, arith}
+use Rattle.std.specs.Prelude.{slice_get}
+use Rattle.tl_base.specs.declared.ids.FnId.{FnId}
+use Rattle.rv_isa.specs.declared.instr.Instr.{Instr}
+use Rattle.terra_memory.specs.Region.{Contents, end_address}
+use Rattle.terra_words.specs.Runs.{Fault, More, Over, Returned, Stuck}
+use Rattle.tac_form.specs.declared.tac.Exit.{Exit}
+use Rattle.tac_form.specs.declared.tac.Exit.TheVariants.{Branch, Fail, Jump, Return}
+use Rattle.tac_form.specs.declared.tac.Instruction.{Instruction}
+use Rattle.tac_form.specs.declared.tac.Instruction.TheVariants.{Alloc, Call, CallValue, Clear, Compute, Copy, Load, Locate, Move, PutByte, Store, TestDivisor, Write}
+use Rattle.tac_form.specs.declared.tac.Block.{Block}
+use Rattle.tac_form.specs.declared.tac.Tac.{Tac}
+use Rattle.tac_form.specs.Flow as tac
+use Rattle.tac_form.specs.Flow.{Goes, Program, Stops, act, leave, step}
+use Rattle.tac_form.specs.Graph.{graph_of}
+use Rattle.tac_form.specs.Live.{InUse}
+use Rattle.tac_form.specs.Weights.{exit_words, words_of}
+use Rattle.rv_machine.specs.Word.{low}
+use Rattle.rv_machine.specs.Machine.{State}
+use Rattle.rv_operators.specs.Runs.{Stands}
+use Rattle.rv_select.specs.Places.{Layout, frame_bytes, layout_of, private_word}
+use Rattle.rv_select.specs.Shapes.{exit_shape, has_exit_shape, has_shape, shape_of, start_of}
+use Rattle.rv_select.specs.Steps.{Carried, Comes, Left, StandsAtExit, StandsBefore, behind, world_of}
+use Rattle.rv_select.specs.Calls.{block_starts, exit_code, head_code, instruction_code, last_address}
+use Rattle.rv_select.specs.Waiting.{Arrives, Image, IsLinked, IsPlaced, Placed, StandsIn, Stepped, Waits, entries_of, place_in, restored}
+use Rattle.rv_select.proofs.Carries.{instructions, nothing-written}
+use Rattle.rv_select.proofs.Finds.{FoundFunction, starts-near}
+use Rattle.rv_select.proofs.Inner.{LeavesIf, LeavesTo, Stays, StaysIf, act-stays, leave-to}
+use Rattle.rv_select.proofs.Leaves.{exits}
+use Rattle.rv_select.proofs.Stands.{AtExit, AtPlace, at-exit, at-instruction, exit-within, instruction-within, the-function, within-parts}
+use Rattle.rv_select.proofs.Waits.{waits-keeps}
+
+pub code-is : (y : Layout) (sizes : List ℕ) (places : FnId → ℕ) (at : ℕ) (i : Instruction) → has_shape i ≡ true →
+    instruction_code y sizes places at i ≡ shape_of y i
+code-is y sizes places at (Call to place f arguments) h = cc
+code-is y sizes places at (Compute d op form a b) h = refl
+code-is y sizes places at (TestDivisor place a) h = refl
+code-is y sizes places at (Copy d a) h = refl
+code-is y sizes places at (Locate d offset) h = refl
+code-is y sizes places at (Load d form spot) h = refl
+code-is y sizes places at (Store spot size a) h = refl
+code-is y sizes places at (Move to from size) h = refl
+code-is y sizes places at (Clear n size) h = refl
+code-is y sizes places at (CallValue to place sig a arguments) h = cc
+code-is y sizes places at (PutByte a) h = refl
+code-is y sizes places at (Write place a b) h = refl
+code-is y sizes places at (Alloc d a) h = refl
+
+exit-is : (y : Layout) (at last : ℕ) (starts : ℕ → ℕ) (e : Exit) → has_exit_shape e ≡ true →
+    exit_code y at starts last e ≡ exit_shape y at starts e
+exit-is y at last starts (Return v) h = cc
+exit-is y at last starts (Jump e) h = refl
+exit-is y at last starts (Branch a e f) h = refl
+exit-is y at last starts (Fail kind place) h = refl
+
+near-low : (n : ℕ) → n + 256 ≤ 2 ^ 30 → low n ≡ n
+unfolding low
+near-low n h = omega arith
+
+-- the machine stands behind an instruction
+arrives : (p : Program) (image : Image) (program : List (Option Instr)) (most size weight : ℕ) → IsLinked p image program most →
+    (s t : tac.State) (base : ℕ) (m : State)
+    (x : StandsIn p image program most size s base m) (out : List ℕ) (target : ℕ) → Stays s t →
+    target ≡ place_in p image x.code (image s.here.function) s.here.block (suc s.here.at) →
+    Comes (layout_of x.code (image s.here.function).homes) program (InUse (graph_of x.code) t.here.block t.here.at) (world_of t) base
+    weight target out m →
+    Arrives p image program most size weight out t m
+arrives p image program most size weight linked s t base m x out target st to c =
+    subst
+    (λ z. Comes (layout_of x.code (image s.here.function).homes) program (InUse (graph_of x.code) z.here.block z.here.at) (world_of z) base
+    weight target out m → Arrives p image program most size weight out z m)
+    (sym st.is) made c
+  where
+    made : Comes (layout_of x.code (image s.here.function).homes) program (InUse (graph_of x.code) s.here.block (suc s.here.at))
+        (world_of (record s {
+          here = record s.here { at = suc s.here.at; temps = st.temps; areas = st.areas };
+          region = st.region;
+          out =
+              st.out;
+        })) base weight target out m →
+        Arrives p image program most size weight out
+        (record s {
+          here = record s.here { at = suc s.here.at; temps = st.temps; areas = st.areas };
+          region = st.region;
+          out = st.out;
+        }) m
+    made d = record {
+      steps = d.steps;
+      after = d.after;
+      base = base;
+      some = d.some;
+      few = d.few;
+      runs = d.runs;
+      stands = record {
+        code = x.code;
+        function = x.function;
+        pc = d.at ∙ to;
+        holds = d.holds;
+        frame = subst (λ n. s.here.base + x.code.frame ≤ 2 ^ 30 + n) (sym st.long) x.frame;
+        region = st.long ∙ x.region;
+        room = x.room;
+        waits = waits-keeps p image program most size (layout_of x.code (image s.here.function).homes) s.callers base
+            (s.here.base + x.code.frame) m d.after linked d.keeps x.waits;
+      };
+    }
+
+joined : (p : Program) (image : Image) (program : List (Option Instr)) (most size weight : ℕ) → IsLinked p image program most →
+    (s : tac.State) (base : ℕ) (m : State)
+    (x : StandsIn p image program most size s base m) (code : List Instr) (moved : tac.Moved) →
+    behind m code ≡ place_in p image x.code (image s.here.function) s.here.block (suc s.here.at) → StaysIf s moved →
+    Carried (layout_of x.code (image s.here.function).homes) (graph_of x.code) program base weight code s m moved →
+    Stepped p image program most size weight s m moved
+joined p image program most size weight linked s base m x code (Goes t) to st c =
+    (c.0, c.1, arrives p image program most size weight linked s t base m x c.0 (behind m code) st to c.2)
+joined p image program most size weight linked s base m x code (Stops (Over (Fault kind at) out)) to st c = c
+joined p image program most size weight linked s base m x code (Stops (Over (Returned v) out)) to st c = absurd c
+joined p image program most size weight linked s base m x code (Stops (Over Stuck out)) to st c = tt
+joined p image program most size weight linked s base m x code (Stops (More out)) to st c = absurd c
+
+-- an instruction that stays within its function
+pub inner-step : (p : Program) (image : Image) (program : List (Option Instr)) (most size : ℕ) → IsLinked p image program most →
+    (s : tac.State) (base : ℕ) (m : State)
+    (x : StandsIn p image program most size s base m) (block : Block) (i : Instruction) →
+    slice_get x.code.blocks s.here.block ≡ Some block → slice_get block.instructions s.here.at ≡ Some i → has_shape i ≡ true →
+    Stepped p image program most size (words_of i) s m (step p s)
+inner-step p image program most size linked s base m x block i in-f in-b h =
+    joined p image program most size (words_of i) linked s base m x (shape_of (layout_of x.code (image s.here.function).homes) i)
+    (step p s) to stays
+    (instructions p x.code (image s.here.function).homes i s program base m h before)
+  where
+    pl : IsPlaced p image program most x.code (image s.here.function)
+    pl = linked s.here.function x.code x.function
+
+    found : AtPlace p image program x.code (image s.here.function) s.here.block s.here.at i
+        (place_in p image x.code (image s.here.function) s.here.block s.here.at)
+    found = at-instruction p image program most x.code (image s.here.function) s.here.block s.here.at block i pl in-f in-b
+
+    same : instruction_code (layout_of x.code (image s.here.function).homes) x.code.areas (entries_of p image)
+        (place_in p image x.code (image s.here.function) s.here.block s.here.at) i
+        ≡ shape_of (layout_of x.code (image s.here.function).homes) i
+    same = code-is (layout_of x.code (image s.here.function).homes) x.code.areas (entries_of p image)
+        (place_in p image x.code (image s.here.function) s.here.block s.here.at) i h
+
+    to : behind m (shape_of (layout_of x.code (image s.here.function).homes) i) ≡ place_in p image x.code (image s.here.function)
+        s.here.block (suc s.here.at)
+    to =
+        ap (λ c. low (m.pc + 4 * length c)) (sym same)
+        ∙ (ap (λ q. low (q + 4 * length (instruction_code (layout_of x.code (image s.here.function).homes) x.code.areas (entries_of p image)
+        (place_in p image x.code (image s.here.function) s.here.block s.here.at) i))) x.pc
+        ∙ (near-low _ found.near ∙ sym found.next))
+
+    stays : StaysIf s (step p s)
+    stays = let e1 = x.function in rw (e1, in-f, in-b) (act-stays p i s h)
+
+    before : StandsBefore p x.code (image s.here.function).homes i s program base m
+    before = record {
+      block = block;
+      function = x.function;
+      in_function = in-f;
+      in_block = in-b;
+      fits = instruction-within x.code s.here.block s.here.at block i
+          (within-parts p image program most x.code (image s.here.function) pl).blocks in-f in-b;
+      areas = (within-parts p image program most x.code (image s.here.function) pl).areas;
+      frame = x.frame;
+      right = pl.right;
+      stands = subst (λ q. Stands program q (shape_of (layout_of x.code (image s.here.function).homes) i)) (sym x.pc)
+          (subst (λ c. Stands program (place_in p image x.code (image s.here.function) s.here.block s.here.at) c) same found.stands);
+      holds = x.holds;
+    }
+
+-- the machine stands where a block begins
+comes-to : (p : Program) (image : Image) (program : List (Option Instr)) (most size weight : ℕ) → IsLinked p image program most →
+    (s t : tac.State) (base : ℕ) (m : State)
+    (x : StandsIn p image program most size s base m) (exit : Exit) → LeavesTo exit s t →
+    Comes (layout_of x.code (image s.here.function).homes) program (InUse (graph_of x.code) t.here.block t.here.at) (world_of t) base weight
+    (start_of (block_starts (layout_of x.code (image s.here.function).homes) x.code (image s.here.function).at) t.here.block) [] m →
+    Arrives p image program most size weight [] t m
+comes-to p image program most size weight linked s t base m x exit l c =
+    subst
+    (λ z. Comes (layout_of x.code (image s.here.function).homes) program (InUse (graph_of x.code) z.here.block z.here.at) (world_of z) base
+    weight
+    (start_of (block_starts (layout_of x.code (image s.here.function).homes) x.code (image s.here.function).at) z.here.block) [] m →
+    Arrives p image program most size weight [] z m)
+    (sym l.is) made c
+  where
+    made : Comes (layout_of x.code (image s.here.function).homes) program (InUse (graph_of x.code) l.edge.block 0) (world_of s) base weight
+        (start_of (block_starts (layout_of x.code (image s.here.function).homes) x.code (image s.here.function).at) l.edge.block) [] m →
+        Arrives p image program most size weight [] (record s { here = record s.here { block = l.edge.block; at = 0 }; left = l.left }) m
+    made d = record {
+      steps = d.steps;
+      after = d.after;
+      base = base;
+      some = d.some;
+      few = d.few;
+      runs = d.runs;
+      stands = record {
+        code = x.code;
+        function = x.function;
+        pc = d.at;
+        holds = d.holds;
+        frame = x.frame;
+        region = x.region;
+        room = x.room;
+        waits = waits-keeps p image program most size (layout_of x.code (image s.here.function).homes) s.callers base
+            (s.here.base + x.code.frame) m d.after linked d.keeps x.waits;
+      };
+    }
+
+left-joined : (p : Program) (image : Image) (program : List (Option Instr)) (most size weight : ℕ) → IsLinked p image program most →
+    (s : tac.State) (base : ℕ) (m : State)
+    (x : StandsIn p image program most size s base m) (exit : Exit) (moved : tac.Moved) → LeavesIf exit s moved →
+    Left (layout_of x.code (image s.here.function).homes) (graph_of x.code) program base weight
+    (start_of (block_starts (layout_of x.code (image s.here.function).homes) x.code (image s.here.function).at)) s m moved →
+    Stepped p image program most size weight s m moved
+left-joined p image program most size weight linked s base m x exit (Goes t) l c =
+    ([], outs s t c.0, comes-to p image program most size weight linked s t base m x exit l c.1)
+  where
+    outs : (s t : tac.State) → t.out ≡ s.out → t.out ≡ s.out ++ []
+    outs s t e = e ∙ nothing-written s.out
+left-joined p image program most size weight linked s base m x exit (Stops (Over (Fault kind at) out)) l c = c
+left-joined p image program most size weight linked s base m x exit (Stops (Over (Returned v) out)) l c = absurd c
+left-joined p image program most size weight linked s base m x exit (Stops (Over Stuck out)) l c = tt
+left-joined p image program most size weight linked s base m x exit (Stops (More out)) l c = l
+
+-- an exit that stays within its function, or ends the run
+pub exit-step : (p : Program) (image : Image) (program : List (Option Instr)) (most size : ℕ) → IsLinked p image program most →
+    (s : tac.State) (base : ℕ) (m : State)
+    (x : StandsIn p image program most size s base m) (block : Block) → slice_get x.code.blocks s.here.block ≡ Some block →
+    slice_get block.instructions s.here.at ≡ None → has_exit_shape block.exit ≡ true →
+    Stepped p image program most size (exit_words block.exit) s m (step p s)
+exit-step p image program most size linked s base m x block in-f in-b h =
+    left-joined p image program most size (exit_words block.exit) linked s base m x block.exit (step p s) leaves
+    (exits p x.code (image s.here.function).homes block.exit
+    (start_of (block_starts (layout_of x.code (image s.here.function).homes) x.code (image s.here.function).at)) s program base m h
+    before)
+  where
+    pl : IsPlaced p image program most x.code (image s.here.function)
+    pl = linked s.here.function x.code x.function
+
+    found : AtExit p image program x.code (image s.here.function) block.exit
+        (place_in p image x.code (image s.here.function) s.here.block s.here.at)
+    found = at-exit p image program most x.code (image s.here.function) s.here.block s.here.at block pl in-f in-b
+
+    leaves : LeavesIf block.exit s (step p s)
+    leaves = let e1 = x.function in rw (e1, in-f, in-b) (leave-to p block.exit s h)
+
+    small : (n top : ℕ) → n ≤ top → top + 256 ≤ 2 ^ 30 → n < 2 ^ 30
+    small n top a b = omega (arith, a, b)
+
+    even : (n : ℕ) → n % 4 ≡ 0 → n % 2 ≡ 0
+    even n a = omega (arith, a)
+
+    first : (at n : ℕ) → at % 4 ≡ 0 → (at + 4 * n) % 4 ≡ 0
+    first at n a = omega (arith, a)
+
+    most-is : (a b : ℕ) → a ≡ b → a ≤ b
+    most-is a b e = omega (arith, e)
+
+    starts : (b : ℕ) → (start_of (block_starts (layout_of x.code (image s.here.function).homes) x.code (image s.here.function).at) b < 2 ^
+        30)
+        × (start_of (block_starts (layout_of x.code (image s.here.function).homes) x.code (image s.here.function).at) b % 2 ≡ 0)
+    starts b =
+        let y : Layout = layout_of x.code (image s.here.function).homes in
+        let at : ℕ = (image s.here.function).at in
+        let f : FoundFunction program y x.code (entries_of p image) at = the-function p image program most x.code (image s.here.function)
+        pl in
+        let n = starts-near y x.code.areas (entries_of p image) (start_of (block_starts y x.code at)) (last_address y x.code at)
+        (last_address y x.code at) x.code.blocks b (at + 4 * length (head_code y x.code))
+        (first at (length (head_code y x.code)) pl.aligned) (most-is _ _ f.whole) in (
+          small (start_of (block_starts y x.code at) b) (last_address y x.code at) n.0 f.near,
+          even (start_of (block_starts y x.code at) b)
+              n.1,
+        )
+
+    before : StandsAtExit p x.code (image s.here.function).homes block.exit
+        (start_of (block_starts (layout_of x.code (image s.here.function).homes) x.code (image s.here.function).at)) s program base m
+    before = record {
+      block = block;
+      function = x.function;
+      in_function = in-f;
+      in_block = in-b;
+      is = refl;
+      fits = exit-within x.code s.here.block block (within-parts p image program most x.code (image s.here.function) pl).blocks in-f;
+      right = pl.right;
+      near = subst (λ q. q + 256 ≤ 2 ^ 30) (sym x.pc) found.near;
+      blocks = starts;
+      stands = subst (λ q. Stands program q (exit_shape (layout_of x.code (image s.here.function).homes) q
+          (start_of (block_starts (layout_of x.code (image s.here.function).homes) x.code (image s.here.function).at)) block.exit))
+          (sym x.pc)
+          (subst (λ c. Stands program (place_in p image x.code (image s.here.function) s.here.block s.here.at) c)
+          (exit-is (layout_of x.code (image s.here.function).homes) (place_in p image x.code (image s.here.function) s.here.block s.here.at)
+          (last_address (layout_of x.code (image s.here.function).homes) x.code (image s.here.function).at)
+          (start_of (block_starts (layout_of x.code (image s.here.function).homes) x.code (image s.here.function).at)) block.exit h)
+          found.stands);
+      holds = x.holds;
+    }

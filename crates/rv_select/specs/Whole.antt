@@ -1,0 +1,141 @@
+-- Runs of a whole program in the machine, and how many steps they take.
+use Rattle.std.specs.Prelude.{◌≡◌, ℕ, suc, ◌+◌, ◌*◌, ◌^◌, ◌<◌, ◌≤◌, List, [], ◌∷◌, ◌++◌, length, drop, map, sum_by, Option, Some, None, slice_get}
+use Rattle.tl_base.specs.declared.ids.FnId.{FnId}
+use Rattle.tl_base.specs.declared.place.Place.{Place}
+use Rattle.rv_isa.specs.declared.instr.Instr.{Instr}
+use Rattle.rv_machine.specs.declared.stops.Stop.TheVariants as stops
+use Rattle.rv_machine.specs.declared.stops.Stop.{Stop}
+use Rattle.rv_machine.specs.Machine.{State, after_output, run_of, stands}
+use Rattle.terra_words.specs.declared.words.FaultKind.{FaultKind}
+use Rattle.terra_words.specs.Words.{fault_number}
+use Rattle.terra_words.specs.Runs.{Value, word, Returned, Fault, Stuck, Run, Over, More}
+use Rattle.tac_form.specs.declared.tac.Block.{Block}
+use Rattle.tac_form.specs.declared.tac.Tac.{Tac}
+use Rattle.tac_form.specs.Flow as tac
+use Rattle.tac_form.specs.Flow.{Caller, Program, Goes, Stops, TacRun, enter, step, steps}
+use Rattle.tac_form.specs.Weights.{block_words, code_words, exit_words, words_of}
+use Rattle.terra_memory.specs.Region.{Contents, IsLawful, end_address, fresh}
+use Rattle.rv_select.specs.Places.{AreBytes}
+use Rattle.rv_select.specs.Entering.{begun}
+use Rattle.rv_select.specs.Shapes.{place_number}
+use Rattle.rv_select.specs.Waiting.{Image, IsLinked, StandsIn, Stepped}
+
+-- the words behind a place in a block, and in a function
+abbrev pub block_behind : Option Block → (at : ℕ) → ℕ
+block_behind None k = 0
+block_behind (Some b) k = sum_by words_of (drop k b.instructions) + exit_words b.exit
+
+abbrev pub words_behind : Option Tac → (block at : ℕ) → ℕ
+words_behind None b k = 0
+words_behind (Some code) b k = block_behind (slice_get code.blocks b) k + sum_by block_words (drop (suc b) code.blocks)
+
+-- A function is left in at most 26 steps, and a call ends in at most five.
+abbrev pub waiting_words : Program → List Caller → ℕ
+waiting_words p [] = 0
+waiting_words p (c ∷ cs) = words_behind (p.code c.waits.function) c.waits.block c.waits.at + 31 + waiting_words p cs
+
+-- The most steps that the machine takes from a state on, where no function has more than so many words: those of the words behind the
+-- place and behind the calls that wait, and as many again for each count that is left.
+abbrev pub steps_left : Program → (words : ℕ) → tac.State → ℕ
+steps_left p words s =
+    words_behind (p.code s.here.function) s.here.block s.here.at + 26 + waiting_words p s.callers + s.left * words
+
+-- no function has more than so many words
+abbrev pub AreShort : Program → (words : ℕ) → Type 0
+AreShort p words = (f : FnId) (code : Tac) → p.code f ≡ Some code → code_words code ≤ words
+
+-- The machine writes these bytes, and then the run is over in at most so many steps: it gives back a word, or fails.
+pub record RunReturns (program : List (Option Instr)) (most : ℕ) (v : Value) (out : List ℕ) (m : State) : Type 0 where
+  pub count : ℕ
+  pub last : State
+  pub few : count ≤ most
+  pub runs : (more : ℕ) → run_of program m (count + more) ≡ after_output out (stands (stops.Returned (last.registers 10)) last)
+  pub gives : (x : ℕ) → v ≡ word x → last.registers 10 ≡ x
+
+pub record RunFails (program : List (Option Instr)) (most : ℕ) (kind : FaultKind) (at : Place) (out : List ℕ) (m : State) : Type 0 where
+  pub count : ℕ
+  pub last : State
+  pub few : count ≤ most
+  pub runs : (more : ℕ) → run_of program m (count + more) ≡ after_output out
+      (stands (stops.TerraFault (fault_number kind) (place_number at)) last)
+
+-- The machine writes these bytes in at least and at most so many steps, and then goes on from a state.
+pub record RunGoesOn (program : List (Option Instr)) (least most : ℕ) (out : List ℕ) (m : State) : Type 0 where
+  pub count : ℕ
+  pub after : State
+  pub enough : least ≤ count
+  pub few : count ≤ most
+  pub runs : (more : ℕ) → run_of program m (count + more) ≡ after_output out (run_of program after more)
+
+-- The machine's run ends as that of three-address code does, which may have written something before; and where that needs more counts
+-- than are left, it has taken at least as many steps as were left. Of code that is stuck nothing is promised.
+abbrev pub Ended : List (Option Instr) → (most : ℕ) → tac.State → State → Run → Type 0
+Ended program most s m (Over (Returned v) out) = (rest : List ℕ) × (out ≡ s.out ++ rest) × RunReturns program most v rest m
+Ended program most s m (Over (Fault kind at) out) = (rest : List ℕ) × (out ≡ s.out ++ rest) × RunFails program most kind at rest m
+Ended program most s m (Over Stuck out) = Unit {0}
+Ended program most s m (More out) = (rest : List ℕ) × (out ≡ s.out ++ rest) × RunGoesOn program s.left most rest m
+
+-- Each step of a linked program is carried out, in a number of steps of the machine.
+abbrev pub StepsAreCarried : Type 0
+StepsAreCarried =
+    (p : Program) (image : Image) (program : List (Option Instr)) (most size : ℕ) (s : tac.State) (base : ℕ) (m : State) →
+    IsLinked p image program most → StandsIn p image program most size s base m →
+    (bound : ℕ) × Stepped p image program most size bound s m (step p s)
+
+-- So is each run, from a state on in which the machine stands where three-address code does.
+abbrev pub RunsAreCarried : Type 0
+RunsAreCarried =
+    (p : Program) (image : Image) (program : List (Option Instr)) (most size words k : ℕ) (r : Run) (s : tac.State) (base : ℕ) (m : State) →
+    IsLinked p image program most → AreShort p words → StandsIn p image program most size s base m → steps p k (Goes s) ≡ Stops r →
+    Ended program (steps_left p words s) s m r
+
+-- The machine at its start: before the code of a function, whose arguments stand in the registers from x10 on, with all of private memory
+-- below x2, and a region.
+pub record Starts (at : ℕ) (region : Contents) (arguments : List ℕ) (m : State) : Type 0 where
+  pub pc : m.pc ≡ at
+  pub link : m.registers 1 ≡ 0
+  pub pointer : m.registers 2 ≡ 2 ^ 32 + length m.private
+  pub heap : m.registers 3 ≡ region.heap
+  pub limit : m.registers 4 ≡ end_address region
+  pub waiting : m.registers 28 ≡ 0
+  pub arguments_are : (k x : ℕ) → slice_get arguments k ≡ Some x → (m.registers (10 + k) ≡ x) × (x < 2 ^ 64)
+  pub region_is : m.region ≡ region.bytes
+  pub bytes : AreBytes region.bytes
+  pub lawful : IsLawful region
+  pub private : length m.private ≤ 603979776
+  pub are_bytes : AreBytes m.private
+
+-- three-address code before the first function begins, with a count
+abbrev pub before_entry : FnId → Contents → (n : ℕ) → tac.State
+before_entry f region n = record {
+  here = record { function = f; block = 0; at = 0; temps = λ t. 0; areas = λ a. []; base = end_address region };
+  callers = [];
+  region = region;
+  left = n;
+  out = [];
+}
+
+-- A function begins as the entry, with at most eight words as arguments: the machine comes to where its first block begins, in at most as
+-- many steps as the code before has words; or the run ends, where the data stack has no room for its frame.
+abbrev pub EntriesAreCarried : Type 0
+EntriesAreCarried =
+    (p : Program) (image : Image) (program : List (Option Instr)) (most n : ℕ) (f : FnId) (code : Tac) (arguments : List ℕ)
+    (region : Contents) (m : State) →
+    IsLinked p image program most → p.code f ≡ Some code → Starts (image f).at region arguments m → length arguments ≤ 8 →
+    length arguments ≡ length code.parameters → 512 * most ≤ length m.private →
+    Stepped p image program most (length region.bytes) (length (begun code) + 36 + 6 * length code.parameters) (before_entry f region n) m
+    (enter code.place f (Some code) (map word arguments) (end_address region) [] (before_entry f region n))
+
+-- A whole run of a program, from the machine's start at the count n: it ends as that of three-address code does, with the same output, in
+-- at
+-- most n + 1 times the words that a function may have. Where three-address code needs more counts than n, the machine has written the same
+-- output in at least n steps, and goes on.
+abbrev pub ProgramsAreCarried : Type 0
+ProgramsAreCarried =
+    (p : Program) (image : Image) (program : List (Option Instr)) (most words memory n : ℕ) (statics : List ℕ) (f : FnId) (code : Tac)
+    (arguments : List ℕ) (m : State)
+    (r : Run) → IsLinked p image program most → AreShort p words → p.code f ≡ Some code →
+    Starts (image f).at (fresh memory statics) arguments m →
+    length arguments ≤ 8 → length arguments ≡ length code.parameters → 512 * most ≤ length m.private →
+    TacRun p statics memory n f (map word arguments) r →
+    Ended program ((n + 1) * words) (before_entry f (fresh memory statics) n) m r
