@@ -1,10 +1,10 @@
 -- What pieces add to code in progress, one after the other.
-use Rattle.std.proofs.Common.{◌≡◌, refl, sym, ap, ◌∙◌, subst, ℕ, suc, ◌+◌, List, [], ◌∷◌, ◌++◌, length, drop, arith, append_assoc, append-nil, add_assoc, add-zero}
+use Rattle.std.proofs.Common.{◌≡◌, sym, ap, ◌∙◌, ℕ, ◌+◌, List, ◌++◌, append_assoc, append-nil, add_assoc, add-zero}
 use Rattle.std.specs.Prelude.{Result, Ok, Err}
 use Rattle.tl_base.specs.declared.memory.NoMemory.{NoMemory}
 use Rattle.tac_lower.specs.Items.{Item}
 use Rattle.tac_lower.specs.Pieces.{Used, Piece, Holders, known, then_piece}
-use Rattle.tac_lower.specs.Works.{Made, Gave, Put, PutScope, Passed, Declared, behind, past, scoped}
+use Rattle.tac_lower.specs.Works.{Made, Gave, Passed, behind, past, scoped}
 
 -- states
 

@@ -1,12 +1,12 @@
 -- The pieces of lists of nodes, one after the other.
-use Rattle.std.proofs.Common.{◌≡◌, refl, sym, ap, ◌∙◌, ℕ, suc, ◌+◌, ◌<◌, ◌≤◌, List, [], ◌∷◌, ◌++◌, map, length, drop, get_or, arith, append_assoc, append-nil}
+use Rattle.std.proofs.Common.{◌≡◌, sym, ap, ◌∙◌, ℕ, ◌+◌, ◌<◌, ◌≤◌, List, [], ◌∷◌, ◌++◌, map, length, drop, get_or, append_assoc, append-nil}
 use Rattle.std.proofs.lemmas.List.{map-append}
 use Rattle.tl_base.specs.declared.ids.TermId.{TermId}
 use Rattle.terra_term.specs.Events.{block_events, doing_events, events_of, list_events}
 use Rattle.terra_term.specs.TypedTerms as typed
 use Rattle.terra_meaning.specs.Meaning.{in_block, in_expression, in_list, in_statement, the_value}
 use Rattle.terra_eval.specs.Trees.{block_before, expression_before, list_before, statement_before}
-use Rattle.tac_lower.specs.Pieces.{Used, Piece, Result, Holders, taken, then_piece}
+use Rattle.tac_lower.specs.Pieces.{Result, taken}
 use Rattle.tac_lower.specs.Lowering.{Target, all, pieces, targets}
 use Rattle.tac_lower.specs.Works.{Made, past, scoped}
 use Rattle.tac_lower.specs.Data.{result_of, target_of}

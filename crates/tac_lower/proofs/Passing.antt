@@ -1,8 +1,6 @@
 -- How many declarations the parts of a term have.
-use Rattle.std.proofs.Common.{◌≡◌, refl, sym, ap, ◌∙◌, ℕ, suc, ◌+◌, List, [], ◌∷◌, ◌++◌, length, arith, zero-add}
+use Rattle.std.proofs.Common.{◌≡◌, refl, sym, ap, suc, ◌+◌, List, [], ◌∷◌, ◌++◌, length, arith, zero-add}
 use Rattle.tl_base.specs.declared.place.Place.{Place}
-use Rattle.terra_term.specs.declared.operators.Constant.{Constant}
-use Rattle.terra_term.specs.declared.operators.Constant.TheVariants as constants
 use Rattle.terra_term.specs.declared.operators.Operation.{Operation}
 use Rattle.terra_term.specs.declared.operators.Operation.TheVariants as operations
 use Rattle.terra_term.specs.declared.lists.TypedName.{TypedName}

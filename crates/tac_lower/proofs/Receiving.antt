@@ -1,33 +1,17 @@
 -- What the code of a whole function is made of, piece by piece: its parameters, its body, and what else stands in it.
-use Rattle.std.proofs.Common.{◌≡◌, refl, sym, ap, ◌∙◌, subst, ℕ, ◌+◌, ◌<◌, ◌≤◌, Bool, true, false, List, [], ◌∷◌, ◌++◌, Option, Some, None, map, length, drop, get_or, slice_get, arith, append_assoc, append-nil, zero-add}
-use Rattle.std.specs.Prelude.{◌&&◌, if◌then◌else◌, option_map}
+use Rattle.std.proofs.Common.{◌≡◌, refl, sym, ap, ◌∙◌, ℕ, ◌+◌, ◌<◌, ◌≤◌, Bool, true, false, List, [], ◌∷◌, ◌++◌, map, length, drop, get_or, append_assoc, append-nil, zero-add}
+use Rattle.std.specs.Prelude.{◌&&◌, if◌then◌else◌}
 use Rattle.std.proofs.lemmas.Bool.{le-leb, lt-leb}
-use Rattle.tl_base.specs.declared.place.Place.{Place}
-use Rattle.tl_base.specs.declared.ids.FnId.{FnId}
-use Rattle.tl_base.specs.declared.ids.TermId.{TermId}
 use Rattle.tl_base.specs.declared.ids.TypeId.{TypeId}
 use Rattle.terra_types.specs.declared.types.TypeForm.{TypeForm}
 use Rattle.terra_term.specs.declared.lists.TypedName.{TypedName}
-use Rattle.terra_term.specs.declared.store.Function.{Function}
-use Rattle.terra_term.specs.Held.{Held, typed_in}
-use Rattle.terra_term.specs.Planted.{typed_trees}
-use Rattle.terra_term.specs.Sizes.{body_size, typed_item_size}
-use Rattle.terra_term.specs.Stores as stores
-use Rattle.terra_term.specs.Stores.{callable_of, contents_of}
-use Rattle.terra_term.specs.TypedTerms as typed
 use Rattle.terra_meaning.specs.Values.{bytes_at, is_aggregate}
-use Rattle.terra_meaning.specs.Frames as frames
-use Rattle.terra_meaning.specs.Frames.{Home, frame_of}
 use Rattle.terra_eval.specs.Trees.{callable_tree}
-use Rattle.terra_eval.specs.Views.{home_of}
 use Rattle.terra_eval.specs.declared.nodes.Callable.{Callable}
-use Rattle.tac_form.specs.declared.tac.Block.{Block}
 use Rattle.tac_form.specs.declared.tac.Destination.{Destination}
-use Rattle.tac_form.specs.declared.tac.Signature.{Signature}
-use Rattle.tac_form.specs.declared.tac.Tac.{Tac}
-use Rattle.tac_lower.specs.Items.{Item, blocks_of}
+use Rattle.tac_lower.specs.Items.{Item}
 use Rattle.tac_lower.specs.Pieces.{Holders, Piece, Result, Used, declare_all, destination, given, known}
-use Rattle.tac_lower.specs.Lowering.{all, are_narrow, body_piece, code_of, ending, received, type_of_name}
+use Rattle.tac_lower.specs.Lowering.{all, are_narrow, ending, received, type_of_name}
 use Rattle.tac_lower.specs.Works.{Made, begun, behind, scoped}
 use Rattle.tac_lower.specs.Views.{all_of, around_of, destinations_of, parts_of_body}
 use Rattle.tac_lower.specs.declared.around.Around.{Around}
@@ -90,9 +74,10 @@ module _ (types : List TypeForm) (names : List TypedName) (i : ℕ) (w : Made) (
       ∙ ap (λ (z : Made). record z { used = (received types xs z.used).used }) (sym step)
 
   pub received-all : length names ≤ i → (tos ≡ R) × (w ≡ W)
-  received-all past =
-      (sym (results ∙ ap (λ (l : List TypedName). tos ++ (received types l w.used).result) (none-left names i past) ∙ append-nil tos),
-      sym (works ∙ ap (λ (l : List TypedName). record w { used = (received types l w.used).used }) (none-left names i past)))
+  received-all past = (
+    sym (results ∙ ap (λ (l : List TypedName). tos ++ (received types l w.used).result) (none-left names i past) ∙ append-nil tos),
+    sym (works ∙ ap (λ (l : List TypedName). record w { used = (received types l w.used).used }) (none-left names i past)),
+  )
 
 -- the parameters' declarations, the body, and its end
 
@@ -145,42 +130,3 @@ module _ (c : Around) (k : Callable) (w0 w1 w2 w3 w4 : Made) (tos : List Destina
 
   pub parts-used : w4.used ≡ (parts_of_body c k).used
   parts-used = ap (λ (z : Made). z.used) four ∙ ap (λ (z : Made). z.used) third
-
--- all of the code
-
-abbrev tac : (nodes : ℕ) → Signature → Place → (frame temps : ℕ) → List ℕ → List Destination → List Block → Tac
-tac nodes sig place frame temps areas tos bs = record {
-  nodes = nodes;
-  signature = sig;
-  place = place;
-  frame = frame;
-  temps = temps;
-  areas = areas;
-  parameters = tos;
-  blocks = bs;
-}
-
-pub code-made : (c : Around) (k : Callable) (f : frames.Frame) (nodes temps size : ℕ) (sig : Signature) (areas : List ℕ) (tos : List Destination)
-    (bs : List Block) (items : List Item) → f ≡ frame_of c.store.now.types (callable_tree c.store.now k).body
-    → map home_of c.homes.now ≡ f.homes → size ≡ f.size → nodes ≡ (body_size (callable_tree c.store.now k).body).nodes
-    → sig ≡ record { params = map type_of_name k.parameters.now; result = k.result }
-    → temps ≡ (parts_of_body c k).used.temps → areas ≡ (parts_of_body c k).used.areas → tos ≡ (destinations_of c k).result
-    → items ≡ (parts_of_body c k).code ++ ending (callable_tree c.store.now k) ∷ [] → bs ≡ blocks_of items
-    → tac nodes sig k.at size temps areas tos bs ≡ code_of (contents_of c.store.now) c.entries.now (callable_tree c.store.now k)
-code-made c k f nodes temps size sig areas tos bs items frame homes sizes count same_sig same_temps same_areas places code blocks =
-    let K = callable_tree c.store.now k in
-    let F = frame_of c.store.now.types K.body in
-    let S : Signature = record { params = map type_of_name k.parameters.now; result = k.result } in
-    let N = (body_size K.body).nodes in
-    let P = destinations_of c k in
-    let B = parts_of_body c k in
-    let all_homes : map home_of c.homes.now ≡ F.homes = homes ∙ ap (λ (g : frames.Frame). g.homes) frame in
-    let sizes2 : size ≡ F.size = sizes ∙ ap (λ (g : frames.Frame). g.size) frame in
-    let blocks2 : bs ≡ blocks_of (B.code ++ ending K ∷ []) = blocks ∙ ap (λ (l : List Item). blocks_of l) code in
-    ap (λ (n : ℕ). tac n sig k.at size temps areas tos bs) count ∙ ap (λ (s : Signature). tac N s k.at size temps areas tos bs) same_sig
-    ∙ ap (λ (n : ℕ). tac N S k.at n temps areas tos bs) sizes2 ∙ ap (λ (n : ℕ). tac N S k.at F.size n areas tos bs) same_temps
-    ∙ ap (λ (l : List ℕ). tac N S k.at F.size B.used.temps l tos bs) same_areas
-    ∙ ap (λ (l : List Destination). tac N S k.at F.size B.used.temps B.used.areas l bs) places
-    ∙ ap (λ (l : List Block). tac N S k.at F.size B.used.temps B.used.areas P.result l) blocks2
-    ∙ ap (λ (p : Piece Holders). tac N S k.at F.size p.used.temps p.used.areas P.result (blocks_of (p.code ++ ending K ∷ [])))
-    (ap (λ (h : List Home). body_piece (record { store = contents_of c.store.now; entries = c.entries.now; homes = h }) K P.result P.used) all_homes)

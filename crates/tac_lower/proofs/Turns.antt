@@ -9,7 +9,7 @@ use Rattle.terra_term.specs.declared.lists.TypedName.{TypedName}
 use Rattle.terra_term.specs.Held.{Held}
 use Rattle.terra_eval.specs.Trees.{expression_before, list_before}
 use Rattle.tac_form.specs.declared.tac.Spot.TheVariants as spots
-use Rattle.tac_lower.specs.Pieces.{Around, Holders, Result, Used, declare, declare_all, first_of, known, rest, result_at, stored, then_piece}
+use Rattle.tac_lower.specs.Pieces.{Around, Result, declare, declare_all, first_of, rest, result_at, stored, then_piece}
 use Rattle.tac_lower.specs.Lowering.{assigned, assigned_all, constructed}
 use Rattle.tac_lower.specs.Works.{Made, behind, scoped}
 use Rattle.tac_lower.specs.Data.{result_of, target_of}

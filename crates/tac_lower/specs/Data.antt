@@ -1,5 +1,5 @@
 -- What the code's values stand for. A view of the code: nothing is promised here.
-use Rattle.std.specs.Prelude.{ℕ, List, map, Option, Some, None, slice_get, slice_set}
+use Rattle.std.specs.Prelude.{ℕ, List, Option, Some, None, slice_get, slice_set}
 use Rattle.tac_lower.specs.Items as items
 use Rattle.tac_lower.specs.Items.{does, ends, skips, tests, repeats, repeats_unless, leaves, gives, fails}
 use Rattle.tac_lower.specs.Pieces as pieces

@@ -1,5 +1,5 @@
 -- What lowering's code has, as the definitions have it. A view of the code: nothing is promised here.
-use Rattle.std.specs.Prelude.{ℕ, suc, ◌+◌, List, [], ◌∷◌, ◌++◌, Some, map}
+use Rattle.std.specs.Prelude.{ℕ, suc, List, [], ◌∷◌, ◌++◌, Some, map}
 use Rattle.tl_base.specs.declared.place.Place.{Place}
 use Rattle.tl_base.specs.declared.ids.TermId.{TermId}
 use Rattle.terra_term.specs.declared.lists.TypedName.{TypedName}

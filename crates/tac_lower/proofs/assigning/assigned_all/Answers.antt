@@ -1,6 +1,5 @@
-use Rattle.std.proofs.Common.{◌≡◌, sym, ap, ◌∙◌, subst, ℕ, ◌≤◌, ◌<◌, min, length, arith}
+use Rattle.std.proofs.Common.{subst, ℕ, ◌≤◌, ◌<◌, min, length, arith}
 use Rattle.tl_base.specs.declared.ids.TermId.{TermId}
-use Rattle.tac_lower.specs.declared.value.Target.{Target}
 use Rattle.tac_lower.specs.declared.value.Target.TheVariants.{Temp}
 use Rattle.tac_lower.proofs.Turns.{assign-end, assign-later}
 use Rattle.tac_lower.proofs.assigning.assigned_all.Goals as goal

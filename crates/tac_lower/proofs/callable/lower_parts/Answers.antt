@@ -1,4 +1,4 @@
-use Rattle.std.proofs.Common.{◌≡◌, ap, ◌∙◌, List, map}
+use Rattle.std.proofs.Common.{ap, ◌∙◌, List, map}
 use Rattle.terra_types.specs.declared.types.TypeForm.{TypeForm}
 use Rattle.terra_meaning.specs.Meaning.{in_block}
 use Rattle.terra_eval.specs.Trees.{block_before}
@@ -9,7 +9,7 @@ use Rattle.tac_lower.specs.Lowering.{received}
 use Rattle.tac_lower.specs.Data.{ending_of, result_of}
 use Rattle.tac_lower.specs.Works.{Made}
 use Rattle.tac_lower.specs.declared.value.Value.{Value}
-use Rattle.tac_lower.proofs.Receiving.{parts-code, parts-places, parts-used}
+use Rattle.tac_lower.proofs.Receiving.{parts-code, parts-used}
 use Rattle.tac_lower.proofs.callable.lower_parts.Goals as goal
 
 pub returns-clause-parameters : goal.returns-clause-parameters

@@ -1,4 +1,4 @@
-use Rattle.std.proofs.Common.{◌≡◌, sym, ap, ◌∙◌, subst, ℕ, ◌≤◌, ◌<◌, min, length, arith}
+use Rattle.std.proofs.Common.{ap, ◌∙◌, subst, ℕ, ◌≤◌, ◌<◌, min, length, arith}
 use Rattle.tl_base.specs.declared.ids.TypeId.{TypeId}
 use Rattle.tac_form.specs.declared.tac.Operand.TheVariants.{Temp}
 use Rattle.tac_lower.specs.declared.value.Value.TheVariants.{Word}

@@ -1,4 +1,4 @@
-use Rattle.std.proofs.Common.{sym, ap, ◌∙◌, get_or, slice_get, map, arith}
+use Rattle.std.proofs.Common.{arith}
 use Rattle.std.specs.Option.{option_map}
 use Rattle.terra_term.specs.declared.lists.TypedName.{TypedName}
 use Rattle.tac_lower.specs.Data.{result_of}

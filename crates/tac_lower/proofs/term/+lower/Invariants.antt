@@ -1,9 +1,7 @@
-use Rattle.std.proofs.Common.{◌≡◌, ◌++◌, ◌+◌, ◌*◌, List, map, drop, length}
+use Rattle.std.proofs.Common.{◌≡◌, ◌++◌, ◌+◌, ◌*◌, map, drop}
 use Rattle.terra_meaning.specs.Meaning.{in_block, in_list}
 use Rattle.terra_eval.specs.Trees.{block_before, list_before}
-use Rattle.tac_lower.specs.Lowering.{Target}
-use Rattle.tac_lower.specs.Pieces.{Result}
-use Rattle.tac_lower.specs.Works.{Made, past, scoped}
+use Rattle.tac_lower.specs.Works.{past, scoped}
 use Rattle.tac_lower.specs.Data.{result_of, target_of}
 use Rattle.tac_lower.specs.Views.{all_of, pieces_of, targets_of}
 use Rattle.tac_lower.proofs.term.+lower.Given as goal

@@ -1,9 +1,8 @@
-use Rattle.std.proofs.Common.{◌≡◌, refl, sym, ap, ◌∙◌, ℕ, ◌+◌, ◌-◌, ◌≤◌, ◌++◌, List, Some, None, map, length, drop, take, slice_get, arith}
+use Rattle.std.proofs.Common.{◌≡◌, refl, sym, ap, ◌∙◌, ℕ, ◌+◌, ◌-◌, ◌≤◌, ◌++◌, Some, None, map, length, drop, take, slice_get, arith}
 use Rattle.std.proofs.lemmas.List.{length-map}
-use Rattle.tac_lower.specs.Items as items
 use Rattle.tac_lower.specs.Items.{count_ends, left_by, loop_of}
 use Rattle.tac_lower.specs.Data.{ending_in, ending_of, item_of}
-use Rattle.tac_lower.proofs.Lines.{loop-none, turned, turned-count, turned-set, passed-by, passed-count}
+use Rattle.tac_lower.proofs.Lines.{turned, turned-count, turned-set, passed-by, passed-count}
 use Rattle.tac_lower.proofs.work.leave_loop.Goals as goal
 
 pub loop-i-preserved-in-Some : goal.loop-i-preserved-in-Some
