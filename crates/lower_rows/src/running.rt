@@ -1,8 +1,8 @@
 // The rows that add types, statics and functions, and those that run functions.
 
 use crate::building::Work;
-use crate::machine::{self, Program};
 use crate::doing::names_from;
+use crate::machine::{self, Program};
 use crate::words::{bytes_of, count_at, number_at, shown, word_at};
 use std::alloc::Global;
 use tac_lower::lower;
