@@ -37,7 +37,7 @@ count_ends (does i ∷ is) = count_ends is
 count_ends (ends e ∷ is) = suc (count_ends is)
 
 -- A loop's code: what left it skips the blocks up to its end.
-abbrev left_by : Ending → (behind : ℕ) → Ending
+abbrev pub left_by : Ending → (behind : ℕ) → Ending
 left_by leaves behind = skips behind
 left_by e behind = e
 

@@ -8,3 +8,8 @@ pub mod Lowering
 pub mod Needs
 -- What is promised of lowered code.
 pub mod Laws
+-- What the code has of all this.
+pub mod Data
+pub mod Works
+pub mod Parts
+pub mod Views
