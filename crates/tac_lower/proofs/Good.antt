@@ -1,17 +1,20 @@
 -- Lowered code is such as machine code may be made of.
-use Rattle.std.proofs.Common.{◌≡◌, ℕ, zero, suc, ◌+◌, ◌*◌, ◌<◌, ◌≤◌, Bool, true, false, List, length, refl, sym, ap, ◌∙◌, arith}
-use Rattle.std.specs.Prelude.{◌^◌, ◌&&◌, ◌↔◌, nat_lt, if◌then◌else◌, IsTrue}
+use Rattle.std.proofs.Common.{◌≡◌, ℕ, zero, suc, ◌+◌, ◌*◌, ◌<◌, ◌≤◌, Bool, true, false, List, Option, Some, None}
+use Rattle.std.proofs.Common.{length, refl, sym, ap, ◌∙◌, subst, arith}
+use Rattle.std.specs.Prelude.{◌^◌, ◌&&◌, ◌↔◌, nat_lt, if◌then◌else◌, IsTrue, IfSome, option_map}
+use Rattle.std.proofs.lemmas.Option.{same_Some}
 use Rattle.tl_base.specs.declared.ids.FnId.{FnId}
 use Rattle.terra_types.specs.Opening.{AreTypes}
-use Rattle.terra_term.specs.Stores.{Contents, Callable}
+use Rattle.terra_term.specs.Stores.{Contents, Callable, callable_of}
 use Rattle.terra_term.specs.Sizes.{body_size}
 use Rattle.terra_term.specs.WellTyped.{body_typed}
+use Rattle.tac_form.specs.declared.tac.Tac.{Tac}
 use Rattle.tac_form.specs.Graph.{graph_of}
 use Rattle.tac_form.specs.Live.{IsLive, read_within}
 use Rattle.tac_form.specs.Weights.{code_words, private_bytes}
 use Rattle.tac_form.specs.Fits.{Fits, place_fits, is_within, most_nodes, receives}
 use Rattle.tac_lower.specs.Lowering.{code_of, unreached, are_narrow, parameter_types, lowered}
-use Rattle.tac_lower.specs.Laws.{LoweredIsGood}
+use Rattle.tac_lower.specs.Laws.{GoodWhereTyped, IsGood, LoweredIsGood}
 use Rattle.tac_lower.proofs.Typing.{body-needs}
 use Rattle.tac_lower.proofs.Ways.{code-counted}
 use Rattle.tac_lower.proofs.Weights.{lowered-words}
@@ -64,3 +67,17 @@ lowered-good store entries k are few place small typed = record {
   counted = code-counted store entries k (body-needs store are entries few k typed);
   sized = record { in_words = lowered-words store entries k; in_bytes = lowered-bytes store entries k are typed };
 }
+
+-- the same of the code that is made of a function
+module _ (store : Contents) (entries : List FnId) (f : FnId) where
+  good-of : (o : Option Callable) → callable_of store f ≡ o →
+      IfSome (option_map (lowered store entries) o) (λ (tac : Tac). GoodWhereTyped store entries f tac)
+  good-of None is = tt
+  good-of (Some k) is = λ j same are few place small typed.
+      subst (λ (i : Callable). IsGood (lowered store entries i)) (same_Some j k (sym same ∙ is))
+      (lowered-good store entries j are few place small typed)
+
+  pub good-where-typed : (code : Option Tac) → code ≡ option_map (lowered store entries) (callable_of store f) →
+      IfSome code (λ (tac : Tac). GoodWhereTyped store entries f tac)
+  good-where-typed code is =
+      subst (λ (o : Option Tac). IfSome o (λ (tac : Tac). GoodWhereTyped store entries f tac)) (sym is) (good-of (callable_of store f) refl)

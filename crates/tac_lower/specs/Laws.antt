@@ -61,3 +61,9 @@ LoweredIsGood lowered =
     (store : Contents) (entries : List FnId) (k : Callable) → AreTypes store.types → length entries < 2 ^ 32 →
     place_fits k.at ≡ true → (body_size k.body).nodes ≤ most_nodes → body_typed store k.body ≡ true →
     IsGood (lowered store entries k)
+
+-- what the code made of a function keeps, where the function is typed and has a place in a text and no more nodes than are compiled at once
+abbrev pub GoodWhereTyped : Contents → List FnId → FnId → Tac → Type 0
+GoodWhereTyped store entries f code =
+    (k : Callable) → callable_of store f ≡ Some k → AreTypes store.types → length entries < 2 ^ 32 →
+    place_fits k.at ≡ true → (body_size k.body).nodes ≤ most_nodes → body_typed store k.body ≡ true → IsGood code

@@ -1,6 +1,6 @@
 // The code of a function.
 
-ghost use Rattle.std.specs.Prelude.{◌≡◌, ◌++◌, ◌∷◌, [], map, length, option_map, slice_get, Some, IfOk, OnOk};
+ghost use Rattle.std.specs.Prelude.{◌≡◌, ◌++◌, ◌∷◌, [], map, length, option_map, slice_get, Some, IfOk, IfSome, OnOk};
 ghost use Rattle.terra_term.specs.Stores as stores;
 ghost use Rattle.terra_term.specs.Stores.{callable_of, contents_of};
 ghost use Rattle.terra_term.specs.Sizes.{body_size, typed_item_size};
@@ -8,6 +8,7 @@ ghost use Rattle.terra_term.specs.Planted.{typed_trees};
 ghost use Rattle.terra_term.specs.Held.{Held};
 ghost use Rattle.terra_eval.specs.Trees.{callable_tree};
 ghost use Rattle.tac_lower.specs.Pieces.{given};
+ghost use Rattle.tac_lower.specs.Laws.{GoodWhereTyped};
 ghost use Rattle.tac_lower.specs.Lowering.{are_narrow, code_of, ending, lowered, received, type_of_name, unreached};
 ghost use Rattle.tac_lower.specs.Items.{ends};
 ghost use Rattle.tac_lower.specs.Data.{ending_of, result_of};
@@ -41,9 +42,11 @@ const UNIT: TypeId = TypeId(9);
 const WIDEST: u64 = 128;
 
 /// The three-address code of a function, where the functions that stand as values are `entries`, in order; `None` exactly where the
-/// function isn't typed. Code that no 64 bits count finds no memory, nor does a function of 4,294,967,295 nodes or more.
+/// function isn't typed. Machine code can be made of it where the function has a place in a text and at most 131,072 typed nodes. Code
+/// that no 64 bits count finds no memory, nor does a function of 4,294,967,295 nodes or more.
 pub fn lower(store: &Store, entries: &[FnId], f: FnId) -> Result<Option<Tac>, NoMemory>
-    ensures { IfOk result (λ code. code ≡ option_map (lowered (contents_of store.now) entries.now) (callable_of (contents_of store.now) f)) }
+    ensures code { IfOk result (λ code. code ≡ option_map (lowered (contents_of store.now) entries.now) (callable_of (contents_of store.now) f)) }
+    ensures good { IfOk result (λ code. IfSome code (λ tac. GoodWhereTyped (contents_of store.now) entries.now f tac)) }
 {
     match callable_of(store, f) {
         Some(k) => {
