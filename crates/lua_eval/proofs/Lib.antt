@@ -1,3 +1,4 @@
+pub mod AtOnce
 pub mod Below
 pub mod Calling
 pub mod Counting

@@ -21,3 +21,5 @@ pub mod Rest
 pub mod Stores
 -- What values are read from.
 pub mod Reads
+-- What is done at once, without a frame.
+pub mod AtOnce

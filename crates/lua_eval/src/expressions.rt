@@ -87,7 +87,7 @@ pub fn node<'a>(
 
 /// The value of a numeral.
 #[tactic(auto, using(crate::proofs::Numbering::unfit_is_nil, crate::proofs::Numbering::fit_is_whole))]
-fn numeral(text: &str) -> Value
+pub fn numeral(text: &str) -> Value
     ensures { result ≡ whole (value_of text.now) }
 {
     match numeral_value(text) {

@@ -55,6 +55,7 @@ pub mod loops;
 pub mod lua;
 pub mod machine;
 pub mod operators;
+pub mod quick;
 pub mod raise;
 pub mod statements;
 pub mod tables;
