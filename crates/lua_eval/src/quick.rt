@@ -164,9 +164,7 @@ fn compound<'a, D: Depth>(
     ensures same { heap.new ≡ heap.old }
 {
     match expression {
-        Expression::Binary(op, a, b) => {
-            binary::<D>(tree, slots, heap, *op, *a, *b, scope, left)
-        }
+        Expression::Binary(op, a, b) => { binary::<D>(tree, slots, heap, *op, *a, *b, scope, left) }
         Expression::Unary(op, a) => unary::<D>(tree, slots, heap, *op, *a, scope, left),
         Expression::Paren(inner) => D::find(tree, slots, heap, *inner, scope, left),
         Expression::Index(object, key) => {
@@ -298,7 +296,12 @@ fn calculate_one(heap: &mut Heap, op: UnaryOperator, a: Value) -> Option<Value>
     match op {
         UnaryOperator::Not => Some(Value::Boolean(!a.is_true())),
         UnaryOperator::Length => length_of(heap, a),
-        UnaryOperator::Negate => match lua_ops::arith::arith(heap, Arithmetic::Minus, a, Value::Nil) {
+        UnaryOperator::Negate => match lua_ops::arith::arith(
+            heap,
+            Arithmetic::Minus,
+            a,
+            Value::Nil,
+        ) {
             Ok(outcome) => result_of(outcome),
             Err(_) => None,
         },

@@ -9,6 +9,6 @@ returns-in-Some-clause-found c =
     let a = c.args in
     let found = c.in-Some.found in
     let h : EndsAtOnce (items_of a.tree.now) (jobs.Expression a.node a.scope.now) (One found.value)
-        a.heap.now a.budget.now a.heap.now found.left =
-        rw c.left.ensures at c.in-Some.ensures.found in
+    a.heap.now a.budget.now a.heap.now found.left =
+    rw c.left.ensures at c.in-Some.ensures.found in
     λ later. rw c.spend.ensures (h later)
