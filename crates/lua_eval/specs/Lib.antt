@@ -23,3 +23,5 @@ pub mod Stores
 pub mod Reads
 -- What is done at once, without a frame.
 pub mod AtOnce
+-- Where assignments store.
+pub mod Spots
