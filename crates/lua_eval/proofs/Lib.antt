@@ -4,6 +4,7 @@ pub mod Calling
 pub mod Counting
 pub mod Declaring
 pub mod Doing
+pub mod Ended
 pub mod Ending
 pub mod Entering
 pub mod Evaluating

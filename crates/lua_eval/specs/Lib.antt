@@ -23,5 +23,7 @@ pub mod Stores
 pub mod Reads
 -- What is done at once, without a frame.
 pub mod AtOnce
+-- Calls, whose function is evaluated first.
+pub mod CallPlans
 -- Where assignments store.
 pub mod Spots

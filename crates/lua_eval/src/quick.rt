@@ -125,7 +125,10 @@ pub struct Over<D> {
 }
 
 /// The depth of the expressions that are evaluated at once.
-pub type Quick = Over<Over<Over<Over<Leaf>>>>;
+pub type Quick = Over<Inner>;
+
+/// The depth of what stands in an expression that is evaluated at once.
+pub type Inner = Over<Over<Over<Leaf>>>;
 
 impl<D: Depth> Depth for Over<D> {
     fn find<'a>(
@@ -429,6 +432,33 @@ pub fn at_once<'a>(
     ensures same { heap.new ≡ heap.old }
 {
     match Quick::find(tree, slots, heap, node, scope, budget.left()) {
+        Some(found) => {
+            spend(budget, found.left);
+            Some(found.value)
+        }
+        None => None,
+    }
+}
+
+#[tactic(auto, using(crate::proofs::Ended::plan_never_gains))]
+/// Evaluates an expression at once that is no name, number or text, whose unit is paid, and pays for what is in it, where
+/// that is possible.
+pub fn expression_at_once<'a>(
+    tree: &'a Tree<'a>,
+    slots: &Slots,
+    heap: &mut Heap,
+    budget: &mut Budget,
+    expression: &'a Expression,
+    scope: &Scope,
+) -> Option<Value>
+    requires { ArePaths (items_of tree.now) slots.now }
+    ensures found { IfSome result (λ value. (n : ids.NodeId) (place : places.Place) →
+        Goes (items_of tree.now) [] (expression_plan (items_of tree.now) expression.now n place scope.now)
+        heap.old budget.old [] (Return (One value)) heap.old budget.new) }
+    ensures none { IfNone result (budget.new ≡ budget.old) }
+    ensures same { heap.new ≡ heap.old }
+{
+    match compound::<Inner>(tree, slots, heap, expression, scope, budget.left()) {
         Some(found) => {
             spend(budget, found.left);
             Some(found.value)
