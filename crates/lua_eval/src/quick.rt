@@ -440,7 +440,6 @@ pub fn at_once<'a>(
     }
 }
 
-#[tactic(auto, using(crate::proofs::Ended::plan_never_gains))]
 /// Evaluates an expression at once that is no name, number or text, whose unit is paid, and pays for what is in it, where
 /// that is possible.
 pub fn expression_at_once<'a>(
