@@ -1,6 +1,7 @@
 pub mod AtOnce
 pub mod Below
 pub mod Calling
+pub mod Choosing
 pub mod Counting
 pub mod Declaring
 pub mod Doing
