@@ -308,8 +308,7 @@ fn choose<'a>(
     scope: &Scope,
 ) -> Choice<'a>
     requires { ArePaths (items_of tree.now) slots.now }
-    ensures passes {
-        Becomes (items_of tree.now) (plans.arms_plan (items_of tree.now) list.now otherwise scope.now) heap.old budget.old
+    ensures passes { Becomes (items_of tree.now) (plans.arms_plan (items_of tree.now) list.now otherwise scope.now) heap.old budget.old
         (choice_plan (items_of tree.now) result otherwise scope.now) heap.old budget.new }
     ensures same { heap.new ≡ heap.old }
 {

@@ -57,7 +57,7 @@ arms-preserved c =
       passes = λ later.
           l.invariant.passes later
           ∙ ap (λ (ns : List NodeId). run (jobs_of items) (arms_plan items ns a.otherwise scope) (state s l.budget) later)
-    c.in-Some.ensures.cases.0
+          c.in-Some.ensures.cases.0
           ∙ arm_passes items n behind a.otherwise scope condition block v false s l.budget mid c.arm.ensures.condition c.arm.ensures.block
           (sym c.is_true.ensures ∙ c.if-is_true.false) h later;
     }
