@@ -1,8 +1,11 @@
+pub mod AtOnce
 pub mod Below
 pub mod Calling
+pub mod Choosing
 pub mod Counting
 pub mod Declaring
 pub mod Doing
+pub mod Ended
 pub mod Ending
 pub mod Entering
 pub mod Evaluating

@@ -21,3 +21,11 @@ pub mod Rest
 pub mod Stores
 -- What values are read from.
 pub mod Reads
+-- What is done at once, without a frame.
+pub mod AtOnce
+-- Calls, whose function is evaluated first.
+pub mod CallPlans
+-- What is left of an `if`.
+pub mod Choices
+-- Where assignments store.
+pub mod Spots

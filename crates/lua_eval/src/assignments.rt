@@ -18,6 +18,7 @@ ghost use Rattle.lua_eval.specs.Steps.{Goes, Does};
 
 use crate::cells::set_local;
 use crate::code::{name, name_place};
+use crate::direct::targets_at_once;
 use crate::fields::{GLOBALS, read_named, store, store_named};
 use crate::frame::{AllFrame, LuaFrame, OneFrame, TargetFrame, Then};
 use crate::lists::{list, nth};
@@ -51,10 +52,12 @@ pub fn targets<'a>(
         heap.old budget.old frames.new.items step heap.new budget.new) }
     ensures kept { OnOk result (KeepsHeap heap.old heap.new) }
 {
+    let mut held = held;
+    let rest = targets_at_once(tree, slots, heap, budget, rest, &scope, &mut held)?;
     match rest.split_first() {
-        Some((first, rest)) => {
-            frames.push(LuaFrame::All(AllFrame::Target(rest, all, values, scope, held)))?;
-            Ok(Step::Enter(Job::Target(*first, scope)))
+        Some((first, behind)) => {
+            let entered = enter_target(frames, *first, behind, all, values, scope, held)?;
+            Ok(entered)
         }
         None => {
             let none = Values::new(heap.allocator());
@@ -63,6 +66,25 @@ pub fn targets<'a>(
             Ok(step)
         }
     }
+}
+
+#[tactic(auto, using(tl_base::proofs::Steps::pushes))]
+/// Evaluates the target of an assignment, and then those behind it.
+fn enter_target<'a>(
+    frames: &mut Vec<LuaFrame<'a>>,
+    first: NodeId,
+    rest: &'a [NodeId],
+    all: &'a [NodeId],
+    values: &'a [NodeId],
+    scope: Scope,
+    held: Values,
+) -> Result<LuaStep, NoMemory>
+    ensures means { IfOk result (λ step. (items : Items) (s : LuaState) (left : ℕ) →
+        Goes items frames.old.items (targets_plan items (first ∷ rest.now) all.now values.now scope held) s left
+        frames.new.items step s left) }
+{
+    frames.push(LuaFrame::All(AllFrame::Target(rest, all, values, scope, held)))?;
+    Ok(Step::Enter(Job::Target(first, scope)))
 }
 
 #[tactic(auto, using(tl_base::proofs::Steps::pushes))]
@@ -89,11 +111,44 @@ pub fn stores<'a>(
     if left == 0 {
         return Ok(Step::Return(End::Fell(Values::new(heap.allocator()))));
     }
+    if left == 1 {
+        let last = last_store(
+            tree, slots, frames, heap, budget, targets, scope, &held, &values,
+        )?;
+        return Ok(last);
+    }
     let at = (left - 1) as usize;
     let target = node_in(targets, at);
     let value = nth(values.as_slice(), at);
     let pair = held_at(held.as_slice(), at);
     frames.push(LuaFrame::All(AllFrame::Stores(targets, scope, held, values, left - 1)))?;
+    let step = store_target(
+        tree, slots, frames, heap, budget, target, scope, pair.0, pair.1, value,
+    )?;
+    Ok(step)
+}
+
+/// Stores in the first target, behind which nothing waits.
+fn last_store<'a>(
+    tree: &'a Tree<'a>,
+    slots: &Slots,
+    frames: &mut Vec<LuaFrame<'a>>,
+    heap: &mut Heap,
+    budget: &mut Budget,
+    targets: &[NodeId],
+    scope: Scope,
+    held: &Values,
+    values: &Values,
+) -> Result<LuaStep, NoMemory>
+    requires { ArePaths (items_of tree.now) slots.now }
+    ensures means { IfOk result (λ step.
+        Goes (items_of tree.now) frames.old.items (plans.stores (items_of tree.now) targets.now scope held.now values.now 1)
+        heap.old budget.old frames.new.items step heap.new budget.new) }
+    ensures kept { OnOk result (KeepsHeap heap.old heap.new) }
+{
+    let target = node_in(targets, 0);
+    let value = nth(values.as_slice(), 0);
+    let pair = held_at(held.as_slice(), 0);
     let step = store_target(
         tree, slots, frames, heap, budget, target, scope, pair.0, pair.1, value,
     )?;

@@ -1,6 +1,6 @@
 // Lists of expressions, and what is done with their values.
 
-ghost use Rattle.std.specs.Prelude.{◌≡◌, [], ◌∷◌, ℕ, IfOk, OnOk};
+ghost use Rattle.std.specs.Prelude.{◌≡◌, [], ◌∷◌, ℕ, List, IfOk, OnOk};
 ghost use Rattle.tl_base.specs.Plan.{Do};
 ghost use Rattle.tl_tree.specs.Arena.{items_of};
 ghost use Rattle.tl_tree.specs.Code.{Items};
@@ -10,6 +10,9 @@ ghost use Rattle.lua_table.specs.Cells.{nth_value};
 ghost use Rattle.lua_model.specs.Loops as plans;
 ghost use Rattle.lua_eval.specs.Slots.{ArePaths};
 ghost use Rattle.lua_eval.specs.Frames.{after, list_plan, then_plan};
+ghost use Rattle.lua_value.specs.declared.value.Value as value_types;
+ghost use Rattle.lua_model.specs.Plans.{LuaPlan, values_of};
+ghost use Rattle.lua_eval.specs.AtOnce.{Becomes};
 ghost use Rattle.lua_eval.specs.Steps.{Goes};
 
 use crate::assignments::stores;
@@ -17,6 +20,7 @@ use crate::calls::call;
 use crate::cells::declare_all;
 use crate::frame::{AllFrame, ListFrame, LuaFrame, OneFrame, Then};
 use crate::loops::list_next;
+use crate::quick::at_once;
 use crate::raise::LuaStep;
 use lua_model::{Caller, End, Job, Scope};
 use lua_table::Heap;
@@ -54,14 +58,16 @@ pub fn list<'a>(
         heap.old budget.old frames.new.items step heap.new budget.new) }
     ensures kept { OnOk result (KeepsHeap heap.old heap.new) }
 {
-    match nodes.split_first() {
+    let mut values = values;
+    let rest = values_at_once(tree, slots, heap, budget, nodes, &scope, &mut values)?;
+    match rest.split_first() {
         None => {
             let step = with_list(tree, slots, frames, heap, budget, scope, values, then)?;
             Ok(step)
         }
-        Some((first, rest)) => {
+        Some((first, behind)) => {
             let frame = ListFrame {
-                rest,
+                rest: behind,
                 scope,
                 values,
                 then,
@@ -70,6 +76,39 @@ pub fn list<'a>(
             Ok(entered)
         }
     }
+}
+
+/// Evaluates expressions in their order at once, behind values, and pays for them. It gives those that are left, of which
+/// the first isn't evaluated at once.
+fn values_at_once<'a>(
+    tree: &'a Tree<'a>,
+    slots: &Slots,
+    heap: &mut Heap,
+    budget: &mut Budget,
+    nodes: &'a [NodeId],
+    scope: &Scope,
+    values: &mut Values,
+) -> Result<&'a [NodeId], NoMemory>
+    requires { ArePaths (items_of tree.now) slots.now }
+    ensures passes { IfOk result (λ rest. (go : List value_types.Value → LuaPlan) →
+        Becomes (items_of tree.now) (values_of nodes.now scope.now values.old go) heap.old budget.old
+        (values_of rest.now scope.now values.new go) heap.old budget.new) }
+    ensures same { heap.new ≡ heap.old }
+{
+    let mut rest = nodes;
+    'values: for _ in 0..nodes.len() {
+        match rest.split_first() {
+            None => return Ok(rest),
+            Some((first, behind)) => match at_once(tree, slots, heap, budget, *first, scope) {
+                None => return Ok(rest),
+                Some(value) => {
+                    values.push(value)?;
+                    rest = behind;
+                }
+            },
+        }
+    }
+    Ok(rest)
 }
 
 /// Enters a job below a frame, which goes on with its end.

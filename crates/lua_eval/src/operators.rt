@@ -387,7 +387,7 @@ pub enum Operation {
 }
 
 /// What an operator does with its two operands.
-fn operation_of(op: BinaryOperator) -> Operation
+pub fn operation_of(op: BinaryOperator) -> Operation
     ensures { result ≡ operation_of op }
 {
     match op {

@@ -1,0 +1,22 @@
+use Rattle.std.proofs.Common.{◌≡◌, [], refl, rules}
+use Rattle.tl_base.specs.declared.machine.Step.TheVariants.{Return}
+use Rattle.tl_tree.specs.Arena.{items_of}
+use Rattle.tl_tree.specs.Item as kept
+use Rattle.tl_tree.specs.Nodes.{item_at}
+use Rattle.lua_model.specs.declared.end.End.TheVariants.{One}
+use Rattle.lua_model.specs.Expressions.{expression_plan}
+use Rattle.lua_eval.proofs.AtOnce.{if-some}
+use Rattle.lua_eval.proofs.Evaluating.{node_goes}
+use Rattle.lua_eval.proofs.quick.leaf_value.Goals as goal
+
+pub returns-in-Expression : goal.returns-in-Expression
+returns-in-Expression c =
+    let a = c.args in
+    let m = c.in-Expression in
+    let items = items_of a.tree.now in
+    let s = a.heap.now in
+    let e : item_at items a.node ≡ kept.Expression m.field-0 m.expression = search rules in
+    if-some c.constant.result c.constant.ensures (λ v h. λ left.
+    node_goes items [] [] (kept.Expression m.field-0 m.expression) a.node a.scope.now
+    (expression_plan items m.expression a.node m.field-0 a.scope.now) s s s left left (Return (One v)) e refl refl
+    (h items a.node m.field-0 a.scope.now s left))
