@@ -131,7 +131,12 @@ pub fn call_terra(
         },
         LibFn::ArrayType => match (first, second) {
             (Value::TerraType(of), Value::Number(count)) => {
-                let of = world.array_of(of, count.get() as u64)?;
+                let count = if count.get() > 0 {
+                    count.get() as u64
+                } else {
+                    0
+                };
+                let of = world.array_of(of, count)?;
                 gives(alloc, Value::TerraType(of))
             }
             _ => gives(alloc, Value::Nil),
