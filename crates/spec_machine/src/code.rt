@@ -97,7 +97,7 @@ pub struct Typing {
 }
 
 /// The name and the type of a node.
-pub fn typing(tree: &Tree<'_>, node: NodeId) -> Typing
+pub fn typing_at(tree: &Tree<'_>, node: NodeId) -> Typing
     ensures name { result.name ≡ (nodes.typing_at (items_of tree.now) node).name }
     ensures of { result.of ≡ (nodes.typing_at (items_of tree.now) node).type }
 {
@@ -185,7 +185,7 @@ pub struct Initial {
 }
 
 /// The name and the value of an initialiser that has a name.
-pub fn initial(tree: &Tree<'_>, node: NodeId) -> Option<Initial>
+pub fn initial_at(tree: &Tree<'_>, node: NodeId) -> Option<Initial>
     ensures { initial_in result ≡ nodes.initial_at (items_of tree.now) node }
 {
     match tree.node(node) {
@@ -202,7 +202,7 @@ pub fn are_named(tree: &Tree<'_>, initials: &[NodeId]) -> bool
     ensures { result ≡ nodes.are_named (items_of tree.now) initials.now }
 {
     match initials.first() {
-        Some(first) => initial(tree, *first).is_some(),
+        Some(first) => initial_at(tree, *first).is_some(),
         None => false,
     }
 }

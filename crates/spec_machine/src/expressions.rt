@@ -17,7 +17,7 @@ ghost use Rattle.spec_machine.specs.Declared.{initial_in};
 ghost use Rattle.exotype.specs.World.{StageState};
 ghost use Rattle.spec_machine.specs.Steps.{Goes, Does};
 
-use crate::code::{Initial, are_named, initial, name, place};
+use crate::code::{Initial, are_named, initial_at, name, place};
 use crate::frame::{
     ConstructFrame, InitialFrame, MemberThen, NewFrame, NextFrame, SpecFrame, TermFrame, TermsThen,
     ValueFrame,
@@ -328,7 +328,7 @@ pub fn initials<'a>(
                 terms,
                 made,
             };
-            named_initial(frames, initial(tree, *first), frame)
+            named_initial(frames, initial_at(tree, *first), frame)
         }
     }
 }

@@ -319,7 +319,7 @@ fn with_value<'a>(
         },
         ValueFrame::Splice(place) => splice(world, budget, value, place),
         ValueFrame::Symbols(node, frame) => {
-            let at = crate::code::place(tree, crate::code::typing(tree, node).name);
+            let at = crate::code::place(tree, crate::code::typing_at(tree, node).name);
             match symbols_of(world, budget, value, at)? {
                 Reached::Value(symbols) => {
                     variable_type(tree, frames, world, node, Some(symbols), frame)
@@ -352,7 +352,7 @@ fn with_value<'a>(
         ValueFrame::ParameterType(node, of, frame) => {
             match as_type(world, budget, value, crate::code::place(tree, of))? {
                 Reached::Value(of) => {
-                    let at = crate::code::place(tree, crate::code::typing(tree, node).name);
+                    let at = crate::code::place(tree, crate::code::typing_at(tree, node).name);
                     let mut frame = frame;
                     frame.drawn.push(draw(world, of, at)?)?;
                     parameters(tree, frames, world, budget, frame)

@@ -15,7 +15,7 @@ ghost use Rattle.spec_machine.specs.Keeping.{KeepsStage};
 ghost use Rattle.spec_machine.specs.Steps.{Goes, Comes, Gets};
 
 use crate::blocks::statements;
-use crate::code::{block_statements, escaped, place, terra_parts, typing};
+use crate::code::{block_statements, escaped, place, terra_parts, typing_at};
 use crate::frame::{
     BlockThen, Definition, NextFrame, ParameterFrame, SpecFrame, ValueFrame,
 };
@@ -69,7 +69,7 @@ fn parameter<'a>(
         (λ more. frames.parameters_from (items_of tree.now) frame.entry.definition frame.entry.rest.now more))
         w left frames.new.items step w left) }
 {
-    let typing = typing(tree, node);
+    let typing = typing_at(tree, node);
     let env = frame.definition.env;
     if let Some(code) = escaped(tree, typing.name) {
         frames.push(SpecFrame::Value(ValueFrame::Spliced(node, frame)))?;
@@ -104,7 +104,7 @@ pub fn with_symbols<'a>(
         world.old budget.old frames.new.items step world.new budget.new) }
     ensures kept { OnOk result (KeepsStage world.old world.new) }
 {
-    let at = place(tree, typing(tree, node).name);
+    let at = place(tree, typing_at(tree, node).name);
     match symbols_of(world, budget, value, at)? {
         Reached::Left(step) => Ok(step),
         Reached::Value(symbols) => {

@@ -15,7 +15,7 @@ ghost use Rattle.spec_machine.specs.declared.frame.TargetThen.TheVariants as of_
 ghost use Rattle.spec_machine.specs.declared.frame.ValueFrame.TheVariants as of_value;
 ghost use Rattle.spec_machine.specs.Steps.{Goes, Runs};
 
-use crate::code::{name, place, typing};
+use crate::code::{name, place, typing_at};
 use crate::definitions::store;
 use crate::frame::{EntryFrame, NextFrame, SpecFrame, ValueFrame};
 use crate::names::declare;
@@ -124,7 +124,7 @@ pub fn more_entries<'a>(
         None => Ok(Step::Return(End::Gave(made(&frame)))),
         Some((first, rest)) => {
             let frame = EntryFrame { rest, ..frame };
-            entry_type(frames, *first, typing(tree, *first).of, frame)
+            entry_type(frames, *first, typing_at(tree, *first).of, frame)
         }
     }
 }
@@ -193,7 +193,7 @@ pub fn with_entry<'a>(
         Reached::Left(step) => Ok(step),
         Reached::Value(of) => {
             let entries = world.struct_tables(frame.of).entries;
-            let bytes = name(tree, typing(tree, node).name).as_bytes();
+            let bytes = name(tree, typing_at(tree, node).name).as_bytes();
             put_entry(world, entries, frame.number, bytes, of)?;
             more_entries(tree, frames, next_entry(frame))
         }

@@ -14,7 +14,7 @@ ghost use Rattle.spec_machine.specs.Frames as frames;
 ghost use Rattle.spec_machine.specs.Keeping.{KeepsStage};
 ghost use Rattle.spec_machine.specs.Steps.{Goes, Does, Gets};
 
-use crate::code::{escaped, place, typing};
+use crate::code::{escaped, place, typing_at};
 use crate::frame::{NextFrame, SpecFrame, TermsFrame, TermsThen, ValueFrame, VarFrame};
 use crate::names::declare;
 use crate::reached::SpecStep;
@@ -66,7 +66,7 @@ fn variable<'a>(
         world.old left frames.new.items step world.new left) }
     ensures kept { OnOk result (KeepsStage world.old world.new) }
 {
-    match escaped(tree, typing(tree, node).name) {
+    match escaped(tree, typing_at(tree, node).name) {
         Some(code) => {
             let env = frame.env;
             frames.push(SpecFrame::Value(ValueFrame::Symbols(node, frame)))?;
@@ -92,7 +92,7 @@ pub fn variable_type<'a>(
         world.old left frames.new.items step world.new left) }
     ensures kept { OnOk result (KeepsStage world.old world.new) }
 {
-    match typing(tree, node).of {
+    match typing_at(tree, node).of {
         Some(of) => {
             let env = frame.env;
             let value = ValueFrame::VarType(node, of, symbols, frame);
@@ -121,7 +121,7 @@ pub fn with_wanted<'a>(
     ensures env { IfOk result (λ f. f.env ≡ frame.entry.env) }
     ensures wanted { IfOk result (λ f. f.wanted ≡ frame.entry.wanted ++ frames.wanted_of (items_of tree.now) node symbols of) }
 {
-    let at = place(tree, typing(tree, node).name);
+    let at = place(tree, typing_at(tree, node).name);
     let mut frame = frame;
     match symbols {
         Some(symbols) => given(&mut frame.wanted, symbols.as_slice(), of, at)?,
