@@ -33,7 +33,7 @@ use tl_tree::Tree;
 const MOST_NODES: u32 = 8192;
 
 /// The most levels of a quote or a function.
-const MOST_LEVELS: u32 = 1000;
+const MOST_LEVELS: u16 = 1000;
 
 /// The error that something of this size raises, if it is past the limits.
 pub fn past_limits(size: Size) -> Option<Fault>
