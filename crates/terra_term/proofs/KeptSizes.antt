@@ -13,7 +13,6 @@ use Rattle.terra_term.specs.declared.operators.Operation.{Operation}
 use Rattle.terra_term.specs.declared.operators.Operation.TheVariants as operations
 use Rattle.terra_term.specs.declared.size.Size.{Size}
 use Rattle.terra_term.specs.declared.size.SizedNode.{SizedNode}
-use Rattle.terra_term.specs.declared.size.SizedNode.TheVariants as sized
 use Rattle.terra_term.specs.declared.term.Term as nodes
 use Rattle.terra_term.specs.declared.term.Term.TheVariants as kinds
 use Rattle.terra_term.specs.declared.term.Expression as expressions
@@ -31,8 +30,8 @@ use Rattle.terra_term.specs.Planted as planted
 use Rattle.terra_term.specs.Terms as terms
 use Rattle.terra_term.specs.TypedTerms as typed
 use Rattle.terra_term.specs.Sizes as sizes
-use Rattle.terra_term.specs.Sizes.{joined, above, names_size, capped, most, callee_size}
-use Rattle.terra_term.specs.Sizing.{node_size, beside, around, expression_in, expression_at, statement_in, list_at, block_at, typed_form, typed_doing, typed_sized, form, doing, term_sized, typed_kept, terms_kept, AllHold, AreSized}
+use Rattle.terra_term.specs.Sizes.{joined, above, names_size, capped, most, most_levels, callee_size}
+use Rattle.terra_term.specs.Sizing.{of_expression, of_statement, of_function, node_size, beside, around, expression_in, expression_at, statement_in, list_at, block_at, typed_form, typed_doing, typed_sized, form, doing, term_sized, typed_kept, terms_kept, AllHold, AreSized}
 use Rattle.terra_term.specs.Held.{Held, NamesTyped, QuotesTyped}
 use Rattle.terra_term.specs.declared.store.Quote.{Quote}
 use Rattle.terra_term.specs.declared.store.Quote.TheVariants as quotes
@@ -57,11 +56,11 @@ next-capped a m = omega arith
 
 joined-capped : (a b c d : Size) → capped a ≡ c → capped b ≡ d → capped (joined a b) ≡ beside c d
 joined-capped a b c d p q =
-    size-same _ _ _ _ (sum-capped a.nodes b.nodes most) (most-capped a.levels b.levels most) ∙
+    size-same _ _ _ _ (sum-capped a.nodes b.nodes most) (most-capped a.levels b.levels most_levels) ∙
     beside-same (capped a) (capped b) c d p q
 
 above-capped : (a c : Size) → capped a ≡ c → capped (above a) ≡ around c
-above-capped a c p = size-same _ _ _ _ (next-capped a.nodes most) (next-capped a.levels most) ∙ ap around p
+above-capped a c p = size-same _ _ _ _ (next-capped a.nodes most) (next-capped a.levels most_levels) ∙ ap around p
 
 -- a node with two parts, and one with three
 pair : (a b c d : Size) → capped a ≡ c → capped b ≡ d → capped (above (joined a b)) ≡ around (beside c d)
@@ -78,9 +77,9 @@ callee-capped _ = refl
 -- ---- typed terms
 
 abbrev pub kept_typed : typed.Item → SizedNode
-kept_typed (typed.expression x) = sized.Expression (capped (sizes.typed_size x))
-kept_typed (typed.doing x) = sized.Statement (capped (sizes.typed_statement_size x))
-kept_typed (typed.body x) = sized.Function (capped (sizes.body_size x))
+kept_typed (typed.expression x) = of_expression (capped (sizes.typed_size x))
+kept_typed (typed.doing x) = of_statement (capped (sizes.typed_statement_size x))
+kept_typed (typed.body x) = of_function (capped (sizes.body_size x))
 
 typed-in : (o : Option typed.Item) → capped (sizes.typed_size (planted.typed_in o)) ≡ expression_in (option_map kept_typed o)
 typed-in None = refl
@@ -108,49 +107,49 @@ typed-block before (t ∷ ts) =
     (typed-doing-in (slice_get before t.0) ∙ ap statement_in (sym (slice_get-map kept_typed before t.0)))
     (typed-block before ts)
 
-typed-expression : (before : List typed.Item) (at : Place) (of : TypeId) (x : typed_expressions.TypedExpression) → kept_typed (planted.typed_planted before (typed_kinds.Expression at of x)) ≡ sized.Expression (typed_form (map kept_typed before) x)
+typed-expression : (before : List typed.Item) (at : Place) (of : TypeId) (x : typed_expressions.TypedExpression) → kept_typed (planted.typed_planted before (typed_kinds.Expression at of x)) ≡ of_expression (typed_form (map kept_typed before) x)
 typed-expression before at of (te.Constant c) = refl
 typed-expression before at of (te.Variable x) = refl
 typed-expression before at of (te.Global a) = refl
-typed-expression before at of (te.Operate op es) = ap sized.Expression (pair _ _ _ _ (callee-capped op) (typed-list before es))
-typed-expression before at of (te.Both a b) = ap sized.Expression (pair _ _ _ _ (typed-at before a) (typed-at before b))
-typed-expression before at of (te.Either a b) = ap sized.Expression (pair _ _ _ _ (typed-at before a) (typed-at before b))
-typed-expression before at of (te.Dereference p) = ap sized.Expression (above-capped _ _ (typed-at before p))
-typed-expression before at of (te.Select offset a) = ap sized.Expression (above-capped _ _ (typed-at before a))
-typed-expression before at of (te.Follow offset p) = ap sized.Expression (above-capped _ _ (typed-at before p))
-typed-expression before at of (te.Element a i) = ap sized.Expression (pair _ _ _ _ (typed-at before a) (typed-at before i))
-typed-expression before at of (te.Index p i) = ap sized.Expression (pair _ _ _ _ (typed-at before p) (typed-at before i))
-typed-expression before at of (te.Address a) = ap sized.Expression (above-capped _ _ (typed-at before a))
-typed-expression before at of (te.Decay a) = ap sized.Expression (above-capped _ _ (typed-at before a))
-typed-expression before at of (te.Let block a) = ap sized.Expression (pair _ _ _ _ (typed-block before block) (typed-at before a))
+typed-expression before at of (te.Operate op es) = ap of_expression (pair _ _ _ _ (callee-capped op) (typed-list before es))
+typed-expression before at of (te.Both a b) = ap of_expression (pair _ _ _ _ (typed-at before a) (typed-at before b))
+typed-expression before at of (te.Either a b) = ap of_expression (pair _ _ _ _ (typed-at before a) (typed-at before b))
+typed-expression before at of (te.Dereference p) = ap of_expression (above-capped _ _ (typed-at before p))
+typed-expression before at of (te.Select offset a) = ap of_expression (above-capped _ _ (typed-at before a))
+typed-expression before at of (te.Follow offset p) = ap of_expression (above-capped _ _ (typed-at before p))
+typed-expression before at of (te.Element a i) = ap of_expression (pair _ _ _ _ (typed-at before a) (typed-at before i))
+typed-expression before at of (te.Index p i) = ap of_expression (pair _ _ _ _ (typed-at before p) (typed-at before i))
+typed-expression before at of (te.Address a) = ap of_expression (above-capped _ _ (typed-at before a))
+typed-expression before at of (te.Decay a) = ap of_expression (above-capped _ _ (typed-at before a))
+typed-expression before at of (te.Let block a) = ap of_expression (pair _ _ _ _ (typed-block before block) (typed-at before a))
 
-typed-statement : (before : List typed.Item) (at : Place) (x : typed_statements.TypedStatement) → kept_typed (planted.typed_planted before (typed_kinds.Statement at x)) ≡ sized.Statement (typed_doing (map kept_typed before) x)
-typed-statement before at (ts.Var names values) = ap sized.Statement (pair (names_size (length names)) _ _ _ refl (typed-list before values))
-typed-statement before at (ts.Assign targets values) = ap sized.Statement (pair _ _ _ _ (typed-list before targets) (typed-list before values))
-typed-statement before at (ts.If test block None) = ap sized.Statement (pair _ _ _ _ (typed-at before test) (typed-block before block))
+typed-statement : (before : List typed.Item) (at : Place) (x : typed_statements.TypedStatement) → kept_typed (planted.typed_planted before (typed_kinds.Statement at x)) ≡ of_statement (typed_doing (map kept_typed before) x)
+typed-statement before at (ts.Var names values) = ap of_statement (pair (names_size (length names)) _ _ _ refl (typed-list before values))
+typed-statement before at (ts.Assign targets values) = ap of_statement (pair _ _ _ _ (typed-list before targets) (typed-list before values))
+typed-statement before at (ts.If test block None) = ap of_statement (pair _ _ _ _ (typed-at before test) (typed-block before block))
 typed-statement before at (ts.If test block (Some other)) =
-    ap sized.Statement (triple _ _ _ _ _ _ (typed-at before test) (typed-block before block) (typed-block before other))
-typed-statement before at (ts.While test body) = ap sized.Statement (pair _ _ _ _ (typed-at before test) (typed-block before body))
-typed-statement before at (ts.Repeat body test) = ap sized.Statement (pair _ _ _ _ (typed-block before body) (typed-at before test))
-typed-statement before at (ts.For name bounds body) = ap sized.Statement (pair _ _ _ _ (typed-list before bounds) (typed-block before body))
-typed-statement before at (ts.Do body) = ap sized.Statement (above-capped _ _ (typed-block before body))
+    ap of_statement (triple _ _ _ _ _ _ (typed-at before test) (typed-block before block) (typed-block before other))
+typed-statement before at (ts.While test body) = ap of_statement (pair _ _ _ _ (typed-at before test) (typed-block before body))
+typed-statement before at (ts.Repeat body test) = ap of_statement (pair _ _ _ _ (typed-block before body) (typed-at before test))
+typed-statement before at (ts.For name bounds body) = ap of_statement (pair _ _ _ _ (typed-list before bounds) (typed-block before body))
+typed-statement before at (ts.Do body) = ap of_statement (above-capped _ _ (typed-block before body))
 typed-statement before at ts.Break = refl
 typed-statement before at (ts.Return None) = refl
-typed-statement before at (ts.Return (Some t)) = ap sized.Statement (above-capped _ _ (typed-at before t))
-typed-statement before at (ts.Perform a) = ap sized.Statement (above-capped _ _ (typed-at before a))
+typed-statement before at (ts.Return (Some t)) = ap of_statement (above-capped _ _ (typed-at before t))
+typed-statement before at (ts.Perform a) = ap of_statement (above-capped _ _ (typed-at before a))
 
 typed-node : (before : List typed.Item) (n : typed_nodes.Typed) → kept_typed (planted.typed_planted before n) ≡ typed_sized (map kept_typed before) n
 typed-node before (typed_kinds.Expression at of x) = typed-expression before at of x
 typed-node before (typed_kinds.Statement at x) = typed-statement before at x
 typed-node before (typed_kinds.Function ps result body) =
-    ap sized.Function (pair (names_size (length ps)) _ _ _ refl (typed-block before body))
+    ap of_function (pair (names_size (length ps)) _ _ _ refl (typed-block before body))
 
 -- ---- specialised terms
 
 abbrev pub kept_term : List typed.Item → terms.Item → SizedNode
-kept_term made (terms.expression x) = sized.Expression (capped (sizes.size_of made x))
-kept_term made (terms.doing x) = sized.Statement (capped (sizes.statement_size made x))
-kept_term made (terms.definition x) = sized.Function (capped (sizes.definition_size made x))
+kept_term made (terms.expression x) = of_expression (capped (sizes.size_of made x))
+kept_term made (terms.doing x) = of_statement (capped (sizes.statement_size made x))
+kept_term made (terms.definition x) = of_function (capped (sizes.definition_size made x))
 
 term-in : (made : List typed.Item) (o : Option terms.Item) → capped (sizes.size_of made (planted.term_in o)) ≡ expression_in (option_map (kept_term made) o)
 term-in made None = refl
@@ -178,40 +177,40 @@ term-block made before (t ∷ ts) =
     (doing-in made (slice_get before t.0) ∙ ap statement_in (sym (slice_get-map (kept_term made) before t.0)))
     (term-block made before ts)
 
-term-expression : (made : List typed.Item) (before : List terms.Item) (at : Place) (x : expressions.Expression) → kept_term made (planted.planted before (kinds.Expression at x)) ≡ sized.Expression (form (map kept_typed made) (map (kept_term made) before) x)
-term-expression made before at (e.Unary op a) = ap sized.Expression (above-capped _ _ (term-at made before a))
-term-expression made before at (e.Binary op a b) = ap sized.Expression (pair _ _ _ _ (term-at made before a) (term-at made before b))
-term-expression made before at (e.Call f es) = ap sized.Expression (pair _ _ _ _ (term-at made before f) (term-list made before es))
-term-expression made before at (e.Method o name es) = ap sized.Expression (pair _ _ _ _ (term-at made before o) (term-list made before es))
-term-expression made before at (e.Select o field) = ap sized.Expression (above-capped _ _ (term-at made before o))
-term-expression made before at (e.Index a i) = ap sized.Expression (pair _ _ _ _ (term-at made before a) (term-at made before i))
-term-expression made before at (e.New of (Positional values)) = ap sized.Expression (above-capped _ _ (term-list made before values))
-term-expression made before at (e.New of (Named fields values)) = ap sized.Expression (above-capped _ _ (term-list made before values))
-term-expression made before at (e.Let block a) = ap sized.Expression (pair _ _ _ _ (term-block made before block) (term-at made before a))
-term-expression made before at (e.Typed source t) = ap sized.Expression (typed-at made t)
+term-expression : (made : List typed.Item) (before : List terms.Item) (at : Place) (x : expressions.Expression) → kept_term made (planted.planted before (kinds.Expression at x)) ≡ of_expression (form (map kept_typed made) (map (kept_term made) before) x)
+term-expression made before at (e.Unary op a) = ap of_expression (above-capped _ _ (term-at made before a))
+term-expression made before at (e.Binary op a b) = ap of_expression (pair _ _ _ _ (term-at made before a) (term-at made before b))
+term-expression made before at (e.Call f es) = ap of_expression (pair _ _ _ _ (term-at made before f) (term-list made before es))
+term-expression made before at (e.Method o name es) = ap of_expression (pair _ _ _ _ (term-at made before o) (term-list made before es))
+term-expression made before at (e.Select o field) = ap of_expression (above-capped _ _ (term-at made before o))
+term-expression made before at (e.Index a i) = ap of_expression (pair _ _ _ _ (term-at made before a) (term-at made before i))
+term-expression made before at (e.New of (Positional values)) = ap of_expression (above-capped _ _ (term-list made before values))
+term-expression made before at (e.New of (Named fields values)) = ap of_expression (above-capped _ _ (term-list made before values))
+term-expression made before at (e.Let block a) = ap of_expression (pair _ _ _ _ (term-block made before block) (term-at made before a))
+term-expression made before at (e.Typed source t) = ap of_expression (typed-at made t)
 term-expression made before at _ = refl
 
-term-statement : (made : List typed.Item) (before : List terms.Item) (at : Place) (x : statements.Statement) → kept_term made (planted.planted before (kinds.Statement at x)) ≡ sized.Statement (doing (map (kept_term made) before) x)
-term-statement made before at (s.Var names None) = ap sized.Statement (above-capped (names_size (length names)) _ refl)
+term-statement : (made : List typed.Item) (before : List terms.Item) (at : Place) (x : statements.Statement) → kept_term made (planted.planted before (kinds.Statement at x)) ≡ of_statement (doing (map (kept_term made) before) x)
+term-statement made before at (s.Var names None) = ap of_statement (above-capped (names_size (length names)) _ refl)
 term-statement made before at (s.Var names (Some values)) =
-    ap sized.Statement (pair (names_size (length names)) _ _ _ refl (term-list made before values))
-term-statement made before at (s.Assign targets values) = ap sized.Statement (pair _ _ _ _ (term-list made before targets) (term-list made before values))
-term-statement made before at (s.If test block None) = ap sized.Statement (pair _ _ _ _ (term-at made before test) (term-block made before block))
+    ap of_statement (pair (names_size (length names)) _ _ _ refl (term-list made before values))
+term-statement made before at (s.Assign targets values) = ap of_statement (pair _ _ _ _ (term-list made before targets) (term-list made before values))
+term-statement made before at (s.If test block None) = ap of_statement (pair _ _ _ _ (term-at made before test) (term-block made before block))
 term-statement made before at (s.If test block (Some other)) =
-    ap sized.Statement (triple _ _ _ _ _ _ (term-at made before test) (term-block made before block) (term-block made before other))
-term-statement made before at (s.While test body) = ap sized.Statement (pair _ _ _ _ (term-at made before test) (term-block made before body))
-term-statement made before at (s.Repeat body test) = ap sized.Statement (pair _ _ _ _ (term-block made before body) (term-at made before test))
-term-statement made before at (s.For name bounds body) = ap sized.Statement (pair _ _ _ _ (term-list made before bounds) (term-block made before body))
-term-statement made before at (s.Do body) = ap sized.Statement (above-capped _ _ (term-block made before body))
+    ap of_statement (triple _ _ _ _ _ _ (term-at made before test) (term-block made before block) (term-block made before other))
+term-statement made before at (s.While test body) = ap of_statement (pair _ _ _ _ (term-at made before test) (term-block made before body))
+term-statement made before at (s.Repeat body test) = ap of_statement (pair _ _ _ _ (term-block made before body) (term-at made before test))
+term-statement made before at (s.For name bounds body) = ap of_statement (pair _ _ _ _ (term-list made before bounds) (term-block made before body))
+term-statement made before at (s.Do body) = ap of_statement (above-capped _ _ (term-block made before body))
 term-statement made before at s.Break = refl
-term-statement made before at (s.Return values) = ap sized.Statement (above-capped _ _ (term-list made before values))
-term-statement made before at (s.Perform a) = ap sized.Statement (above-capped _ _ (term-at made before a))
+term-statement made before at (s.Return values) = ap of_statement (above-capped _ _ (term-list made before values))
+term-statement made before at (s.Perform a) = ap of_statement (above-capped _ _ (term-at made before a))
 
 term-node : (made : List typed.Item) (before : List terms.Item) (n : nodes.Term) → kept_term made (planted.planted before n) ≡ term_sized (map kept_typed made) (map (kept_term made) before) n
 term-node made before (kinds.Expression at x) = term-expression made before at x
 term-node made before (kinds.Statement at x) = term-statement made before at x
 term-node made before (kinds.Function ps of body) =
-    ap sized.Function (pair (names_size (length ps)) _ _ _ refl (term-block made before body))
+    ap of_function (pair (names_size (length ps)) _ _ _ refl (term-block made before body))
 
 -- ---- all nodes
 
@@ -306,7 +305,7 @@ quotes-more n m more _ h = tt
 
 step-stays : (made more before : List SizedNode) (t : nodes.Term) → NamesTyped (length made) t → term_sized made before t ≡ term_sized (made ++ more) before t
 step-stays made more before (kinds.Expression at (e.Typed source t)) h =
-    ap (λ (o : Option SizedNode). sized.Expression (expression_in o)) (sym (get-left made more t.0 h))
+    ap (λ (o : Option SizedNode). of_expression (expression_in o)) (sym (get-left made more t.0 h))
 step-stays made more before _ h = refl
 
 pub terms-stay : (made more before : List SizedNode) (ns : List nodes.Term) → AllHold (NamesTyped (length made)) ns → grown (term_sized made) before ns ≡ grown (term_sized (made ++ more)) before ns

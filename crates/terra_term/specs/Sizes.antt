@@ -36,12 +36,15 @@ depth (suc n) = 1
 abbrev pub names_size : ℕ → Size
 names_size n = record { nodes = n; levels = depth n }
 
--- the last number of 32 bits stands for all from it on
+-- the last number of 32 bits stands for all from it on, and for levels the last of 16 bits
 abbrev pub most : ℕ
 most = 4294967295
 
+abbrev pub most_levels : ℕ
+most_levels = 65535
+
 abbrev pub capped : Size → Size
-capped s = record { nodes = min s.nodes most; levels = min s.levels most }
+capped s = record { nodes = min s.nodes most; levels = min s.levels most_levels }
 
 -- a callee that isn't evaluated is a node without parts
 abbrev pub callee_size : Operation → Size

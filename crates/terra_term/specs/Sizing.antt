@@ -22,10 +22,19 @@ use Rattle.terra_term.specs.declared.store.Quote.{Quote}
 use Rattle.terra_term.specs.Held.{NamesTyped, QuotesTyped}
 use Rattle.terra_term.specs.Sizes.{none, leaf, joined, above, names_size, capped, callee_size}
 
+abbrev pub of_expression : Size → SizedNode
+of_expression s = sized.Expression s.levels s.nodes
+
+abbrev pub of_statement : Size → SizedNode
+of_statement s = sized.Statement s.levels s.nodes
+
+abbrev pub of_function : Size → SizedNode
+of_function s = sized.Function s.levels s.nodes
+
 abbrev pub node_size : SizedNode → Size
-node_size (sized.Expression x) = x
-node_size (sized.Statement x) = x
-node_size (sized.Function x) = x
+node_size (sized.Expression levels nodes) = record { nodes = nodes; levels = levels }
+node_size (sized.Statement levels nodes) = record { nodes = nodes; levels = levels }
+node_size (sized.Function levels nodes) = record { nodes = nodes; levels = levels }
 
 abbrev pub beside : Size → Size → Size
 beside a b = capped (joined a b)
@@ -39,14 +48,14 @@ named n = capped (names_size n)
 -- the size of an expression before, and of a statement; of what isn't there, that of nil and of a break
 
 abbrev pub expression_in : Option SizedNode → Size
-expression_in (Some (sized.Expression x)) = x
+expression_in (Some (sized.Expression levels nodes)) = record { nodes = nodes; levels = levels }
 expression_in _ = leaf
 
 abbrev pub expression_at : List SizedNode → TermId → Size
 expression_at before t = expression_in (slice_get before t.0)
 
 abbrev pub statement_in : Option SizedNode → Size
-statement_in (Some (sized.Statement x)) = x
+statement_in (Some (sized.Statement levels nodes)) = record { nodes = nodes; levels = levels }
 statement_in _ = leaf
 
 abbrev pub statement_at : List SizedNode → TermId → Size
@@ -100,10 +109,10 @@ typed_doing before (ts.Return value) = typed_return before value
 typed_doing before (ts.Perform a) = around (expression_at before a)
 
 abbrev pub typed_sized : List SizedNode → typed_nodes.Typed → SizedNode
-typed_sized before (typed_kinds.Expression at of x) = sized.Expression (typed_form before x)
-typed_sized before (typed_kinds.Statement at x) = sized.Statement (typed_doing before x)
+typed_sized before (typed_kinds.Expression at of x) = of_expression (typed_form before x)
+typed_sized before (typed_kinds.Statement at x) = of_statement (typed_doing before x)
 typed_sized before (typed_kinds.Function parameters result body) =
-    sized.Function (around (beside (named (length parameters)) (block_at before body)))
+    of_function (around (beside (named (length parameters)) (block_at before body)))
 
 -- specialised nodes, beside the kept sizes of the typed ones
 
@@ -147,10 +156,10 @@ doing before (s.Return values) = around (list_at before values)
 doing before (s.Perform a) = around (expression_at before a)
 
 abbrev pub term_sized : List SizedNode → List SizedNode → nodes.Term → SizedNode
-term_sized made before (kinds.Expression at x) = sized.Expression (form made before x)
-term_sized made before (kinds.Statement at x) = sized.Statement (doing before x)
+term_sized made before (kinds.Expression at x) = of_expression (form made before x)
+term_sized made before (kinds.Statement at x) = of_statement (doing before x)
 term_sized made before (kinds.Function parameters result body) =
-    sized.Function (around (beside (named (length parameters)) (block_at before body)))
+    of_function (around (beside (named (length parameters)) (block_at before body)))
 
 -- what is kept of all nodes
 

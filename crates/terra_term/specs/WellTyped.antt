@@ -1,7 +1,8 @@
 -- A test that each typed term passes which typing leaves: a node has the type that its operands give it without conversion, a
--- variable is in scope with its type, a function that is named is typed, and what needs a layout has one. The limits on a term's
--- size are no part of it.
-use Rattle.std.specs.Prelude.{ℕ, ◌-◌, ◌*◌, ◌^◌, Bool, true, false, not, ◌&&◌, ◌||◌, nat_eq, nat_le, nat_lt, if◌then◌else◌, List, [], ◌∷◌, length, Option, Some, None, slice_get, unwrap_or, is_some}
+-- variable is in scope with its type, a function that is named is typed, what needs a layout has one, entries lie within their
+-- struct, and places are such as a text has. The limits on a term's size are no part of it.
+use Rattle.std.specs.Prelude.{ℕ, ◌+◌, ◌-◌, ◌*◌, ◌^◌, Bool, true, false, not, ◌&&◌, ◌||◌, nat_eq, nat_le, nat_lt, if◌then◌else◌, List, [], ◌∷◌, length, Option, Some, None, slice_get, unwrap_or, is_some}
+use Rattle.tl_base.specs.declared.place.Place.{Place}
 use Rattle.tl_base.specs.declared.ids.SymId.{SymId}
 use Rattle.tl_base.specs.declared.ids.TypeId.{TypeId}
 use Rattle.terra_words.specs.declared.words.BinaryOperator.{BinaryOperator}
@@ -26,125 +27,141 @@ use Rattle.terra_term.specs.Stores.{Contents, Callable, callable_of}
 abbrev pub widest : ℕ
 widest = 128
 
-abbrev same : TypeId → TypeId → Bool
+-- a place in a text: its line and its word have at most 32 bits
+abbrev pub is_placed : Place → Bool
+is_placed at = nat_lt at.line (2 ^ 32) && nat_lt at.word (2 ^ 32)
+
+abbrev pub same : TypeId → TypeId → Bool
 same a b = nat_eq a.0 b.0
 
-abbrev form_at : Contents → TypeId → TypeForm
+abbrev pub form_at : Contents → TypeId → TypeForm
 form_at store t = unwrap_or (slice_get store.types t.0) forms.Unit
 
-abbrev integer_form : TypeForm → Bool
+abbrev pub integer_form : TypeForm → Bool
 integer_form (forms.Integer i) = true
 integer_form _ = false
 
-abbrev pointer_form : TypeForm → Bool
+abbrev pub pointer_form : TypeForm → Bool
 pointer_form (forms.Pointer t) = true
 pointer_form _ = false
 
-abbrev function_form : TypeForm → Bool
+abbrev pub function_form : TypeForm → Bool
 function_form (forms.Function params result) = true
 function_form _ = false
 
-abbrev is_integer : Contents → TypeId → Bool
+abbrev pub struct_form : TypeForm → Bool
+struct_form (forms.Struct number place layout) = true
+struct_form _ = false
+
+abbrev pub is_struct : Contents → TypeId → Bool
+is_struct store t = struct_form (form_at store t)
+
+abbrev pub is_integer : Contents → TypeId → Bool
 is_integer store t = integer_form (form_at store t)
 
-abbrev is_pointer : Contents → TypeId → Bool
+abbrev pub is_pointer : Contents → TypeId → Bool
 is_pointer store t = pointer_form (form_at store t)
 
-abbrev is_function : Contents → TypeId → Bool
+abbrev pub is_function : Contents → TypeId → Bool
 is_function store t = function_form (form_at store t)
 
-abbrev points_in : TypeForm → TypeId → Bool
+abbrev pub points_in : TypeForm → TypeId → Bool
 points_in (forms.Pointer t) target = same t target
 points_in _ target = false
 
 -- the first is a pointer to the second
-abbrev points_to : Contents → TypeId → TypeId → Bool
+abbrev pub points_to : Contents → TypeId → TypeId → Bool
 points_to store p t = points_in (form_at store p) t
 
-abbrev array_in : TypeForm → TypeId → Bool
+abbrev pub array_in : TypeForm → TypeId → Bool
 array_in (forms.Array t n) element = same t element
 array_in _ element = false
 
-abbrev is_array_of : Contents → TypeId → TypeId → Bool
+abbrev pub is_array_of : Contents → TypeId → TypeId → Bool
 is_array_of store a t = array_in (form_at store a) t
 
-abbrev has_layout : Contents → TypeId → Bool
+abbrev pub has_layout : Contents → TypeId → Bool
 has_layout store t = is_some (measure_of store.types t)
 
-abbrev small : Option ℕ → Bool
+abbrev pub small : Option ℕ → Bool
 small None = false
 small (Some n) = nat_le n widest
 
 -- a value of the type may be used: an aggregate is laid out and not too wide
-abbrev is_usable : Contents → TypeId → Bool
+abbrev pub is_usable : Contents → TypeId → Bool
 is_usable store t = small (size_of store.types t)
 
-abbrev has_entry : List Laid → ℕ → TypeId → Bool
+abbrev pub has_entry : List Laid → ℕ → TypeId → Bool
 has_entry [] offset t = false
 has_entry (l ∷ ls) offset t = (nat_eq l.offset offset && same l.of t) || has_entry ls offset t
 
-abbrev entry_of : Contents → TypeId → ℕ → TypeId → Bool
-entry_of store struct offset t = has_entry (entries_of store.types struct) offset t
+abbrev pub bytes_at : Contents → TypeId → ℕ
+bytes_at store t = unwrap_or (size_of store.types t) 0
 
-abbrev follows_in : Contents → TypeForm → ℕ → TypeId → Bool
+-- a struct has an entry of this type at this offset, which lies within it
+abbrev pub entry_of : Contents → TypeId → ℕ → TypeId → Bool
+entry_of store struct offset t =
+    has_entry (entries_of store.types struct) offset t && nat_le (offset + bytes_at store t) (bytes_at store struct)
+
+abbrev pub follows_in : Contents → TypeForm → ℕ → TypeId → Bool
 follows_in store (forms.Pointer s) offset t = entry_of store s offset t
 follows_in store _ offset t = false
 
 -- lists of types
-abbrev are_same : List TypeId → List TypeId → Bool
+abbrev pub are_same : List TypeId → List TypeId → Bool
 are_same [] [] = true
 are_same (a ∷ rest) (b ∷ bs) = same a b && are_same rest bs
 are_same _ _ = false
 
-abbrev all_usable : Contents → List TypeId → Bool
+abbrev pub all_usable : Contents → List TypeId → Bool
 all_usable store [] = true
 all_usable store (t ∷ ts) = is_usable store t && all_usable store ts
 
-abbrev types_of_names : List TypedName → List TypeId
+abbrev pub types_of_names : List TypedName → List TypeId
 types_of_names [] = []
 types_of_names (x ∷ xs) = x.of ∷ types_of_names xs
 
-abbrev types_in : Expressions → List TypeId
+abbrev pub types_in : Expressions → List TypeId
 types_in no_more = []
 types_in (then_one e es) = type_of e ∷ types_in es
 
-abbrev places_in : Expressions → Bool
+abbrev pub places_in : Expressions → Bool
 places_in no_more = true
 places_in (then_one e es) = is_place e && places_in es
 
 -- a function has these parameters and this result
-abbrev has_type : List TypeId → TypeId → Option Callable → Bool
+abbrev pub has_type : List TypeId → TypeId → Option Callable → Bool
 has_type params result None = false
 has_type params result (Some k) = are_same params (types_of_names k.body.parameters) && same result k.body.result
 
-abbrev function_type_in : TypeForm → Option Callable → Bool
+abbrev pub function_type_in : TypeForm → Option Callable → Bool
 function_type_in (forms.Function params result) f = has_type params result f
 function_type_in _ f = false
 
-abbrev calls_in : TypeForm → List TypeId → TypeId → Bool
+abbrev pub calls_in : TypeForm → List TypeId → TypeId → Bool
 calls_in (forms.Function params result) arguments of = are_same params arguments && same result of
 calls_in _ arguments of = false
 
 -- the word is that of a number with so many bits, extended to 64 bits by its sign or by zeros
-abbrev is_extended : (signed : Bool) → (bits : ℕ) → ℕ → Bool
+abbrev pub is_extended : (signed : Bool) → (bits : ℕ) → ℕ → Bool
 is_extended true bits word = nat_lt word (2 ^ (bits - 1)) || (nat_le (2 ^ 64 - 2 ^ (bits - 1)) word && nat_lt word (2 ^ 64))
 is_extended false bits word = nat_lt word (2 ^ bits)
 
 -- the word is a value of an integer type, or an address of a pointer type
-abbrev is_word_of : TypeForm → ℕ → Bool
+abbrev pub is_word_of : TypeForm → ℕ → Bool
 is_word_of (forms.Integer i) word = is_extended (is_signed i) (8 * bytes_of i) word
 is_word_of (forms.Pointer t) word = nat_lt word (2 ^ 64)
 is_word_of _ word = false
 
-abbrev constant_typed : Contents → TypeId → Constant → Bool
+abbrev pub constant_typed : Contents → TypeId → Constant → Bool
 constant_typed store of (constants.Number word) = is_word_of (form_at store of) word
 constant_typed store of (constants.Truth b) = same of boolean
 constant_typed store of constants.Nil = is_pointer store of || is_function store of
-constant_typed store of (constants.Static address) = same of rawstring
+constant_typed store of (constants.Static address) = same of rawstring && nat_lt address (2 ^ 64)
 constant_typed store of (constants.FnValue f) = function_type_in (form_at store of) (callable_of store f)
 
 -- which operators compare, and which of these only for equality
-abbrev compares : BinaryOperator → Bool
+abbrev pub compares : BinaryOperator → Bool
 compares operators.Equal = true
 compares operators.NotEqual = true
 compares operators.Less = true
@@ -153,27 +170,27 @@ compares operators.Greater = true
 compares operators.GreaterEqual = true
 compares _ = false
 
-abbrev equates : BinaryOperator → Bool
+abbrev pub equates : BinaryOperator → Bool
 equates operators.Equal = true
 equates operators.NotEqual = true
 equates _ = false
 
-abbrev shifts : BinaryOperator → Bool
+abbrev pub shifts : BinaryOperator → Bool
 shifts operators.ShiftLeft = true
 shifts operators.ShiftRight = true
 shifts _ = false
 
-abbrev comparable : Contents → BinaryOperator → TypeId → Bool
+abbrev pub comparable : Contents → BinaryOperator → TypeId → Bool
 comparable store op t =
     is_integer store t || is_pointer store t || (equates op && (same t boolean || is_function store t))
 
-abbrev binary_typed : Contents → BinaryOperator → TypeId → TypeId → TypeId → Bool
+abbrev pub binary_typed : Contents → BinaryOperator → TypeId → TypeId → TypeId → Bool
 binary_typed store op a b of =
     if compares op then same a b && comparable store op a && same of boolean
     else is_integer store a && same of a && (if shifts op then is_integer store b else same a b)
 
 -- the conversions that a node stands for; those that change no type are none
-abbrev converts : Contents → TypeId → TypeId → Bool
+abbrev pub converts : Contents → TypeId → TypeId → Bool
 converts store from to =
     not (same from to) &&
     ((is_integer store from && (is_integer store to || (same to boolean || is_pointer store to)))
@@ -181,44 +198,44 @@ converts store from to =
     || ((is_pointer store from && (is_pointer store to || is_integer store to))
     || (is_function store from && is_integer store to))))
 
-abbrev primitive_typed : Contents → Primitive → List TypeId → TypeId → Bool
+abbrev pub primitive_typed : Contents → Primitive → List TypeId → TypeId → Bool
 primitive_typed store PutByte (a ∷ []) of = same a uint8 && same of unit
 primitive_typed store Write (a ∷ b ∷ []) of = points_to store a uint8 && same b int64 && same of unit
 primitive_typed store Alloc (a ∷ []) of = same a int64 && points_to store of uint8
 primitive_typed store _ _ of = false
 
-abbrev target_in : TypeForm → TypeId
+abbrev pub target_in : TypeForm → TypeId
 target_in (forms.Pointer t) = t
 target_in _ = unit
 
-abbrev is_sized : Contents → TypeId → Bool
-is_sized store p = nat_lt 0 (unwrap_or (size_of store.types (target_in (form_at store p))) 0)
+abbrev pub is_sized : Contents → TypeId → Bool
+is_sized store p = nat_lt 0 (bytes_at store (target_in (form_at store p)))
 
 -- a pointer moved by so many elements
-abbrev step_typed : Contents → TypeId → TypeId → TypeId → Bool
+abbrev pub step_typed : Contents → TypeId → TypeId → TypeId → Bool
 step_typed store p i of =
     same p of && is_pointer store of && is_integer store i && has_layout store (target_in (form_at store of))
 
-abbrev entries_typed : Contents → TypeId → List ℕ → List TypeId → Bool
+abbrev pub entries_typed : Contents → TypeId → List ℕ → List TypeId → Bool
 entries_typed store of [] [] = true
 entries_typed store of (offset ∷ offsets) (t ∷ ts) = entry_of store of offset t && entries_typed store of offsets ts
 entries_typed store of _ _ = false
 
-abbrev first_type : List TypeId → TypeId
+abbrev pub first_type : List TypeId → TypeId
 first_type ts = unwrap_or (slice_get ts 0) unit
 
-abbrev second_type : List TypeId → TypeId
+abbrev pub second_type : List TypeId → TypeId
 second_type ts = unwrap_or (slice_get ts 1) unit
 
-abbrev has_operands : ℕ → List TypeId → Bool
+abbrev pub has_operands : ℕ → List TypeId → Bool
 has_operands n ts = nat_eq (length ts) n
 
-abbrev others : List TypeId → List TypeId
+abbrev pub others : List TypeId → List TypeId
 others [] = []
 others (t ∷ ts) = ts
 
 -- an operation on operands of these types gives a value of this type
-abbrev operation_typed : Contents → Operation → List TypeId → TypeId → Bool
+abbrev pub operation_typed : Contents → Operation → List TypeId → TypeId → Bool
 operation_typed store operations.Negate ts of = has_operands 1 ts && same (first_type ts) of && is_integer store of
 operation_typed store operations.Not ts of =
     has_operands 1 ts && same (first_type ts) of && (is_integer store of || same of boolean)
@@ -234,7 +251,8 @@ operation_typed store (operations.Extract offset) ts of = has_operands 1 ts && e
 operation_typed store (operations.Call f) ts of = has_type ts of (callable_of store f)
 operation_typed store (operations.Primitive p) ts of = primitive_typed store p ts of
 operation_typed store operations.CallValue ts of = calls_in (form_at store (first_type ts)) (others ts) of
-operation_typed store (operations.Construct offsets) ts of = is_usable store of && entries_typed store of offsets ts
+operation_typed store (operations.Construct offsets) ts of =
+    is_struct store of && is_usable store of && entries_typed store of offsets ts
 
 -- Where a statement stands: the result type of its function, in a loop or not, and in the statements of a `let` or not.
 pub record Within : Type 0 where
@@ -242,76 +260,76 @@ pub record Within : Type 0 where
   pub in_loop : Bool
   pub in_let : Bool
 
-abbrev in_a_loop : Within → Within
+abbrev pub in_a_loop : Within → Within
 in_a_loop w = record w { in_loop = true }
 
-abbrev in_a_let : Within → Within
+abbrev pub in_a_let : Within → Within
 in_a_let w = record w { in_loop = false; in_let = true }
 
-abbrev Scope : Type 0
+abbrev pub Scope : Type 0
 Scope = List TypedName
 
-abbrev in_scope : SymId → TypeId → Scope → Bool
+abbrev pub in_scope : SymId → TypeId → Scope → Bool
 in_scope x of [] = false
 in_scope x of (y ∷ ys) = if nat_eq x.0 y.symbol.0 then same of y.of else in_scope x of ys
 
-abbrev with_names : List TypedName → Scope → Scope
+abbrev pub with_names : List TypedName → Scope → Scope
 with_names [] scope = scope
 with_names (x ∷ xs) scope = with_names xs (x ∷ scope)
 
 -- what is in scope after a statement, and after statements
-abbrev after_one : Statement → Scope → Scope
+abbrev pub after_one : Statement → Scope → Scope
 after_one (statement at (Var names values)) scope = with_names names scope
 after_one _ scope = scope
 
-abbrev after_all : Statements → Scope → Scope
+abbrev pub after_all : Statements → Scope → Scope
 after_all done scope = scope
 after_all (and_then s ss) scope = after_all ss (after_one s scope)
 
-abbrev names_laid_out : Contents → List TypedName → Bool
+abbrev pub names_laid_out : Contents → List TypedName → Bool
 names_laid_out store [] = true
 names_laid_out store (x ∷ xs) = has_layout store x.of && names_laid_out store xs
 
-abbrev are_bounds : Contents → TypeId → List TypeId → Bool
+abbrev pub are_bounds : Contents → TypeId → List TypeId → Bool
 are_bounds store t (a ∷ b ∷ []) = is_integer store t && same a t && same b t
 are_bounds store t (a ∷ b ∷ s ∷ []) = is_integer store t && same a t && same b t && same s t
 are_bounds store t _ = false
 
-abbrev no_values : Expressions → Bool
+abbrev pub no_values : Expressions → Bool
 no_values no_more = true
 no_values (then_one e es) = false
 
 abbrev mutual
   pub is_typed : Contents → Within → Scope → Expression → Bool
-  is_typed store w scope (typed at of (Constant' k)) = constant_typed store of k
-  is_typed store w scope (typed at of (Variable x)) = in_scope x of scope
-  is_typed store w scope (typed at of (Global address)) = has_layout store of
+  is_typed store w scope (typed at of (Constant' k)) = is_placed at && constant_typed store of k
+  is_typed store w scope (typed at of (Variable x)) = is_placed at && in_scope x of scope
+  is_typed store w scope (typed at of (Global address)) = is_placed at && has_layout store of && nat_lt address (2 ^ 64)
   is_typed store w scope (typed at of (Operate op es)) =
-      are_typed store w scope es && all_usable store (types_in es) && operation_typed store op (types_in es) of
+      is_placed at && are_typed store w scope es && all_usable store (types_in es) && operation_typed store op (types_in es) of
   is_typed store w scope (typed at of (Both a b)) =
-      is_typed store w scope a && is_typed store w scope b &&
+      is_placed at && is_typed store w scope a && is_typed store w scope b &&
       same (type_of a) boolean && same (type_of b) boolean && same of boolean
   is_typed store w scope (typed at of (Either a b)) =
-      is_typed store w scope a && is_typed store w scope b &&
+      is_placed at && is_typed store w scope a && is_typed store w scope b &&
       same (type_of a) boolean && same (type_of b) boolean && same of boolean
-  is_typed store w scope (typed at of (Dereference p)) = is_typed store w scope p && points_to store (type_of p) of
+  is_typed store w scope (typed at of (Dereference p)) = is_placed at && is_typed store w scope p && points_to store (type_of p) of
   is_typed store w scope (typed at of (Select offset e)) =
-      is_typed store w scope e && is_place e && entry_of store (type_of e) offset of
+      is_placed at && is_typed store w scope e && is_place e && entry_of store (type_of e) offset of
   is_typed store w scope (typed at of (Follow offset p)) =
-      is_typed store w scope p && follows_in store (form_at store (type_of p)) offset of
+      is_placed at && is_typed store w scope p && follows_in store (form_at store (type_of p)) offset of
   is_typed store w scope (typed at of (Element a i)) =
-      is_typed store w scope a && is_typed store w scope i && is_place a &&
+      is_placed at && is_typed store w scope a && is_typed store w scope i && is_place a &&
       is_array_of store (type_of a) of && is_integer store (type_of i) && has_layout store of
   is_typed store w scope (typed at of (Index p i)) =
-      is_typed store w scope p && is_typed store w scope i &&
+      is_placed at && is_typed store w scope p && is_typed store w scope i &&
       points_to store (type_of p) of && is_integer store (type_of i) && has_layout store of
   is_typed store w scope (typed at of (Address e)) =
-      is_typed store w scope e && is_place e && points_to store of (type_of e)
+      is_placed at && is_typed store w scope e && is_place e && points_to store of (type_of e)
   is_typed store w scope (typed at of (Decay a)) =
-      is_typed store w scope a && is_place a && is_pointer store of &&
+      is_placed at && is_typed store w scope a && is_place a && is_pointer store of &&
       is_array_of store (type_of a) (target_in (form_at store of))
   is_typed store w scope (typed at of (Let block e)) =
-      all_typed store (in_a_let w) scope block && is_typed store w (after_all block scope) e &&
+      is_placed at && all_typed store (in_a_let w) scope block && is_typed store w (after_all block scope) e &&
       same (type_of e) of && is_usable store of
 
   pub are_typed : Contents → Within → Scope → Expressions → Bool
@@ -320,30 +338,30 @@ abbrev mutual
 
   pub one_typed : Contents → Within → Scope → Statement → Bool
   one_typed store w scope (statement at (Var names values)) =
-      are_typed store w scope values && names_laid_out store names &&
+      is_placed at && are_typed store w scope values && names_laid_out store names &&
       (no_values values || (are_same (types_of_names names) (types_in values) && all_usable store (types_in values)))
   one_typed store w scope (statement at (Assign targets values)) =
-      are_typed store w scope values && are_typed store w scope targets && places_in targets &&
+      is_placed at && are_typed store w scope values && are_typed store w scope targets && places_in targets &&
       are_same (types_in targets) (types_in values) && all_usable store (types_in values)
   one_typed store w scope (statement at (If test then_block)) =
-      is_typed store w scope test && same (type_of test) boolean && all_typed store w scope then_block
+      is_placed at && is_typed store w scope test && same (type_of test) boolean && all_typed store w scope then_block
   one_typed store w scope (statement at (IfElse test then_block else_block)) =
-      is_typed store w scope test && same (type_of test) boolean &&
+      is_placed at && is_typed store w scope test && same (type_of test) boolean &&
       all_typed store w scope then_block && all_typed store w scope else_block
   one_typed store w scope (statement at (While test body)) =
-      is_typed store w scope test && same (type_of test) boolean && all_typed store (in_a_loop w) scope body
+      is_placed at && is_typed store w scope test && same (type_of test) boolean && all_typed store (in_a_loop w) scope body
   one_typed store w scope (statement at (Repeat body test)) =
-      all_typed store (in_a_loop w) scope body &&
+      is_placed at && all_typed store (in_a_loop w) scope body &&
       is_typed store w (after_all body scope) test && same (type_of test) boolean
   one_typed store w scope (statement at (For x bounds body)) =
-      are_typed store w scope bounds && are_bounds store x.of (types_in bounds) &&
+      is_placed at && are_typed store w scope bounds && are_bounds store x.of (types_in bounds) &&
       all_typed store (in_a_loop w) (x ∷ scope) body
-  one_typed store w scope (statement at (Do body)) = all_typed store w scope body
-  one_typed store w scope (statement at Break) = w.in_loop
-  one_typed store w scope (statement at Finish) = not w.in_let && same w.result unit
+  one_typed store w scope (statement at (Do body)) = is_placed at && all_typed store w scope body
+  one_typed store w scope (statement at Break) = is_placed at && w.in_loop
+  one_typed store w scope (statement at Finish) = is_placed at && not w.in_let && same w.result unit
   one_typed store w scope (statement at (Return e)) =
-      is_typed store w scope e && not w.in_let && same (type_of e) w.result && is_usable store w.result
-  one_typed store w scope (statement at (Perform e)) = is_typed store w scope e && is_usable store (type_of e)
+      is_placed at && is_typed store w scope e && not w.in_let && same (type_of e) w.result && is_usable store w.result
+  one_typed store w scope (statement at (Perform e)) = is_placed at && is_typed store w scope e && is_usable store (type_of e)
 
   pub all_typed : Contents → Within → Scope → Statements → Bool
   all_typed store w scope done = true

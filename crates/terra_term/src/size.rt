@@ -3,11 +3,11 @@
 ghost use Rattle.std.specs.Prelude.{◌≡◌};
 ghost use Rattle.terra_term.specs.Sizes.{above, capped, joined, leaf, names_size, none};
 
-/// How many nodes and levels a term has, each at most 4,294,967,295: a larger number is kept as that one.
+/// How many nodes and levels a term has: at most 4,294,967,295 nodes and 65,535 levels. A larger number is kept as that one.
 #[derive(Clone, Copy, Debug, PartialEq, Eq)]
 pub struct Size {
     pub nodes: u32,
-    pub levels: u32,
+    pub levels: u16,
 }
 
 impl Size {
@@ -65,25 +65,55 @@ impl Size {
     }
 }
 
-/// What a node is, with its size.
+/// What a node is, with its size. The numbers stand in each variant, so that one takes eight bytes.
 #[derive(Clone, Copy, Debug, PartialEq, Eq)]
 pub(crate) enum SizedNode {
-    Expression(Size),
-    Statement(Size),
-    Function(Size),
+    Expression { levels: u16, nodes: u32 },
+    Statement { levels: u16, nodes: u32 },
+    Function { levels: u16, nodes: u32 },
 }
 
 impl SizedNode {
-    ghost use Rattle.terra_term.specs.Sizing.{node_size};
+    ghost use Rattle.terra_term.specs.Sizing.{node_size, of_expression, of_function, of_statement};
+
+    /// An expression of this size.
+    pub(crate) fn expression(size: Size) -> SizedNode
+        ensures { result ≡ of_expression size }
+    {
+        SizedNode::Expression {
+            levels: size.levels,
+            nodes: size.nodes,
+        }
+    }
+
+    /// A statement of this size.
+    pub(crate) fn statement(size: Size) -> SizedNode
+        ensures { result ≡ of_statement size }
+    {
+        SizedNode::Statement {
+            levels: size.levels,
+            nodes: size.nodes,
+        }
+    }
+
+    /// A function of this size.
+    pub(crate) fn function(size: Size) -> SizedNode
+        ensures { result ≡ of_function size }
+    {
+        SizedNode::Function {
+            levels: size.levels,
+            nodes: size.nodes,
+        }
+    }
 
     /// The size alone.
     pub(crate) fn size(self) -> Size
         ensures { result ≡ node_size self }
     {
         match self {
-            SizedNode::Expression(size) => size,
-            SizedNode::Statement(size) => size,
-            SizedNode::Function(size) => size,
+            SizedNode::Expression { levels, nodes }
+            | SizedNode::Statement { levels, nodes }
+            | SizedNode::Function { levels, nodes } => Size { nodes, levels },
         }
     }
 }

@@ -2,7 +2,7 @@
 
 ghost use Rattle.std.specs.Prelude.{◌≡◌, length};
 ghost use Rattle.terra_term.specs.Sizes.{callee_size};
-ghost use Rattle.terra_term.specs.Sizing.{around, beside, block_at, doing, expression_at, form, list_at, named, statement_at, term_sized, typed_doing, typed_form, typed_sized};
+ghost use Rattle.terra_term.specs.Sizing.{around, beside, block_at, doing, expression_at, form, list_at, named, of_function, statement_at, term_sized, typed_doing, typed_form, typed_sized};
 
 use crate::operators::Operation;
 use crate::size::{Size, SizedNode};
@@ -15,7 +15,10 @@ fn expression_size(before: &[SizedNode], t: TermId) -> Size
     ensures { result ≡ expression_at before.now t }
 {
     match before.get(t.0 as usize) {
-        Some(SizedNode::Expression(size)) => *size,
+        Some(SizedNode::Expression { levels, nodes }) => Size {
+            nodes: *nodes,
+            levels: *levels,
+        },
         _ => Size::leaf(),
     }
 }
@@ -25,7 +28,10 @@ fn statement_size(before: &[SizedNode], t: TermId) -> Size
     ensures { result ≡ statement_at before.now t }
 {
     match before.get(t.0 as usize) {
-        Some(SizedNode::Statement(size)) => *size,
+        Some(SizedNode::Statement { levels, nodes }) => Size {
+            nodes: *nodes,
+            levels: *levels,
+        },
         _ => Size::leaf(),
     }
 }
@@ -122,10 +128,10 @@ fn var_size(before: &[SizedNode], names: usize, values: &[TermId]) -> Size
 
 /// The size of a function.
 fn function_size(before: &[SizedNode], parameters: usize, body: &[TermId]) -> SizedNode
-    ensures { result ≡ SizedNode.Function (around (beside (named parameters) (block_at before.now body.now))) }
+    ensures { result ≡ of_function (around (beside (named parameters) (block_at before.now body.now))) }
 {
     let first = Size::of_names(parameters);
-    SizedNode::Function(first.joined(block_size(before, body)).above())
+    SizedNode::function(first.joined(block_size(before, body)).above())
 }
 
 /// The size of a callee that isn't evaluated.
@@ -197,8 +203,8 @@ pub(crate) fn size_typed(before: &[SizedNode], node: &Typed) -> SizedNode
     ensures { result ≡ typed_sized before.now node.now }
 {
     match node {
-        Typed::Expression(_, _, x) => SizedNode::Expression(typed_expression_size(before, x)),
-        Typed::Statement(_, x) => SizedNode::Statement(typed_statement_size(before, x)),
+        Typed::Expression(_, _, x) => SizedNode::expression(typed_expression_size(before, x)),
+        Typed::Statement(_, x) => SizedNode::statement(typed_statement_size(before, x)),
         Typed::Function(parameters, _, body) => {
             function_size(before, parameters.as_slice().len(), body.as_slice())
         }
@@ -261,8 +267,8 @@ pub(crate) fn size_term(made: &[SizedNode], before: &[SizedNode], node: &Term) -
     ensures { result ≡ term_sized made.now before.now node.now }
 {
     match node {
-        Term::Expression(_, x) => SizedNode::Expression(term_expression_size(made, before, x)),
-        Term::Statement(_, x) => SizedNode::Statement(term_statement_size(before, x)),
+        Term::Expression(_, x) => SizedNode::expression(term_expression_size(made, before, x)),
+        Term::Statement(_, x) => SizedNode::statement(term_statement_size(before, x)),
         Term::Function(parameters, _, body) => {
             function_size(before, parameters.as_slice().len(), body.as_slice())
         }

@@ -15,6 +15,7 @@ use crate::typed::Typed;
 use indexmap::{IndexMap, IndexSet};
 use std::alloc::Global;
 use std::marker::Model;
+use std::mem::size_of;
 use terra_types::Types;
 use tl_base::{
     ConstantId, FnId, GlobalId, NoMemory, Place, QuoteId, SymId, TermId, Text, Text2, TextId,
@@ -121,6 +122,11 @@ pub struct Store {
     /// The first address behind all statics.
     statics_end: u64,
 }
+
+// A node takes at most 64 bytes beside its lists, with the size that is kept of it.
+const _: () = prove!(size_of::<Term>() + size_of::<SizedNode>() <= 64);
+
+const _: () = prove!(size_of::<Typed>() + size_of::<SizedNode>() <= 64);
 
 impl Model for Store {
     ghost use Rattle.terra_term.specs.Held.{Held};
