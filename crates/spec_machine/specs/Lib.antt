@@ -4,10 +4,12 @@ pub mod Frames
 pub mod Steps
 -- What later worlds keep of earlier ones.
 pub mod Keeping
+-- That it is kept by one step and the next.
+pub mod Kept
 -- Where the uses of locals find their cells.
 pub mod Slots
 -- Parameters and declarations.
-pub mod Declared
+pub mod Agreeing
 -- Values as statements.
 pub mod Splices
 -- The limits of nodes and levels.

@@ -5,7 +5,7 @@ ghost use Rattle.tl_tree.specs.Arena.{items_of};
 ghost use Rattle.tl_tree.specs.Code as kept;
 ghost use Rattle.tl_tree.specs.Nodes.{item_at};
 ghost use Rattle.spec_model.specs.Nodes as nodes;
-ghost use Rattle.spec_machine.specs.Declared.{initial_in};
+ghost use Rattle.spec_machine.specs.Agreeing.{initial_in};
 
 use tl_base::{NodeId, Place};
 use tl_tree::{Node, Piece, TerraExpression, Tree};

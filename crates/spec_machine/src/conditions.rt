@@ -17,7 +17,7 @@ ghost use Rattle.spec_machine.specs.Steps.{Goes, Does, Gets};
 use crate::code::{arm_parts, block_statements, place};
 use crate::frame::{Arm, ArmsFrame, BlockFrame, BlockThen, SpecFrame, TermFrame};
 use crate::reached::SpecStep;
-use crate::row::{Row, single, term_list};
+use crate::row::{Row, list_if_any, single, term_list};
 use exotype::World;
 use spec_model::{End, Job};
 use terra_term::{Statement, Term};
@@ -170,10 +170,7 @@ fn arm_statement(
     ensures kept { OnOk result (KeepsStage world.old world.new) }
 {
     let statements = term_list(arm.statements)?;
-    let otherwise = match otherwise {
-        Some(terms) => Some(term_list(terms)?),
-        None => None,
-    };
+    let otherwise = list_if_any(otherwise)?;
     let statement = Statement::If(arm.test, statements, otherwise);
     world.store.new_term(Term::Statement(arm.place, statement))
 }

@@ -8,10 +8,10 @@ ghost use Rattle.spec_model.specs.Making.{is_undefined, form_at};
 ghost use Rattle.spec_model.specs.Nodes.{terra_parts_at};
 ghost use Rattle.spec_model.specs.Definitions as plans;
 ghost use Rattle.spec_machine.specs.Frames as frames;
-ghost use Rattle.spec_machine.specs.Declared.{standing_in};
+ghost use Rattle.spec_machine.specs.Agreeing.{standing_in};
 ghost use Rattle.spec_machine.specs.declared.frame.TargetThen.TheVariants as of_target;
 ghost use Rattle.spec_machine.specs.declared.frame.ValueFrame.TheVariants as of_value;
-ghost use Rattle.tl_base.specs.Plan.{Give};
+ghost use Rattle.tl_base.specs.Plan.{Give, Read};
 ghost use Rattle.spec_model.specs.declared.end.End.TheVariants.{Gave};
 ghost use Rattle.spec_machine.specs.Keeping.{KeepsStage};
 ghost use Rattle.spec_machine.specs.Steps.{Goes, Does, Gets};
@@ -78,7 +78,23 @@ fn standing(world: &World, target: Target) -> Option<FnId>
     }
 }
 
-/// Defines the function of a target: the one that stands there and isn't defined, or a new one, which is stored there.
+/// The function of a target: the one that stands there and isn't defined, or a new one, which is stored there.
+fn target_function(world: &mut World, target: Target, at: Place) -> Result<FnId, NoMemory>
+    ensures means { IfOk result (λ f.
+        Gets (λ go. Read (λ w. plans.standing w (plans.held_in w.heap target) target at go)) world.old f world.new) }
+    ensures kept { OnOk result (KeepsStage world.old world.new) }
+{
+    match standing(world, target) {
+        Some(function) => Ok(function),
+        None => {
+            let function = world.store.declare(None, at)?;
+            store(world, target, Value::TerraFunction(function))?;
+            Ok(function)
+        }
+    }
+}
+
+/// Defines the function of a target.
 pub fn define_target<'a>(
     tree: &'a Tree<'a>,
     frames: &mut Vec<SpecFrame<'a>>,
@@ -97,14 +113,7 @@ pub fn define_target<'a>(
         world.old budget.old frames.new.items step world.new budget.new) }
     ensures kept { OnOk result (KeepsStage world.old world.new) }
 {
-    let function = match standing(world, target) {
-        Some(function) => function,
-        None => {
-            let function = world.store.declare(None, at)?;
-            store(world, target, Value::TerraFunction(function))?;
-            function
-        }
-    };
+    let function = target_function(world, target, at)?;
     let definition = Definition {
         function,
         body,

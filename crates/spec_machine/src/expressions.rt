@@ -13,7 +13,7 @@ ghost use Rattle.spec_model.specs.Expressions as plans;
 ghost use Rattle.spec_machine.specs.Frames.{with_initial, initials_from};
 ghost use Rattle.spec_machine.specs.Keeping.{KeepsStage};
 ghost use Rattle.spec_machine.specs.Slots.{ArePaths};
-ghost use Rattle.spec_machine.specs.Declared.{initial_in};
+ghost use Rattle.spec_machine.specs.Agreeing.{initial_in};
 ghost use Rattle.exotype.specs.World.{StageState};
 ghost use Rattle.spec_machine.specs.Steps.{Goes, Does};
 
@@ -267,14 +267,16 @@ pub fn constructed<'a>(
         world.old budget.old frames.new.items step world.new budget.new) }
     ensures kept { OnOk result (KeepsStage world.old world.new) }
 {
-    let reached = match end {
-        End::Found(value, _) => type_from(world, budget, value, frame.at)?,
-        End::Made(term) => type_of_term(world, budget, term, frame.at)?,
-        end => Reached::Left(Step::Return(end)),
-    };
-    match reached {
-        Reached::Value(of) => construct(tree, frames, world, of, frame),
-        Reached::Left(step) => Ok(step),
+    match end {
+        End::Found(value, _) => match type_from(world, budget, value, frame.at)? {
+            Reached::Value(of) => construct(tree, frames, world, of, frame),
+            Reached::Left(step) => Ok(step),
+        },
+        End::Made(term) => match type_of_term(world, budget, term, frame.at)? {
+            Reached::Value(of) => construct(tree, frames, world, of, frame),
+            Reached::Left(step) => Ok(step),
+        },
+        end => Ok(Step::Return(end)),
     }
 }
 

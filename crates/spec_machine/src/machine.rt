@@ -467,7 +467,7 @@ fn next<'a>(
 }
 
 impl<'a> Machine for Steps<'a> {
-    ghost use Rattle.spec_machine.proofs.Keeping.{keeps_itself, keeps_then};
+    ghost use Rattle.spec_machine.specs.Kept.{keeps_itself, keeps_then};
 
     type World = World;
 

@@ -5,7 +5,7 @@ ghost use Rattle.tl_tree.specs.Arena.{items_of};
 ghost use Rattle.tl_tree.specs.Code.{Items};
 ghost use Rattle.exotype.specs.World.{StageState, with_heap};
 ghost use Rattle.terra_types.specs.Making.{same_types};
-ghost use Rattle.spec_machine.specs.Declared.{agreed, with_parameters};
+ghost use Rattle.spec_machine.specs.Agreeing.{agreed, with_parameters};
 ghost use Rattle.spec_machine.specs.declared.frame.ValueFrame.TheVariants as of_value;
 ghost use Rattle.spec_model.specs.Making.{symbol_type, declared_type, form_at};
 ghost use Rattle.spec_model.specs.Nodes.{typing_at, escaped_at};

@@ -88,3 +88,13 @@ pub fn term_list(terms: Row<TermId>) -> Result<TermList, NoMemory>
 {
     TermList::from_vec(terms.items)
 }
+
+/// The terms where there are some, as a list within a term.
+pub fn list_if_any(terms: Option<Row<TermId>>) -> Result<Option<TermList>, NoMemory>
+    ensures { IfOk result (λ list. list ≡ terms) }
+{
+    match terms {
+        Some(terms) => Ok(Some(term_list(terms)?)),
+        None => Ok(None),
+    }
+}

@@ -10,7 +10,7 @@ ghost use Rattle.spec_model.specs.Plans.{SpecPlan};
 ghost use Rattle.spec_model.specs.Structs as plans;
 ghost use Rattle.spec_machine.specs.Frames as frames;
 ghost use Rattle.spec_machine.specs.Keeping.{KeepsStage};
-ghost use Rattle.spec_machine.specs.Declared.{struct_made};
+ghost use Rattle.spec_machine.specs.Agreeing.{struct_made};
 ghost use Rattle.spec_machine.specs.declared.frame.TargetThen.TheVariants as of_target;
 ghost use Rattle.spec_machine.specs.declared.frame.ValueFrame.TheVariants as of_value;
 ghost use Rattle.spec_machine.specs.Steps.{Goes, Runs};

@@ -18,7 +18,7 @@ use crate::code::{escaped, place, typing_at};
 use crate::frame::{NextFrame, SpecFrame, TermsFrame, TermsThen, ValueFrame, VarFrame};
 use crate::names::declare;
 use crate::reached::SpecStep;
-use crate::row::{Row, term_list};
+use crate::row::{Row, list_if_any};
 use crate::terms::join;
 use exotype::World;
 use lua_value::Value;
@@ -200,10 +200,7 @@ pub fn declared(
     ensures kept { OnOk result (KeepsStage world.old world.new) }
 {
     let names = drawn(world, wanted.as_slice(), env)?;
-    let values = match values {
-        Some(terms) => Some(term_list(terms)?),
-        None => None,
-    };
+    let values = list_if_any(values)?;
     join(world, place, Statement::Var(names, values))
 }
 
