@@ -102,14 +102,14 @@ bounds_from items f ns ts = each_term ns f.env ts (λ us. for_plan_of items f f.
 -- what is done with the `if` that stands behind the `else` of the last of these arms
 abbrev pub behind : List Arm → (TermId → SpecPlan) → (TermId → SpecPlan)
 behind [] go = go
-behind (a ∷ as) go = behind as (λ t. node (terms.Statement a.place (s.If a.test a.statements (Some (t ∷ [])))) go)
+behind (a ∷ before) go = behind before (λ t. node (terms.Statement a.place (s.If a.test a.statements (Some (t ∷ [])))) go)
 
 abbrev pub joined_one : TermId → SpecPlan
 joined_one t = joined (t ∷ [])
 
 -- the last arm, with what stands behind its `else`
 abbrev pub last_arm : Arm → List Arm → Option (List TermId) → SpecPlan
-last_arm a as us = node (terms.Statement a.place (s.If a.test a.statements us)) (behind as joined_one)
+last_arm a before us = node (terms.Statement a.place (s.If a.test a.statements us)) (behind before joined_one)
 
 abbrev pub arm_of : ArmsFrame → TermId → List TermId → Arm
 arm_of f test ts = record { place = f.place; test = test; statements = ts }
@@ -221,7 +221,7 @@ block_then items (of_block.Repeat condition place) env ts = term condition env (
 block_then items (of_block.For x at bounds place) env ts = join place (s.For (record { symbol = x; of = None; place = at }) bounds ts)
 block_then items (of_block.Quoted value place) env ts = quoted_plan value ts place env
 block_then items (of_block.Arm test f) env ts = others items f test ts
-block_then items (of_block.Else a as) env ts = last_arm a as (Some ts)
+block_then items (of_block.Else a before) env ts = last_arm a before (Some ts)
 block_then items (of_block.Body d ds result) env ts = finish d.function ds result ts d.place (defined d)
 
 -- the statements that are left of a block

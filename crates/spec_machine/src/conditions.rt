@@ -10,7 +10,7 @@ ghost use Rattle.terra_term.specs.declared.term.Term.TheVariants as terms;
 ghost use Rattle.exotype.specs.World.{StageState};
 ghost use Rattle.spec_model.specs.Plans.{term, node};
 ghost use Rattle.spec_model.specs.Statements.{if_plan, inner_block, else_of};
-ghost use Rattle.spec_machine.specs.Frames as frames;
+ghost use Rattle.spec_machine.specs.Frames as waiting;
 ghost use Rattle.spec_machine.specs.Keeping.{KeepsStage};
 ghost use Rattle.spec_machine.specs.Steps.{Goes, Does, Gets};
 
@@ -69,7 +69,7 @@ fn arm<'a>(
         Goes (items_of tree.now) frames.old.items
         (term (arm_condition (item_at (items_of tree.now) node)) frame.entry.env (λ test.
         inner_block (items_of tree.now) (arm_block (item_at (items_of tree.now) node)) frame.entry.env
-        (λ ts. frames.others (items_of tree.now) frame.entry test ts)))
+        (λ ts. waiting.others (items_of tree.now) frame.entry test ts)))
         world left frames.new.items step world left) }
 {
     let (condition, block) = arm_parts(tree, node);
@@ -88,7 +88,7 @@ pub fn others<'a>(
     statements: Row<TermId>,
 ) -> Result<SpecStep, NoMemory>
     ensures means { IfOk result (λ step. (left : ℕ) →
-        Goes (items_of tree.now) frames.old.items (frames.others (items_of tree.now) frame.entry test statements)
+        Goes (items_of tree.now) frames.old.items (waiting.others (items_of tree.now) frame.entry test statements)
         world.old left frames.new.items step world.new left) }
     ensures kept { OnOk result (KeepsStage world.old world.new) }
 {
@@ -134,7 +134,7 @@ fn else_block<'a>(
 ) -> Result<SpecStep, NoMemory>
     ensures means { IfOk result (λ step. (left : ℕ) →
         Goes (items_of tree.now) frames.old.items
-        (else_of (items_of tree.now) [] otherwise env (λ us. frames.last_arm last.entry arms us))
+        (else_of (items_of tree.now) [] otherwise env (λ us. waiting.last_arm last arms us))
         world.old left frames.new.items step world.new left) }
     ensures kept { OnOk result (KeepsStage world.old world.new) }
 {
@@ -165,7 +165,7 @@ fn arm_statement(
     otherwise: Option<Row<TermId>>,
 ) -> Result<TermId, NoMemory>
     ensures means { IfOk result (λ t.
-        Gets (λ go. node (terms.Statement arm.entry.place (kinds.If arm.entry.test arm.entry.statements otherwise)) go)
+        Gets (λ go. node (terms.Statement arm.place (kinds.If arm.test arm.statements otherwise)) go)
         world.old t world.new) }
     ensures kept { OnOk result (KeepsStage world.old world.new) }
 {
@@ -183,7 +183,7 @@ pub fn last_arm(
     otherwise: Option<Row<TermId>>,
 ) -> Result<SpecStep, NoMemory>
     ensures means { IfOk result (λ step. (items : Items) (left : ℕ) →
-        Does items (frames.last_arm last.entry arms otherwise) world.old left step world.new left) }
+        Does items (waiting.last_arm last arms otherwise) world.old left step world.new left) }
     ensures kept { OnOk result (KeepsStage world.old world.new) }
 {
     let mut arms = arms;

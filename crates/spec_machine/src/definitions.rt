@@ -7,7 +7,7 @@ ghost use Rattle.exotype.specs.World.{StageState, with_heap};
 ghost use Rattle.spec_model.specs.Making.{is_undefined, form_at};
 ghost use Rattle.spec_model.specs.Nodes.{terra_parts_at};
 ghost use Rattle.spec_model.specs.Definitions as plans;
-ghost use Rattle.spec_machine.specs.Frames as frames;
+ghost use Rattle.spec_machine.specs.Frames as waiting;
 ghost use Rattle.spec_machine.specs.Agreeing.{standing_in};
 ghost use Rattle.spec_machine.specs.declared.frame.TargetThen.TheVariants as of_target;
 ghost use Rattle.spec_machine.specs.declared.frame.ValueFrame.TheVariants as of_value;
@@ -109,7 +109,7 @@ pub fn define_target<'a>(
 ) -> Result<SpecStep, NoMemory>
     ensures means { IfOk result (λ step.
         Goes (items_of tree.now) frames.old.items
-        (frames.with_target (items_of tree.now) (of_target.Terra body owner) at env target of)
+        (waiting.with_target (items_of tree.now) (of_target.Terra body owner) at env target of)
         world.old budget.old frames.new.items step world.new budget.new) }
     ensures kept { OnOk result (KeepsStage world.old world.new) }
 {
@@ -192,7 +192,7 @@ fn define<'a>(
     ensures means { IfOk result (λ step.
         Goes (items_of tree.now) frames.old.items
         (plans.define (items_of tree.now) definition.function (terra_parts_at (items_of tree.now) definition.body)
-        definition.owner of definition.place definition.env (frames.defined definition))
+        definition.owner of definition.place definition.env (waiting.defined definition))
         world.old budget.old frames.new.items step world.new budget.new) }
     ensures kept { OnOk result (KeepsStage world.old world.new) }
 {
@@ -254,7 +254,7 @@ pub fn finish(
     body: Row<TermId>,
 ) -> Result<SpecStep, NoMemory>
     ensures means { IfOk result (λ step. (items : Items) →
-        Does items (plans.finish definition.now.function drawn of body definition.now.place (frames.defined definition.now))
+        Does items (plans.finish definition.now.function drawn of body definition.now.place (waiting.defined definition.now))
         world.old budget.old step world.new budget.new) }
     ensures kept { OnOk result (KeepsStage world.old world.new) }
 {
@@ -275,7 +275,7 @@ pub fn finish(
 
 /// What a definition gives.
 fn defined(definition: &Definition) -> Value
-    ensures { frames.defined definition.now ≡ Give (Gave result) }
+    ensures { waiting.defined definition.now ≡ Give (Gave result) }
 {
     if definition.anonymous {
         Value::TerraFunction(definition.function)
@@ -293,7 +293,7 @@ pub fn declare_target<'a>(
     env: EnvId,
 ) -> Result<SpecStep, NoMemory>
     ensures means { IfOk result (λ step. (items : Items) (w : StageState) (left : ℕ) →
-        Goes items frames.old.items (frames.with_target items (of_target.Declare of) at env target None)
+        Goes items frames.old.items (waiting.with_target items (of_target.Declare of) at env target None)
         w left frames.new.items step w left) }
 {
     frames.push(SpecFrame::Value(ValueFrame::Declared(of, target, at)))?;
@@ -339,7 +339,7 @@ pub fn with_declared(
     at: Place,
 ) -> Result<SpecStep, NoMemory>
     ensures means { IfOk result (λ step.
-        Does (items_of tree.now) (frames.with_value (items_of tree.now) (of_value.Declared node target at) value)
+        Does (items_of tree.now) (waiting.with_value (items_of tree.now) (of_value.Declared node target at) value)
         world.old budget.old step world.new budget.new) }
     ensures kept { OnOk result (KeepsStage world.old world.new) }
 {

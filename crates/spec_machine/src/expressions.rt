@@ -203,7 +203,7 @@ pub fn select<'a>(
     env: EnvId,
 ) -> Result<SpecStep, NoMemory>
     ensures means { IfOk result (λ step.
-        Goes (items_of tree.now) frames.old.items (plans.select (items_of tree.now) end.entry name place env)
+        Goes (items_of tree.now) frames.old.items (plans.select (items_of tree.now) end name place env)
         world.old budget.old frames.new.items step world.new budget.new) }
     ensures kept { OnOk result (KeepsStage world.old world.new) }
 {
@@ -262,7 +262,7 @@ pub fn constructed<'a>(
 ) -> Result<SpecStep, NoMemory>
     ensures means { IfOk result (λ step.
         Goes (items_of tree.now) frames.old.items
-        (plans.constructed end.entry frame.now.at
+        (plans.constructed end frame.now.at
         (λ of. plans.construct (items_of tree.now) of frame.now.initials.now frame.now.place frame.now.env))
         world.old budget.old frames.new.items step world.new budget.new) }
     ensures kept { OnOk result (KeepsStage world.old world.new) }

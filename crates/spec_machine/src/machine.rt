@@ -5,7 +5,7 @@ ghost use Rattle.tl_tree.specs.Arena.{items_of};
 ghost use Rattle.tl_tree.specs.Code.{Items};
 ghost use Rattle.spec_model.specs.Meaning.{value_plan, definition_plan};
 ghost use Rattle.spec_model.specs.Plans.{as_term, as_terms, as_statements};
-ghost use Rattle.spec_machine.specs.Frames as frames;
+ghost use Rattle.spec_machine.specs.Frames as waiting;
 ghost use Rattle.spec_machine.specs.Frames.{spec_rules, is_go};
 ghost use Rattle.spec_machine.specs.Keeping.{KeepsStage};
 ghost use Rattle.spec_machine.specs.Slots.{ArePaths};
@@ -151,7 +151,7 @@ fn with_term<'a>(
     term: TermId,
 ) -> Result<SpecStep, NoMemory>
     ensures means { IfOk result (λ step.
-        Goes (items_of tree.now) frames.old.items (frames.with_term (items_of tree.now) frame.entry term)
+        Goes (items_of tree.now) frames.old.items (waiting.with_term (items_of tree.now) frame.entry term)
         world.old budget.old frames.new.items step world.new budget.new) }
     ensures kept { OnOk result (KeepsStage world.old world.new) }
 {
@@ -218,7 +218,7 @@ fn after_term<'a>(
     end: End,
 ) -> Result<SpecStep, NoMemory>
     ensures means { IfOk result (λ step.
-        Goes (items_of tree.now) frames.old.items (as_term end.entry (λ t. frames.with_term (items_of tree.now) frame.entry t))
+        Goes (items_of tree.now) frames.old.items (as_term end (λ t. waiting.with_term (items_of tree.now) frame.entry t))
         world.old budget.old frames.new.items step world.new budget.new) }
     ensures kept { OnOk result (KeepsStage world.old world.new) }
 {
@@ -242,7 +242,7 @@ fn after_terms<'a>(
 ) -> Result<SpecStep, NoMemory>
     ensures means { IfOk result (λ step. (items : Items) →
         Goes items frames.old.items
-        (as_terms end.entry frame.entry.terms (λ ts. frames.terms_plan items frame.entry.rest.now frame.entry.env ts frame.entry.then))
+        (as_terms end frame.entry.terms (λ ts. waiting.terms_plan items frame.entry.rest.now frame.entry.env ts frame.entry.then))
         world.old budget.old frames.new.items step world.new budget.new) }
     ensures kept { OnOk result (KeepsStage world.old world.new) }
 {
@@ -277,8 +277,8 @@ fn after_statement<'a>(
 ) -> Result<SpecStep, NoMemory>
     ensures means { IfOk result (λ step.
         Goes (items_of tree.now) frames.old.items
-        (as_statements end.entry frame.entry.terms
-        (λ ts. frames.block_plan (items_of tree.now) frame.entry.rest.now frame.entry.env ts frame.entry.then))
+        (as_statements end frame.entry.terms
+        (λ ts. waiting.block_plan (items_of tree.now) frame.entry.rest.now frame.entry.env ts frame.entry.then))
         world.old budget.old frames.new.items step world.new budget.new) }
     ensures kept { OnOk result (KeepsStage world.old world.new) }
 {
@@ -307,7 +307,7 @@ fn with_value<'a>(
     value: Value,
 ) -> Result<SpecStep, NoMemory>
     ensures means { IfOk result (λ step.
-        Goes (items_of tree.now) frames.old.items (frames.with_value (items_of tree.now) frame.entry value)
+        Goes (items_of tree.now) frames.old.items (waiting.with_value (items_of tree.now) frame.entry value)
         world.old budget.old frames.new.items step world.new budget.new) }
     ensures kept { OnOk result (KeepsStage world.old world.new) }
 {
@@ -395,7 +395,7 @@ fn after_value<'a>(
 ) -> Result<SpecStep, NoMemory>
     ensures means { IfOk result (λ step.
         Goes (items_of tree.now) frames.old.items
-        (frames.on_answer end.entry (λ vs. frames.with_value (items_of tree.now) frame.entry (first_value vs)))
+        (waiting.on_answer end (λ vs. waiting.with_value (items_of tree.now) frame.entry (first_value vs)))
         world.old budget.old frames.new.items step world.new budget.new) }
     ensures kept { OnOk result (KeepsStage world.old world.new) }
 {
@@ -426,7 +426,7 @@ fn after_emitted(
     end: End,
 ) -> Result<SpecStep, NoMemory>
     ensures means { IfOk result (λ step. (items : Items) →
-        Does items (frames.on_answer end.entry (λ vs. each_spliced vs at [] joined))
+        Does items (waiting.on_answer end (λ vs. each_spliced vs at [] joined))
         world.old budget.old step world.new budget.new) }
     ensures kept { OnOk result (KeepsStage world.old world.new) }
 {
@@ -445,7 +445,7 @@ fn next<'a>(
     frame: NextFrame<'a>,
 ) -> Result<SpecStep, NoMemory>
     ensures means { IfOk result (λ step.
-        Goes (items_of tree.now) frames.old.items (frames.next_plan (items_of tree.now) frame.entry)
+        Goes (items_of tree.now) frames.old.items (waiting.next_plan (items_of tree.now) frame.entry)
         world.old budget.old frames.new.items step world.new budget.new) }
     ensures kept { OnOk result (KeepsStage world.old world.new) }
 {
@@ -565,8 +565,12 @@ impl<'a> Machine for Steps<'a> {
 
     fn close(&self, end: End) -> SpecEnd {
         match end {
-            End::Found(value, _) | End::Gave(value) => SpecEnd::Done(value),
-            End::Made(_) | End::Joined(_) | End::Answered(_) => SpecEnd::Done(Value::Nil),
+            End::Found(value, _) => SpecEnd::Done(value),
+            End::Gave(value) => SpecEnd::Done(value),
+            // Nothing that is asked for ends so.
+            End::Made(_) => SpecEnd::Done(Value::Nil),
+            End::Joined(_) => SpecEnd::Done(Value::Nil),
+            End::Answered(_) => SpecEnd::Done(Value::Nil),
             End::Raised(value, place) => SpecEnd::Raised(value, place),
         }
     }

@@ -114,7 +114,7 @@ pub fn member<'a>(
 ) -> Result<SpecStep, NoMemory>
     ensures means { IfOk result (λ step. (left : ℕ) →
         Goes (items_of tree.now) frames.old.items
-        (plans.member (items_of tree.now) node env (λ t. with_member (items_of tree.now) then t))
+        (plans.member (items_of tree.now) node env (λ t. with_member (items_of tree.now) then.entry t))
         world.old left frames.new.items step world.new left) }
     ensures kept { OnOk result (KeepsStage world.old world.new) }
 {
@@ -139,7 +139,7 @@ pub fn with_member<'a>(
     text: TextId,
 ) -> Result<SpecStep, NoMemory>
     ensures means { IfOk result (λ step. (items : Items) (left : ℕ) →
-        Goes items frames.old.items (with_member items then text)
+        Goes items frames.old.items (with_member items then.entry text)
         world.old left frames.new.items step world.new left) }
     ensures kept { OnOk result (KeepsStage world.old world.new) }
 {

@@ -1,6 +1,6 @@
 // The parameters of a function, its result type, and the begin of its body.
 
-ghost use Rattle.std.specs.Prelude.{◌≡◌, ℕ, [], ◌∷◌, ◌++◌, List, Option, Some, None, IfOk, OnOk};
+ghost use Rattle.std.specs.Prelude.{◌≡◌, ℕ, true, IfOk, OnOk};
 ghost use Rattle.tl_tree.specs.Arena.{items_of};
 ghost use Rattle.tl_tree.specs.Code.{Items};
 ghost use Rattle.exotype.specs.World.{StageState, with_heap};
@@ -10,7 +10,7 @@ ghost use Rattle.spec_machine.specs.declared.frame.ValueFrame.TheVariants as of_
 ghost use Rattle.spec_model.specs.Making.{symbol_type, declared_type, form_at};
 ghost use Rattle.spec_model.specs.Nodes.{typing_at, escaped_at};
 ghost use Rattle.spec_model.specs.Definitions as plans;
-ghost use Rattle.spec_machine.specs.Frames as frames;
+ghost use Rattle.spec_machine.specs.Frames as waiting;
 ghost use Rattle.spec_machine.specs.Keeping.{KeepsStage};
 ghost use Rattle.spec_machine.specs.Steps.{Goes, Comes, Gets};
 
@@ -40,12 +40,18 @@ pub fn parameters<'a>(
 ) -> Result<SpecStep, NoMemory>
     ensures means { IfOk result (λ step.
         Goes (items_of tree.now) frames.old.items
-        (frames.parameters_from (items_of tree.now) frame.entry.definition frame.entry.rest.now frame.entry.drawn)
+        (waiting.parameters_from (items_of tree.now) frame.entry.definition frame.entry.rest.now frame.entry.drawn)
         world.old budget.old frames.new.items step world.new budget.new) }
     ensures kept { OnOk result (KeepsStage world.old world.new) }
 {
-    match frame.rest.split_first() {
-        None => with_parameters(tree, frames, world, budget, &frame.definition, frame.drawn),
+    let nodes = frame.rest;
+    match nodes.split_first() {
+        None => {
+            let ParameterFrame {
+                definition, drawn, ..
+            } = frame;
+            with_parameters(tree, frames, world, budget, &definition, drawn)
+        }
         Some((first, rest)) => {
             if !budget.pay(1) {
                 return Ok(Step::Spent);
@@ -66,7 +72,7 @@ fn parameter<'a>(
         Goes (items_of tree.now) frames.old.items
         (plans.parameter (items_of tree.now) (typing_at (items_of tree.now) node)
         (escaped_at (items_of tree.now) (typing_at (items_of tree.now) node).name) frame.entry.definition.env frame.entry.drawn
-        (λ more. frames.parameters_from (items_of tree.now) frame.entry.definition frame.entry.rest.now more))
+        (λ more. waiting.parameters_from (items_of tree.now) frame.entry.definition frame.entry.rest.now more))
         w left frames.new.items step w left) }
 {
     let typing = typing_at(tree, node);
@@ -100,7 +106,7 @@ pub fn with_symbols<'a>(
 ) -> Result<SpecStep, NoMemory>
     ensures means { IfOk result (λ step.
         Goes (items_of tree.now) frames.old.items
-        (frames.with_value (items_of tree.now) (of_value.Spliced node frame.entry) value)
+        (waiting.with_value (items_of tree.now) (of_value.Spliced node frame.entry) value)
         world.old budget.old frames.new.items step world.new budget.new) }
     ensures kept { OnOk result (KeepsStage world.old world.new) }
 {
@@ -194,7 +200,7 @@ fn with_parameters<'a>(
 ) -> Result<SpecStep, NoMemory>
     ensures means { IfOk result (λ step.
         Goes (items_of tree.now) frames.old.items
-        (frames.with_parameters (items_of tree.now) definition.now drawn)
+        (waiting.with_parameters (items_of tree.now) definition.now drawn)
         world.old budget.old frames.new.items step world.new budget.new) }
     ensures kept { OnOk result (KeepsStage world.old world.new) }
 {
@@ -220,7 +226,7 @@ pub fn with_result<'a>(
 ) -> Result<SpecStep, NoMemory>
     ensures means { IfOk result (λ step.
         Goes (items_of tree.now) frames.old.items
-        (frames.with_result (items_of tree.now) definition.now drawn written)
+        (waiting.with_result (items_of tree.now) definition.now drawn written)
         world.old budget.old frames.new.items step world.new budget.new) }
     ensures kept { OnOk result (KeepsStage world.old world.new) }
 {
@@ -305,7 +311,7 @@ fn body<'a>(
     of: Option<TypeId>,
 ) -> Result<SpecStep, NoMemory>
     ensures means { IfOk result (λ step.
-        Goes (items_of tree.now) frames.old.items (frames.body_plan (items_of tree.now) definition.now drawn of)
+        Goes (items_of tree.now) frames.old.items (waiting.body_plan (items_of tree.now) definition.now drawn of)
         world.old budget.old frames.new.items step world.new budget.new) }
     ensures kept { OnOk result (KeepsStage world.old world.new) }
 {

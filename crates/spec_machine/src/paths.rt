@@ -8,7 +8,7 @@ ghost use Rattle.spec_model.specs.Definitions as plans;
 ghost use Rattle.spec_model.specs.Expressions as models;
 ghost use Rattle.spec_machine.specs.declared.frame.ValueFrame.TheVariants as of_value;
 ghost use Rattle.spec_model.specs.Plans.{with_text_of};
-ghost use Rattle.spec_machine.specs.Frames as frames;
+ghost use Rattle.spec_machine.specs.Frames as waiting;
 ghost use Rattle.spec_machine.specs.Keeping.{KeepsStage};
 ghost use Rattle.spec_machine.specs.Slots.{ArePaths};
 ghost use Rattle.spec_machine.specs.Steps.{Goes};
@@ -43,7 +43,7 @@ pub fn target<'a>(
     requires { ArePaths (items_of tree.now) slots.now }
     ensures means { IfOk result (λ step.
         Goes (items_of tree.now) frames.old.items
-        (plans.target (items_of tree.now) path env (λ t struct. frames.with_target (items_of tree.now) then at env t struct))
+        (plans.target (items_of tree.now) path env (λ t struct. waiting.with_target (items_of tree.now) then.entry at env t struct))
         world.old budget.old frames.new.items step world.new budget.new) }
     ensures kept { OnOk result (KeepsStage world.old world.new) }
 {
@@ -85,7 +85,7 @@ fn only_name<'a>(
     ensures means { IfOk result (λ step.
         Goes (items_of tree.now) frames.old.items
         (plans.only_name (binder (items_of tree.now) node) (name_at (items_of tree.now) node) frame.now.env
-        (frames.path_end (items_of tree.now) frame.now))
+        (waiting.path_end (items_of tree.now) frame.now))
         world.old budget.old frames.new.items step world.new budget.new) }
     ensures kept { OnOk result (KeepsStage world.old world.new) }
 {
@@ -115,8 +115,8 @@ fn first_name<'a>(
     requires { ArePaths (items_of tree.now) slots.now }
     ensures means { IfOk result (λ step.
         Goes (items_of tree.now) frames.old.items
-        (models.named_value (binder (items_of tree.now) node) (name_at (items_of tree.now) node) (place_at (items_of tree.now) node) frame.env
-        (λ object. frames.with_value (items_of tree.now) (of_value.Path frame) object))
+        (models.named_value (binder (items_of tree.now) node) (name_at (items_of tree.now) node) (place_at (items_of tree.now) node) frame.entry.env
+        (λ object. waiting.with_value (items_of tree.now) (of_value.Path frame.entry) object))
         world.old budget.old frames.new.items step world.new budget.new) }
     ensures kept { OnOk result (KeepsStage world.old world.new) }
 {
@@ -146,7 +146,7 @@ pub fn names<'a>(
 ) -> Result<SpecStep, NoMemory>
     ensures means { IfOk result (λ step.
         Goes (items_of tree.now) frames.old.items
-        (frames.with_value (items_of tree.now) (of_value.Path frame) object)
+        (waiting.with_value (items_of tree.now) (of_value.Path frame.entry) object)
         world.old budget.old frames.new.items step world.new budget.new) }
     ensures kept { OnOk result (KeepsStage world.old world.new) }
 {
@@ -185,7 +185,7 @@ fn key<'a>(
     ensures means { IfOk result (λ step.
         Goes (items_of tree.now) frames.old.items
         (with_text_of (name_at (items_of tree.now) node) (λ name. plans.key name object (place_at (items_of tree.now) node)
-        (frames.path_end (items_of tree.now) frame.now)))
+        (waiting.path_end (items_of tree.now) frame.now)))
         world.old budget.old frames.new.items step world.new budget.new) }
     ensures kept { OnOk result (KeepsStage world.old world.new) }
 {
@@ -217,7 +217,7 @@ fn method_key<'a>(
     ensures means { IfOk result (λ step.
         Goes (items_of tree.now) frames.old.items
         (with_text_of (name_at (items_of tree.now) node) (λ name. plans.method_key name object (place_at (items_of tree.now) node)
-        (frames.path_end (items_of tree.now) frame.now)))
+        (waiting.path_end (items_of tree.now) frame.now)))
         world.old budget.old frames.new.items step world.new budget.new) }
     ensures kept { OnOk result (KeepsStage world.old world.new) }
 {
@@ -252,7 +252,7 @@ fn at_target<'a>(
     frame: &PathFrame<'a>,
 ) -> Result<SpecStep, NoMemory>
     ensures means { IfOk result (λ step.
-        Goes (items_of tree.now) frames.old.items (frames.path_end (items_of tree.now) frame.now target of)
+        Goes (items_of tree.now) frames.old.items (waiting.path_end (items_of tree.now) frame.now target of)
         world.old budget.old frames.new.items step world.new budget.new) }
     ensures kept { OnOk result (KeepsStage world.old world.new) }
 {

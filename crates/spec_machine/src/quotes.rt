@@ -201,9 +201,9 @@ pub fn quote_let(
 
 /// Makes a quote, which is the end.
 fn give_quote(world: &mut World, quote: Quote) -> Result<SpecStep, NoMemory>
-    requires { QuotesTyped (length world.old.store.typed) quote.entry }
+    requires { QuotesTyped (length world.old.store.typed) quote }
     ensures means { IfOk result (λ step. (items : Items) (left : ℕ) →
-        Does items (plans.give_quote quote.entry) world.old left step world.new left) }
+        Does items (plans.give_quote quote) world.old left step world.new left) }
     ensures kept { OnOk result (KeepsStage world.old world.new) }
 {
     let quote = world.store.new_quote(quote)?;

@@ -8,7 +8,7 @@ ghost use Rattle.lua_value.specs.Numbers.{number_from};
 ghost use Rattle.spec_model.specs.Nodes.{typing_at};
 ghost use Rattle.spec_model.specs.Plans.{SpecPlan};
 ghost use Rattle.spec_model.specs.Structs as plans;
-ghost use Rattle.spec_machine.specs.Frames as frames;
+ghost use Rattle.spec_machine.specs.Frames as waiting;
 ghost use Rattle.spec_machine.specs.Keeping.{KeepsStage};
 ghost use Rattle.spec_machine.specs.Agreeing.{struct_made};
 ghost use Rattle.spec_machine.specs.declared.frame.TargetThen.TheVariants as of_target;
@@ -40,7 +40,7 @@ pub fn struct_target<'a>(
 ) -> Result<SpecStep, NoMemory>
     ensures means { IfOk result (λ step. (left : ℕ) →
         Goes (items_of tree.now) frames.old.items
-        (frames.with_target (items_of tree.now) (of_target.Struct entries.entry) at env target None)
+        (waiting.with_target (items_of tree.now) (of_target.Struct entries.entry) at env target None)
         world.old left frames.new.items step world.new left) }
     ensures kept { OnOk result (KeepsStage world.old world.new) }
 {
@@ -117,7 +117,7 @@ pub fn more_entries<'a>(
 ) -> Result<SpecStep, NoMemory>
     ensures means { IfOk result (λ step. (w : StageState) (left : ℕ) →
         Goes (items_of tree.now) frames.old.items
-        (frames.entries_from (items_of tree.now) frame frame.rest.now frame.number)
+        (waiting.entries_from (items_of tree.now) frame.entry frame.entry.rest.now frame.entry.number)
         w left frames.new.items step w left) }
 {
     match frame.rest.split_first() {
@@ -149,7 +149,7 @@ fn entry_type<'a>(
 ) -> Result<SpecStep, NoMemory>
     ensures means { IfOk result (λ step. (items : Items) (w : StageState) (left : ℕ) →
         (typing_at items node).type ≡ of →
-        Goes items frames.old.items (frames.entries_from items frame (node ∷ frame.rest.now) frame.number)
+        Goes items frames.old.items (waiting.entries_from items frame.entry (node ∷ frame.entry.rest.now) frame.entry.number)
         w left frames.new.items step w left) }
 {
     match of {
@@ -185,7 +185,7 @@ pub fn with_entry<'a>(
 ) -> Result<SpecStep, NoMemory>
     ensures means { IfOk result (λ step.
         Goes (items_of tree.now) frames.old.items
-        (frames.with_value (items_of tree.now) (of_value.EntryType node of frame) value)
+        (waiting.with_value (items_of tree.now) (of_value.EntryType node of frame.entry) value)
         world.old budget.old frames.new.items step world.new budget.new) }
     ensures kept { OnOk result (KeepsStage world.old world.new) }
 {

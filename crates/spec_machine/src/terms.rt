@@ -177,9 +177,9 @@ pub fn make(
     place: Place,
     expression: Expression,
 ) -> Result<SpecStep, NoMemory>
-    requires { NamesTyped (length world.old.store.typed) (kinds.Expression place expression.entry) }
+    requires { NamesTyped (length world.old.store.typed) (kinds.Expression place expression) }
     ensures means { IfOk result (λ step. (items : Items) (left : ℕ) →
-        Does items (plans.make place expression.entry) world.old left step world.new left) }
+        Does items (plans.make place expression) world.old left step world.new left) }
     ensures kept { OnOk result (KeepsStage world.old world.new) }
 {
     let term = world.store.new_term(Term::Expression(place, expression))?;
@@ -189,7 +189,7 @@ pub fn make(
 /// Makes a statement, which is the end.
 pub fn join(world: &mut World, place: Place, statement: Statement) -> Result<SpecStep, NoMemory>
     ensures means { IfOk result (λ step. (items : Items) (left : ℕ) →
-        Does items (plans.join place statement.entry) world.old left step world.new left) }
+        Does items (plans.join place statement) world.old left step world.new left) }
     ensures kept { OnOk result (KeepsStage world.old world.new) }
 {
     let term = world.store.new_term(Term::Statement(place, statement))?;

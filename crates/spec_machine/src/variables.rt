@@ -10,7 +10,7 @@ ghost use Rattle.terra_term.specs.declared.lists.VarName.{VarName};
 ghost use Rattle.spec_model.specs.Plans as models;
 ghost use Rattle.spec_model.specs.Types.{type_if_any};
 ghost use Rattle.spec_model.specs.Statements as plans;
-ghost use Rattle.spec_machine.specs.Frames as frames;
+ghost use Rattle.spec_machine.specs.Frames as waiting;
 ghost use Rattle.spec_machine.specs.Keeping.{KeepsStage};
 ghost use Rattle.spec_machine.specs.Steps.{Goes, Does, Gets};
 
@@ -37,11 +37,12 @@ pub fn variables<'a>(
 ) -> Result<SpecStep, NoMemory>
     ensures means { IfOk result (λ step.
         Goes (items_of tree.now) frames.old.items
-        (frames.wanted_from (items_of tree.now) frame.entry frame.entry.rest.now frame.entry.wanted)
+        (waiting.wanted_from (items_of tree.now) frame.entry frame.entry.rest.now frame.entry.wanted)
         world.old budget.old frames.new.items step world.new budget.new) }
     ensures kept { OnOk result (KeepsStage world.old world.new) }
 {
-    match frame.rest.split_first() {
+    let nodes = frame.rest;
+    match nodes.split_first() {
         None => values(frames, world, frame),
         Some((first, rest)) => {
             if !budget.pay(1) {
@@ -62,7 +63,7 @@ fn variable<'a>(
 ) -> Result<SpecStep, NoMemory>
     ensures means { IfOk result (λ step. (left : ℕ) →
         Goes (items_of tree.now) frames.old.items
-        (frames.variable_plan (items_of tree.now) node frame.entry)
+        (waiting.variable_plan (items_of tree.now) node frame.entry)
         world.old left frames.new.items step world.new left) }
     ensures kept { OnOk result (KeepsStage world.old world.new) }
 {
@@ -88,7 +89,7 @@ pub fn variable_type<'a>(
     ensures means { IfOk result (λ step. (left : ℕ) →
         Goes (items_of tree.now) frames.old.items
         (type_if_any (items_of tree.now) (typing_at (items_of tree.now) node).type frame.entry.env
-        (λ of. frames.with_wanted (items_of tree.now) node symbols frame.entry of))
+        (λ of. waiting.with_wanted (items_of tree.now) node symbols frame.entry of))
         world.old left frames.new.items step world.new left) }
     ensures kept { OnOk result (KeepsStage world.old world.new) }
 {
@@ -119,7 +120,7 @@ pub fn with_wanted<'a>(
     ensures values { IfOk result (λ f. f.values.now ≡ frame.entry.values.now) }
     ensures place { IfOk result (λ f. f.place ≡ frame.entry.place) }
     ensures env { IfOk result (λ f. f.env ≡ frame.entry.env) }
-    ensures wanted { IfOk result (λ f. f.wanted ≡ frame.entry.wanted ++ frames.wanted_of (items_of tree.now) node symbols of) }
+    ensures wanted { IfOk result (λ f. f.wanted ≡ frame.entry.wanted ++ waiting.wanted_of (items_of tree.now) node symbols of) }
 {
     let at = place(tree, typing_at(tree, node).name);
     let mut frame = frame;
@@ -160,7 +161,7 @@ fn values<'a>(
     frame: VarFrame<'a>,
 ) -> Result<SpecStep, NoMemory>
     ensures means { IfOk result (λ step. (items : Items) (left : ℕ) →
-        Goes items frames.old.items (frames.wanted_from items frame.entry [] frame.entry.wanted)
+        Goes items frames.old.items (waiting.wanted_from items frame.entry [] frame.entry.wanted)
         world.old left frames.new.items step world.new left) }
     ensures kept { OnOk result (KeepsStage world.old world.new) }
 {
