@@ -67,4 +67,3 @@ keeps_then u v w f g = record {
   exports = g.exports ∙ f.exports;
   memory = g.memory ∙ f.memory;
 }
-

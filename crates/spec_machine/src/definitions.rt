@@ -210,11 +210,7 @@ fn define<'a>(
 }
 
 /// The implicit first parameter of a method.
-fn self_parameter(
-    world: &mut World,
-    of: Option<TypeId>,
-    at: Place,
-) -> Result<Row<Drawn>, NoMemory>
+fn self_parameter(world: &mut World, of: Option<TypeId>, at: Place) -> Result<Row<Drawn>, NoMemory>
     ensures means { IfOk result (λ drawn. Gets (λ go. plans.self of at go) world.old drawn world.new) }
     ensures kept { OnOk result (KeepsStage world.old world.new) }
 {

@@ -97,11 +97,7 @@ fn use_of<'a>(
         None => {
             let text = text(world, name.as_bytes())?;
             frames.push(SpecFrame::Value(ValueFrame::Found(place)))?;
-            Ok(Step::Stop(SpecQuestion::Index(
-                Value::Table(GLOBALS),
-                text,
-                place,
-            )))
+            Ok(Step::Stop(SpecQuestion::Index(Value::Table(GLOBALS), text, place)))
         }
     }
 }

@@ -286,4 +286,3 @@ pub enum NextFrame<'a> {
     /// The name in it is that of no initialiser.
     Initials(InitialFrame<'a>),
 }
-

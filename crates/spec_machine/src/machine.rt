@@ -112,15 +112,11 @@ fn definition<'a>(
     match statement {
         LuaStatement::Terra(path, body) => {
             let then = TargetThen::Terra(*body, node);
-            target(
-                tree, slots, frames, world, budget, *path, then, at, env,
-            )
+            target(tree, slots, frames, world, budget, *path, then, at, env)
         }
         LuaStatement::DeclareTerra(path, of) => {
             let then = TargetThen::Declare(*of);
-            target(
-                tree, slots, frames, world, budget, *path, then, at, env,
-            )
+            target(tree, slots, frames, world, budget, *path, then, at, env)
         }
         LuaStatement::LocalTerra(word, _, body) => {
             define_local(tree, frames, world, budget, *body, *word, env)
@@ -130,9 +126,7 @@ fn definition<'a>(
         }
         LuaStatement::Struct(path, entries) => {
             let then = TargetThen::Struct(entries.as_slice());
-            target(
-                tree, slots, frames, world, budget, *path, then, at, env,
-            )
+            target(tree, slots, frames, world, budget, *path, then, at, env)
         }
         LuaStatement::LocalStruct(word, _, entries) => {
             local_struct(tree, frames, world, entries.as_slice(), *word, env)
@@ -187,9 +181,7 @@ fn with_term<'a>(
         TermFrame::Bound(limit, step, before, frame) => {
             let mut before = before;
             before.push(term)?;
-            more_bounds(
-                tree, frames, world, budget, limit, step, before, frame,
-            )
+            more_bounds(tree, frames, world, budget, limit, step, before, frame)
         }
         TermFrame::Perform(place) => join(world, place, Statement::Perform(term)),
         TermFrame::While(block, place, env) => {

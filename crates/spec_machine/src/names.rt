@@ -146,11 +146,7 @@ pub fn with_member<'a>(
     match then {
         MemberThen::Table(table, place) => {
             frames.push(SpecFrame::Value(ValueFrame::Found(place)))?;
-            Ok(Step::Stop(SpecQuestion::Index(
-                Value::Table(table),
-                text,
-                place,
-            )))
+            Ok(Step::Stop(SpecQuestion::Index(Value::Table(table), text, place)))
         }
         MemberThen::Select(object, place) => {
             naming(world, text)?;
@@ -176,9 +172,7 @@ pub fn symbols_of(
     ensures kept { OnOk result (KeepsStage world.old world.new) }
 {
     match value {
-        Value::Symbol(symbol) => {
-            Ok(Reached::Value(single(world.heap.allocator(), symbol)?))
-        }
+        Value::Symbol(symbol) => { Ok(Reached::Value(single(world.heap.allocator(), symbol)?)) }
         Value::Table(table) => {
             let values = values_in(&world.heap, table)?;
             symbols_in(world, budget, values.as_slice(), at)

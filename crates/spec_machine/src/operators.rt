@@ -11,7 +11,9 @@ use tl_tree::{BinaryOperator as Written, UnaryOperator as WrittenUnary};
 
 /// The types of numerals, which are there from the begin.
 const INT32: TypeId = TypeId(2);
+
 const INT64: TypeId = TypeId(3);
+
 const UINT64: TypeId = TypeId(7);
 
 /// The operator between two operands that is written so. No Terra code has `->` or `..`.

@@ -16,9 +16,7 @@ ghost use Rattle.spec_machine.specs.Steps.{Goes, Comes, Gets};
 
 use crate::blocks::statements;
 use crate::code::{block_statements, escaped, place, terra_parts, typing_at};
-use crate::frame::{
-    BlockThen, Definition, NextFrame, ParameterFrame, SpecFrame, ValueFrame,
-};
+use crate::frame::{BlockThen, Definition, NextFrame, ParameterFrame, SpecFrame, ValueFrame};
 use crate::names::{declare, symbols_of};
 use crate::raise::raise;
 use crate::reached::{Reached, SpecStep};
@@ -48,7 +46,9 @@ pub fn parameters<'a>(
     match nodes.split_first() {
         None => {
             let ParameterFrame {
-                definition, drawn, ..
+                definition,
+                drawn,
+                ..
             } = frame;
             with_parameters(tree, frames, world, budget, &definition, drawn)
         }
@@ -315,9 +315,7 @@ fn body<'a>(
         world.old budget.old frames.new.items step world.new budget.new) }
     ensures kept { OnOk result (KeepsStage world.old world.new) }
 {
-    let inner = world
-        .heap
-        .new_env(definition.owner, Some(definition.env))?;
+    let inner = world.heap.new_env(definition.owner, Some(definition.env))?;
     declare_all(world, drawn.as_slice(), inner)?;
     let none = Row::new(world.heap.allocator());
     let nodes = block_statements(tree, terra_parts(tree, definition.body).block);

@@ -128,8 +128,7 @@ fn first_name<'a>(
         None => {
             let text = text(world, name(tree, node).as_bytes())?;
             frames.push(SpecFrame::Value(ValueFrame::Path(frame)))?;
-            let question =
-                SpecQuestion::Index(Value::Table(GLOBALS), text, place(tree, node));
+            let question = SpecQuestion::Index(Value::Table(GLOBALS), text, place(tree, node));
             Ok(Step::Stop(question))
         }
     }
@@ -163,11 +162,7 @@ pub fn names<'a>(
             let frame = PathFrame { rest, ..frame };
             let text = text(world, name(tree, *next).as_bytes())?;
             frames.push(SpecFrame::Value(ValueFrame::Path(frame)))?;
-            Ok(Step::Stop(SpecQuestion::Index(
-                object,
-                text,
-                place(tree, *next),
-            )))
+            Ok(Step::Stop(SpecQuestion::Index(object, text, place(tree, *next))))
         }
     }
 }

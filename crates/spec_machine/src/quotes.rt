@@ -78,7 +78,9 @@ fn names_size(count: usize) -> Size
 pub fn function_size(world: &World, parameters: usize, body: &[TermId]) -> Size
     ensures { result ≡ function_size world.now parameters body.now }
 {
-    names_size(parameters).joined(terms_size(world, body)).above()
+    names_size(parameters)
+        .joined(terms_size(world, body))
+        .above()
 }
 
 /// Specialises what stands behind a backtick.

@@ -42,10 +42,7 @@ fn performed(
 }
 
 /// The statements of a quote of statements.
-fn quoted_statements(
-    world: &World,
-    quote: QuoteId,
-) -> Result<Option<Row<TermId>>, NoMemory>
+fn quoted_statements(world: &World, quote: QuoteId) -> Result<Option<Row<TermId>>, NoMemory>
     ensures { IfOk result (λ terms. terms ≡ statements_in (quote_at world.now quote)) }
 {
     match world.store.quote(quote) {

@@ -222,7 +222,9 @@ fn put_entry(
         .heap
         .store(entry, Value::Text(kind), Value::TerraType(of))?;
     match numbered(number) {
-        Some(key) => world.heap.store(entries, Value::Number(key), Value::Table(entry)),
+        Some(key) => world
+            .heap
+            .store(entries, Value::Number(key), Value::Table(entry)),
         None => Ok(()),
     }
 }

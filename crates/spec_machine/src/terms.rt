@@ -172,11 +172,7 @@ pub fn listed(
 }
 
 /// Makes an expression, which is the end.
-pub fn make(
-    world: &mut World,
-    place: Place,
-    expression: Expression,
-) -> Result<SpecStep, NoMemory>
+pub fn make(world: &mut World, place: Place, expression: Expression) -> Result<SpecStep, NoMemory>
     requires { NamesTyped (length world.old.store.typed) (kinds.Expression place expression) }
     ensures means { IfOk result (λ step. (items : Items) (left : ℕ) →
         Does items (plans.make place expression) world.old left step world.new left) }

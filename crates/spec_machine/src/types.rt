@@ -22,11 +22,7 @@ use tl_base::{Budget, NoMemory, Place, QuoteId, Step, TermId, TypeId};
 const UNIT: TypeId = TypeId(9);
 
 /// Raises that what stands there is no type.
-fn no_type(
-    world: &mut World,
-    budget: &mut Budget,
-    at: Place,
-) -> Result<Reached<TypeId>, NoMemory>
+fn no_type(world: &mut World, budget: &mut Budget, at: Place) -> Result<Reached<TypeId>, NoMemory>
     ensures means { IfOk result (λ reached.
         Comes (λ (go : TypeId → SpecPlan). raise at Fault.NotAType) world.old budget.old reached world.new budget.new) }
     ensures kept { OnOk result (KeepsStage world.old world.new) }

@@ -28,17 +28,35 @@ pub fn name_globals(world: &mut World) -> Result<(), NoMemory> {
     for at in 0..12 {
         let (name, number) = TYPES[at];
         let key = world.heap.intern(name.as_bytes())?;
-        world.heap.store(TableId(0), Value::Text(key), Value::TerraType(TypeId(number)))?;
+        world.heap.store(
+            TableId(0),
+            Value::Text(key),
+            Value::TerraType(TypeId(number)),
+        )?;
     }
     let symbol = world.heap.intern(b"symbol")?;
-    world.heap.store(TableId(0), Value::Text(symbol), Value::Library(LibFn::Symbol))?;
+    world.heap.store(
+        TableId(0),
+        Value::Text(symbol),
+        Value::Library(LibFn::Symbol),
+    )?;
     let sizes = world.heap.intern(b"sizeof")?;
-    world.heap.store(TableId(0), Value::Text(sizes), Value::Library(LibFn::SizeOf))?;
+    world.heap.store(
+        TableId(0),
+        Value::Text(sizes),
+        Value::Library(LibFn::SizeOf),
+    )?;
     let lib = world.heap.new_table()?;
     let name = world.heap.intern(b"terralib")?;
-    world.heap.store(TableId(0), Value::Text(name), Value::Table(lib))?;
+    world
+        .heap
+        .store(TableId(0), Value::Text(name), Value::Table(lib))?;
     let byte = world.heap.intern(b"putbyte")?;
-    world.heap.store(lib, Value::Text(byte), Value::Primitive(terra_term::Primitive::PutByte))
+    world.heap.store(
+        lib,
+        Value::Text(byte),
+        Value::Primitive(terra_term::Primitive::PutByte),
+    )
 }
 
 fn argument(call: &LibCall, at: usize) -> Value {
