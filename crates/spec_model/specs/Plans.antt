@@ -106,7 +106,7 @@ abbrev pub literal : List ℕ → Place → (TermId → SpecPlan) → SpecPlan
 literal bytes place go = Read (λ w. Write (after w place (Text bytes)) (on_became (became_of w (Text bytes)) place go))
 
 -- the values of a table, from 1 to its border
-abbrev values_below : ℕ → Pairs → List Value
+abbrev pub values_below : ℕ → Pairs → List Value
 values_below zero pairs = []
 values_below (suc n) pairs = values_below n pairs ++ value_at pairs (n + 1) ∷ []
 
