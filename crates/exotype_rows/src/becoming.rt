@@ -5,7 +5,10 @@ use crate::words::{bytes_of, number_at, word_at};
 use exotype::{Became, World};
 use lua_value::Primitive;
 use std::alloc::Global;
-use terra_term::{Constant, Expression, Quote, Statement, Term, TerraConstant, TermList, Typed, TypedExpression, UnaryOperator};
+use terra_term::{
+    Constant, Expression, Quote, Statement, Term, TermList, TerraConstant, Typed, TypedExpression,
+    UnaryOperator,
+};
 use tl_base::{NoMemory, Place, TermId, TypeId};
 
 /// The place of what puts a value into Terra code.

@@ -1,5 +1,5 @@
-//! Makes Lua values terms, asks for properties of types, makes types and exports, as the rows of standard input say, one row a line, and writes
-//! each row with what came out. `stdin` and `stdout` are written by `bench/exotype_rows`, by its own reading of the rules.
+//! Makes Lua values terms, asks for properties of types, makes types and exports, as the rows of standard input say, one row a line,
+//! and writes each row with what came out. `stdin` and `stdout` are written by `bench/exotype_rows`, by its own reading of the rules.
 #![tactic(auto)]
 
 mod becoming;
@@ -35,7 +35,11 @@ fn main(rt: HostRuntime) -> anyhow::Result<()> {
 /// A new world, whose program has so many bytes of memory.
 fn new_world(alloc: Global, words: &[&str]) -> Result<World, NoMemory> {
     let memory = number_at(words, 1);
-    let memory = if memory < MOST_MEMORY { memory } else { MOST_MEMORY };
+    let memory = if memory < MOST_MEMORY {
+        memory
+    } else {
+        MOST_MEMORY
+    };
     Ok(World::new(alloc, Types::new(alloc)?, memory))
 }
 
