@@ -49,7 +49,8 @@ abbrev number : Items
 number = kept.Numeral (p 2) (codes "1") ∷ kept.Expression (p 1) (expressions.Backtick (n 0)) ∷ []
 
 gives_a_quote :
-    ended (spec number (record { node = n 1; env = record { 0 = 0 } }) (given answers.Go world 5) []) ≡ Some (ends.Done (values.Quote (record { 0 = 0 })))
+    ended (spec number (record { node = n 1; env = record { 0 = 0 } }) (given answers.Go world 5) [])
+    ≡ Some (ends.Done (values.Quote (record { 0 = 0 })))
 unfolding run_within run_job value_of
 gives_a_quote = refl
 
@@ -64,6 +65,7 @@ escape =
     ∷ kept.Expression (p 1) (expressions.Backtick (n 1)) ∷ []
 
 asks_for_one :
-    asked (spec escape (record { node = n 2; env = record { 0 = 0 } }) (given answers.Go world 5) []) ≡ Some (questions.Eval (n 0) (record { 0 = 0 }))
+    asked (spec escape (record { node = n 2; env = record { 0 = 0 } }) (given answers.Go world 5) [])
+    ≡ Some (questions.Eval (n 0) (record { 0 = 0 }))
 unfolding run_within run_job
 asks_for_one = refl

@@ -28,7 +28,8 @@ use Rattle.exotype.specs.declared.fault.Fault.TheVariants as faults
 use Rattle.exotype.specs.World.{StageState, with_heap}
 use Rattle.exotype.specs.Types.{pointer_id, with_pointer, is_struct, tables_of}
 use Rattle.exotype.specs.Terms.{function_size}
-use Rattle.spec_model.specs.Making.{next_symbol, with_symbol, symbol_type, next_function, with_function, declared_type, is_undefined, with_defined, form_at}
+use Rattle.spec_model.specs.Making.{next_symbol, with_symbol, symbol_type, next_function, with_function, declared_type, is_undefined}
+use Rattle.spec_model.specs.Making.{with_defined, form_at}
 use Rattle.spec_model.specs.declared.end.End.TheVariants.{Gave}
 use Rattle.spec_model.specs.declared.target.Target.{Target}
 use Rattle.spec_model.specs.declared.target.Target.TheVariants as targets
@@ -68,14 +69,17 @@ key name v place go = raise place (faults.Index (kind_of v))
 
 abbrev method_key : TextId → Value → Place → Go → SpecPlan
 method_key name (values.TerraType t) place go =
-    Read (λ w. if is_struct w t then go (targets.Key (tables_of w t).methods name) (Some t) else raise place (faults.Index (kind_of (values.TerraType t))))
+    Read (λ w.
+    if is_struct w t then go (targets.Key (tables_of w t).methods name) (Some t)
+    else raise place (faults.Index (kind_of (values.TerraType t))))
 method_key name v place go = raise place (faults.Index (kind_of v))
 
 -- the names behind the first one: those before the last are read, and behind the `:` of a method its struct's methods take the last
 abbrev steps : Items → Bool → List NodeId → Value → Go → SpecPlan
 steps items method [] object go = raise (record { line = 0; word = 0 }) (faults.Index (kind_of object))
 steps items method (n ∷ []) object go =
-    with_text_of (name_at items n) (λ name. if method then method_key name object (place_at items n) go else key name object (place_at items n) go)
+    with_text_of (name_at items n) (λ name.
+    if method then method_key name object (place_at items n) go else key name object (place_at items n) go)
 steps items method (n ∷ m ∷ ns) object go = index object (name_at items n) (place_at items n) (λ next. steps items method (m ∷ ns) next go)
 
 abbrev only_name : Option Declared → List ℕ → EnvId → Go → SpecPlan
@@ -109,7 +113,8 @@ spliced (x ∷ xs) place ds go = Read (λ w. spliced_one x (symbol_type w x) pla
 
 abbrev named_parameter : Items → Typing → Option NodeId → EnvId → List Drawn → (List Drawn → SpecPlan) → SpecPlan
 named_parameter items p (Some type) env ds go =
-    type_of items type env (λ of. draw of (λ x. go (ds ++ record { symbol = x; of = of; place = place_at items p.name; named = true } ∷ [])))
+    type_of items type env (λ of. draw of (λ x.
+    go (ds ++ record { symbol = x; of = of; place = place_at items p.name; named = true } ∷ [])))
 named_parameter items p None env ds go = go ds
 
 abbrev parameter : Items → Typing → Option NodeId → EnvId → List Drawn → (List Drawn → SpecPlan) → SpecPlan
@@ -198,7 +203,8 @@ terra_plan items path body n place env =
 -- a local function is declared before it is defined, and its body sees it
 abbrev pub local_terra_plan : Items → NodeId → Place → EnvId → SpecPlan
 local_terra_plan items body place env =
-    new_function place None (λ f. declaring env (values.TerraFunction f) (define items f (terra_parts_at items body) body None place env over))
+    new_function place None (λ f. declaring env (values.TerraFunction f)
+    (define items f (terra_parts_at items body) body None place env over))
 
 abbrev pub anonymous_plan : Items → NodeId → Place → EnvId → SpecPlan
 anonymous_plan items body place env =

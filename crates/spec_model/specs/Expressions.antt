@@ -115,9 +115,11 @@ expression_of items (tree.Paren a) place env = term a env (λ x. Give (Made x))
 expression_of items (tree.Escape a) place env = eval a env (found place)
 expression_of items (tree.Index a key) place env = term a env (λ x. term key env (λ y. make place (e.Index x y)))
 expression_of items (tree.Select a name) place env = Do (jobs.Expression a env) (λ r. select items r name place env)
-expression_of items (tree.Call f arguments) place env = term f env (λ callee. terms_of arguments env [] (λ ts. make place (e.Call callee ts)))
+expression_of items (tree.Call f arguments) place env =
+    term f env (λ callee. terms_of arguments env [] (λ ts. make place (e.Call callee ts)))
 expression_of items (tree.Method a name arguments) place env =
-    term a env (λ object. member items name env (λ method. terms_of arguments env [] (λ ts. naming method (make place (e.Method object method ts)))))
+    term a env (λ object. member items name env (λ method.
+    terms_of arguments env [] (λ ts. naming method (make place (e.Method object method ts)))))
 expression_of items (tree.Construct a ns) place env =
     Do (jobs.Expression a env) (λ r. constructed r (place_at items a) (λ of. construct items of ns place env))
 

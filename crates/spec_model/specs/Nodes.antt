@@ -55,7 +55,8 @@ pub record TerraParts : Type 0 where
   pub block : NodeId
 
 abbrev pub terra_parts_of : Item → TerraParts
-terra_parts_of (kept.Piece (pieces.TerraBody place parameters result block)) = record { parameters = parameters; result = result; block = block }
+terra_parts_of (kept.Piece (pieces.TerraBody place parameters result block)) =
+    record { parameters = parameters; result = result; block = block }
 terra_parts_of item = record { parameters = []; result = None; block = node_zero }
 
 abbrev pub terra_parts_at : Items → NodeId → TerraParts

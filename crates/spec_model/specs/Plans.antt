@@ -50,7 +50,8 @@ error_text place fault = decimal place.line ++ codes ":" ++ decimal place.word +
 -- raises a fault, with its place before its text, which is paid for
 abbrev pub raise : Place → Fault → SpecPlan
 raise place fault =
-    Pay (text_units (length (error_text place fault))) (with_text_of (error_text place fault) (λ text. Give (Raised (values.Text text) place)))
+    Pay (text_units (length (error_text place fault)))
+    (with_text_of (error_text place fault) (λ text. Give (Raised (values.Text text) place)))
 
 -- ---- questions
 

@@ -48,4 +48,5 @@ quoted_plan None ts place inner = Read (λ w. limited (terms_size w ts) place (g
 
 abbrev pub quote_plan : Items → NodeId → Place → EnvId → SpecPlan
 quote_plan items q place env =
-    entering q env (λ inner. block (statements_at items (quoted_at items q).block) inner [] (λ ts. quoted_plan (quoted_at items q).value ts place inner))
+    entering q env (λ inner.
+    block (statements_at items (quoted_at items q).block) inner [] (λ ts. quoted_plan (quoted_at items q).value ts place inner))

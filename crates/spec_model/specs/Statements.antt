@@ -27,7 +27,8 @@ use Rattle.spec_model.specs.Making.{next_symbol, with_symbol, symbol_type, quote
 use Rattle.spec_model.specs.declared.end.End.TheVariants.{Joined}
 use Rattle.spec_model.specs.declared.wanted.Wanted.{Wanted}
 use Rattle.spec_model.specs.Nodes.{escaped_at, or_first, typing_at, Typing}
-use Rattle.spec_model.specs.Plans.{SpecPlan, eval, emitted, node, join, one, values_in, term, terms_of, each_term, block, entering, declaring}
+use Rattle.spec_model.specs.Plans.{SpecPlan, eval, emitted, node, join, one, values_in, term, terms_of, each_term, block, entering}
+use Rattle.spec_model.specs.Plans.{declaring}
 use Rattle.spec_model.specs.Names.{symbols_of, symbol_of}
 use Rattle.spec_model.specs.Types.{type_if_any}
 
@@ -69,7 +70,8 @@ given (x ∷ xs) of place = record { symbol = Some x; of = of; place = place } �
 
 abbrev wanted_one : Items → Typing → Option NodeId → EnvId → List Wanted → (List Wanted → SpecPlan) → SpecPlan
 wanted_one items v (Some e) env ws go =
-    eval e env (λ x. symbols_of x (place_at items v.name) (λ xs. type_if_any items v.type env (λ of. go (ws ++ given xs of (place_at items v.name)))))
+    eval e env (λ x. symbols_of x (place_at items v.name) (λ xs.
+    type_if_any items v.type env (λ of. go (ws ++ given xs of (place_at items v.name)))))
 wanted_one items v None env ws go =
     type_if_any items v.type env (λ of. go (ws ++ record { symbol = None; of = of; place = place_at items v.name } ∷ []))
 
@@ -159,11 +161,13 @@ for_plan items n None at bounds b place env =
 -- ---- statements
 
 abbrev pub statement_of : Items → TerraStatement → NodeId → Place → EnvId → SpecPlan
-statement_of items (tree.Assign targets es) n place env = terms_of targets env [] (λ ts. terms_of es env [] (λ us. join place (s.Assign ts us)))
+statement_of items (tree.Assign targets es) n place env =
+    terms_of targets env [] (λ ts. terms_of es env [] (λ us. join place (s.Assign ts us)))
 statement_of items (tree.Call e) n place env = term e env (λ t. join place (s.Perform t))
 statement_of items (tree.Splice e) n place env = eval (or_first (escaped_at items e)) env (λ v. spliced v place [] joined)
 statement_of items (tree.Do b) n place env = inner_block items b env (λ ts. join place (s.Do ts))
-statement_of items (tree.While condition b) n place env = term condition env (λ t. inner_block items b env (λ ts. join place (s.While t ts)))
+statement_of items (tree.While condition b) n place env =
+    term condition env (λ t. inner_block items b env (λ ts. join place (s.While t ts)))
 statement_of items (tree.Repeat b condition) n place env = repeat_plan items n b condition place env
 statement_of items (tree.If ns otherwise) n place env = if_plan items ns otherwise place env
 statement_of items (tree.For name first limit step b) n place env =

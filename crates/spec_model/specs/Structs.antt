@@ -31,7 +31,8 @@ abbrev with_entry : LuaState → TableId → ℕ → TextId → TextId → TextI
 with_entry heap entries i field name type of =
     let entry = next_table heap in
     put
-    (with_stored (with_stored (with_table heap) entry (values.Text field) (values.Text name)) entry (values.Text type) (values.TerraType of))
+    (with_stored (with_stored (with_table heap) entry (values.Text field) (values.Text name))
+    entry (values.Text type) (values.TerraType of))
     entries (number_from (pos i)) (values.Table entry)
 
 abbrev entry : TableId → ℕ → List ℕ → TypeId → SpecPlan → SpecPlan
@@ -49,7 +50,8 @@ abbrev pub entries_plan : Items → List NodeId → TypeId → ℕ → EnvId →
 entries_plan items [] struct i env rest = rest
 entries_plan items (n ∷ ns) struct i env rest =
     type_if_any items (typing_at items n).type env (λ of. Read (λ w.
-    entry_if_any (tables_of w struct).entries i (name_at items (typing_at items n).name) of (entries_plan items ns struct (i + 1) env rest)))
+    entry_if_any (tables_of w struct).entries i (name_at items (typing_at items n).name) of
+    (entries_plan items ns struct (i + 1) env rest)))
 
 -- a new struct
 abbrev pub new_struct : Place → (TypeId → SpecPlan) → SpecPlan
