@@ -56,7 +56,8 @@ elsewhere_by true e es inserted p q known h apart rest = let f : same_property q
 elsewhere_by false e es inserted p q known h apart rest =
     after (same_property q e.0)
   where
-    after : (u : Bool) → unwrap_or (cond u (Some e.1) (lookup (same_property q) inserted)) Unasked ≡ unwrap_or (cond u (Some e.1) (lookup (same_property q) es)) Unasked
+    after : (u : Bool) → unwrap_or (cond u (Some e.1) (lookup (same_property q) inserted)) Unasked
+        ≡ unwrap_or (cond u (Some e.1) (lookup (same_property q) es)) Unasked
     after true = refl
     after false = rest
 

@@ -3,7 +3,10 @@ use Rattle.std.specs.Prelude.{ℕ, List, ◌++◌, codes, decimal}
 use Rattle.lua_value.specs.Kinds.{kind_text}
 use Rattle.lua_value.specs.Library.{library_text}
 use Rattle.exotype.specs.declared.fault.Fault.{Fault}
-use Rattle.exotype.specs.declared.fault.Fault.TheVariants.{NotAType, InTerraCode, NumberOutOfInt32, ListForOneTerm, StatementsForExpression, SymbolWithoutType, TermTooLarge, TermTooDeep, DiffersFromDeclaration, AlreadyDefined, Index, StaticsFull, TypeTooLarge, BadExport, QuoteWithoutType, BadArgument}
+use Rattle.exotype.specs.declared.fault.Fault.TheVariants.{NotAType, InTerraCode, NumberOutOfInt32, ListForOneTerm}
+use Rattle.exotype.specs.declared.fault.Fault.TheVariants.{StatementsForExpression, SymbolWithoutType, TermTooLarge, TermTooDeep}
+use Rattle.exotype.specs.declared.fault.Fault.TheVariants.{DiffersFromDeclaration, AlreadyDefined, Index, StaticsFull, TypeTooLarge}
+use Rattle.exotype.specs.declared.fault.Fault.TheVariants.{BadExport, QuoteWithoutType, BadArgument}
 
 abbrev pub fault_text : Fault → List ℕ
 fault_text NotAType = codes "not a Terra type"

@@ -3,7 +3,8 @@
 ghost use Rattle.std.specs.Prelude.{◌≡◌, ◌≤◌, ◌<◌, IfOk, OnOk, slice_get, length};
 ghost use Rattle.std.specs.Option.{option_copied};
 ghost use Rattle.terra_term.specs.Held.{NamesTyped};
-ghost use Rattle.exotype.specs.Becoming.{Becoming, number, library_function, quote_found, constant_found, constant_leaf, fits_int32, became_in, store_after, became_of, after, term_of, with_term_of, spliced_nodes};
+ghost use Rattle.exotype.specs.Becoming.{Becoming, number, library_function, quote_found, constant_found, constant_leaf, fits_int32};
+ghost use Rattle.exotype.specs.Becoming.{became_in, store_after, became_of, after, term_of, with_term_of, spliced_nodes};
 ghost use Rattle.exotype.specs.Terms.{term_size, typed_size};
 
 use crate::became::Became;

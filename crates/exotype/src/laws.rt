@@ -10,5 +10,6 @@ ghost use Rattle.exotype.specs.Properties.{known_of, with_known, same_property};
 /// that ask for properties leave. This is a law, and does nothing.
 pub fn what_is_kept_is_known()
     ensures there { (kept : KeptState) (p : Sought) (known : Found) → known_of (with_known kept p known) p ≡ known }
-    ensures elsewhere { (kept : KeptState) (p q : Sought) (known : Found) → same_property q p ≡ false → known_of (with_known kept p known) q ≡ known_of kept q }
+    ensures elsewhere { (kept : KeptState) (p q : Sought) (known : Found) → same_property q p ≡ false →
+        known_of (with_known kept p known) q ≡ known_of kept q }
 {}

@@ -39,7 +39,8 @@ pub enum Known {
 impl PartialEq for Property {
     ghost eq = { same_property };
 
-    ghost laws = { partial_equiv_from_equiv (and_equiv (and_equiv (on_equiv rank nat_eq_equiv) (on_equiv type_number nat_eq_equiv)) (on_equiv name_number nat_eq_equiv)) };
+    ghost laws = { partial_equiv_from_equiv
+        (and_equiv (and_equiv (on_equiv rank nat_eq_equiv) (on_equiv type_number nat_eq_equiv)) (on_equiv name_number nat_eq_equiv)) };
 
     fn eq(&self, other: &Property) -> bool {
         self.rank() == other.rank()

@@ -2,7 +2,8 @@
 
 ghost use Rattle.std.specs.Prelude.{◌≡◌, ◌<◌, ℕ, Some, IsTrue, IfOk, OnOk, OnErr, length, slice_get};
 ghost use Rattle.tl_base.specs.declared.ids.TypeId.{TypeId};
-ghost use Rattle.exotype.specs.Types.{is_type, are_types, pointer_id, with_pointer, array_id, with_array, function_id, with_function, struct_number, is_struct, next_type, with_struct, tables_of, next_tables, with_three_tables};
+ghost use Rattle.exotype.specs.Types.{is_type, are_types, pointer_id, with_pointer, array_id, with_array, function_id, with_function};
+ghost use Rattle.exotype.specs.Types.{struct_number, is_struct, next_type, with_struct, tables_of, next_tables, with_three_tables};
 
 use crate::kept::StructTables;
 use crate::world::World;
