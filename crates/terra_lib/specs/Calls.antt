@@ -19,6 +19,7 @@ use Rattle.terra_lib.specs.Symbols.{symbol_turned, macro_turned, constant_turned
 use Rattle.terra_lib.specs.Types.{newstruct_turned, pointer_turned, array_turned, test_turned, isdefined_turned}
 use Rattle.terra_lib.specs.Lists.{newlist_turned, insert_turned, insertall_turned, map_turned, map_back}
 use Rattle.terra_lib.specs.Fields.{field_turned, pointer_type, array_type, function_type}
+use Rattle.terra_lib.specs.Exports.{saveobj_turned}
 
 -- What a function gives that tells of types and functions, or that the language itself calls. Those that need a check or a layout
 -- aren't built yet. One that is not of Terra's library gives nothing.
@@ -52,6 +53,7 @@ answered s Map vs place = map_turned s vs place
 answered s NewStruct vs place = newstruct_turned s place
 answered s Pointer vs place = pointer_turned s vs place
 answered s Array vs place = array_turned s vs place
+answered s SaveObj vs place = saveobj_turned s vs place
 answered s f vs place = told s f vs place
 
 -- what a call comes to

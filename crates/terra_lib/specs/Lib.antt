@@ -8,6 +8,8 @@ pub mod Types
 pub mod Lists
 -- Fields of Terra values, and types made by operators.
 pub mod Fields
+-- Exports, and the end of the chunk.
+pub mod Exports
 -- The globals with which a source begins, behind those of Lua.
 pub mod Opening
 -- Answers and payments.

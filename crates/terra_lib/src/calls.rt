@@ -6,6 +6,7 @@ ghost use Rattle.terra_lib.specs.Answers.{turned};
 ghost use Rattle.terra_lib.specs.Calls.{called, backed, told};
 
 use crate::answers::{give_nothing, not_built};
+use crate::exports::save_object;
 use crate::fields::{array_type, field, function_type, pointer_type};
 use crate::lists::{insert, insert_all, map, map_back, new_list};
 use crate::symbols::{constant, make_macro, symbol};
@@ -37,6 +38,7 @@ pub fn call(world: &mut World, call: &LibCall, budget: &mut Budget) -> Result<Li
         LibFn::NewStruct => new_struct(world, place),
         LibFn::Pointer => pointer(world, budget, args, place),
         LibFn::Array => array(world, budget, args, place),
+        LibFn::SaveObj => save_object(world, budget, args, place),
         function => tell(world, budget, function, args, place),
     }
 }

@@ -1,15 +1,16 @@
 //! The functions of Terra's library that need no check and no layout: symbols, macros, constants, lists, types, what is asked of types and
-//! functions, the fields of Terra values, and the types that operators make. Those that need a check or a layout raise that they aren't
-//! built; `saveobj` isn't here yet.
+//! functions, exports, the fields of Terra values, and the types that operators make. Those that need a check or a layout raise that they
+//! aren't built.
 //!
 //! - `calls`: which function is called, and how one goes on that called a function;
-//! - `symbols`, `types`, `lists`, `fields`: what each one does;
+//! - `symbols`, `types`, `lists`, `fields`, `exports`: what each one does;
 //! - `globals`: the globals of Terra with which a source begins;
 //! - `answers`: what functions answer, and what they pay.
 #![tactic(auto)]
 
 pub mod answers;
 pub mod calls;
+pub mod exports;
 pub mod fields;
 pub mod globals;
 pub mod lists;
@@ -17,4 +18,5 @@ pub mod symbols;
 pub mod types;
 
 pub use calls::{back, call};
+pub use exports::end_of_chunk;
 pub use globals::opening;
