@@ -94,7 +94,7 @@ fn show_turn(world: &World, turn: &LibTurn) -> Result<String, NoMemory> {
 
 /// A new function that isn't defined.
 pub fn declare(world: &mut World) -> Result<String, NoMemory> {
-    let f = world.store.new_function(None, HERE)?;
+    let f = world.store.declare(None, HERE)?;
     show(&world.heap, &Value::TerraFunction(f))
 }
 
