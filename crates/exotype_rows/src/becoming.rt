@@ -1,7 +1,7 @@
 // The rows on values that become terms.
 
 use crate::values::value_at;
-use crate::words::{bytes_of, number_at, word_at};
+use crate::words::{bytes_of, number_at, some, word_at};
 use exotype::{Became, World};
 use lua_value::Primitive;
 use std::alloc::Global;
@@ -18,20 +18,27 @@ const HERE: Place = Place { line: 7, word: 3 };
 const THERE: Place = Place { line: 1, word: 2 };
 
 pub fn row(world: &mut World, word: &str, words: &[&str]) -> Result<Option<String>, NoMemory> {
-    let answer = match word {
-        "become" => becomes(world, words)?,
-        "literal" => literal(world, word_at(words, 1))?,
-        "spliced" => spliced(world, words)?,
-        "negated" => negated(world, TermId(number_at(words, 1)))?,
-        "new_symbol" => new_symbol(world)?,
-        "new_constant" => new_constant(world, words)?,
-        "new_quote" => quoted(world, Quote::Expression(TermId(number_at(words, 1))))?,
-        "new_statements" => statements(world, TermId(number_at(words, 1)))?,
-        "new_typed" => typed(world, TermId(number_at(words, 1)))?,
-        "statics" => statics(world)?,
-        _ => return Ok(None),
-    };
-    Ok(Some(answer))
+    match word {
+        "become" => some(becomes(world, words)),
+        "literal" => some(literal(world, word_at(words, 1))),
+        "spliced" => some(spliced(world, words)),
+        "statics" => some(statics(world)),
+        _ => made(world, word, words),
+    }
+}
+
+/// The rows that make what values name.
+fn made(world: &mut World, word: &str, words: &[&str]) -> Result<Option<String>, NoMemory> {
+    let node = TermId(number_at(words, 1));
+    match word {
+        "negated" => some(negated(world, node)),
+        "new_symbol" => some(new_symbol(world)),
+        "new_constant" => some(new_constant(world, words)),
+        "new_quote" => some(quoted(world, node)),
+        "new_statements" => some(statements(world, node)),
+        "new_typed" => some(typed(world, node)),
+        _ => Ok(None),
+    }
 }
 
 fn becomes(world: &mut World, words: &[&str]) -> Result<String, NoMemory> {
@@ -76,33 +83,38 @@ fn node(alloc: Global, term: Option<&Term>) -> Result<String, NoMemory> {
 }
 
 fn leaf(alloc: Global, expression: &Expression) -> Result<String, NoMemory> {
-    let shown = match expression {
-        Expression::Number(bits, of) => {
-            let bits = *bits;
-            let of = of.0;
-            format!(in alloc; "number {bits} {of}")?
+    match expression {
+        Expression::Number(bits, of) => pair(alloc, "number", *bits, of.0),
+        Expression::Truth(truth) => Ok(String::from_str(alloc, truth_name(*truth))?),
+        Expression::SizeOf => Ok(String::from_str(alloc, "sizeof")?),
+        Expression::Primitive(primitive) => {
+            Ok(String::from_str(alloc, primitive_name(*primitive))?)
         }
-        Expression::Truth(truth) => {
-            let truth = *truth;
-            format!(in alloc; "{truth}")?
-        }
-        Expression::Variable(symbol) => numbered(alloc, "variable", symbol.0)?,
-        Expression::Function(f) => numbered(alloc, "function", f.0)?,
-        Expression::Static(address) => numbered(alloc, "static", *address)?,
-        Expression::Global(global) => numbered(alloc, "global", global.0)?,
-        Expression::Type(of) => numbered(alloc, "type", of.0)?,
-        Expression::Macro(id) => numbered(alloc, "macro", id.0)?,
-        Expression::SizeOf => String::from_str(alloc, "sizeof")?,
-        Expression::Primitive(primitive) => String::from_str(alloc, primitive_name(*primitive))?,
-        Expression::Unary(_, part) => numbered(alloc, "unary", part.0)?,
-        Expression::Typed(source, made) => {
-            let source = source.0;
-            let made = made.0;
-            format!(in alloc; "typed {source} {made}")?
-        }
-        _ => String::from_str(alloc, "other")?,
-    };
-    Ok(shown)
+        Expression::Unary(_, part) => numbered(alloc, "unary", part.0),
+        Expression::Typed(source, made) => pair(alloc, "typed", source.0, made.0),
+        named => name(alloc, named),
+    }
+}
+
+/// An expression that names something by its number.
+fn name(alloc: Global, expression: &Expression) -> Result<String, NoMemory> {
+    match expression {
+        Expression::Variable(symbol) => numbered(alloc, "variable", symbol.0),
+        Expression::Function(f) => numbered(alloc, "function", f.0),
+        Expression::Static(address) => numbered(alloc, "static", *address),
+        Expression::Global(global) => numbered(alloc, "global", global.0),
+        Expression::Type(of) => numbered(alloc, "type", of.0),
+        Expression::Macro(id) => numbered(alloc, "macro", id.0),
+        _ => Ok(String::from_str(alloc, "other")?),
+    }
+}
+
+fn truth_name(truth: bool) -> &'static str {
+    if truth { "true" } else { "false" }
+}
+
+fn pair(alloc: Global, word: &str, first: u64, second: u64) -> Result<String, NoMemory> {
+    Ok(format!(in alloc; "{word} {first} {second}")?)
 }
 
 fn numbered(alloc: Global, word: &str, number: u64) -> Result<String, NoMemory> {
@@ -148,11 +160,12 @@ fn statements(world: &mut World, term: TermId) -> Result<String, NoMemory> {
     let statement = Term::Statement(THERE, Statement::Perform(term));
     let statement = world.store.new_term(statement)?;
     let list = TermList::from_vec(Vec::from_slice(alloc, &[statement])?)?;
-    quoted(world, Quote::Statements(list))
+    let number = world.store.new_quote(Quote::Statements(list))?.0;
+    Ok(format!(in alloc; "{number}")?)
 }
 
-fn quoted(world: &mut World, quote: Quote) -> Result<String, NoMemory> {
-    let number = world.store.new_quote(quote)?.0;
+fn quoted(world: &mut World, term: TermId) -> Result<String, NoMemory> {
+    let number = world.store.new_quote(Quote::Expression(term))?.0;
     Ok(format!(in world.heap.allocator(); "{number}")?)
 }
 
@@ -162,7 +175,8 @@ fn typed(world: &mut World, source: TermId) -> Result<String, NoMemory> {
     let made = world
         .store
         .new_typed(Typed::Expression(THERE, TypeId(2), number))?;
-    quoted(world, Quote::Typed(source, made))
+    let number = world.store.new_quote(Quote::Typed(source, made))?.0;
+    Ok(format!(in world.heap.allocator(); "{number}")?)
 }
 
 fn statics(world: &World) -> Result<String, NoMemory> {

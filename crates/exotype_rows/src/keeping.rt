@@ -3,7 +3,7 @@
 ghost use Rattle.std.specs.Prelude.{◌≡◌};
 ghost use Rattle.exotype.specs.Properties.{known_of};
 
-use crate::words::{bytes_of, number_at, word_at};
+use crate::words::{bytes_of, number_at, some, word_at};
 use exotype::{Known, Property, World};
 use lua_value::Value;
 use std::alloc::Global;
@@ -12,19 +12,20 @@ use tl_base::{FnId, NoMemory, Place, TableId, Text, TextId, TypeId};
 
 pub fn row(world: &mut World, word: &str, words: &[&str]) -> Result<Option<String>, NoMemory> {
     let alloc = world.heap.allocator();
-    let answer = match word {
-        "known" => known_text(alloc, world.kept.known(property_at(words, 1)))?,
-        "begin" => begun(world, property_at(words, 1))?,
-        "settle" => settled(world, property_at(words, 2), word_at(words, 1))?,
-        "export" => exported(world, words)?,
-        "save" => {
-            world.exports.save();
-            String::from_str(alloc, "saved")?
-        }
-        "exports" => exports(world)?,
-        _ => return types(world, word, words),
-    };
-    Ok(Some(answer))
+    match word {
+        "known" => some(known_text(alloc, world.kept.known(property_at(words, 1)))),
+        "begin" => some(begun(world, property_at(words, 1))),
+        "settle" => some(settled(world, property_at(words, 2), word_at(words, 1))),
+        "export" => some(exported(world, words)),
+        "save" => some(saved(world)),
+        "exports" => some(exports(world)),
+        _ => types(world, word, words),
+    }
+}
+
+fn saved(world: &mut World) -> Result<String, NoMemory> {
+    world.exports.save();
+    Ok(String::from_str(world.heap.allocator(), "saved")?)
 }
 
 /// `TYPE` for the entries of a type, and `TYPE NAME` for its method under a name.
@@ -111,23 +112,37 @@ fn exports(world: &World) -> Result<String, NoMemory> {
 fn types(world: &mut World, word: &str, words: &[&str]) -> Result<Option<String>, NoMemory> {
     let alloc = world.heap.allocator();
     let of = TypeId(number_at(words, 1));
-    let number = match word {
-        "pointer" => world.pointer_to(of)?.0,
-        "array" => world.array_of(of, number_at(words, 2))?.0,
-        "function" => {
-            let params = [TypeId(number_at(words, 2)), TypeId(number_at(words, 3))];
-            world.function_of(&params, of)?.0
-        }
-        "struct" => world.new_struct(Place { line: 3, word: 4 })?.0,
-        "is_struct" => u64::from(world.is_struct(of)),
-        "tables" => {
-            let tables = world.struct_tables(of);
-            let entries = tables.entries.0;
-            let methods = tables.methods.0;
-            let metamethods = tables.metamethods.0;
-            return Ok(Some(format!(in alloc; "{entries} {methods} {metamethods}")?));
-        }
-        _ => return Ok(None),
-    };
-    Ok(Some(format!(in alloc; "{number}")?))
+    match word {
+        "pointer" => some(number(alloc, world.pointer_to(of))),
+        "array" => some(number(alloc, world.array_of(of, number_at(words, 2)))),
+        "function" => some(function(world, words, of)),
+        "struct" => some(number(alloc, world.new_struct(Place { line: 3, word: 4 }))),
+        "is_struct" => some(is_struct(world, of)),
+        "tables" => some(tables(world, of)),
+        _ => Ok(None),
+    }
+}
+
+fn number(alloc: Global, of: Result<TypeId, NoMemory>) -> Result<String, NoMemory> {
+    let number = of?.0;
+    Ok(format!(in alloc; "{number}")?)
+}
+
+fn function(world: &mut World, words: &[&str], given: TypeId) -> Result<String, NoMemory> {
+    let params = [TypeId(number_at(words, 2)), TypeId(number_at(words, 3))];
+    let of = world.function_of(&params, given);
+    number(world.heap.allocator(), of)
+}
+
+fn is_struct(world: &World, of: TypeId) -> Result<String, NoMemory> {
+    let number = u64::from(world.is_struct(of));
+    Ok(format!(in world.heap.allocator(); "{number}")?)
+}
+
+fn tables(world: &World, of: TypeId) -> Result<String, NoMemory> {
+    let tables = world.struct_tables(of);
+    let entries = tables.entries.0;
+    let methods = tables.methods.0;
+    let metamethods = tables.metamethods.0;
+    Ok(format!(in world.heap.allocator(); "{entries} {methods} {metamethods}")?)
 }

@@ -64,3 +64,11 @@ fn digit_of(byte: u8) -> u8
         _ => 0,
     }
 }
+
+/// An answer that is there.
+pub fn some(answer: Result<String, NoMemory>) -> Result<Option<String>, NoMemory> {
+    match answer {
+        Ok(answer) => Ok(Some(answer)),
+        Err(error) => Err(error),
+    }
+}
