@@ -23,9 +23,6 @@ fn main(rt: HostRuntime) -> anyhow::Result<()> {
         let line = line?;
         let row = line.as_str();
         let words: Vec<&str> = row.split_whitespace().collect(alloc)?;
-        if word_at(&words, 0) == "memory" {
-            world = new_world(alloc, &words)?;
-        }
         let answer = answer(&mut world, &words)?;
         println!(rt; "{row} = {answer}")?;
     }
@@ -47,6 +44,10 @@ fn new_world(alloc: Global, words: &[&str]) -> Result<World, NoMemory> {
 fn answer(world: &mut World, words: &[&str]) -> Result<String, NoMemory> {
     let alloc = world.heap.allocator();
     let word = word_at(words, 0);
+    if word == "memory" {
+        *world = new_world(alloc, words)?;
+        return Ok(String::from_str(alloc, "done")?);
+    }
     if let Some(answer) = becoming::row(world, word, words)? {
         return Ok(answer);
     }
