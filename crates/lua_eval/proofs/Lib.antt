@@ -1,6 +1,7 @@
 pub mod AtOnce
 pub mod Below
 pub mod Calling
+pub mod Choosing
 pub mod Counting
 pub mod Declaring
 pub mod Doing
@@ -15,6 +16,8 @@ pub mod Making
 pub mod Named
 pub mod Numbering
 pub mod Operands
+pub mod Over
 pub mod Targeting
 pub mod Reading
+pub mod Taking
 pub mod Turning

@@ -25,5 +25,9 @@ pub mod Reads
 pub mod AtOnce
 -- Calls, whose function is evaluated first.
 pub mod CallPlans
+-- What is left of an `if`.
+pub mod Choices
 -- Where assignments store.
 pub mod Spots
+-- Stores that ask no handler.
+pub mod Storing

@@ -111,11 +111,44 @@ pub fn stores<'a>(
     if left == 0 {
         return Ok(Step::Return(End::Fell(Values::new(heap.allocator()))));
     }
+    if left == 1 {
+        let last = last_store(
+            tree, slots, frames, heap, budget, targets, scope, &held, &values,
+        )?;
+        return Ok(last);
+    }
     let at = (left - 1) as usize;
     let target = node_in(targets, at);
     let value = nth(values.as_slice(), at);
     let pair = held_at(held.as_slice(), at);
     frames.push(LuaFrame::All(AllFrame::Stores(targets, scope, held, values, left - 1)))?;
+    let step = store_target(
+        tree, slots, frames, heap, budget, target, scope, pair.0, pair.1, value,
+    )?;
+    Ok(step)
+}
+
+/// Stores in the first target, behind which nothing waits.
+fn last_store<'a>(
+    tree: &'a Tree<'a>,
+    slots: &Slots,
+    frames: &mut Vec<LuaFrame<'a>>,
+    heap: &mut Heap,
+    budget: &mut Budget,
+    targets: &[NodeId],
+    scope: Scope,
+    held: &Values,
+    values: &Values,
+) -> Result<LuaStep, NoMemory>
+    requires { ArePaths (items_of tree.now) slots.now }
+    ensures means { IfOk result (λ step.
+        Goes (items_of tree.now) frames.old.items (plans.stores (items_of tree.now) targets.now scope held.now values.now 1)
+        heap.old budget.old frames.new.items step heap.new budget.new) }
+    ensures kept { OnOk result (KeepsHeap heap.old heap.new) }
+{
+    let target = node_in(targets, 0);
+    let value = nth(values.as_slice(), 0);
+    let pair = held_at(held.as_slice(), 0);
     let step = store_target(
         tree, slots, frames, heap, budget, target, scope, pair.0, pair.1, value,
     )?;

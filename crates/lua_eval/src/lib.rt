@@ -59,6 +59,7 @@ pub mod operators;
 pub mod quick;
 pub mod raise;
 pub mod statements;
+pub mod storing;
 pub mod tables;
 pub mod values;
 

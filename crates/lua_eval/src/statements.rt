@@ -16,6 +16,8 @@ ghost use Rattle.lua_model.specs.Statements as plans;
 ghost use Rattle.lua_eval.specs.Frames.{with_statement};
 ghost use Rattle.lua_eval.specs.Slots.{ArePaths};
 ghost use Rattle.lua_eval.specs.Steps.{Goes, Does};
+ghost use Rattle.lua_eval.specs.AtOnce.{Becomes};
+ghost use Rattle.lua_eval.specs.Choices.{choice_plan};
 
 use crate::assignments::{define, held, targets};
 use crate::calls::statements;
@@ -24,7 +26,9 @@ use crate::code::{block_statements, path_method, path_names};
 use crate::frame::{AllFrame, LoopFrame, LuaFrame, OneFrame, StatementFrame, TargetFrame, Then};
 use crate::lists::list;
 use crate::loops::{while_test, within};
+use crate::quick::at_once;
 use crate::raise::LuaStep;
+use crate::storing::assignment_at_once;
 use crate::values::one;
 use lua_model::{End, Job, Loop, LuaQuestion, Scope};
 use lua_table::{Closure, Heap};
@@ -221,7 +225,7 @@ fn execute<'a>(
             Ok(Step::Enter(Job::Turn(node, scope, Loop::Repeat, none)))
         }
         Statement::If(list, otherwise) => {
-            let step = first_arm(tree, frames, heap, list, *otherwise, scope)?;
+            let step = first_arm(tree, slots, frames, heap, budget, list, *otherwise, scope)?;
             Ok(step)
         }
         Statement::NumericFor(_, first, limit, step, _) => {
@@ -285,23 +289,80 @@ fn while_first<'a>(
     Ok(step)
 }
 
+/// What is left of an `if`.
+#[derive(Clone, Copy, Debug)]
+pub enum Choice<'a> {
+    /// The block of an arm whose condition is true.
+    Block(NodeId),
+    /// These arms, and the block behind `else`.
+    Arms(&'a [NodeId]),
+}
+
+/// Evaluates the conditions of an `if` at once, up to the first that is true or isn't evaluated at once, and pays for them.
+fn choose<'a>(
+    tree: &'a Tree<'a>,
+    slots: &Slots,
+    heap: &mut Heap,
+    budget: &mut Budget,
+    list: &'a [NodeId],
+    otherwise: Option<NodeId>,
+    scope: &Scope,
+) -> Choice<'a>
+    requires { ArePaths (items_of tree.now) slots.now }
+    ensures passes {
+        Becomes (items_of tree.now) (plans.arms_plan (items_of tree.now) list.now otherwise scope.now) heap.old budget.old
+        (choice_plan (items_of tree.now) result otherwise scope.now) heap.old budget.new }
+    ensures same { heap.new ≡ heap.old }
+{
+    let mut rest = list;
+    'arms: for _ in 0..list.len() {
+        match rest.split_first() {
+            None => return Choice::Arms(rest),
+            Some((first, behind)) => {
+                let (condition, block) = arm(tree, *first);
+                match at_once(tree, slots, heap, budget, condition, scope) {
+                    None => return Choice::Arms(rest),
+                    Some(value) => {
+                        if value.is_true() {
+                            return Choice::Block(block);
+                        }
+                        rest = behind;
+                    }
+                }
+            }
+        }
+    }
+    Choice::Arms(rest)
+}
+
 /// Begins with the arms of an `if`.
 fn first_arm<'a>(
     tree: &'a Tree<'a>,
+    slots: &Slots,
     frames: &mut Vec<LuaFrame<'a>>,
     heap: &mut Heap,
+    budget: &mut Budget,
     list: &'a NodeList,
     otherwise: Option<NodeId>,
     scope: Scope,
 ) -> Result<LuaStep, NoMemory>
-    ensures means { IfOk result (λ step. (left : ℕ) →
+    requires { ArePaths (items_of tree.now) slots.now }
+    ensures means { IfOk result (λ step.
         Goes (items_of tree.now) frames.old.items (plans.arms_plan (items_of tree.now) list.now otherwise scope)
-        heap.old left frames.new.items step heap.new left) }
+        heap.old budget.old frames.new.items step heap.new budget.new) }
     ensures kept { OnOk result (KeepsHeap heap.old heap.new) }
 {
     let list = list.as_slice();
-    let step = arms(tree, frames, heap, list, otherwise, scope)?;
-    Ok(step)
+    match choose(tree, slots, heap, budget, list, otherwise, &scope) {
+        Choice::Block(node) => {
+            let step = block(tree, frames, heap, node, scope)?;
+            Ok(step)
+        }
+        Choice::Arms(rest) => {
+            let step = arms(tree, frames, heap, rest, otherwise, scope)?;
+            Ok(step)
+        }
+    }
 }
 
 /// An assignment: its targets, then its expressions, then the stores.
@@ -321,9 +382,13 @@ fn assign<'a>(
         heap.old budget.old frames.new.items step heap.new budget.new) }
     ensures kept { OnOk result (KeepsHeap heap.old heap.new) }
 {
-    let none = Values::new(heap.allocator());
     let all = all.as_slice();
     let values = values.as_slice();
+    let done = assignment_at_once(tree, slots, heap, budget, all, values, &scope)?;
+    if done {
+        return Ok(Step::Return(End::Fell(Values::new(heap.allocator()))));
+    }
+    let none = Values::new(heap.allocator());
     let step = targets(
         tree, slots, frames, heap, budget, all, all, values, scope, none,
     )?;

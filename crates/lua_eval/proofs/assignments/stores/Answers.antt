@@ -1,4 +1,4 @@
-use Rattle.std.proofs.Common.{◌+◌, ◌-◌, ◌*◌, ◌<◌, List, refl, ap, ◌∙◌, arith}
+use Rattle.std.proofs.Common.{ℕ, ◌+◌, ◌-◌, ◌*◌, ◌<◌, List, refl, ap, ◌∙◌, arith}
 use Rattle.lua_value.specs.declared.value.Value.{Value}
 use Rattle.lua_table.specs.Cells.{nth_value}
 use Rattle.tl_tree.specs.Arena.{items_of}
@@ -10,6 +10,15 @@ use Rattle.lua_eval.specs.declared.frame.AllFrame.TheVariants as alls
 use Rattle.lua_eval.proofs.Below.{moved, target_below}
 use Rattle.lua_eval.proofs.Listing.{stores_at}
 use Rattle.lua_eval.proofs.assignments.stores.Goals as goal
+
+pub returns-then-left-eq1-clause-means : goal.returns-then-left-eq1-clause-means
+returns-then-left-eq1-clause-means c =
+    let a = c.args in
+    let items = items_of a.tree.now in
+    moved items a.frames.now.items c.last_store.new.frames.items
+    (stores items a.targets.now a.scope a.held a.values a.left) (stores items a.targets.now a.scope a.held a.values 1)
+    a.heap.now a.heap.now c.last_store.new.heap a.budget.now c.last_store.new.budget c.in_ok-last.last
+    (ap (λ (n : ℕ). stores items a.targets.now a.scope a.held a.values n) c.if-left-eq1.true) refl c.in_ok-last.ensures.means
 
 pub returns-clause-means : goal.returns-clause-means
 returns-clause-means c =

@@ -65,7 +65,7 @@ returns-in_ok-step-in-Expression-clause-means c =
     let e : item_at items a.node ≡ kept.Expression m.place m.expression = search rules in
     node_goes items a.frames.now.items c.evaluate_quickly.new.frames.items (kept.Expression m.place m.expression) a.node a.scope
     (expression_plan items m.expression a.node m.place a.scope) a.heap.now a.heap.now c.evaluate_quickly.new.heap
-    a.budget.now a.budget.now c.in_ok-step-in-Expression.step e refl refl c.in_ok-step-in-Expression.ensures.means
+    a.budget.now c.evaluate_quickly.new.budget c.in_ok-step-in-Expression.step e refl refl c.in_ok-step-in-Expression.ensures.means
 
 pub returns-in-Statement-clause-means : goal.returns-in-Statement-clause-means
 returns-in-Statement-clause-means c =

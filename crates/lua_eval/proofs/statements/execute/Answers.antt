@@ -9,7 +9,7 @@ returns-in_ok-step-in-While-clause-means c =
     rw c.in-While.is (c.in_ok-step-in-While.ensures.means (items_of c.args.tree.now) c.args.heap.now c.args.budget.now)
 
 pub returns-in_ok-step-in-If-clause-means : goal.returns-in_ok-step-in-If-clause-means
-returns-in_ok-step-in-If-clause-means c = rw c.in-If.is (c.in_ok-step-in-If.ensures.means c.args.budget.now)
+returns-in_ok-step-in-If-clause-means c = rw c.in-If.is c.in_ok-step-in-If.ensures.means
 
 pub returns-in_ok-step-in-Function-clause-means : goal.returns-in_ok-step-in-Function-clause-means
 returns-in_ok-step-in-Function-clause-means c =
