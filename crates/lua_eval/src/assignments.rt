@@ -21,6 +21,7 @@ use crate::code::{name, name_place};
 use crate::fields::{GLOBALS, read_named, store, store_named};
 use crate::frame::{AllFrame, LuaFrame, OneFrame, TargetFrame, Then};
 use crate::lists::{list, nth};
+use crate::direct::held_at_once;
 use crate::raise::{LuaStep, text_value};
 use crate::values::{copy, two};
 use lua_model::{End, Job, Scope};
@@ -51,18 +52,22 @@ pub fn targets<'a>(
         heap.old budget.old frames.new.items step heap.new budget.new) }
     ensures kept { OnOk result (KeepsHeap heap.old heap.new) }
 {
-    match rest.split_first() {
-        Some((first, rest)) => {
-            frames.push(LuaFrame::All(AllFrame::Target(rest, all, values, scope, held)))?;
-            Ok(Step::Enter(Job::Target(*first, scope)))
-        }
-        None => {
-            let none = Values::new(heap.allocator());
-            let then = Then::Assign(all, held);
-            let step = list(tree, slots, frames, heap, budget, values, scope, none, then)?;
-            Ok(step)
+    let mut held = held;
+    for at in 0..rest.len() {
+        match held_at_once(tree, slots, heap, budget, rest[at], &scope) {
+            Some(pair) => {
+                held.push(pair.0)?;
+                held.push(pair.1)?;
+            }
+            None => {
+                frames.push(LuaFrame::All(AllFrame::Target(&rest[at + 1..], all, values, scope, held)))?;
+                return Ok(Step::Enter(Job::Target(rest[at], scope)));
+            }
         }
     }
+    let none = Values::new(heap.allocator());
+    let then = Then::Assign(all, held);
+    list(tree, slots, frames, heap, budget, values, scope, none, then)
 }
 
 #[tactic(auto, using(tl_base::proofs::Steps::pushes))]
@@ -86,18 +91,25 @@ pub fn stores<'a>(
         heap.old budget.old frames.new.items step heap.new budget.new) }
     ensures kept { OnOk result (KeepsHeap heap.old heap.new) }
 {
-    if left == 0 {
-        return Ok(Step::Return(End::Fell(Values::new(heap.allocator()))));
+    let mut left = left;
+    for _ in 0..left {
+        let at = (left - 1) as usize;
+        let target = node_in(targets, at);
+        let value = nth(values.as_slice(), at);
+        if let Node::Name(_, _, _) = tree.node(target) {
+            if let Some((depth, position)) = slots.path(target) {
+                set_local(heap, scope.env, depth, position, value);
+                left -= 1;
+                continue;
+            }
+        }
+        let pair = held_at(held.as_slice(), at);
+        frames.push(LuaFrame::All(AllFrame::Stores(targets, scope, held, values, left - 1)))?;
+        return store_target(
+            tree, slots, frames, heap, budget, target, scope, pair.0, pair.1, value,
+        );
     }
-    let at = (left - 1) as usize;
-    let target = node_in(targets, at);
-    let value = nth(values.as_slice(), at);
-    let pair = held_at(held.as_slice(), at);
-    frames.push(LuaFrame::All(AllFrame::Stores(targets, scope, held, values, left - 1)))?;
-    let step = store_target(
-        tree, slots, frames, heap, budget, target, scope, pair.0, pair.1, value,
-    )?;
-    Ok(step)
+    Ok(Step::Return(End::Fell(Values::new(heap.allocator()))))
 }
 
 /// A node of a list, or the first of the tree.
@@ -145,14 +157,12 @@ fn store_target<'a>(
 {
     match tree.node(target) {
         Node::Name(place, _, text) => {
-            let step = store_name(
+            store_name(
                 tree, slots, frames, heap, budget, target, text, value, *place, scope,
-            )?;
-            Ok(step)
+            )
         }
         Node::Expression(place, _) => {
-            let step = store(frames, heap, budget, object, key, value, *place, scope.call)?;
-            Ok(step)
+            store(frames, heap, budget, object, key, value, *place, scope.call)
         }
         _ => Ok(Step::Return(End::Fell(Values::new(heap.allocator())))),
     }
@@ -179,8 +189,7 @@ fn store_name<'a>(
     ensures kept { OnOk result (KeepsHeap heap.old heap.new) }
 {
     let found = slots.path(target);
-    let step = store_by_path(frames, heap, budget, found, text, value, place, scope)?;
-    Ok(step)
+    store_by_path(frames, heap, budget, found, text, value, place, scope)
 }
 
 /// Stores a value in a local at this path, or in a field of the globals where there is none.
@@ -206,7 +215,7 @@ fn store_by_path<'a>(
         }
         None => {
             let globals = Value::Table(GLOBALS);
-            let step = store_named(
+            store_named(
                 frames,
                 heap,
                 budget,
@@ -215,8 +224,7 @@ fn store_by_path<'a>(
                 value,
                 place,
                 scope.call,
-            )?;
-            Ok(step)
+            )
         }
     }
 }
@@ -243,7 +251,7 @@ pub fn define_name<'a>(
         env: scope.env,
     })?;
     let value = Value::Closure(made);
-    let step = store_target(
+    store_target(
         tree,
         slots,
         frames,
@@ -254,8 +262,7 @@ pub fn define_name<'a>(
         Value::Nil,
         Value::Nil,
         value,
-    )?;
-    Ok(step)
+    )
 }
 
 /// Holds where nothing is left of a path.
@@ -290,14 +297,12 @@ pub fn define_in<'a>(
 {
     match rest.split_first() {
         None => {
-            let step = define_method(tree, frames, heap, budget, method, function, scope, object)?;
-            Ok(step)
+            define_method(tree, frames, heap, budget, method, function, scope, object)
         }
         Some((first, rest)) => {
-            let step = define_next(
+            define_next(
                 tree, frames, heap, budget, *first, rest, method, function, scope, object,
-            )?;
-            Ok(step)
+            )
         }
     }
 }
@@ -322,8 +327,7 @@ fn define_method<'a>(
 {
     match method {
         Some(last) => {
-            let step = define_last(tree, frames, heap, budget, last, function, scope, object)?;
-            Ok(step)
+            define_last(tree, frames, heap, budget, last, function, scope, object)
         }
         None => Ok(Step::Return(End::Fell(Values::new(heap.allocator())))),
     }
@@ -349,13 +353,12 @@ fn define_next<'a>(
     ensures kept { OnOk result (KeepsHeap heap.old heap.new) }
 {
     if is_end(rest, method) {
-        let step = define_last(tree, frames, heap, budget, first, function, scope, object)?;
-        return Ok(step);
+        return define_last(tree, frames, heap, budget, first, function, scope, object);
     }
     frames.push(LuaFrame::One(OneFrame::Target(TargetFrame::Path(rest, method, function, scope))))?;
     let place = name_place(tree, first);
     let text = name(tree, first);
-    let found = read_named(
+    read_named(
         frames,
         heap,
         budget,
@@ -363,8 +366,7 @@ fn define_next<'a>(
         text.as_bytes(),
         place,
         scope.call,
-    )?;
-    Ok(found)
+    )
 }
 
 /// Stores the function of a node under the last name of a path.
@@ -390,7 +392,7 @@ fn define_last<'a>(
     })?;
     let place = name_place(tree, last);
     let value = Value::Closure(made);
-    let step = store_named(
+    store_named(
         frames,
         heap,
         budget,
@@ -399,8 +401,7 @@ fn define_last<'a>(
         value,
         place,
         scope.call,
-    )?;
-    Ok(step)
+    )
 }
 
 #[tactic(auto, using(tl_base::proofs::Steps::pushes))]
@@ -419,12 +420,10 @@ pub fn define<'a>(
 {
     match names.split_first() {
         None => {
-            let step = define_alone(frames, heap, method, function, scope)?;
-            Ok(step)
+            define_alone(frames, heap, method, function, scope)
         }
         Some((first, rest)) => {
-            let step = define_from(frames, *first, rest, method, function, scope)?;
-            Ok(step)
+            define_from(frames, *first, rest, method, function, scope)
         }
     }
 }
@@ -444,8 +443,7 @@ fn define_alone<'a>(
 {
     match method {
         Some(last) => {
-            let step = define_first(frames, last, function, scope)?;
-            Ok(step)
+            define_first(frames, last, function, scope)
         }
         None => Ok(Step::Return(End::Fell(Values::new(heap.allocator())))),
     }
@@ -465,8 +463,7 @@ fn define_from<'a>(
         frames.new.items step s left) }
 {
     if is_end(rest, method) {
-        let step = define_first(frames, first, function, scope)?;
-        return Ok(step);
+        return define_first(frames, first, function, scope);
     }
     frames.push(LuaFrame::One(OneFrame::Target(TargetFrame::Path(rest, method, function, scope))))?;
     Ok(Step::Enter(Job::Expression(first, scope)))
@@ -510,8 +507,7 @@ fn held_under<'a>(
 {
     let text = name(tree, node);
     let key = text_value(heap, text.as_bytes())?;
-    let step = held(heap, object, key)?;
-    Ok(step)
+    held(heap, object, key)
 }
 
 #[tactic(auto, using(tl_base::proofs::Steps::pushes))]
@@ -535,18 +531,15 @@ pub fn with_target<'a>(
             Ok(Step::Enter(Job::Expression(*key, *scope)))
         }
         TargetFrame::Key(object) => {
-            let step = held(heap, copy(object), value)?;
-            Ok(step)
+            held(heap, copy(object), value)
         }
         TargetFrame::Select(node) => {
-            let step = held_under(tree, heap, *node, value)?;
-            Ok(step)
+            held_under(tree, heap, *node, value)
         }
         TargetFrame::Path(rest, method, function, scope) => {
-            let step = define_in(
+            define_in(
                 tree, frames, heap, budget, rest, *method, *function, *scope, value,
-            )?;
-            Ok(step)
+            )
         }
     }
 }

@@ -16,6 +16,8 @@ ghost use Rattle.tl_base.specs.Plan.{Give};
 
 use crate::cells::{declare_all, with_cells};
 use crate::code::{Parts, block_statements, function_parts};
+use crate::direct::{ended, go_on, run, values_within};
+use crate::quick::{Depth, Found, Quick};
 use crate::frame::LuaFrame;
 use crate::raise::{LuaStep, raise};
 use crate::values::with_first;
@@ -24,7 +26,8 @@ use lua_ops::{Fault, handler_of};
 use lua_table::{Closure, Heap, LibCall};
 use lua_value::{Kind, Value, Values};
 use tl_base::{Budget, ClosureId, NoMemory, NodeId, Place, Step};
-use tl_tree::Tree;
+use tl_rename::Slots;
+use tl_tree::{Expression, Node, Tree};
 
 /// Holds where one more call may be in progress.
 fn may_call(heap: &Heap) -> bool
@@ -72,8 +75,7 @@ pub fn call_library<'a>(
         frames.push(LuaFrame::Library)?;
         Ok(Step::Stop(LuaQuestion::Library(call)))
     } else {
-        let step = raise(heap, budget, call.place, Fault::StackOverflow)?;
-        Ok(step)
+        raise(heap, budget, call.place, Fault::StackOverflow)
     }
 }
 
@@ -110,11 +112,88 @@ pub fn call_closure<'a>(
         let scope = enter_call(heap, &code, &parts, args.as_slice(), place)?;
         frames.push(LuaFrame::Function)?;
         let none = Values::new(heap.allocator());
-        let entered = statements(frames, block_statements(tree, parts.block), scope, none)?;
-        Ok(entered)
+        statements(frames, block_statements(tree, parts.block), scope, none)
     } else {
-        let step = raise(heap, budget, place, Fault::StackOverflow)?;
-        Ok(step)
+        raise(heap, budget, place, Fault::StackOverflow)
+    }
+}
+
+/// Evaluates an expression, which is entered unless it is a call that may begin at once.
+pub fn enter_expression<'a>(
+    tree: &'a Tree<'a>,
+    slots: &Slots,
+    frames: &mut Vec<LuaFrame<'a>>,
+    heap: &mut Heap,
+    budget: &mut Budget,
+    node: NodeId,
+    scope: Scope,
+) -> Result<LuaStep, NoMemory> {
+    match tree.node(node) {
+        Node::Expression(place, Expression::Call(function, arguments)) => {
+            match callee(tree, slots, heap, budget, *function, arguments.as_slice(), &scope)? {
+                Some((closure, args)) => {
+                    call_at_once(tree, slots, frames, heap, budget, closure, args, *place)
+                }
+                None => Ok(Step::Enter(Job::Expression(node, scope))),
+            }
+        }
+        _ => Ok(Step::Enter(Job::Expression(node, scope))),
+    }
+}
+
+/// The function and the arguments of a call that may begin at once, which are paid for.
+fn callee<'a>(
+    tree: &'a Tree<'a>,
+    slots: &Slots,
+    heap: &mut Heap,
+    budget: &mut Budget,
+    function: NodeId,
+    arguments: &[NodeId],
+    scope: &Scope,
+) -> Result<Option<(ClosureId, Values)>, NoMemory> {
+    if budget.left() == 0 {
+        return Ok(None);
+    }
+    match Quick::find(tree, slots, heap, function, scope, budget.left() - 1) {
+        Some(Found { value: Value::Closure(closure), left }) => {
+            match values_within(tree, slots, heap, budget, arguments, scope, left)? {
+                Some(args) => Ok(Some((closure, args))),
+                None => Ok(None),
+            }
+        }
+        _ => Ok(None),
+    }
+}
+
+/// Calls a function of Lua code, and executes what may be executed at once.
+pub fn call_at_once<'a>(
+    tree: &'a Tree<'a>,
+    slots: &Slots,
+    frames: &mut Vec<LuaFrame<'a>>,
+    heap: &mut Heap,
+    budget: &mut Budget,
+    closure: ClosureId,
+    args: Values,
+    place: Place,
+) -> Result<LuaStep, NoMemory> {
+    if !may_call(heap) {
+        return raise(heap, budget, place, Fault::StackOverflow);
+    }
+    let code = heap.closure(closure);
+    let parts = function_parts(tree, code.function);
+    heap.begin_call();
+    let scope = enter_call(heap, &code, &parts, args.as_slice(), place)?;
+    let halt = run(tree, slots, heap, budget, block_statements(tree, parts.block), &scope)?;
+    match ended(tree, slots, heap, budget, &halt, &scope)? {
+        Some(values) => {
+            heap.end_call();
+            Ok(Step::Return(End::Many(values)))
+        }
+        None => {
+            frames.push(LuaFrame::Function)?;
+            let none = Values::new(heap.allocator());
+            go_on(tree, slots, frames, heap, budget, halt, scope, none)
+        }
     }
 }
 
@@ -184,12 +263,10 @@ fn call_handler<'a>(
                 place,
                 outer,
             };
-            let step = call_library(frames, heap, budget, call)?;
-            Ok(step)
+            call_library(frames, heap, budget, call)
         }
         _ => {
-            let step = raise(heap, budget, place, Fault::Call(Kind::Table))?;
-            Ok(step)
+            raise(heap, budget, place, Fault::Call(Kind::Table))
         }
     }
 }
@@ -225,8 +302,7 @@ pub fn call<'a>(
     match function {
         Value::Closure(closure) => match by {
             Caller::ByNode => {
-                let step = call_closure(tree, frames, heap, budget, closure, args, place)?;
-                Ok(step)
+                call_closure(tree, frames, heap, budget, closure, args, place)
             }
             Caller::ByOther => Ok(Step::Enter(Job::Callback(closure, args, place))),
         },
@@ -237,18 +313,15 @@ pub fn call<'a>(
                 place,
                 outer,
             };
-            let step = call_library(frames, heap, budget, call)?;
-            Ok(step)
+            call_library(frames, heap, budget, call)
         }
         Value::Table(_) => {
             let handler = handler_of(heap, &function, "__call");
             let args = with_first(heap.allocator(), function, args.as_slice())?;
-            let step = call_handler(frames, heap, budget, handler, args, place, outer)?;
-            Ok(step)
+            call_handler(frames, heap, budget, handler, args, place, outer)
         }
         _ => {
-            let step = raise(heap, budget, place, call_fault(&function))?;
-            Ok(step)
+            raise(heap, budget, place, call_fault(&function))
         }
     }
 }

@@ -13,12 +13,14 @@ ghost use Rattle.lua_eval.specs.Slots.{ArePaths};
 ghost use Rattle.lua_eval.specs.Frames.{with_left, with_value, with_call};
 ghost use Rattle.lua_eval.specs.Steps.{Goes};
 
+use crate::calls::enter_expression;
 use crate::cells::{local, values_from};
 use crate::code::name;
 use crate::fields::{GLOBALS, read, read_named};
 use crate::frame::{CallFrame, LuaFrame, OneFrame, Then, ValueFrame};
 use crate::lists::list;
 use crate::operators::{operate, operate_one, whole};
+use crate::quick::at_once;
 use crate::raise::{LuaStep, text_value};
 use crate::tables::fields;
 use crate::values::{copy, one};
@@ -56,7 +58,7 @@ pub fn node<'a>(
             }
             None => {
                 let globals = Value::Table(GLOBALS);
-                let step = read_named(
+                read_named(
                     frames,
                     heap,
                     budget,
@@ -64,8 +66,7 @@ pub fn node<'a>(
                     text.as_bytes(),
                     *place,
                     scope.call,
-                )?;
-                Ok(step)
+                )
             }
         },
         Node::Numeral(_, text) => Ok(Step::Return(End::One(numeral(text)))),
@@ -75,8 +76,7 @@ pub fn node<'a>(
             Ok(Step::Return(End::One(value)))
         }
         Node::Expression(place, expression) => {
-            let step = evaluate(tree, frames, heap, expression, node, *place, scope)?;
-            Ok(step)
+            evaluate(tree, slots, frames, heap, budget, expression, node, *place, scope)
         }
         Node::Statement(_, _) => Ok(Step::Return(End::One(Value::Nil))),
         Node::TerraExpression(_, _) => Ok(Step::Return(End::One(Value::Nil))),
@@ -100,8 +100,10 @@ pub fn numeral(text: &str) -> Value
 /// Evaluates an expression that is no name, number or text.
 fn evaluate<'a>(
     tree: &'a Tree<'a>,
+    slots: &Slots,
     frames: &mut Vec<LuaFrame<'a>>,
     heap: &mut Heap,
+    budget: &mut Budget,
     expression: &'a Expression,
     node: NodeId,
     place: Place,
@@ -130,13 +132,15 @@ fn evaluate<'a>(
         }
         Expression::Table(list) => {
             let table = heap.new_table()?;
-            let step = fields(tree, frames, list.as_slice(), table, 1, place, scope)?;
-            Ok(step)
+            fields(tree, frames, list.as_slice(), table, 1, place, scope)
         }
         Expression::Binary(op, left, right) => {
+            if let Some(value) = at_once(tree, slots, heap, budget, *left, &scope) {
+                return with_left_on(tree, slots, frames, heap, budget, *op, *right, place, scope, value);
+            }
             let frame = ValueFrame::Left(*op, *right, place, scope);
             frames.push(LuaFrame::One(OneFrame::Value(frame)))?;
-            Ok(Step::Enter(Job::Expression(*left, scope)))
+            enter_expression(tree, slots, frames, heap, budget, *left, scope)
         }
         Expression::Unary(op, operand) => {
             let frame = ValueFrame::Unary(*op, place, scope.call);
@@ -158,12 +162,20 @@ fn evaluate<'a>(
             Ok(Step::Enter(Job::Expression(*object, scope)))
         }
         Expression::Call(function, arguments) => {
+            if let Some(value) = at_once(tree, slots, heap, budget, *function, &scope) {
+                let none = Values::new(heap.allocator());
+                let then = Then::Call(value, place);
+                return list(tree, slots, frames, heap, budget, arguments.as_slice(), scope, none, then);
+            }
             let frame = CallFrame::Function(arguments.as_slice(), place, scope);
             frames.push(LuaFrame::One(OneFrame::Call(frame)))?;
             Ok(Step::Enter(Job::Expression(*function, scope)))
         }
         Expression::Method(object, name, arguments) => {
             let frame = CallFrame::Method(*name, arguments.as_slice(), place, scope);
+            if let Some(value) = at_once(tree, slots, heap, budget, *object, &scope) {
+                return method_on(tree, slots, frames, heap, budget, *name, arguments.as_slice(), place, scope, value);
+            }
             frames.push(LuaFrame::One(OneFrame::Call(frame)))?;
             Ok(Step::Enter(Job::Expression(*object, scope)))
         }
@@ -217,6 +229,7 @@ fn with_left<'a>(
 /// Goes on with an expression that waited for one value.
 pub fn with_value<'a>(
     tree: &'a Tree<'a>,
+    slots: &Slots,
     frames: &mut Vec<LuaFrame<'a>>,
     heap: &mut Heap,
     budget: &mut Budget,
@@ -235,16 +248,13 @@ pub fn with_value<'a>(
             Ok(Step::Return(End::Many(values)))
         }
         ValueFrame::Left(op, right, place, scope) => {
-            let step = with_left(frames, op, right, place, scope, value)?;
-            Ok(step)
+            with_left_on(tree, slots, frames, heap, budget, op, right, place, scope, value)
         }
         ValueFrame::Right(op, left, place, outer) => {
-            let step = operate(tree, frames, heap, budget, op, left, value, place, outer)?;
-            Ok(step)
+            operate(tree, frames, heap, budget, op, left, value, place, outer)
         }
         ValueFrame::Unary(op, place, outer) => {
-            let step = operate_one(tree, frames, heap, budget, op, value, place, outer)?;
-            Ok(step)
+            operate_one(tree, frames, heap, budget, op, value, place, outer)
         }
         ValueFrame::Answer(handler) => {
             let truth = value.is_true() != handler.negated;
@@ -256,11 +266,10 @@ pub fn with_value<'a>(
             Ok(Step::Enter(Job::Expression(key, scope)))
         }
         ValueFrame::Key(object, place, outer) => {
-            let step = read(frames, heap, budget, object, value, place, outer)?;
-            Ok(step)
+            read(frames, heap, budget, object, value, place, outer)
         }
         ValueFrame::Select(node, place, outer) => {
-            let step = read_named(
+            read_named(
                 frames,
                 heap,
                 budget,
@@ -268,8 +277,7 @@ pub fn with_value<'a>(
                 name(tree, node).as_bytes(),
                 place,
                 outer,
-            )?;
-            Ok(step)
+            )
         }
     }
 }
@@ -295,15 +303,14 @@ pub fn with_call<'a>(
         CallFrame::Function(arguments, place, scope) => {
             let none = Values::new(heap.allocator());
             let then = Then::Call(value, *place);
-            let step = list(
+            list(
                 tree, slots, frames, heap, budget, *arguments, *scope, none, then,
-            )?;
-            Ok(step)
+            )
         }
         CallFrame::Method(node, arguments, place, scope) => {
             let frame = CallFrame::MethodOf(copy(&value), *arguments, *place, *scope);
             frames.push(LuaFrame::One(OneFrame::Call(frame)))?;
-            let found = read_named(
+            read_named(
                 frames,
                 heap,
                 budget,
@@ -311,16 +318,65 @@ pub fn with_call<'a>(
                 name(tree, *node).as_bytes(),
                 *place,
                 scope.call,
-            )?;
-            Ok(found)
+            )
         }
         CallFrame::MethodOf(object, arguments, place, scope) => {
             let first = one(heap.allocator(), copy(object))?;
             let then = Then::Call(value, *place);
-            let step = list(
+            list(
                 tree, slots, frames, heap, budget, *arguments, *scope, first, then,
-            )?;
-            Ok(step)
+            )
         }
+    }
+}
+
+fn method_on<'a>(
+    tree: &'a Tree<'a>,
+    slots: &Slots,
+    frames: &mut Vec<LuaFrame<'a>>,
+    heap: &mut Heap,
+    budget: &mut Budget,
+    node: NodeId,
+    arguments: &'a [NodeId],
+    place: Place,
+    scope: Scope,
+    object: Value,
+) -> Result<LuaStep, NoMemory> {
+    let key = text_value(heap, name(tree, node).as_bytes())?;
+    if let Value::Table(table) = object {
+        let function = heap.get(table, copy(&key));
+        if !function.is_nil() {
+            let first = one(heap.allocator(), copy(&object))?;
+            let then = Then::Call(function, place);
+            return list(tree, slots, frames, heap, budget, arguments, scope, first, then);
+        }
+    }
+    let frame = CallFrame::MethodOf(copy(&object), arguments, place, scope);
+    frames.push(LuaFrame::One(OneFrame::Call(frame)))?;
+    read(frames, heap, budget, object, key, place, scope.call)
+}
+
+fn with_left_on<'a>(
+    tree: &'a Tree<'a>,
+    slots: &Slots,
+    frames: &mut Vec<LuaFrame<'a>>,
+    heap: &mut Heap,
+    budget: &mut Budget,
+    op: BinaryOperator,
+    right: NodeId,
+    place: Place,
+    scope: Scope,
+    value: Value,
+) -> Result<LuaStep, NoMemory> {
+    match op {
+        BinaryOperator::And | BinaryOperator::Or => with_left(frames, op, right, place, scope, value),
+        _ => match at_once(tree, slots, heap, budget, right, &scope) {
+            Some(second) => operate(tree, frames, heap, budget, op, value, second, place, scope.call),
+            None => {
+                let frame = ValueFrame::Right(op, value, place, scope.call);
+                frames.push(LuaFrame::One(OneFrame::Value(frame)))?;
+                enter_expression(tree, slots, frames, heap, budget, right, scope)
+            }
+        },
     }
 }

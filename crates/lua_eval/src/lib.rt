@@ -47,6 +47,7 @@ pub mod assignments;
 pub mod calls;
 pub mod cells;
 pub mod code;
+pub mod direct;
 pub mod expressions;
 pub mod fields;
 pub mod frame;

@@ -1,6 +1,6 @@
 // Lists of expressions, and what is done with their values.
 
-ghost use Rattle.std.specs.Prelude.{◌≡◌, [], ◌∷◌, ℕ, List, IfOk, OnOk};
+ghost use Rattle.std.specs.Prelude.{◌≡◌, [], ◌∷◌, ℕ, IfOk, OnOk};
 ghost use Rattle.tl_base.specs.Plan.{Do};
 ghost use Rattle.tl_tree.specs.Arena.{items_of};
 ghost use Rattle.tl_tree.specs.Code.{Items};
@@ -10,13 +10,10 @@ ghost use Rattle.lua_table.specs.Cells.{nth_value};
 ghost use Rattle.lua_model.specs.Loops as plans;
 ghost use Rattle.lua_eval.specs.Slots.{ArePaths};
 ghost use Rattle.lua_eval.specs.Frames.{after, list_plan, then_plan};
-ghost use Rattle.lua_value.specs.declared.value.Value as value_types;
-ghost use Rattle.lua_model.specs.Plans.{LuaPlan, values_of};
-ghost use Rattle.lua_eval.specs.AtOnce.{Becomes};
 ghost use Rattle.lua_eval.specs.Steps.{Goes};
 
 use crate::assignments::stores;
-use crate::calls::call;
+use crate::calls::{call, call_at_once, enter_expression};
 use crate::cells::declare_all;
 use crate::frame::{AllFrame, ListFrame, LuaFrame, OneFrame, Then};
 use crate::loops::list_next;
@@ -59,56 +56,21 @@ pub fn list<'a>(
     ensures kept { OnOk result (KeepsHeap heap.old heap.new) }
 {
     let mut values = values;
-    let rest = values_at_once(tree, slots, heap, budget, nodes, &scope, &mut values)?;
-    match rest.split_first() {
-        None => {
-            let step = with_list(tree, slots, frames, heap, budget, scope, values, then)?;
-            Ok(step)
-        }
-        Some((first, behind)) => {
-            let frame = ListFrame {
-                rest: behind,
-                scope,
-                values,
-                then,
-            };
-            let entered = item(frames, *first, frame)?;
-            Ok(entered)
+    for at in 0..nodes.len() {
+        match at_once(tree, slots, heap, budget, nodes[at], &scope) {
+            Some(value) => values.push(value)?,
+            None => {
+                let frame = ListFrame {
+                    rest: &nodes[at + 1..],
+                    scope,
+                    values,
+                    then,
+                };
+                return item(tree, slots, frames, heap, budget, nodes[at], frame);
+            }
         }
     }
-}
-
-/// Evaluates expressions in their order at once, behind values, and pays for them. It gives those that are left, of which
-/// the first isn't evaluated at once.
-fn values_at_once<'a>(
-    tree: &'a Tree<'a>,
-    slots: &Slots,
-    heap: &mut Heap,
-    budget: &mut Budget,
-    nodes: &'a [NodeId],
-    scope: &Scope,
-    values: &mut Values,
-) -> Result<&'a [NodeId], NoMemory>
-    requires { ArePaths (items_of tree.now) slots.now }
-    ensures passes { IfOk result (λ rest. (go : List value_types.Value → LuaPlan) →
-        Becomes (items_of tree.now) (values_of nodes.now scope.now values.old go) heap.old budget.old
-        (values_of rest.now scope.now values.new go) heap.old budget.new) }
-    ensures same { heap.new ≡ heap.old }
-{
-    let mut rest = nodes;
-    'values: for _ in 0..nodes.len() {
-        match rest.split_first() {
-            None => return Ok(rest),
-            Some((first, behind)) => match at_once(tree, slots, heap, budget, *first, scope) {
-                None => return Ok(rest),
-                Some(value) => {
-                    values.push(value)?;
-                    rest = behind;
-                }
-            },
-        }
-    }
-    Ok(rest)
+    with_list(tree, slots, frames, heap, budget, scope, values, then)
 }
 
 /// Enters a job below a frame, which goes on with its end.
@@ -126,23 +88,22 @@ pub fn enter_below<'a>(
 
 /// Enters an expression of a list, with those behind it in its frame.
 fn item<'a>(
+    tree: &'a Tree<'a>,
+    slots: &Slots,
     frames: &mut Vec<LuaFrame<'a>>,
+    heap: &mut Heap,
+    budget: &mut Budget,
     node: NodeId,
     frame: ListFrame<'a>,
-) -> Result<LuaStep, NoMemory>
-    ensures means { IfOk result (λ step. (items : Items) (s : LuaState) (left : ℕ) →
-        Goes items frames.old.items
-        (list_plan items (node ∷ frame.entry.rest.now) frame.entry.scope frame.entry.values frame.entry.then)
-        s left frames.new.items step s left) }
-{
-    let job = Job::Expression(node, frame.scope);
+) -> Result<LuaStep, NoMemory> {
+    let scope = frame.scope;
     // The last one gives all its values, and any other one gives one.
     if frame.rest.is_empty() {
-        let last = enter_below(frames, LuaFrame::All(AllFrame::Last(frame)), job)?;
-        return Ok(last);
+        frames.push(LuaFrame::All(AllFrame::Last(frame)))?;
+    } else {
+        frames.push(LuaFrame::One(OneFrame::Item(frame)))?;
     }
-    let entered = enter_below(frames, LuaFrame::One(OneFrame::Item(frame)), job)?;
-    Ok(entered)
+    enter_expression(tree, slots, frames, heap, budget, node, scope)
 }
 
 #[tactic(auto, using(tl_base::proofs::Steps::pushes))]
@@ -164,8 +125,11 @@ pub fn with_list<'a>(
     ensures kept { OnOk result (KeepsHeap heap.old heap.new) }
 {
     match then {
+        Then::Call(Value::Closure(closure), place) => {
+            call_at_once(tree, slots, frames, heap, budget, closure, values, place)
+        }
         Then::Call(function, place) => {
-            let step = call(
+            call(
                 tree,
                 frames,
                 heap,
@@ -175,8 +139,7 @@ pub fn with_list<'a>(
                 values,
                 place,
                 scope.call,
-            )?;
-            Ok(step)
+            )
         }
         Then::Return => Ok(Step::Return(End::Returned(values, Values::new(heap.allocator())))),
         Then::Local(names) => {
@@ -185,17 +148,15 @@ pub fn with_list<'a>(
         }
         Then::Assign(targets, held) => {
             let left = targets.len() as u64;
-            let step = stores(
+            stores(
                 tree, slots, frames, heap, budget, targets, scope, held, values, left,
-            )?;
-            Ok(step)
+            )
         }
         Then::Listed(node, names, place) => {
             let values = values.as_slice();
-            let step = first_listed(
+            first_listed(
                 tree, frames, heap, budget, node, names, place, scope, values,
-            )?;
-            Ok(step)
+            )
         }
     }
 }
@@ -223,8 +184,7 @@ fn first_listed<'a>(
     let state = nth(values, 1);
     let control = nth(values, 2);
     let none = Values::new(heap.allocator());
-    let step = list_next(
+    list_next(
         tree, frames, heap, budget, node, names, place, scope, function, state, control, none,
-    )?;
-    Ok(step)
+    )
 }

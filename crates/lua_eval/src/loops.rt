@@ -19,6 +19,8 @@ use crate::calls::{call, statements};
 use crate::cells::{declare, declare_all};
 use crate::code::block_statements;
 use crate::frame::{AllFrame, LoopFrame, LuaFrame, OneFrame, TurnFrame};
+use crate::direct::{Halt, go_on_directly, run};
+use crate::quick::at_once;
 use crate::raise::{LuaStep, raise};
 use crate::values::{copy, split_values, two};
 use lua_model::{Caller, End, Job, Loop, Scope};
@@ -26,6 +28,7 @@ use lua_ops::{Fault, operand};
 use lua_table::Heap;
 use lua_value::{Number, Value, Values};
 use tl_base::{Budget, EnvId, NoMemory, NodeId, Place, Step};
+use tl_rename::Slots;
 use tl_tree::{Node, Statement, Tree};
 
 /// A scope in another environment.
@@ -59,7 +62,7 @@ pub fn list_next<'a>(
     let args = two(heap.allocator(), copy(&state), control)?;
     let callee = copy(&function);
     frames.push(LuaFrame::All(AllFrame::Listed(node, names, scope, function, state, out)))?;
-    let step = call(
+    call(
         tree,
         frames,
         heap,
@@ -69,8 +72,7 @@ pub fn list_next<'a>(
         args,
         place,
         scope.call,
-    )?;
-    Ok(step)
+    )
 }
 
 /// Goes on with the values of an iterator.
@@ -145,8 +147,7 @@ pub fn first_count(
             Ok(count(node, scope, all.0, all.1, all.2, out))
         }
         Err(fault) => {
-            let step = raise(heap, budget, place, fault)?;
-            Ok(step)
+            raise(heap, budget, place, fault)
         }
     }
 }
@@ -217,12 +218,10 @@ pub fn with_loop<'a>(
             Ok(Step::Enter(Job::Expression(limit, scope)))
         }
         LoopFrame::Limit(node, first, step, place, scope) => {
-            let next = with_limit(frames, heap, budget, node, first, value, step, place, scope)?;
-            Ok(next)
+            with_limit(frames, heap, budget, node, first, value, step, place, scope)
         }
         LoopFrame::Step(node, first, limit, place, scope) => {
-            let step = first_count(heap, budget, node, first, limit, value, place, scope)?;
-            Ok(step)
+            first_count(heap, budget, node, first, limit, value, place, scope)
         }
     }
 }
@@ -253,14 +252,13 @@ fn with_limit<'a>(
             Ok(Step::Enter(Job::Expression(step, scope)))
         }
         None => {
-            let next = first_count(heap, budget, node, first, limit, one(), place, scope)?;
-            Ok(next)
+            first_count(heap, budget, node, first, limit, one(), place, scope)
         }
     }
 }
 
 /// The number 1.
-fn one() -> Value
+pub fn one() -> Value
     ensures { result ≡ Value.Number (pos 1) }
 {
     match Number::new(1) {
@@ -296,8 +294,7 @@ pub fn while_test<'a>(
     ensures means { IfOk result (λ step. (items : Items) (s : LuaState) (left : ℕ) →
         Goes items frames.old.items (plans.while_test node condition scope out) s left frames.new.items step s left) }
 {
-    let step = test(frames, LoopFrame::While(node, scope, out), condition, scope)?;
-    Ok(step)
+    test(frames, LoopFrame::While(node, scope, out), condition, scope)
 }
 
 #[tactic(auto, using(tl_base::proofs::Steps::pushes))]
@@ -314,19 +311,19 @@ fn repeat_test<'a>(
         Goes items frames.old.items (plans.repeat_test node condition scope inner out) s left
         frames.new.items step s left) }
 {
-    let step = test(
+    test(
         frames,
         LoopFrame::Repeat(node, scope, out),
         condition,
         inner,
-    )?;
-    Ok(step)
+    )
 }
 
 #[tactic(auto, using(tl_base::proofs::Steps::pushes))]
 /// Goes on behind a turn.
 pub fn next_turn<'a>(
     tree: &'a Tree<'a>,
+    slots: &Slots,
     frames: &mut Vec<LuaFrame<'a>>,
     heap: &mut Heap,
     budget: &mut Budget,
@@ -342,24 +339,24 @@ pub fn next_turn<'a>(
 {
     match frame {
         TurnFrame::While(condition) => {
-            let step = while_test(frames, node, *condition, scope, out)?;
-            Ok(step)
+            match tree.node(node) {
+                Node::Statement(_, Statement::While(_, block)) => while_turns(tree, slots, frames, heap, budget, node, *condition, *block, scope, out),
+                _ => while_test(frames, node, *condition, scope, out),
+            }
         }
         TurnFrame::Repeat(condition, inner) => {
-            let step = repeat_test(frames, node, *condition, scope, *inner, out)?;
-            Ok(step)
+            repeat_test(frames, node, *condition, scope, *inner, out)
         }
         TurnFrame::Counted(at, limit, step) => {
             let next = following(at, step);
-            Ok(count_from(node, scope, next, *limit, *step, out))
+            next_count(tree, slots, frames, heap, budget, node, scope, next, *limit, *step, out)
         }
         TurnFrame::Listed(names, place, function, state, control) => {
             let (function, state, control) = (copy(function), copy(state), copy(control));
-            let step = list_next(
+            list_next(
                 tree, frames, heap, budget, node, names, *place, scope, function, state, control,
                 out,
-            )?;
-            Ok(step)
+            )
         }
     }
 }
@@ -393,8 +390,10 @@ fn count_from(
 /// Does a turn of the loop that a statement is, and all later ones.
 pub fn turn<'a>(
     tree: &'a Tree<'a>,
+    slots: &Slots,
     frames: &mut Vec<LuaFrame<'a>>,
     heap: &mut Heap,
+    budget: &mut Budget,
     node: NodeId,
     scope: Scope,
     turn: Loop,
@@ -408,10 +407,9 @@ pub fn turn<'a>(
 {
     match tree.node(node) {
         Node::Statement(place, statement) => {
-            let step = turn_of(
-                tree, frames, heap, statement, node, *place, scope, turn, out,
-            )?;
-            Ok(step)
+            turn_of(
+                tree, slots, frames, heap, budget, statement, node, *place, scope, turn, out,
+            )
         }
         _ => Ok(Step::Return(End::Fell(out))),
     }
@@ -420,8 +418,10 @@ pub fn turn<'a>(
 #[tactic(auto, using(tl_base::proofs::Steps::pushes))]
 fn turn_of<'a>(
     tree: &'a Tree<'a>,
+    slots: &Slots,
     frames: &mut Vec<LuaFrame<'a>>,
     heap: &mut Heap,
+    budget: &mut Budget,
     statement: &'a Statement,
     node: NodeId,
     place: Place,
@@ -437,24 +437,20 @@ fn turn_of<'a>(
 {
     match turn {
         Loop::While => {
-            let step = while_turn(tree, frames, heap, statement, node, scope, out)?;
-            Ok(step)
+            while_turn(tree, frames, heap, statement, node, scope, out)
         }
         Loop::Repeat => {
-            let step = repeat_turn(tree, frames, heap, statement, node, scope, out)?;
-            Ok(step)
+            repeat_turn(tree, frames, heap, statement, node, scope, out)
         }
         Loop::Counted(at, limit, by) => {
-            let step = numeric_turn(
-                tree, frames, heap, statement, node, scope, at, limit, by, out,
-            )?;
-            Ok(step)
+            numeric_turn(
+                tree, slots, frames, heap, budget, statement, node, scope, at, limit, by, out,
+            )
         }
         Loop::Listed(env, function, state, control) => {
-            let step = generic_turn(
+            generic_turn(
                 tree, frames, statement, node, place, scope, env, function, state, control, out,
-            )?;
-            Ok(step)
+            )
         }
     }
 }
@@ -482,8 +478,7 @@ fn generic_turn<'a>(
         Statement::GenericFor(names, _, block) => {
             let next = TurnFrame::Listed(names.as_slice(), place, function, state, control);
             frames.push(LuaFrame::Turn(node, scope, next))?;
-            let begun = turn_block(tree, frames, *block, within(scope, env), out)?;
-            Ok(begun)
+            turn_block(tree, frames, *block, within(scope, env), out)
         }
         _ => Ok(Step::Return(End::Fell(out))),
     }
@@ -509,8 +504,7 @@ fn while_turn<'a>(
         Statement::While(condition, block) => {
             let env = heap.new_env(*block, Some(scope.env))?;
             frames.push(LuaFrame::Turn(node, scope, TurnFrame::While(*condition)))?;
-            let begun = turn_block(tree, frames, *block, within(scope, env), out)?;
-            Ok(begun)
+            turn_block(tree, frames, *block, within(scope, env), out)
         }
         _ => Ok(Step::Return(End::Fell(out))),
     }
@@ -537,8 +531,7 @@ fn repeat_turn<'a>(
             let env = heap.new_env(node, Some(scope.env))?;
             let inner = within(scope, env);
             frames.push(LuaFrame::Turn(node, scope, TurnFrame::Repeat(*condition, inner)))?;
-            let begun = turn_block(tree, frames, *block, inner, out)?;
-            Ok(begun)
+            turn_block(tree, frames, *block, inner, out)
         }
         _ => Ok(Step::Return(End::Fell(out))),
     }
@@ -547,8 +540,10 @@ fn repeat_turn<'a>(
 #[tactic(auto, using(tl_base::proofs::Steps::pushes))]
 fn numeric_turn<'a>(
     tree: &'a Tree<'a>,
+    slots: &Slots,
     frames: &mut Vec<LuaFrame<'a>>,
     heap: &mut Heap,
+    budget: &mut Budget,
     statement: &'a Statement,
     node: NodeId,
     scope: Scope,
@@ -565,11 +560,7 @@ fn numeric_turn<'a>(
 {
     match statement {
         Statement::NumericFor(_, _, _, _, block) => {
-            let env = heap.new_env(node, Some(scope.env))?;
-            declare(heap, env, Value::Number(at))?;
-            frames.push(LuaFrame::Turn(node, scope, TurnFrame::Counted(at, limit, by)))?;
-            let begun = turn_block(tree, frames, *block, within(scope, env), out)?;
-            Ok(begun)
+            numeric_turns(tree, slots, frames, heap, budget, *block, node, scope, at, limit, by, out)
         }
         _ => Ok(Step::Return(End::Fell(out))),
     }
@@ -588,6 +579,116 @@ fn turn_block<'a>(
         (statements (statements_at (items_of tree.now) block) inner out Give)
         s left frames.new.items step s left) }
 {
-    let step = statements(frames, block_statements(tree, block), inner, out)?;
-    Ok(step)
+    statements(frames, block_statements(tree, block), inner, out)
+}
+
+/// Does the turns of a numeric `for`, of which the first is paid.
+fn numeric_turns<'a>(
+    tree: &'a Tree<'a>,
+    slots: &Slots,
+    frames: &mut Vec<LuaFrame<'a>>,
+    heap: &mut Heap,
+    budget: &mut Budget,
+    block: NodeId,
+    node: NodeId,
+    scope: Scope,
+    first: Number,
+    limit: Number,
+    by: Number,
+    out: Values,
+) -> Result<LuaStep, NoMemory> {
+    let list = block_statements(tree, block);
+    let mut at = first;
+    for _ in 0..u64::MAX {
+        let env = heap.new_env(node, Some(scope.env))?;
+        declare(heap, env, Value::Number(at))?;
+        let inner = within(scope, env);
+        match run(tree, slots, heap, budget, list, &inner)? {
+            Halt::At([]) => {}
+            halt => {
+                frames.push(LuaFrame::Turn(node, scope, TurnFrame::Counted(at, limit, by)))?;
+                return go_on_directly(tree, slots, frames, heap, budget, halt, inner, out);
+            }
+        }
+        let Some(following) = following(&at, &by) else {
+            return Ok(Step::Return(End::Fell(out)));
+        };
+        if !runs(following, limit, by) {
+            return Ok(Step::Return(End::Fell(out)));
+        }
+        if !budget.pay(1) {
+            return Ok(Step::Spent);
+        }
+        at = following;
+    }
+    Err(NoMemory)
+}
+
+fn next_count<'a>(
+    tree: &'a Tree<'a>,
+    slots: &Slots,
+    frames: &mut Vec<LuaFrame<'a>>,
+    heap: &mut Heap,
+    budget: &mut Budget,
+    node: NodeId,
+    scope: Scope,
+    at: Option<Number>,
+    limit: Number,
+    by: Number,
+    out: Values,
+) -> Result<LuaStep, NoMemory> {
+    let Some(at) = at else {
+        return Ok(Step::Return(End::Fell(out)));
+    };
+    if !runs(at, limit, by) {
+        return Ok(Step::Return(End::Fell(out)));
+    }
+    match tree.node(node) {
+        Node::Statement(_, Statement::NumericFor(_, _, _, _, block)) => {
+            if !budget.pay(1) {
+                return Ok(Step::Spent);
+            }
+            numeric_turns(tree, slots, frames, heap, budget, *block, node, scope, at, limit, by, out)
+        }
+        _ => Ok(count(node, scope, at, limit, by, out)),
+    }
+}
+
+/// Does the turns of a `while`, from the test on.
+pub fn while_turns<'a>(
+    tree: &'a Tree<'a>,
+    slots: &Slots,
+    frames: &mut Vec<LuaFrame<'a>>,
+    heap: &mut Heap,
+    budget: &mut Budget,
+    node: NodeId,
+    condition: NodeId,
+    block: NodeId,
+    scope: Scope,
+    out: Values,
+) -> Result<LuaStep, NoMemory> {
+    let list = block_statements(tree, block);
+    for _ in 0..u64::MAX {
+        match at_once(tree, slots, heap, budget, condition, &scope) {
+            None => return while_test(frames, node, condition, scope, out),
+            Some(value) => {
+                if !value.is_true() {
+                    return Ok(Step::Return(End::Fell(out)));
+                }
+            }
+        }
+        if !budget.pay(1) {
+            return Ok(Step::Spent);
+        }
+        let env = heap.new_env(block, Some(scope.env))?;
+        let inner = within(scope, env);
+        match run(tree, slots, heap, budget, list, &inner)? {
+            Halt::At([]) => {}
+            halt => {
+                frames.push(LuaFrame::Turn(node, scope, TurnFrame::While(condition)))?;
+                return go_on_directly(tree, slots, frames, heap, budget, halt, inner, out);
+            }
+        }
+    }
+    Err(NoMemory)
 }

@@ -18,6 +18,7 @@ ghost use Rattle.lua_eval.specs.Steps.{Goes};
 use crate::assignments::{define_name, stores, targets, with_target};
 use crate::calls::{call, call_closure, statements};
 use crate::code::block_statements;
+use crate::direct::proceed;
 use crate::expressions::{node, with_call, with_value};
 use crate::fields::{read, store};
 use crate::frame::{AllFrame, LuaFrame, OneFrame, TurnFrame, ValueFrame};
@@ -75,13 +76,12 @@ fn with_one<'a>(
 {
     match frame {
         OneFrame::Value(frame) => {
-            let step = with_value(tree, frames, heap, budget, frame, value)?;
-            Ok(step)
+            with_value(tree, slots, frames, heap, budget, frame, value)
         }
         OneFrame::Item(frame) => {
             let mut values = frame.values;
             values.push(value)?;
-            let step = list(
+            list(
                 tree,
                 slots,
                 frames,
@@ -91,28 +91,22 @@ fn with_one<'a>(
                 frame.scope,
                 values,
                 frame.then,
-            )?;
-            Ok(step)
+            )
         }
         OneFrame::Call(frame) => {
-            let step = with_call(tree, slots, frames, heap, budget, &frame, value)?;
-            Ok(step)
+            with_call(tree, slots, frames, heap, budget, &frame, value)
         }
         OneFrame::Field(frame, wait) => {
-            let step = with_field(tree, frames, heap, budget, frame, wait, value)?;
-            Ok(step)
+            with_field(tree, frames, heap, budget, frame, wait, value)
         }
         OneFrame::Target(frame) => {
-            let step = with_target(tree, frames, heap, budget, &frame, value)?;
-            Ok(step)
+            with_target(tree, frames, heap, budget, &frame, value)
         }
         OneFrame::Loop(frame) => {
-            let step = with_loop(frames, heap, budget, frame, value)?;
-            Ok(step)
+            with_loop(frames, heap, budget, frame, value)
         }
         OneFrame::Statement(frame) => {
-            let step = with_statement(tree, frames, heap, frame, value)?;
-            Ok(step)
+            with_statement(tree, slots, frames, heap, budget, frame, value)
         }
     }
 }
@@ -138,7 +132,7 @@ fn with_all<'a>(
         AllFrame::Last(frame) => {
             let mut values = frame.values;
             append(&mut values, more.as_slice())?;
-            let step = with_list(
+            with_list(
                 tree,
                 slots,
                 frames,
@@ -147,8 +141,7 @@ fn with_all<'a>(
                 frame.scope,
                 values,
                 frame.then,
-            )?;
-            Ok(step)
+            )
         }
         AllFrame::LastField(frame) => {
             store_values(heap, frame.table, frame.next, more.as_slice())?;
@@ -157,23 +150,20 @@ fn with_all<'a>(
         AllFrame::Target(rest, all, values, scope, before) => {
             let mut held = before;
             append(&mut held, more.as_slice())?;
-            let step = targets(
+            targets(
                 tree, slots, frames, heap, budget, rest, all, values, scope, held,
-            )?;
-            Ok(step)
+            )
         }
         AllFrame::Stores(all, scope, held, values, left) => {
-            let step = stores(
+            stores(
                 tree, slots, frames, heap, budget, all, scope, held, values, left,
-            )?;
-            Ok(step)
+            )
         }
         AllFrame::Name(name, function, scope) => {
-            let step = define_name(tree, slots, frames, heap, budget, name, function, scope)?;
-            Ok(step)
+            define_name(tree, slots, frames, heap, budget, name, function, scope)
         }
         AllFrame::Listed(node, names, scope, function, state, out) => {
-            let step = listed(
+            listed(
                 heap,
                 node,
                 names,
@@ -182,8 +172,7 @@ fn with_all<'a>(
                 state,
                 more.as_slice(),
                 out,
-            )?;
-            Ok(step)
+            )
         }
         AllFrame::Done => Ok(Step::Return(End::Fell(Values::new(heap.allocator())))),
     }
@@ -208,17 +197,14 @@ fn after_one<'a>(
 {
     match end {
         End::One(value) => {
-            let step = with_one(tree, slots, frames, heap, budget, frame, value)?;
-            Ok(step)
+            with_one(tree, slots, frames, heap, budget, frame, value)
         }
         End::Many(values) => {
             let (value, _) = split_values(values.as_slice());
-            let step = with_one(tree, slots, frames, heap, budget, frame, value)?;
-            Ok(step)
+            with_one(tree, slots, frames, heap, budget, frame, value)
         }
         End::Fell(_) | End::Broke(_) | End::Returned(_, _) => {
-            let step = with_one(tree, slots, frames, heap, budget, frame, Value::Nil)?;
-            Ok(step)
+            with_one(tree, slots, frames, heap, budget, frame, Value::Nil)
         }
         End::Raised(value, place) => Ok(Step::Return(End::Raised(value, place))),
     }
@@ -244,17 +230,14 @@ fn after_all<'a>(
     match end {
         End::One(value) => {
             let values = one(heap.allocator(), value)?;
-            let step = with_all(tree, slots, frames, heap, budget, frame, values)?;
-            Ok(step)
+            with_all(tree, slots, frames, heap, budget, frame, values)
         }
         End::Many(values) => {
-            let step = with_all(tree, slots, frames, heap, budget, frame, values)?;
-            Ok(step)
+            with_all(tree, slots, frames, heap, budget, frame, values)
         }
         End::Fell(_) | End::Broke(_) | End::Returned(_, _) => {
             let none = Values::new(heap.allocator());
-            let step = with_all(tree, slots, frames, heap, budget, frame, none)?;
-            Ok(step)
+            with_all(tree, slots, frames, heap, budget, frame, none)
         }
         End::Raised(value, place) => Ok(Step::Return(End::Raised(value, place))),
     }
@@ -264,6 +247,7 @@ fn after_all<'a>(
 /// Goes on behind a turn of a loop, whose block ended so.
 fn after_turn<'a>(
     tree: &'a Tree<'a>,
+    slots: &Slots,
     frames: &mut Vec<LuaFrame<'a>>,
     heap: &mut Heap,
     budget: &mut Budget,
@@ -280,16 +264,14 @@ fn after_turn<'a>(
 {
     match end {
         End::Fell(out) => {
-            let step = next_turn(tree, frames, heap, budget, node, scope, frame, out)?;
-            Ok(step)
+            next_turn(tree, slots, frames, heap, budget, node, scope, frame, out)
         }
         End::Broke(out) => Ok(Step::Return(End::Fell(out))),
         End::Returned(values, out) => Ok(Step::Return(End::Returned(values, out))),
         End::Raised(value, place) => Ok(Step::Return(End::Raised(value, place))),
         End::One(_) | End::Many(_) => {
             let none = Values::new(heap.allocator());
-            let step = next_turn(tree, frames, heap, budget, node, scope, frame, none)?;
-            Ok(step)
+            next_turn(tree, slots, frames, heap, budget, node, scope, frame, none)
         }
     }
 }
@@ -297,7 +279,11 @@ fn after_turn<'a>(
 #[tactic(auto, using(tl_base::proofs::Steps::pushes))]
 /// Goes on with a block, of which a statement ended so.
 fn after_statement<'a>(
+    tree: &'a Tree<'a>,
+    slots: &Slots,
     frames: &mut Vec<LuaFrame<'a>>,
+    heap: &mut Heap,
+    budget: &mut Budget,
     rest: &'a [NodeId],
     scope: Scope,
     before: Values,
@@ -311,8 +297,7 @@ fn after_statement<'a>(
     match end {
         End::Fell(more) => {
             append(&mut out, more.as_slice())?;
-            let step = statements(frames, rest, scope, out)?;
-            Ok(step)
+            proceed(tree, slots, frames, heap, budget, rest, scope, out)
         }
         End::Broke(more) => {
             append(&mut out, more.as_slice())?;
@@ -324,8 +309,7 @@ fn after_statement<'a>(
         }
         End::Raised(value, place) => Ok(Step::Return(End::Raised(value, place))),
         _ => {
-            let step = statements(frames, rest, scope, out)?;
-            Ok(step)
+            proceed(tree, slots, frames, heap, budget, rest, scope, out)
         }
     }
 }
@@ -357,8 +341,7 @@ fn chunk<'a>(
     let root = tree.root();
     let env = heap.new_env(root, None)?;
     let none = Values::new(heap.allocator());
-    let begun = statements(frames, block_statements(tree, root), scope_at(env), none)?;
-    Ok(begun)
+    statements(frames, block_statements(tree, root), scope_at(env), none)
 }
 
 /// Reads a key of a value, which is all that is asked for.
@@ -376,8 +359,7 @@ fn read_alone<'a>(
     ensures kept { OnOk result (KeepsHeap heap.old heap.new) }
 {
     frames.push(LuaFrame::One(OneFrame::Value(ValueFrame::Alone)))?;
-    let found = read(frames, heap, budget, object, key, place, None)?;
-    Ok(found)
+    read(frames, heap, budget, object, key, place, None)
 }
 
 impl<'a> Steps<'a> {
@@ -429,12 +411,11 @@ impl<'a> Machine for Steps<'a> {
     ) -> Result<LuaStep, NoMemory> {
         match task {
             LuaJob::Chunk => {
-                let step = chunk(self.tree, frames, heap)?;
-                Ok(step)
+                chunk(self.tree, frames, heap)
             }
             LuaJob::Call(function, args, place) => {
                 let by = Caller::ByOther;
-                let step = call(
+                call(
                     self.tree,
                     frames,
                     heap,
@@ -444,20 +425,17 @@ impl<'a> Machine for Steps<'a> {
                     args,
                     place,
                     Some(place),
-                )?;
-                Ok(step)
+                )
             }
             LuaJob::Expr(node, env) => {
                 frames.push(LuaFrame::One(OneFrame::Value(ValueFrame::Alone)))?;
                 Ok(Step::Enter(Job::Expression(node, scope_at(env))))
             }
             LuaJob::Emitted(node, env) => {
-                let step = block(self.tree, frames, heap, node, scope_at(env))?;
-                Ok(step)
+                block(self.tree, frames, heap, node, scope_at(env))
             }
             LuaJob::Index(object, text, place) => {
-                let step = read_alone(frames, heap, budget, object, Value::Text(text), place)?;
-                Ok(step)
+                read_alone(frames, heap, budget, object, Value::Text(text), place)
             }
         }
     }
@@ -472,32 +450,25 @@ impl<'a> Machine for Steps<'a> {
     ) -> Result<LuaStep, NoMemory> {
         match job {
             Job::Expression(id, scope) => {
-                let step = node(self.tree, self.slots, frames, heap, budget, id, scope)?;
-                Ok(step)
+                node(self.tree, self.slots, frames, heap, budget, id, scope)
             }
             Job::Statement(id, scope) => {
-                let step = statement(self.tree, self.slots, frames, heap, budget, id, scope)?;
-                Ok(step)
+                statement(self.tree, self.slots, frames, heap, budget, id, scope)
             }
             Job::Target(id, scope) => {
-                let step = target(self.tree, frames, heap, id, scope)?;
-                Ok(step)
+                target(self.tree, frames, heap, id, scope)
             }
             Job::Turn(id, scope, kind, out) => {
-                let step = turn(self.tree, frames, heap, id, scope, kind, out)?;
-                Ok(step)
+                turn(self.tree, self.slots, frames, heap, budget, id, scope, kind, out)
             }
             Job::Callback(closure, args, place) => {
-                let step = call_closure(self.tree, frames, heap, budget, closure, args, place)?;
-                Ok(step)
+                call_closure(self.tree, frames, heap, budget, closure, args, place)
             }
             Job::Read(object, key, place, outer) => {
-                let step = read(frames, heap, budget, object, key, place, outer)?;
-                Ok(step)
+                read(frames, heap, budget, object, key, place, outer)
             }
             Job::Store(object, key, value, place, outer) => {
-                let step = store(frames, heap, budget, object, key, value, place, outer)?;
-                Ok(step)
+                store(frames, heap, budget, object, key, value, place, outer)
             }
         }
     }
@@ -513,12 +484,10 @@ impl<'a> Machine for Steps<'a> {
     ) -> Result<LuaStep, NoMemory> {
         match frame {
             LuaFrame::One(frame) => {
-                let step = after_one(self.tree, self.slots, frames, heap, budget, frame, end)?;
-                Ok(step)
+                after_one(self.tree, self.slots, frames, heap, budget, frame, end)
             }
             LuaFrame::All(frame) => {
-                let step = after_all(self.tree, self.slots, frames, heap, budget, frame, end)?;
-                Ok(step)
+                after_all(self.tree, self.slots, frames, heap, budget, frame, end)
             }
             LuaFrame::Library => {
                 heap.end_call();
@@ -529,12 +498,10 @@ impl<'a> Machine for Steps<'a> {
                 Ok(Step::Return(returned(heap, end)))
             }
             LuaFrame::Turn(node, scope, kind) => {
-                let step = after_turn(self.tree, frames, heap, budget, node, scope, &kind, end)?;
-                Ok(step)
+                after_turn(self.tree, self.slots, frames, heap, budget, node, scope, &kind, end)
             }
             LuaFrame::Block(rest, scope, out) => {
-                let step = after_statement(frames, rest, scope, out, end)?;
-                Ok(step)
+                after_statement(self.tree, self.slots, frames, heap, budget, rest, scope, out, end)
             }
         }
     }

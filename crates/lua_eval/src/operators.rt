@@ -43,16 +43,13 @@ fn operands(heap: &Heap, handler: &Handler, a: Value, b: Option<Value>) -> Resul
 {
     match b {
         None => {
-            let values = one(heap.allocator(), a)?;
-            Ok(values)
+            one(heap.allocator(), a)
         }
         Some(b) => {
             if handler.swapped {
-                let values = two(heap.allocator(), b, a)?;
-                Ok(values)
+                two(heap.allocator(), b, a)
             } else {
-                let values = two(heap.allocator(), a, b)?;
-                Ok(values)
+                two(heap.allocator(), a, b)
             }
         }
     }
@@ -78,7 +75,7 @@ fn handle<'a>(
     ensures kept { OnOk result (KeepsHeap heap.old heap.new) }
 {
     frames.push(LuaFrame::One(OneFrame::Value(frame)))?;
-    let step = call(
+    call(
         tree,
         frames,
         heap,
@@ -88,8 +85,7 @@ fn handle<'a>(
         args,
         place,
         outer,
-    )?;
-    Ok(step)
+    )
 }
 
 #[tactic(auto, using(tl_base::proofs::Steps::pushes))]
@@ -113,12 +109,11 @@ fn settle<'a>(
     match outcome {
         Outcome::Value(value) => Ok(Step::Return(End::One(value))),
         Outcome::Raise(fault) => {
-            let step = raise(heap, budget, place, fault)?;
-            Ok(step)
+            raise(heap, budget, place, fault)
         }
         Outcome::Meta(handler) => {
             let args = operands(heap, &handler, a, b)?;
-            let called = handle(
+            handle(
                 tree,
                 frames,
                 heap,
@@ -128,8 +123,7 @@ fn settle<'a>(
                 args,
                 place,
                 outer,
-            )?;
-            Ok(called)
+            )
         }
     }
 }
@@ -156,7 +150,7 @@ fn arith<'a>(
     // A `?` gets no proof where the value holds a handler, here and below.
     match lua_ops::arith::arith(heap, op, first, second) {
         Ok(outcome) => {
-            let step = settle(
+            settle(
                 tree,
                 frames,
                 heap,
@@ -166,8 +160,7 @@ fn arith<'a>(
                 Some(b),
                 place,
                 outer,
-            )?;
-            Ok(step)
+            )
         }
         Err(lack) => Err(lack),
     }
@@ -191,8 +184,7 @@ fn minus<'a>(
     let first = copy(&a);
     match lua_ops::arith::arith(heap, Arithmetic::Minus, first, Value::Nil) {
         Ok(outcome) => {
-            let step = settle(tree, frames, heap, budget, outcome, a, None, place, outer)?;
-            Ok(step)
+            settle(tree, frames, heap, budget, outcome, a, None, place, outer)
         }
         Err(lack) => Err(lack),
     }
@@ -229,8 +221,7 @@ fn concat<'a>(
     let second = copy(&b);
     match lua_ops::concat::concat(heap, first, second) {
         Ok(outcome) => {
-            let step = joined(tree, frames, heap, budget, outcome, a, b, place, outer)?;
-            Ok(step)
+            joined(tree, frames, heap, budget, outcome, a, b, place, outer)
         }
         Err(lack) => Err(lack),
     }
@@ -262,7 +253,7 @@ fn joined<'a>(
             Ok(Step::Return(End::One(value)))
         }
         Outcome::Raise(_) | Outcome::Meta(_) => {
-            let step = settle(
+            settle(
                 tree,
                 frames,
                 heap,
@@ -272,8 +263,7 @@ fn joined<'a>(
                 Some(b),
                 place,
                 outer,
-            )?;
-            Ok(step)
+            )
         }
     }
 }
@@ -299,8 +289,7 @@ fn compare<'a>(
     let second = copy(&b);
     match lua_ops::compare::compare(heap, op, first, second) {
         Ok(outcome) => {
-            let step = compared(tree, frames, heap, budget, outcome, a, b, place, outer)?;
-            Ok(step)
+            compared(tree, frames, heap, budget, outcome, a, b, place, outer)
         }
         Err(lack) => Err(lack),
     }
@@ -326,7 +315,7 @@ fn compared<'a>(
 {
     match outcome {
         Outcome::Value(_) | Outcome::Raise(_) => {
-            let step = settle(
+            settle(
                 tree,
                 frames,
                 heap,
@@ -336,17 +325,15 @@ fn compared<'a>(
                 Some(b),
                 place,
                 outer,
-            )?;
-            Ok(step)
+            )
         }
         Outcome::Meta(handler) => {
             let args = operands(heap, &handler, a, Some(b))?;
             let function = copy(&handler.function);
             let frame = ValueFrame::Answer(handler);
-            let called = handle(
+            handle(
                 tree, frames, heap, budget, frame, function, args, place, outer,
-            )?;
-            Ok(called)
+            )
         }
     }
 }
@@ -429,7 +416,7 @@ pub fn operate<'a>(
         heap.old budget.old frames.new.items step heap.new budget.new) }
     ensures kept { OnOk result (KeepsHeap heap.old heap.new) }
 {
-    let step = operate_by(
+    operate_by(
         tree,
         frames,
         heap,
@@ -439,8 +426,7 @@ pub fn operate<'a>(
         b,
         place,
         outer,
-    )?;
-    Ok(step)
+    )
 }
 
 #[tactic(auto, using(tl_base::proofs::Steps::pushes))]
@@ -462,21 +448,17 @@ fn operate_by<'a>(
 {
     match operation {
         Operation::Calculates(op) => {
-            let step = arith(tree, frames, heap, budget, op, a, b, place, outer)?;
-            Ok(step)
+            arith(tree, frames, heap, budget, op, a, b, place, outer)
         }
         Operation::Compares(op) => {
-            let step = compare(tree, frames, heap, budget, op, a, b, place, outer)?;
-            Ok(step)
+            compare(tree, frames, heap, budget, op, a, b, place, outer)
         }
         Operation::Joins => {
-            let step = concat(tree, frames, heap, budget, a, b, place, outer)?;
-            Ok(step)
+            concat(tree, frames, heap, budget, a, b, place, outer)
         }
         Operation::MakesType => {
             let args = two(heap.allocator(), a, b)?;
-            let step = ask(frames, LibFn::FunctionType, args, place, outer)?;
-            Ok(step)
+            ask(frames, LibFn::FunctionType, args, place, outer)
         }
         Operation::Nothing => Ok(Step::Return(End::One(Value::Nil))),
     }
@@ -502,17 +484,14 @@ pub fn operate_one<'a>(
     match op {
         UnaryOperator::Not => Ok(Step::Return(End::One(Value::Boolean(!a.is_true())))),
         UnaryOperator::Length => {
-            let step = length(heap, budget, a, place)?;
-            Ok(step)
+            length(heap, budget, a, place)
         }
         UnaryOperator::Negate => {
-            let step = minus(tree, frames, heap, budget, a, place, outer)?;
-            Ok(step)
+            minus(tree, frames, heap, budget, a, place, outer)
         }
         UnaryOperator::Address => {
             let args = one(heap.allocator(), a)?;
-            let step = ask(frames, LibFn::PointerType, args, place, outer)?;
-            Ok(step)
+            ask(frames, LibFn::PointerType, args, place, outer)
         }
         // This is no operator of Lua code.
         UnaryOperator::Dereference => Ok(Step::Return(End::One(Value::Nil))),
@@ -540,8 +519,7 @@ fn length(
             Ok(Step::Return(End::One(whole(border))))
         }
         _ => {
-            let step = raise(heap, budget, place, Fault::Length(value.kind()))?;
-            Ok(step)
+            raise(heap, budget, place, Fault::Length(value.kind()))
         }
     }
 }

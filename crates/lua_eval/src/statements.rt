@@ -23,7 +23,9 @@ use crate::cells::declare;
 use crate::code::{block_statements, path_method, path_names};
 use crate::frame::{AllFrame, LoopFrame, LuaFrame, OneFrame, StatementFrame, TargetFrame, Then};
 use crate::lists::list;
-use crate::loops::{while_test, within};
+use crate::loops::{first_count, one as one_step, while_test, while_turns, within};
+use crate::direct::{go_on_directly, run};
+use crate::quick::at_once;
 use crate::raise::LuaStep;
 use crate::values::one;
 use lua_model::{End, Job, Loop, LuaQuestion, Scope};
@@ -48,13 +50,12 @@ pub fn block<'a>(
 {
     let env = heap.new_env(block, Some(scope.env))?;
     let none = Values::new(heap.allocator());
-    let step = statements(
+    statements(
         frames,
         block_statements(tree, block),
         within(scope, env),
         none,
-    )?;
-    Ok(step)
+    )
 }
 
 #[tactic(auto, using(tl_base::proofs::Steps::pushes))]
@@ -74,8 +75,7 @@ fn arms<'a>(
 {
     match rest.split_first() {
         None => {
-            let step = otherwise_block(tree, frames, heap, otherwise, scope)?;
-            Ok(step)
+            otherwise_block(tree, frames, heap, otherwise, scope)
         }
         Some((first, rest)) => {
             let (condition, node) = arm(tree, *first);
@@ -102,15 +102,14 @@ fn otherwise_block<'a>(
 {
     match otherwise {
         Some(node) => {
-            let step = block(tree, frames, heap, node, scope)?;
-            Ok(step)
+            block(tree, frames, heap, node, scope)
         }
         None => Ok(Step::Return(End::Fell(Values::new(heap.allocator())))),
     }
 }
 
 /// The condition and the block of an arm.
-fn arm(tree: &Tree<'_>, node: NodeId) -> (NodeId, NodeId)
+pub fn arm(tree: &Tree<'_>, node: NodeId) -> (NodeId, NodeId)
     ensures condition { result.0 ≡ arm_condition (item_at (items_of tree.now) node) }
     ensures block { result.1 ≡ arm_block (item_at (items_of tree.now) node) }
 {
@@ -124,8 +123,10 @@ fn arm(tree: &Tree<'_>, node: NodeId) -> (NodeId, NodeId)
 /// Goes on with a statement that waited for one value.
 pub fn with_statement<'a>(
     tree: &'a Tree<'a>,
+    slots: &Slots,
     frames: &mut Vec<LuaFrame<'a>>,
     heap: &mut Heap,
+    budget: &mut Budget,
     frame: StatementFrame<'a>,
     value: Value,
 ) -> Result<LuaStep, NoMemory>
@@ -141,11 +142,9 @@ pub fn with_statement<'a>(
         }
         StatementFrame::Arm(node, rest, otherwise, scope) => {
             if value.is_true() {
-                let step = block(tree, frames, heap, node, scope)?;
-                Ok(step)
+                block_on(tree, slots, frames, heap, budget, node, scope)
             } else {
-                let step = arms(tree, frames, heap, rest, otherwise, scope)?;
-                Ok(step)
+                arms_on(tree, slots, frames, heap, budget, rest, otherwise, scope)
             }
         }
     }
@@ -171,10 +170,9 @@ pub fn statement<'a>(
 {
     match tree.node(node) {
         Node::Statement(place, statement) => {
-            let step = execute(
+            execute(
                 tree, slots, frames, heap, budget, statement, node, *place, scope,
-            )?;
-            Ok(step)
+            )
         }
         _ => Ok(Step::Return(End::Fell(Values::new(heap.allocator())))),
     }
@@ -201,59 +199,47 @@ fn execute<'a>(
 {
     match statement {
         Statement::Assign(all, values) => {
-            let step = assign(tree, slots, frames, heap, budget, all, values, scope)?;
-            Ok(step)
+            assign(tree, slots, frames, heap, budget, all, values, scope)
         }
         Statement::Call(call) => {
             frames.push(LuaFrame::All(AllFrame::Done))?;
             Ok(Step::Enter(Job::Expression(*call, scope)))
         }
-        Statement::Do(inner) => {
-            let step = block(tree, frames, heap, *inner, scope)?;
-            Ok(step)
-        }
-        Statement::While(condition, _) => {
-            let step = while_first(frames, heap, node, *condition, scope)?;
-            Ok(step)
+        Statement::Do(inner) => block_on(tree, slots, frames, heap, budget, *inner, scope),
+        Statement::While(condition, block) => {
+            let none = Values::new(heap.allocator());
+            while_turns(tree, slots, frames, heap, budget, node, *condition, *block, scope, none)
         }
         Statement::Repeat(_, _) => {
             let none = Values::new(heap.allocator());
             Ok(Step::Enter(Job::Turn(node, scope, Loop::Repeat, none)))
         }
         Statement::If(list, otherwise) => {
-            let step = first_arm(tree, frames, heap, list, *otherwise, scope)?;
-            Ok(step)
+            arms_on(tree, slots, frames, heap, budget, list.as_slice(), *otherwise, scope)
         }
         Statement::NumericFor(_, first, limit, step, _) => {
-            let frame = LoopFrame::Initial(node, *limit, *step, place, scope);
-            frames.push(LuaFrame::One(OneFrame::Loop(frame)))?;
-            Ok(Step::Enter(Job::Expression(*first, scope)))
+            numeric_for(tree, slots, frames, heap, budget, node, *first, *limit, *step, place, scope)
         }
         Statement::GenericFor(names, values, _) => {
-            let step = generic_for(
+            generic_for(
                 tree, slots, frames, heap, budget, node, names, values, place, scope,
-            )?;
-            Ok(step)
+            )
         }
         Statement::Function(path, _) => {
-            let step = define_at(tree, frames, heap, *path, node, scope)?;
-            Ok(step)
+            define_at(tree, frames, heap, *path, node, scope)
         }
         Statement::LocalFunction(_, body) => {
-            let step = local_function(heap, *body, scope)?;
-            Ok(step)
+            local_function(heap, *body, scope)
         }
         Statement::Local(names, values) => {
-            let step = locals(tree, slots, frames, heap, budget, names, values, scope)?;
-            Ok(step)
+            locals(tree, slots, frames, heap, budget, names, values, scope)
         }
         Statement::Emit(value) => {
             frames.push(LuaFrame::One(OneFrame::Statement(StatementFrame::Emit)))?;
             Ok(Step::Enter(Job::Expression(*value, scope)))
         }
         Statement::Return(values) => {
-            let step = return_values(tree, slots, frames, heap, budget, values, scope)?;
-            Ok(step)
+            return_values(tree, slots, frames, heap, budget, values, scope)
         }
         Statement::Break => Ok(Step::Return(End::Broke(Values::new(heap.allocator())))),
         Statement::Terra(_, _)
@@ -281,8 +267,7 @@ fn while_first<'a>(
         frames.new.items step s left) }
 {
     let none = Values::new(heap.allocator());
-    let step = while_test(frames, node, condition, scope, none)?;
-    Ok(step)
+    while_test(frames, node, condition, scope, none)
 }
 
 /// Begins with the arms of an `if`.
@@ -300,12 +285,11 @@ fn first_arm<'a>(
     ensures kept { OnOk result (KeepsHeap heap.old heap.new) }
 {
     let list = list.as_slice();
-    let step = arms(tree, frames, heap, list, otherwise, scope)?;
-    Ok(step)
+    arms(tree, frames, heap, list, otherwise, scope)
 }
 
 /// An assignment: its targets, then its expressions, then the stores.
-fn assign<'a>(
+pub fn assign<'a>(
     tree: &'a Tree<'a>,
     slots: &Slots,
     frames: &mut Vec<LuaFrame<'a>>,
@@ -324,10 +308,9 @@ fn assign<'a>(
     let none = Values::new(heap.allocator());
     let all = all.as_slice();
     let values = values.as_slice();
-    let step = targets(
+    targets(
         tree, slots, frames, heap, budget, all, all, values, scope, none,
-    )?;
-    Ok(step)
+    )
 }
 
 /// A generic `for`: the values of its expressions, and then the first call of the iterator.
@@ -354,8 +337,7 @@ fn generic_for<'a>(
     let names = names.as_slice();
     let values = values.as_slice();
     let then = Then::Listed(node, names, place);
-    let step = list(tree, slots, frames, heap, budget, values, scope, none, then)?;
-    Ok(step)
+    list(tree, slots, frames, heap, budget, values, scope, none, then)
 }
 
 /// Defines a function under a path.
@@ -374,8 +356,7 @@ fn define_at<'a>(
 {
     let names = path_names(tree, path);
     let method = path_method(tree, path);
-    let step = define(frames, heap, names, method, function, scope)?;
-    Ok(step)
+    define(frames, heap, names, method, function, scope)
 }
 
 /// Declares a local with a function, which sees it.
@@ -393,7 +374,7 @@ fn local_function(heap: &mut Heap, body: NodeId, scope: Scope) -> Result<LuaStep
 }
 
 /// Declares locals, behind their expressions.
-fn locals<'a>(
+pub fn locals<'a>(
     tree: &'a Tree<'a>,
     slots: &Slots,
     frames: &mut Vec<LuaFrame<'a>>,
@@ -413,8 +394,7 @@ fn locals<'a>(
     let names = names.as_slice();
     let values = values.as_slice();
     let then = Then::Local(names);
-    let step = list(tree, slots, frames, heap, budget, values, scope, none, then)?;
-    Ok(step)
+    list(tree, slots, frames, heap, budget, values, scope, none, then)
 }
 
 /// Returns the values of expressions.
@@ -437,8 +417,7 @@ fn return_values<'a>(
     let none = Values::new(heap.allocator());
     let values = values.as_slice();
     let then = Then::Return;
-    let step = list(tree, slots, frames, heap, budget, values, scope, none, then)?;
-    Ok(step)
+    list(tree, slots, frames, heap, budget, values, scope, none, then)
 }
 
 #[tactic(auto, using(tl_base::proofs::Steps::pushes))]
@@ -457,12 +436,10 @@ pub fn target<'a>(
 {
     match tree.node(node) {
         Node::Expression(_, expression) => {
-            let step = target_of(frames, heap, expression, scope)?;
-            Ok(step)
+            target_of(frames, heap, expression, scope)
         }
         _ => {
-            let step = held(heap, Value::Nil, Value::Nil)?;
-            Ok(step)
+            held(heap, Value::Nil, Value::Nil)
         }
     }
 }
@@ -488,8 +465,90 @@ fn target_of<'a>(
             Ok(Step::Enter(Job::Expression(*object, scope)))
         }
         _ => {
-            let step = held(heap, Value::Nil, Value::Nil)?;
-            Ok(step)
+            held(heap, Value::Nil, Value::Nil)
         }
+    }
+}
+
+fn block_on<'a>(
+    tree: &'a Tree<'a>,
+    slots: &Slots,
+    frames: &mut Vec<LuaFrame<'a>>,
+    heap: &mut Heap,
+    budget: &mut Budget,
+    block: NodeId,
+    scope: Scope,
+) -> Result<LuaStep, NoMemory> {
+    let env = heap.new_env(block, Some(scope.env))?;
+    let none = Values::new(heap.allocator());
+    let inner = within(scope, env);
+    let halt = run(tree, slots, heap, budget, block_statements(tree, block), &inner)?;
+    go_on_directly(tree, slots, frames, heap, budget, halt, inner, none)
+}
+
+fn arms_on<'a>(
+    tree: &'a Tree<'a>,
+    slots: &Slots,
+    frames: &mut Vec<LuaFrame<'a>>,
+    heap: &mut Heap,
+    budget: &mut Budget,
+    list: &'a [NodeId],
+    otherwise: Option<NodeId>,
+    scope: Scope,
+) -> Result<LuaStep, NoMemory> {
+    for at in 0..list.len() {
+        let (condition, node) = arm(tree, list[at]);
+        match at_once(tree, slots, heap, budget, condition, &scope) {
+            Some(value) => {
+                if value.is_true() {
+                    return block_on(tree, slots, frames, heap, budget, node, scope);
+                }
+            }
+            None => {
+                let frame = StatementFrame::Arm(node, &list[at + 1..], otherwise, scope);
+                frames.push(LuaFrame::One(OneFrame::Statement(frame)))?;
+                return Ok(Step::Enter(Job::Expression(condition, scope)));
+            }
+        }
+    }
+    match otherwise {
+        Some(node) => block_on(tree, slots, frames, heap, budget, node, scope),
+        None => Ok(Step::Return(End::Fell(Values::new(heap.allocator())))),
+    }
+}
+
+fn numeric_for<'a>(
+    tree: &'a Tree<'a>,
+    slots: &Slots,
+    frames: &mut Vec<LuaFrame<'a>>,
+    heap: &mut Heap,
+    budget: &mut Budget,
+    node: NodeId,
+    first: NodeId,
+    limit: NodeId,
+    step: Option<NodeId>,
+    place: Place,
+    scope: Scope,
+) -> Result<LuaStep, NoMemory> {
+    let Some(a) = at_once(tree, slots, heap, budget, first, &scope) else {
+        let frame = LoopFrame::Initial(node, limit, step, place, scope);
+        frames.push(LuaFrame::One(OneFrame::Loop(frame)))?;
+        return Ok(Step::Enter(Job::Expression(first, scope)));
+    };
+    let Some(b) = at_once(tree, slots, heap, budget, limit, &scope) else {
+        let frame = LoopFrame::Limit(node, a, step, place, scope);
+        frames.push(LuaFrame::One(OneFrame::Loop(frame)))?;
+        return Ok(Step::Enter(Job::Expression(limit, scope)));
+    };
+    match step {
+        None => first_count(heap, budget, node, a, b, one_step(), place, scope),
+        Some(step) => match at_once(tree, slots, heap, budget, step, &scope) {
+            Some(c) => first_count(heap, budget, node, a, b, c, place, scope),
+            None => {
+                let frame = LoopFrame::Step(node, a, b, place, scope);
+                frames.push(LuaFrame::One(OneFrame::Loop(frame)))?;
+                Ok(Step::Enter(Job::Expression(step, scope)))
+            }
+        },
     }
 }
