@@ -35,7 +35,7 @@ right-four : (x : ℕ) → shifted_right x 4 ≡ x / 16
 unfolding shifted_right
 right-four x = refl
 
-right-two : (x : ℕ) → shifted_right x 2 ≡ x / 4
+pub right-two : (x : ℕ) → shifted_right x 2 ≡ x / 4
 unfolding shifted_right
 right-two x = refl
 
@@ -43,7 +43,7 @@ left-four : (x : ℕ) → x * 16 < 2 ^ 64 → shifted_left x 4 ≡ x * 16
 unfolding shifted_left low
 left-four x h = omega arith
 
-less : (x y : ℕ) → y ≤ x → x < 2 ^ 64 → difference x y ≡ x - y
+pub less : (x y : ℕ) → y ≤ x → x < 2 ^ 64 → difference x y ≡ x - y
 unfolding low difference
 less x y h k = omega arith
 

@@ -86,7 +86,7 @@ written-next p code homes i s program base m d x e =
     write-used (graph_of code) s.here.block s.here.at d (block_of x.block) (step_of i) g.0 g.1 (ap (λ o. is_written o d) e ∙ eq-eqb d d refl)
 
 -- operands
-has-left : (xs ys : List ℕ) (t : ℕ) → has xs t ≡ true → has (xs ++ ys) t ≡ true
+pub has-left : (xs ys : List ℕ) (t : ℕ) → has xs t ≡ true → has (xs ++ ys) t ≡ true
 has-left [] ys t h = cc
 has-left (x ∷ xs) ys t h = ⊎_elim (λ e. ap (λ b. b || has (xs ++ ys) t) e) (λ e. ap (λ b. b || has (xs ++ ys) t) e ∙ has-left xs ys t (sym (ap (λ b. b || has xs t) e) ∙ h)) (cases_Bool (nat_eq x t))
 
@@ -94,7 +94,7 @@ or-second : (a b : Bool) → b ≡ true → (a || b) ≡ true
 or-second true b q = refl
 or-second false b q = q
 
-has-right : (xs ys : List ℕ) (t : ℕ) → has ys t ≡ true → has (xs ++ ys) t ≡ true
+pub has-right : (xs ys : List ℕ) (t : ℕ) → has ys t ≡ true → has (xs ++ ys) t ≡ true
 has-right [] ys t h = h
 has-right (x ∷ xs) ys t h = or-second (nat_eq x t) (has (xs ++ ys) t) (has-right xs ys t h)
 
@@ -109,7 +109,7 @@ place-small at h =
     let w : at.word < 2 ^ 32 = ltb-true at.word (2 ^ 32) b.1 in
     omega arith
 
-nothing-written : (out : List ℕ) → out ≡ out ++ []
+pub nothing-written : (out : List ℕ) → out ≡ out ++ []
 nothing-written out = sym (append-nil out)
 
 carry-copy : (p : Program) (code : Tac) (homes : List (Option Home)) (d : ℕ) (a : Operand) (s : tac.State) (program : List (Option Instr)) (base : ℕ) (m : State) →

@@ -31,7 +31,7 @@ small-load d n m o h =
     let e : (0 + n) % 2 ^ 64 ≡ n = omega arith in
     ap (λ v. GoesOn (at_with m ((m.pc + 4) % 2 ^ 64) d.number ((0 + v) % 2 ^ 64))) (immediate-is n h) ∙ ap (λ v. GoesOn (at_with m ((m.pc + 4) % 2 ^ 64) d.number v)) e
 
-throws : (s : State) (kind place : ℕ) → s.registers 17 ≡ 1024 → s.registers 10 ≡ kind → s.registers 11 ≡ place → 1 ≤ kind → kind ≤ 5 → act Ecall s ≡ Throws kind place
+pub throws : (s : State) (kind place : ℕ) → s.registers 17 ≡ 1024 → s.registers 10 ≡ kind → s.registers 11 ≡ place → 1 ≤ kind → kind ≤ 5 → act Ecall s ≡ Throws kind place
 throws s kind place e f g h k =
     ap (λ v. if nat_eq v 64 then write_call s else (if nat_eq v 1024 then throw_call s else Faults BadCall)) e
     ∙ (ap (λ v. if nat_le 1 v && nat_le v 5 then Throws v (s.registers 11) else Faults BadCall) f

@@ -47,9 +47,9 @@ goes-there from to x l n e h k even s f g =
     folds from x l to v a b = let same : ((from + x) % 2 ^ 64 + l) % 2 ^ 64 ≡ (from + (x + l) % 2 ^ 64) % 2 ^ 64 = omega arith in same ∙ (ap (λ z. (from + z) % 2 ^ 64) a ∙ b)
 
 -- the parts of a distance, which is small or nearly 2 ^ 32
-record Sum (n x l : ℕ) : Type 0 where
-  ahead : n < 2 ^ 30 → (x + l) % 2 ^ 64 ≡ n
-  back : 2 ^ 32 - 2 ^ 30 ≤ n → n < 2 ^ 32 → (x + l) % 2 ^ 64 ≡ n + (2 ^ 64 - 2 ^ 32)
+pub record Sum (n x l : ℕ) : Type 0 where
+  pub ahead : n < 2 ^ 30 → (x + l) % 2 ^ 64 ≡ n
+  pub back : 2 ^ 32 - 2 ^ 30 ≤ n → n < 2 ^ 32 → (x + l) % 2 ^ 64 ≡ n + (2 ^ 64 - 2 ^ 32)
 
 low-sum : (n l : ℕ) → l ≡ n % 4096 → l < 2048 → Sum n (wrapped (width true 32) (upper_number n * 2 ^ 12)) l
 low-sum n l e h = record {
@@ -66,7 +66,7 @@ high-sum n l e h = record {
       (cases_lt (n + 2048) (2 ^ 32));
 }
 
-sum-of : (n : ℕ) → Sum n (extended_word ((upper_of n).value * 2 ^ 12)) (word (lower_of n).value)
+pub sum-of : (n : ℕ) → Sum n (extended_word ((upper_of n).value * 2 ^ 12)) (word (lower_of n).value)
 sum-of n =
     subst (λ x. Sum n x (word (lower_of n).value)) (sym (ap (λ u. extended_word (u * 2 ^ 12)) (upper-is n) ∙ wrapped-32 (upper_number n * 2 ^ 12)))
     (⊎_elim
@@ -85,7 +85,7 @@ pub record Jumped (program : List (Option Instr)) (steps to : ℕ) (m : State) :
   pub near : Near m after
   pub pc : after.pc ≡ to
 
-target-is : (from to : ℕ) → from < 2 ^ 30 → to < 2 ^ 30 → to % 2 ≡ 0 →
+pub target-is : (from to : ℕ) → from < 2 ^ 30 → to < 2 ^ 30 → to % 2 ≡ 0 →
     low (low (from + extended_word ((upper_of (distance from to)).value * 2 ^ 12)) + word (lower_of (distance from to)).value) ≡ to
 target-is from to h k even =
     let n : ℕ = distance from to in
@@ -99,7 +99,7 @@ target-is from to h k even =
     far : (n from to : ℕ) → n ≡ (to + (2 ^ 32 - from)) % 2 ^ 32 → from < 2 ^ 30 → to < 2 ^ 30 → 2 ^ 31 ≤ n → 2 ^ 32 - 2 ^ 30 ≤ n
     far n from to e h k a = omega arith
 
-even-stays : (t to : ℕ) → t ≡ to → to % 2 ≡ 0 → t - t % 2 ≡ to
+pub even-stays : (t to : ℕ) → t ≡ to → to % 2 ≡ 0 → t - t % 2 ≡ to
 even-stays t to e h = omega arith
 
 pub jumps-there : (program : List (Option Instr)) (m : State) (from to : ℕ) → m.pc ≡ from → from < 2 ^ 30 → to < 2 ^ 30 → to % 2 ≡ 0 → Stands program from (jump from to) → Jumped program 2 to m

@@ -40,7 +40,7 @@ use Rattle.rv_select.proofs.Carries.{both-true, by-test, operand-read, place-sma
 use Rattle.rv_select.proofs.Jumps.{Jumped, jumps-there}
 
 -- the exit of a block in the flow graph
-exit-in-graph : (code : Tac) (b : Block) (block at : ℕ) → slice_get code.blocks block ≡ Some b → slice_get b.instructions at ≡ None →
+pub exit-in-graph : (code : Tac) (b : Block) (block at : ℕ) → slice_get code.blocks block ≡ Some b → slice_get b.instructions at ≡ None →
     (slice_get (graph_of code) block ≡ Some (block_of b)) × (slice_get (block_of b).steps at ≡ None)
 exit-in-graph code b block at e f =
     (slice_get-map block_of code.blocks block ∙ ap (option_map block_of) e, slice_get-map step_of b.instructions at ∙ ap (option_map step_of) f)
@@ -54,7 +54,7 @@ or-second true b q = refl
 or-second false b q = q
 
 -- what an exit reads is live before it
-exit-reads-live : (graph : List FlowBlock) (block at t : ℕ) (f : FlowBlock) → slice_get graph block ≡ Some f → slice_get f.steps at ≡ None → has f.reads t ≡ true → IsLive graph block at t
+pub exit-reads-live : (graph : List FlowBlock) (block at t : ℕ) (f : FlowBlock) → slice_get graph block ≡ Some f → slice_get f.steps at ≡ None → has f.reads t ≡ true → IsLive graph block at t
 exit-reads-live graph block at t f e g h = (
   1,
   ap (λ o. at_place o at (λ c. read_within graph 0 c 0 t) (read_within graph 0 block (suc at) t) t) e

@@ -24,3 +24,15 @@ pub mod Carries
 pub mod Weights
 pub mod Jumps
 pub mod Leaves
+pub mod Pushed
+pub mod Kept
+pub mod Enters
+pub mod Passes
+pub mod Quits
+pub mod Callings
+pub mod Waits
+pub mod Finds
+pub mod Receives
+pub mod Returns
+pub mod Stands
+pub mod Entrances

@@ -188,7 +188,7 @@ constant-loads d m n o h =
     (cases_Bool (nat_eq (extended_word n) n))
 
 -- how many instructions these are
-short-count : (d : Register) (n : ℕ) → length (short_constant d n) ≤ 2
+pub short-count : (d : Register) (n : ℕ) → length (short_constant d n) ≤ 2
 short-count d n = either (nat_eq (upper_number n) 0)
   where
     either : (b : Bool) → length (if b then Addiw d x0 (lower_of n) ∷ [] else Lui d (upper_of n) ∷ Addiw d d (lower_of n) ∷ []) ≤ 2

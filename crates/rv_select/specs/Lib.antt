@@ -6,3 +6,11 @@ pub mod Numbers
 pub mod Shapes
 -- What these instructions promise.
 pub mod Steps
+-- How a function is entered and left.
+pub mod Entering
+-- Calls and returns, and the code of a whole function.
+pub mod Calls
+-- What the code that enters and leaves functions promises.
+pub mod Frames
+-- A program of several functions, and what the machine holds for the calls that wait.
+pub mod Waiting

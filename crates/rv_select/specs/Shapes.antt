@@ -206,42 +206,47 @@ stored y (spots.Region at a) size b =
 stored y (spots.Area n offset) size b =
     taken y x6 b ++ framed (λ r far. Store (store_of size) r x6 far) (area_offset y n + offset)
 
--- bytes from x6 on go where x5 points, through x7: eight at a time, then four, two and one
-abbrev pub carried : LoadOp → StoreOp → ℕ → List Instr
-carried load store at = Load load x7 x6 (immediate_of at) ∷ Store store x5 x7 (immediate_of at) ∷ []
+-- bytes go from where one register points to where another does, through x7: eight at a time, then four, two and one
+abbrev pub carried : (from to : Register) → LoadOp → StoreOp → ℕ → List Instr
+carried from to load store at = Load load x7 from (immediate_of at) ∷ Store store to x7 (immediate_of at) ∷ []
 
-abbrev pub carried_eights : ℕ → (at : ℕ) → List Instr
-carried_eights zero at = []
-carried_eights (suc n) at = carried Ld Sd at ++ carried_eights n (at + 8)
+abbrev pub carried_eights : (from to : Register) → ℕ → (at : ℕ) → List Instr
+carried_eights from to zero at = []
+carried_eights from to (suc n) at = carried from to Ld Sd at ++ carried_eights from to n (at + 8)
 
-abbrev pub carried_if : ℕ → LoadOp → StoreOp → ℕ → List Instr
-carried_if zero load store at = []
-carried_if (suc n) load store at = carried load store at
+abbrev pub carried_if : (from to : Register) → ℕ → LoadOp → StoreOp → ℕ → List Instr
+carried_if from to n load store at = if nat_eq n 0 then [] else carried from to load store at
 
-abbrev pub carried_rest : (size at : ℕ) → List Instr
-carried_rest size at =
-    carried_if (size / 4 % 2) Lwu Sw at
-    ++ (carried_if (size / 2 % 2) Lhu Sh (at + size / 4 % 2 * 4)
-    ++ carried_if (size % 2) Lbu Sb (at + size / 2 % 4 * 2))
+abbrev pub carried_rest : (from to : Register) → (size at : ℕ) → List Instr
+carried_rest from to size at =
+    carried_if from to (size / 4 % 2) Lwu Sw at
+    ++ (carried_if from to (size / 2 % 2) Lhu Sh (at + size / 4 % 2 * 4)
+    ++ carried_if from to (size % 2) Lbu Sb (at + size / 2 % 4 * 2))
 
-abbrev pub all_carried : ℕ → List Instr
-all_carried size = carried_eights (size / 8) 0 ++ carried_rest size (size / 8 * 8)
+abbrev pub all_carried : (from to : Register) → ℕ → List Instr
+all_carried from to size = carried_eights from to (size / 8) 0 ++ carried_rest from to size (size / 8 * 8)
 
 -- a register gets the address of an area's byte
 abbrev pub area_reached : Layout → Register → ℕ → ℕ → List Instr
 area_reached y d n offset = framed (λ r far. RegisterImmediate Addi d r far) (area_offset y n + offset)
 
-abbrev pub spot_reached : Layout → Spot → ℕ → List Instr
-spot_reached y (spots.Region at a) size = reached y at a size
-spot_reached y (spots.Area n offset) size = area_reached y x5 n offset
+-- bytes of an area go where x5 points, and bytes from where x5 points go to an area
+abbrev pub from_area : Layout → ℕ → (offset size : ℕ) → List Instr
+from_area y n offset size = area_reached y x6 n offset ++ all_carried x6 x5 size
 
--- Bytes from one spot to another. One of them at most is in the region, and it is reached first, since that takes x5 and x6.
+abbrev pub to_area : Layout → ℕ → (offset size : ℕ) → List Instr
+to_area y n offset size = area_reached y x6 n offset ++ all_carried x5 x6 size
+
+-- Bytes from one spot to another, of which at most one is in the region, and x5 reaches that one.
+abbrev pub some_moved : Layout → (to from : Spot) → ℕ → List Instr
+some_moved y (spots.Region at a) (spots.Area n offset) size = reached y at a size ++ from_area y n offset size
+some_moved y (spots.Area n offset) (spots.Region at a) size = reached y at a size ++ to_area y n offset size
+some_moved y (spots.Area n offset) (spots.Area m other) size = area_reached y x5 n offset ++ from_area y m other size
+some_moved y (spots.Region at a) (spots.Region other b) size = []
+
+-- No bytes lie nowhere, so a move of none only takes a step.
 abbrev pub bytes_moved : Layout → (to from : Spot) → ℕ → List Instr
-bytes_moved y to (spots.Area n offset) size =
-    spot_reached y to size ++ (area_reached y x6 n offset ++ all_carried size)
-bytes_moved y (spots.Area n offset) (spots.Region at a) size =
-    reached y at a size ++ (moved x6 x5 ∷ (area_reached y x5 n offset ++ all_carried size))
-bytes_moved y (spots.Region at a) (spots.Region other b) size = []
+bytes_moved y to from size = if nat_eq size 0 then moved x0 x0 ∷ [] else some_moved y to from size
 
 -- zeros, eight at a time, from where x5 points. The bytes of an area behind those that it holds may be any
 abbrev pub zero_put : ℕ → Instr

@@ -37,7 +37,7 @@ pub(crate) fn put(code: &mut Vec<u32>, instruction: Instr) -> Result<(), NoMemor
 }
 
 /// The low 32 bits of a number to a register, extended by their sign.
-fn push_short_constant(code: &mut Vec<u32>, rd: Register, number: u64) -> Result<(), NoMemory>
+pub(crate) fn push_short_constant(code: &mut Vec<u32>, rd: Register, number: u64) -> Result<(), NoMemory>
     ensures { OnOk result (code.new.items ≡ code.old.items ++ map word_of (short_constant rd number)) }
 {
     let imm = upper(number);
@@ -122,7 +122,7 @@ pub(crate) fn push_constant(code: &mut Vec<u32>, rd: Register, number: u64) -> R
 }
 
 /// x7 gets the address of an offset of the frame, but for its lower part.
-fn push_far(code: &mut Vec<u32>, offset: u64) -> Result<(), NoMemory>
+pub(crate) fn push_far(code: &mut Vec<u32>, offset: u64) -> Result<(), NoMemory>
     ensures { OnOk result (code.new.items ≡ code.old.items ++ map word_of (far_part offset)) }
 {
     put(

@@ -62,7 +62,7 @@ fn push_tested(code: &mut Vec<u32>, homes: &[Option<Home>], a: Operand) -> Resul
 }
 
 /// How far it is from an address to another, in 32 bits.
-fn distance(from: u64, to: u64) -> u64
+pub(crate) fn distance(from: u64, to: u64) -> u64
     requires { from ≤ 2 ^ 32 }
     ensures { result ≡ distance from to }
 {
@@ -70,7 +70,7 @@ fn distance(from: u64, to: u64) -> u64
 }
 
 /// A jump from an address to another.
-fn push_jump(code: &mut Vec<u32>, from: u64, to: u64) -> Result<(), NoMemory>
+pub(crate) fn push_jump(code: &mut Vec<u32>, from: u64, to: u64) -> Result<(), NoMemory>
     requires { from ≤ 2 ^ 32 }
     ensures { OnOk result (code.new.items ≡ code.old.items ++ map word_of (jump from to)) }
 {

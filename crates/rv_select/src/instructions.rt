@@ -27,7 +27,7 @@ use tl_base::{NoMemory, Place};
 /// The end of the region.
 pub(crate) const X4: Register = Register { number: 4 };
 /// The address of the frame in the region.
-const X8: Register = Register { number: 8 };
+pub(crate) const X8: Register = Register { number: 8 };
 
 pub(crate) const X10: Register = Register { number: 10 };
 
@@ -186,7 +186,7 @@ fn bytes_of(size: Size) -> u64
 }
 
 /// A place in one word.
-fn place_number(at: Place) -> u64
+pub(crate) fn place_number(at: Place) -> u64
     ensures { result ≡ place_number at }
 {
     at.line as u64 * (1 << 32) + at.word as u64
@@ -227,6 +227,13 @@ pub(crate) fn push_failed(code: &mut Vec<u32>, kind: FaultKind, at: Place) -> Re
     ensures { OnOk result (code.new.items ≡ code.old.items ++ map word_of (failed kind at)) }
 {
     push_constant(code, X11, place_number(at))?;
+    push_fault_call(code, kind)
+}
+
+/// The run ends by a fault at the place in x11.
+pub(crate) fn push_fault_call(code: &mut Vec<u32>, kind: FaultKind) -> Result<(), NoMemory>
+    ensures { OnOk result (code.new.items ≡ code.old.items ++ map word_of (fault_call kind)) }
+{
     push_small(code, X10, fault_number(kind))?;
     push_small(code, X17, FAULT_CALL)?;
     put(code, Instr::Ecall)
@@ -483,7 +490,7 @@ fn push_cleared(
 }
 
 /// A register gets the address of a byte of an area.
-fn push_area_address(
+pub(crate) fn push_area_address(
     code: &mut Vec<u32>,
     homes: &[Option<Home>],
     rd: Register,

@@ -6,16 +6,25 @@
 //! holds afterwards what three-address code sees then. The laws of `law` have that of each instruction.
 #![tactic(auto)]
 
+mod calls;
 mod emit;
+mod entries;
 pub mod exits;
 pub mod instructions;
 pub mod law;
 mod operands;
 mod outputs;
+pub mod selected;
+pub mod selection;
 
+pub use selected::{Call, Code};
 pub use exits::push_exit;
 pub use instructions::push_instruction;
-pub use law::{exits_are_carried, exits_keep_within, instructions_are_carried, shapes_keep_within};
+pub use law::{
+    calls_are_begun, exits_are_carried, exits_keep_within, functions_are_entered,
+    functions_are_left, instructions_are_carried, shapes_keep_within,
+};
+pub use selection::select;
 
 #[cfg(test)]
 mod tests;

@@ -247,7 +247,7 @@ fn push_heap_aligned(code: &mut Vec<u32>) -> Result<(), NoMemory>
 }
 
 /// x7 gets the address at which the last quarter of the region begins.
-fn push_limit_found(code: &mut Vec<u32>) -> Result<(), NoMemory>
+pub(crate) fn push_limit_found(code: &mut Vec<u32>) -> Result<(), NoMemory>
     ensures { OnOk result (code.new.items ≡ code.old.items ++ map word_of limit_found) }
 {
     put(

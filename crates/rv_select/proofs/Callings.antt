@@ -1,0 +1,183 @@
+-- Calls, up to where the function is entered.
+use Rattle.std.proofs.Common.{◌≡◌, ◌≢◌, ℕ, zero, suc, ◌+◌, ◌-◌, ◌*◌, ◌%◌, ◌^◌, ◌<◌, ◌≤◌, Bool, true, false, List, [], ◌∷◌, ◌++◌, length, take, drop, append_assoc, Option, Some, refl, sym, ap, ◌∙◌, subst, ⊎_elim, inl, inr, arith}
+use Rattle.std.specs.Prelude.{if◌then◌else◌, nat_lt, slice_get, ◌⊎◌}
+use Rattle.std.proofs.lemmas.Bool.{cases_lt, le-ltb, lt-ltb}
+use Rattle.std.proofs.lemmas.List.{length-append}
+use Rattle.tl_base.specs.declared.place.Place.{Place}
+use Rattle.rv_isa.specs.declared.instr.Instr.{Instr}
+use Rattle.rv_isa.specs.declared.instr.Instr.TheVariants.{Auipc, Branch, Jalr, RegisterImmediate}
+use Rattle.rv_isa.specs.declared.operation.BranchCondition.TheVariants.{Ltu}
+use Rattle.rv_isa.specs.declared.operation.ImmediateOp.TheVariants.{Addi}
+use Rattle.terra_words.specs.declared.words.FaultKind.TheVariants.{CallDepth}
+use Rattle.tac_form.specs.declared.tac.Part.{Part}
+use Rattle.rv_machine.specs.Word.{low, word, extended_word}
+use Rattle.rv_machine.specs.Machine.{State, GoesOn, act, at_with}
+use Rattle.rv_operators.specs.Codes.{x0, x5}
+use Rattle.rv_operators.specs.Runs.{Stands}
+use Rattle.rv_select.specs.Numbers.{constant, immediate_of, lower_of, upper_of}
+use Rattle.rv_select.specs.Places.{AreBytes, Holds, Housed, Layout, World, private_word}
+use Rattle.rv_select.specs.Shapes.{distance, fault_call, place_number, x11}
+use Rattle.rv_select.specs.Steps.{Ends}
+use Rattle.rv_select.specs.Entering.{x1, x28}
+use Rattle.rv_select.specs.Calls.{call_begun, call_jump, depth_tested, one_more, passed}
+use Rattle.rv_select.proofs.Calm.{Calm, calm-both, calm-holds, calm-loads, calm-with, near-calm}
+use Rattle.rv_select.proofs.Enters.{call-fails}
+use Rattle.rv_select.proofs.Faults.{branch-way, later-ends, small-load}
+use Rattle.rv_select.proofs.Jumps.{even-stays, target-is}
+use Rattle.rv_select.proofs.Numbers.{constant-count, constant-loads, immediate-is}
+use Rattle.rv_select.proofs.Passes.{IsPartRead, PassedParts, part_value, passes}
+use Rattle.rv_select.proofs.Straight.{Loads, low-below, low-small, written-elsewhere, written-there}
+use Rattle.rv_select.proofs.Ways.{Near, Way, at_pc, near-pc, stands-back, stands-front, step-way, straight-way, way-both}
+
+-- A jump to a function, which gets the return address.
+pub record JumpedTo (program : List (Option Instr)) (to : ℕ) (m : State) : Type 0 where
+  pub after : State
+  pub way : Way program 2 m after
+  pub pc : after.pc ≡ to
+  pub link : after.registers 1 ≡ low (m.pc + 8)
+  pub others : (r : ℕ) → r ≢ 1 → r ≢ 5 → after.registers r ≡ m.registers r
+  pub region : after.region ≡ m.region
+  pub private : after.private ≡ m.private
+
+pc-eight : (p : ℕ) → low (low (p + 4) + 4) ≡ low (p + 8)
+unfolding low
+pc-eight p = omega arith
+
+pub jumps-to : (program : List (Option Instr)) (m : State) (from to : ℕ) (rest : List Instr) → m.pc ≡ from → from < 2 ^ 30 → to < 2 ^ 30 → to % 2 ≡ 0 →
+    Stands program m.pc (call_jump from to ++ rest) → JumpedTo program to m
+jumps-to program m from to rest e h k even there =
+    let n : ℕ = distance from to in
+    let x : ℕ = extended_word ((upper_of n).value * 2 ^ 12) in
+    let one : State = at_with m (low (m.pc + 4)) 5 (low (m.pc + x)) in
+    let t : ℕ = low (low (m.pc + x) + word (lower_of n).value) in
+    let two : State = at_with one (t - t % 2) 1 (low (one.pc + 4)) in
+    let is : t ≡ to = ap (λ q. low (low (q + x) + word (lower_of n).value)) e ∙ target-is from to h k even in
+    record {
+      after = two;
+      way = way-both program 1 1 m one two (step-way program (Auipc x5 (upper_of n)) m one there.0 refl) (step-way program (Jalr x1 x5 (lower_of n)) one two there.1.0 refl);
+      pc = even-stays t to is even;
+      link = written-there one.registers 1 (low (one.pc + 4)) (λ z. omega (arith, z)) ∙ pc-eight m.pc;
+      others = λ r o five. written-elsewhere one.registers 1 (low (one.pc + 4)) r o ∙ written-elsewhere m.registers 5 (low (m.pc + x)) r five;
+      region = refl;
+      private = refl;
+    }
+
+-- What comes before a call's jump: the parts' words lie below the frame, the call's place is in x11, and one more call waits.
+pub record Begun (program : List (Option Instr)) (y : Layout) (base : ℕ) (w : World) (at : Place) (ps : List Part) (rest : List Instr) (m : State) : Type 0 where
+  pub after : State
+  pub steps : ℕ
+  pub way : Way program steps m after
+  pub few : steps ≤ 11 + 11 * length ps
+  pub pc : after.pc ≡ low (m.pc + 4 * length (call_begun y at ps))
+  pub place : after.registers 11 ≡ place_number at
+  pub waiting : after.registers 28 ≡ suc w.depth
+  pub others : (r : ℕ) → r ≢ 5 → r ≢ 6 → r ≢ 7 → r ≢ 11 → r ≢ 28 → after.registers r ≡ m.registers r
+  pub region : after.region ≡ m.region
+  pub long : length after.private ≡ length m.private
+  pub bytes : AreBytes m.private → AreBytes after.private
+  pub above : (at k : ℕ) → base ≤ at → take k (drop at after.private) ≡ take k (drop at m.private)
+  pub words : (k : ℕ) (p : Part) → slice_get ps k ≡ Some p → private_word after (base - 8 * (k + 1)) ≡ part_value y base w p
+  pub there : Stands program after.pc rest
+
+pc-begun : (p a b c d n k : ℕ) → a ≡ low (p + 4 * n) → b ≡ low (low (a + 4) + 16) → c ≡ low (b + 4 * k) → d ≡ low (c + 4) → d ≡ low (p + 4 * (n + (5 + (k + 1))))
+unfolding low
+pc-begun p a b c d n k e g h i = omega arith
+
+none-before : (k : ℕ) → k + 1 ≡ 0 + k + 1
+none-before k = omega arith
+
+pc-sixteen : (q : ℕ) → low (q + 16) ≡ low (low (low (low (q + 4) + 4) + 4) + 4)
+unfolding low
+pc-sixteen q = omega arith
+
+module _ (program : List (Option Instr)) (y : Layout) (Used : ℕ → Type 0) (w : World) (base : ℕ) (at : Place) (ps : List Part) (rest : List Instr) (m : State)
+    (p : Holds y Used w base m) (h : Housed y Used) (fits : place_number at < 2 ^ 64) (there : Stands program m.pc (call_begun y at ps ++ rest)) where
+  abbrev A : List Instr
+  A = constant x11 (place_number at)
+
+  abbrev P : List Instr
+  P = passed y 0 ps
+
+  abbrev l : Loads 11 A m (place_number at)
+  l = constant-loads x11 m (place_number at) (λ z. omega (arith, z)) fits
+
+  abbrev t1 : State
+  t1 = l.after
+
+  abbrev t2 : State
+  t2 = at_with t1 (low (t1.pc + 4)) 5 511
+
+  all : Stands program m.pc (A ++ (depth_tested ++ (P ++ (one_more ++ rest))))
+  all = subst (λ z. Stands program m.pc z)
+      (append_assoc A (depth_tested ++ (P ++ one_more)) rest ∙ ap (λ z. A ++ (depth_tested ++ z)) (append_assoc P one_more rest)) there
+
+  after-1 : Stands program t1.pc (depth_tested ++ (P ++ (one_more ++ rest)))
+  after-1 = subst (λ q. Stands program q (depth_tested ++ (P ++ (one_more ++ rest)))) (sym l.behind) (stands-back program m.pc A (depth_tested ++ (P ++ (one_more ++ rest))) p.pc all)
+
+  way-2 : Way program (length A + 1) m t2
+  way-2 =
+      way-both program (length A) 1 m t1 t2 (straight-way program A m t1 (stands-front program m.pc A (depth_tested ++ (P ++ (one_more ++ rest))) all) l.straight l.goes)
+      (step-way program (RegisterImmediate Addi x5 x0 (immediate_of 511)) t1 t2 after-1.0 (small-load x5 511 t1 (λ z. omega (arith, z)) (omega arith)))
+
+  calm-2 : Calm m t2
+  calm-2 = calm-both m t1 t2 (calm-loads 11 m t1 refl l.keeps l.region l.private) (calm-with t1 (low (t1.pc + 4)) 5 511 refl)
+
+  same-2 : (r : ℕ) → r ≢ 5 → r ≢ 7 → r ≢ 11 → t2.registers r ≡ m.registers r
+  same-2 r five seven eleven = written-elsewhere t1.registers 5 511 r five ∙ l.keeps r eleven seven
+
+  place-2 : t2.registers 11 ≡ place_number at
+  place-2 = written-elsewhere t1.registers 5 511 11 (λ z. omega (arith, z)) ∙ l.gives
+
+  depth-2 : t2.registers 28 ≡ w.depth
+  depth-2 = same-2 28 (λ z. omega (arith, z)) (λ z. omega (arith, z)) (λ z. omega (arith, z)) ∙ p.depth
+
+  -- too many calls wait
+  pub too-deep : 511 ≤ w.depth → Ends program CallDepth at 13 m
+  too-deep deep =
+      let d : State = at_pc t2 (low (t2.pc + 4)) in
+      let branch : Way program 1 t2 d =
+      branch-way program Ltu x28 x5 16 t2 false (omega arith) (omega arith) after-1.1.0 (ap (λ x. nat_lt x 511) depth-2 ∙ le-ltb w.depth 511 deep) in
+      let last : Ends program CallDepth at 3 d =
+      call-fails program d CallDepth at place-2 (omega arith) (omega arith) (stands-front program d.pc (fault_call CallDepth) (P ++ (one_more ++ rest)) after-1.1.1) in
+      later-ends program CallDepth at (length A + 1 + 1) 3 13 m d (way-both program (length A + 1) 1 m t2 d way-2 branch) last (omega (arith, constant-count x11 (place_number at)))
+
+  -- the call may be made
+  pub begins : w.depth < 511 → ((k : ℕ) (q : Part) → slice_get ps k ≡ Some q → IsPartRead y Used q) → 8 * length ps ≤ base → Begun program y base w at ps rest m
+  begins shallow reads room =
+      let t3 : State = at_pc t2 (low (t2.pc + 16)) in
+      let branch : Way program 1 t2 t3 =
+      branch-way program Ltu x28 x5 16 t2 true (omega arith) (omega arith) after-1.1.0 (ap (λ x. nat_lt x 511) depth-2 ∙ lt-ltb w.depth 511 shallow) in
+      let calm-3 : Calm m t3 = calm-both m t2 t3 calm-2 (near-calm t2 t3 (near-pc t2 (low (t2.pc + 16)))) in
+      let q : Holds y Used w base t3 = calm-holds y Used w base m t3 p h calm-3 (low-below (t2.pc + 16)) in
+      let after-3 : Stands program t3.pc (P ++ (one_more ++ rest)) = subst (λ z. Stands program z (P ++ (one_more ++ rest))) (sym (pc-sixteen t2.pc)) after-1.1.1.1.1.1 in
+      let pp : PassedParts y base 0 ps w program (one_more ++ rest) t3 = passes y Used w base program 0 ps (one_more ++ rest) t3 after-3 q h reads (omega (arith, room)) in
+      let t4 : State = pp.after in
+      let t5 : State = at_with t4 (low (t4.pc + 4)) 28 (suc w.depth) in
+      let depth-4 : t4.registers 28 ≡ w.depth = pp.beneath.keeps 28 (λ z. omega (arith, z)) (λ z. omega (arith, z)) (λ z. omega (arith, z)) ∙ depth-2 in
+      let one-sum : w.depth + 1 ≡ suc w.depth = omega arith in
+      let to-5 : act (RegisterImmediate Addi x28 x28 (immediate_of 1)) t4 ≡ GoesOn t5 =
+      ap (λ v. GoesOn (at_with t4 (low (t4.pc + 4)) 28 (low (t4.registers 28 + v)))) (immediate-is 1 (omega arith))
+      ∙ (ap (λ v. GoesOn (at_with t4 (low (t4.pc + 4)) 28 (low (v + 1)))) depth-4
+      ∙ ap (λ v. GoesOn (at_with t4 (low (t4.pc + 4)) 28 v)) (low-small (w.depth + 1) (omega (arith, shallow)) ∙ one-sum)) in
+      let way-3 : Way program (length A + 1 + 1) m t3 = way-both program (length A + 1) 1 m t2 t3 way-2 branch in
+      let way-4 : Way program (length A + 1 + 1 + pp.steps) m t4 = way-both program (length A + 1 + 1) pp.steps m t3 t4 way-3 pp.way in
+      let way-5 : Way program (length A + 1 + 1 + pp.steps + 1) m t5 =
+      way-both program (length A + 1 + 1 + pp.steps) 1 m t4 t5 way-4 (step-way program (RegisterImmediate Addi x28 x28 (immediate_of 1)) t4 t5 pp.there.0 to-5) in
+      let tail : length (P ++ one_more) ≡ length P + 1 = length-append P one_more in
+      let count : length (call_begun y at ps) ≡ length A + (5 + (length P + 1)) = omega (arith, length-append A (depth_tested ++ (P ++ one_more)), tail) in
+      record {
+        after = t5;
+        steps = length A + 1 + 1 + pp.steps + 1;
+        way = way-5;
+        few = omega (arith, constant-count x11 (place_number at), pp.few);
+        pc = pc-begun m.pc t1.pc t3.pc t4.pc t5.pc (length A) (length P) l.behind refl pp.pc refl ∙ ap (λ n. low (m.pc + 4 * n)) (sym count);
+        place = written-elsewhere t4.registers 28 (suc w.depth) 11 (λ z. omega (arith, z)) ∙ (pp.beneath.keeps 11 (λ z. omega (arith, z)) (λ z. omega (arith, z)) (λ z. omega (arith, z)) ∙ place-2);
+        waiting = written-there t4.registers 28 (suc w.depth) (λ z. omega (arith, z));
+        others = λ r five six seven eleven more. written-elsewhere t4.registers 28 (suc w.depth) r more ∙ (pp.beneath.keeps r five six seven ∙ same-2 r five seven eleven);
+        region = pp.beneath.region ∙ calm-3.region;
+        long = pp.beneath.long ∙ ap length calm-3.private;
+        bytes = λ b. pp.beneath.bytes (subst AreBytes (sym calm-3.private) b);
+        above = λ a k o. pp.beneath.above a k (omega (arith, o)) ∙ ap (λ z. take k (drop a z)) calm-3.private;
+        words = λ k o e. ap (λ n. private_word t4 (base - 8 * n)) (none-before k) ∙ pp.words k o e;
+        there = pp.there.1;
+      }

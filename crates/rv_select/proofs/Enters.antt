@@ -1,0 +1,321 @@
+-- How functions are entered.
+use Rattle.std.proofs.Common.{◌≡◌, ◌≢◌, ℕ, zero, suc, ◌+◌, ◌-◌, ◌*◌, ◌/◌, ◌%◌, ◌^◌, ◌<◌, ◌≤◌, Bool, true, false, List, [], ◌∷◌, ◌++◌, length, take, drop, append_assoc, Option, Some, refl, sym, ap, ◌∙◌, subst, ⊎_elim, inl, inr, arith}
+use Rattle.std.specs.Prelude.{if◌then◌else◌, nat_lt, nat_le, not, ◌⊎◌}
+use Rattle.std.proofs.lemmas.Bool.{cases_lt, le-ltb, lt-ltb}
+use Rattle.std.proofs.lemmas.List.{length-append}
+use Rattle.tl_base.specs.declared.place.Place.{Place}
+use Rattle.rv_isa.specs.declared.instr.Instr.{Instr}
+use Rattle.rv_isa.specs.declared.instr.Instr.TheVariants.{Branch, Ecall, Lui, RegisterImmediate, RegisterRegister, Shift, Store}
+use Rattle.rv_isa.specs.declared.operation.BranchCondition.TheVariants.{Geu}
+use Rattle.rv_isa.specs.declared.operation.ImmediateOp.TheVariants.{Addi}
+use Rattle.rv_isa.specs.declared.operation.RegisterOp.TheVariants.{Add, Sub}
+use Rattle.rv_isa.specs.declared.operation.ShiftOp.TheVariants.{Srli}
+use Rattle.rv_isa.specs.declared.operation.StoreOp.TheVariants.{Sd}
+use Rattle.terra_words.specs.declared.words.FaultKind.{FaultKind}
+use Rattle.terra_words.specs.declared.words.FaultKind.TheVariants.{StackFull}
+use Rattle.terra_words.specs.Words.{fault_number}
+use Rattle.rv_machine.specs.Word.{low, difference}
+use Rattle.rv_machine.specs.Machine.{State, GoesOn, Throws, act, at_with, run_of}
+use Rattle.rv_operators.specs.Codes.{x0, x5, x6, zero_immediate}
+use Rattle.rv_operators.specs.Runs.{Stands}
+use Rattle.rv_select.specs.Numbers.{constant, immediate_of, register_of, short_constant, upper_of}
+use Rattle.rv_select.specs.Places.{AreBytes, Layout, private_word, uses}
+use Rattle.rv_select.specs.Shapes.{fault_call, limit_found, over, place_number, two, x2, x4, x7, x8, x10, x17}
+use Rattle.rv_select.specs.Steps.{Ends}
+use Rattle.rv_select.specs.Entering.{entered, frames_taken, if_used, kept_offset, saved, stack_branch, stack_tested, x1}
+use Rattle.rv_select.proofs.Allocs.{less, right-two}
+use Rattle.rv_select.proofs.Faults.{branch-way, later-ends, small-load, throws}
+use Rattle.terra_memory.specs.Numbers.{number_of}
+use Rattle.rv_select.proofs.Homes.{word_stored}
+use Rattle.rv_select.proofs.Kept.{Saved, Stored, saves, stored-one, word-stored}
+use Rattle.rv_select.proofs.Numbers.{constant-count, constant-loads, short-count, short-loads, extended-small}
+use Rattle.rv_select.proofs.Straight.{Loads, behind-both, loads-both, loads-one, low-below, low-small, written-elsewhere, written-there}
+use Rattle.rv_select.proofs.Ways.{Near, Way, at_pc, near-both, near-pc, stands-back, stands-front, step-way, straight-way, throw-step, way-both}
+
+-- the call by which a run ends, at a place that stands in x11
+pub call-fails : (program : List (Option Instr)) (m : State) (kind : FaultKind) (at : Place) → m.registers 11 ≡ place_number at →
+    1 ≤ fault_number kind → fault_number kind ≤ 5 → Stands program m.pc (fault_call kind) → Ends program kind at 3 m
+call-fails program m kind at e l u there =
+    let b : State = at_with m (low (m.pc + 4)) 10 (fault_number kind) in
+    let c : State = at_with b (low (b.pc + 4)) 17 1024 in
+    let one : Way program 1 m b =
+    step-way program (RegisterImmediate Addi x10 x0 (immediate_of (fault_number kind))) m b there.0 (small-load x10 (fault_number kind) m (λ z. omega (arith, z)) (omega arith)) in
+    let two-way : Way program 1 b c =
+    step-way program (RegisterImmediate Addi x17 x0 (immediate_of 1024)) b c there.1.0 (small-load x17 1024 b (λ z. omega (arith, z)) (omega arith)) in
+    let way : Way program (1 + 1) m c = way-both program 1 1 m b c one two-way in
+    let last : act Ecall c ≡ Throws (fault_number kind) (place_number at) = throws c (fault_number kind) (place_number at) refl refl e l u in
+    record {
+      steps = 3;
+      last = c;
+      few = omega arith;
+      runs = λ more.
+          let split : 3 + more ≡ 1 + 1 + suc more = omega arith in
+          ap (run_of program m) split ∙ (way.runs (suc more) ∙ throw-step program Ecall c (fault_number kind) (place_number at) more there.1.1.0 last);
+    }
+
+-- x7 gets the address at which the last quarter of the region begins
+pub limit-loads : (m : State) (size : ℕ) → m.registers 4 ≡ 2 ^ 30 + size → size ≤ 67108864 → Loads 7 limit_found m (2 ^ 30 + size - size / 4)
+limit-loads m size e most =
+    let a : Loads 7 (Lui x7 (upper_of 0x40000000) ∷ []) m (2 ^ 30) = loads-one (Lui x7 (upper_of 0x40000000)) m 7 (2 ^ 30) (λ z. omega (arith, z)) refl refl in
+    let same : 2 ^ 30 + size - 2 ^ 30 ≡ size = omega arith in
+    let four-a : a.after.registers 4 ≡ 2 ^ 30 + size = a.keeps 4 (λ z. omega (arith, z)) (λ z. omega (arith, z)) ∙ e in
+    let b : Loads 7 (RegisterRegister Sub x7 x4 x7 ∷ []) a.after size =
+    loads-one (RegisterRegister Sub x7 x4 x7) a.after 7 size (λ z. omega (arith, z)) refl
+    (ap (λ x. GoesOn (at_with a.after (low (a.after.pc + 4)) 7 (difference x (a.after.registers 7)))) four-a
+    ∙ (ap (λ x. GoesOn (at_with a.after (low (a.after.pc + 4)) 7 (difference (2 ^ 30 + size) x))) a.gives
+    ∙ ap (λ x. GoesOn (at_with a.after (low (a.after.pc + 4)) 7 x)) (less (2 ^ 30 + size) (2 ^ 30) (omega arith) (omega (arith, most)) ∙ same))) in
+    let c : Loads 7 (Shift Srli x7 x7 two ∷ []) b.after (size / 4) =
+    loads-one (Shift Srli x7 x7 two) b.after 7 (size / 4) (λ z. omega (arith, z)) refl
+    (ap (λ x. GoesOn (at_with b.after (low (b.after.pc + 4)) 7 x)) (right-two (b.after.registers 7) ∙ ap (λ x. x / 4) b.gives)) in
+    let four-c : c.after.registers 4 ≡ 2 ^ 30 + size =
+    c.keeps 4 (λ z. omega (arith, z)) (λ z. omega (arith, z)) ∙ (b.keeps 4 (λ z. omega (arith, z)) (λ z. omega (arith, z)) ∙ four-a) in
+    let d : Loads 7 (RegisterRegister Sub x7 x4 x7 ∷ []) c.after (2 ^ 30 + size - size / 4) =
+    loads-one (RegisterRegister Sub x7 x4 x7) c.after 7 (2 ^ 30 + size - size / 4) (λ z. omega (arith, z)) refl
+    (ap (λ x. GoesOn (at_with c.after (low (c.after.pc + 4)) 7 (difference x (c.after.registers 7)))) four-c
+    ∙ (ap (λ x. GoesOn (at_with c.after (low (c.after.pc + 4)) 7 (difference (2 ^ 30 + size) x))) c.gives
+    ∙ ap (λ x. GoesOn (at_with c.after (low (c.after.pc + 4)) 7 x)) (less (2 ^ 30 + size) (size / 4) (omega arith) (omega (arith, most))))) in
+    loads-both 7 (2 ^ 30) (2 ^ 30 + size - size / 4) (Lui x7 (upper_of 0x40000000) ∷ []) (RegisterRegister Sub x7 x4 x7 ∷ Shift Srli x7 x7 two ∷ RegisterRegister Sub x7 x4 x7 ∷ []) m a
+    (loads-both 7 size (2 ^ 30 + size - size / 4) (RegisterRegister Sub x7 x4 x7 ∷ []) (Shift Srli x7 x7 two ∷ RegisterRegister Sub x7 x4 x7 ∷ []) a.after b
+    (loads-both 7 (size / 4) (2 ^ 30 + size - size / 4) (Shift Srli x7 x7 two ∷ []) (RegisterRegister Sub x7 x4 x7 ∷ []) b.after c d))
+
+pc-sixteen : (p q : ℕ) → q ≡ low (p + 4) → low (q + 16) ≡ low (p + 20)
+unfolding low
+pc-sixteen p q e = omega arith
+
+pc-branch : (p q r : ℕ) → q ≡ low (p + 4) → r ≡ low (q + 16) → r ≡ low (p + 4 * 5)
+unfolding low
+pc-branch p q r e g = omega arith
+
+pc-fifth : (q : ℕ) → low (q + 16) ≡ low (low (low (low (q + 4) + 4) + 4) + 4)
+unfolding low
+pc-fifth q = omega arith
+
+pc-all : (p n k a b c : ℕ) → a ≡ low (p + 4 * n) → b ≡ low (a + 4 * k) → c ≡ low (b + 4 * 5) → c ≡ low (p + 4 * (n + (k + 5)))
+unfolding low
+pc-all p n k a b c e g h = omega arith
+
+-- The test of the data stack: where it passes, the frame's bytes are in x5.
+pub record Passed (program : List (Option Instr)) (frame : ℕ) (rest : List Instr) (m : State) : Type 0 where
+  pub after : State
+  pub steps : ℕ
+  pub way : Way program steps m after
+  pub few : steps ≤ 14
+  pub near : Near m after
+  pub five : after.registers 5 ≡ frame
+  pub pc : after.pc ≡ low (m.pc + 4 * length (stack_tested frame))
+  pub there : Stands program after.pc rest
+
+module _ (program : List (Option Instr)) (m : State) (frame size placed : ℕ) (rest : List Instr) (p : m.pc < 2 ^ 64) (small : frame < 2 ^ 63)
+    (four-is : m.registers 4 ≡ 2 ^ 30 + size) (most : size ≤ 67108864) (eight-is : m.registers 8 ≡ placed) (placed-small : placed < 2 ^ 63)
+    (there : Stands program m.pc (stack_tested frame ++ rest)) where
+  abbrev limit : ℕ
+  limit = 2 ^ 30 + size - size / 4
+
+  abbrev A : List Instr
+  A = constant x5 frame
+
+  abbrev l : Loads 5 A m frame
+  l = constant-loads x5 m frame (λ z. omega (arith, z)) (omega arith)
+
+  abbrev a : State
+  a = l.after
+
+  abbrev k : Loads 7 limit_found a limit
+  k = limit-loads a size (l.keeps 4 (λ z. omega (arith, z)) (λ z. omega (arith, z)) ∙ four-is) most
+
+  abbrev b : State
+  b = k.after
+
+  abbrev c : State
+  c = at_with b (low (b.pc + 4)) 7 (limit + frame)
+
+  five-b : b.registers 5 ≡ frame
+  five-b = k.keeps 5 (λ z. omega (arith, z)) (λ z. omega (arith, z)) ∙ l.gives
+
+  five-c : c.registers 5 ≡ frame
+  five-c = written-elsewhere b.registers 7 (limit + frame) 5 (λ z. omega (arith, z)) ∙ five-b
+
+  eight-c : c.registers 8 ≡ placed
+  eight-c =
+      written-elsewhere b.registers 7 (limit + frame) 8 (λ z. omega (arith, z))
+      ∙ (k.keeps 8 (λ z. omega (arith, z)) (λ z. omega (arith, z)) ∙ (l.keeps 8 (λ z. omega (arith, z)) (λ z. omega (arith, z)) ∙ eight-is))
+
+  all : Stands program m.pc (A ++ (limit_found ++ (stack_branch ++ rest)))
+  all = subst (λ z. Stands program m.pc z) (append_assoc A (limit_found ++ stack_branch) rest) there
+
+  behind-a : Stands program a.pc (limit_found ++ (stack_branch ++ rest))
+  behind-a = subst (λ q. Stands program q (limit_found ++ (stack_branch ++ rest))) (sym l.behind) (stands-back program m.pc A (limit_found ++ (stack_branch ++ rest)) p all)
+
+  a-small : a.pc < 2 ^ 64
+  a-small = subst (λ q. q < 2 ^ 64) (sym l.behind) (low-below (m.pc + 4 * length A))
+
+  behind-b : Stands program b.pc (stack_branch ++ rest)
+  behind-b = subst (λ q. Stands program q (stack_branch ++ rest)) (sym k.behind) (stands-back program a.pc limit_found (stack_branch ++ rest) a-small behind-a)
+
+  to-c : act (RegisterRegister Add x7 x7 x5) b ≡ GoesOn c
+  to-c =
+      ap (λ x. GoesOn (at_with b (low (b.pc + 4)) 7 (low (x + b.registers 5)))) k.gives
+      ∙ (ap (λ x. GoesOn (at_with b (low (b.pc + 4)) 7 (low (limit + x)))) five-b
+      ∙ ap (λ x. GoesOn (at_with b (low (b.pc + 4)) 7 x)) (low-small (limit + frame) (omega (arith, small, most))))
+
+  way-c : Way program (length A + 4 + 1) m c
+  way-c =
+      way-both program (length A + 4) 1 m b c
+      (way-both program (length A) 4 m a b
+      (straight-way program A m a (stands-front program m.pc A (limit_found ++ (stack_branch ++ rest)) all) l.straight l.goes)
+      (straight-way program limit_found a b (stands-front program a.pc limit_found (stack_branch ++ rest) behind-a) k.straight k.goes))
+      (step-way program (RegisterRegister Add x7 x7 x5) b c behind-b.0 to-c)
+
+  near-c : Near m c
+  near-c = record {
+    keeps = λ r five six seven. written-elsewhere b.registers 7 (limit + frame) r seven ∙ (k.keeps r seven seven ∙ l.keeps r five seven);
+    region = k.region ∙ l.region;
+    private = k.private ∙ l.private;
+  }
+
+  pub passes : limit + frame ≤ placed → Passed program frame rest m
+  passes h =
+      let d : State = at_pc c (low (c.pc + 16)) in
+      let branch : Way program 1 c d =
+      branch-way program Geu x8 x7 16 c true (omega arith) (omega arith) behind-b.1.0
+      (ap (λ x. not (nat_lt x (c.registers 7))) eight-c ∙ ap not (le-ltb placed (limit + frame) h)) in
+      let pc-c : d.pc ≡ low (b.pc + 4 * 5) = pc-branch b.pc c.pc d.pc refl refl in
+      let count : length (stack_tested frame) ≡ length A + 9 = length-append A (limit_found ++ stack_branch) in
+      let pc-d : d.pc ≡ low (m.pc + 4 * (length A + (4 + 5))) = pc-all m.pc (length A) 4 a.pc b.pc d.pc l.behind k.behind pc-c in
+      record {
+        after = d;
+        steps = length A + 4 + 1 + 1;
+        way = way-both program (length A + 4 + 1) 1 m c d way-c branch;
+        few = omega (arith, constant-count x5 frame);
+        near = near-both m c d near-c (near-pc c (low (c.pc + 16)));
+        five = five-c;
+        pc = pc-d ∙ ap (λ n. low (m.pc + 4 * n)) (sym count);
+        there = subst (λ q. Stands program q rest) (sym (pc-fifth c.pc)) behind-b.1.1.1.1.1;
+      }
+
+  pub refuses : (at : Place) → m.registers 11 ≡ place_number at → placed < limit + frame → Ends program StackFull at 17 m
+  refuses at e h =
+      let d : State = at_pc c (low (c.pc + 4)) in
+      let branch : Way program 1 c d =
+      branch-way program Geu x8 x7 16 c false (omega arith) (omega arith) behind-b.1.0
+      (ap (λ x. not (nat_lt x (c.registers 7))) eight-c ∙ ap not (lt-ltb placed (limit + frame) h)) in
+      let eleven : d.registers 11 ≡ place_number at = near-c.keeps 11 (λ z. omega (arith, z)) (λ z. omega (arith, z)) (λ z. omega (arith, z)) ∙ e in
+      let last : Ends program StackFull at 3 d =
+      call-fails program d StackFull at eleven (omega arith) (omega arith) (stands-front program d.pc (fault_call StackFull) rest behind-b.1.1) in
+      later-ends program StackFull at (length A + 4 + 1 + 1) 3 17 m d (way-both program (length A + 4 + 1) 1 m c d way-c branch) last (omega (arith, constant-count x5 frame))
+
+-- Both frames are taken, and what callers rest on is kept.
+pub record Taken (program : List (Option Instr)) (y : Layout) (bytes base under : ℕ) (rest : List Instr) (m : State) : Type 0 where
+  pub after : State
+  pub steps : ℕ
+  pub way : Way program steps m after
+  pub few : steps ≤ 15
+  pub some : 1 ≤ steps
+  pub pointer : after.registers 2 ≡ 2 ^ 32 + base
+  pub eight : after.registers 8 ≡ under
+  pub others : (r : ℕ) → r ≢ 2 → r ≢ 6 → r ≢ 7 → r ≢ 8 → after.registers r ≡ m.registers r
+  pub region : after.region ≡ m.region
+  pub long : length after.private ≡ length m.private
+  pub bytes_are : AreBytes m.private → AreBytes after.private
+  pub above : (at n : ℕ) → base + 88 ≤ at → take n (drop at after.private) ≡ take n (drop at m.private)
+  pub link : private_word after base ≡ low (m.registers 1)
+  pub kept : (r : ℕ) → 18 ≤ r → r < 28 → uses y r ≡ true → private_word after (base + kept_offset r) ≡ low (m.registers r)
+  pub pc : after.pc ≡ low (m.pc + 4 * length (frames_taken y bytes))
+  pub there : Stands program after.pc rest
+
+pub used-count : (b : Bool) (i : Instr) (is : List Instr) (n : ℕ) → length is ≤ n → length (if_used b i ++ is) ≤ suc n
+used-count true i is n h = omega arith
+used-count false i is n h = omega arith
+
+saved-count : (y : Layout) (n x : ℕ) → length (saved y n x) ≤ n
+saved-count y zero x = omega arith
+saved-count y (suc n) x = used-count (uses y x) (Store Sd x2 (register_of x) (immediate_of (kept_offset x))) (saved y n (x + 1)) n (saved-count y n (x + 1))
+
+pub zero-sum : (x base : ℕ) → x ≡ 2 ^ 32 + base → base < 2 ^ 63 → low (x + 0) ≡ 2 ^ 32 + base
+unfolding low
+zero-sum x base e h = omega arith
+
+pc-frames : (p n a b c d e k : ℕ) → a ≡ low (p + 4) → b ≡ low (a + 4 * n) → c ≡ low (b + 4) → d ≡ low (c + 4) → e ≡ low (d + 4 * k) →
+    e ≡ low (p + 4 * suc (n + suc (suc k)))
+unfolding low
+pc-frames p n a b c d e k h i j l o = omega arith
+
+pub takes-frames : (program : List (Option Instr)) (y : Layout) (bytes top placed frame : ℕ) (rest : List Instr) (m : State) → m.pc < 2 ^ 64 →
+    m.registers 5 ≡ frame → m.registers 8 ≡ placed → frame ≤ placed → placed < 2 ^ 63 → m.registers 2 ≡ 2 ^ 32 + top → 88 ≤ bytes → bytes ≤ top →
+    top ≤ length m.private → length m.private ≤ 603979776 → length m.region ≤ 67108864 → Stands program m.pc (frames_taken y bytes ++ rest) →
+    Taken program y bytes (top - bytes) (placed - frame) rest m
+takes-frames program y bytes top placed frame rest m p five eight fits small two-is least room within most region there =
+    let base : ℕ = top - bytes in
+    let C : List Instr = short_constant x6 bytes in
+    let t1 : State = at_with m (low (m.pc + 4)) 8 (placed - frame) in
+    let to-1 : act (RegisterRegister Sub x8 x8 x5) m ≡ GoesOn t1 =
+    ap (λ x. GoesOn (at_with m (low (m.pc + 4)) 8 (difference x (m.registers 5)))) eight
+    ∙ (ap (λ x. GoesOn (at_with m (low (m.pc + 4)) 8 (difference placed x))) five
+    ∙ ap (λ x. GoesOn (at_with m (low (m.pc + 4)) 8 x)) (less placed frame fits (omega arith))) in
+    let l : Loads 6 C t1 bytes =
+    subst (λ v. Loads 6 C t1 v) (extended-small bytes (omega arith)) (short-loads x6 t1 bytes (λ z. omega (arith, z))) in
+    let t2 : State = l.after in
+    let t3 : State = at_with t2 (low (t2.pc + 4)) 2 (2 ^ 32 + base) in
+    let pointer : t2.registers 2 ≡ 2 ^ 32 + top =
+    l.keeps 2 (λ z. omega (arith, z)) (λ z. omega (arith, z)) ∙ (written-elsewhere m.registers 8 (placed - frame) 2 (λ z. omega (arith, z)) ∙ two-is) in
+    let down : 2 ^ 32 + top - bytes ≡ 2 ^ 32 + base = omega arith in
+    let to-3 : act (RegisterRegister Sub x2 x2 x6) t2 ≡ GoesOn t3 =
+    ap (λ x. GoesOn (at_with t2 (low (t2.pc + 4)) 2 (difference x (t2.registers 6)))) pointer
+    ∙ (ap (λ x. GoesOn (at_with t2 (low (t2.pc + 4)) 2 (difference (2 ^ 32 + top) x))) l.gives
+    ∙ ap (λ x. GoesOn (at_with t2 (low (t2.pc + 4)) 2 x)) (less (2 ^ 32 + top) bytes (omega arith) (omega arith) ∙ down)) in
+    let region-3 : length t3.region ≤ 67108864 = subst (λ z. length z ≤ 67108864) (sym l.region) region in
+    let room-3 : base + 8 ≤ length t3.private = subst (λ z. base + 8 ≤ length z) (sym l.private) (omega arith) in
+    let s1 : Stored (Store Sd x2 x1 zero_immediate ∷ []) base (base + 8) t3 _ =
+    stored-one t3 x2 x1 zero_immediate base (t3.registers 1) (zero-sum (t3.registers 2) base (written-there t2.registers 2 (2 ^ 32 + base) (λ z. omega (arith, z))) (omega arith)) refl region-3 room-3 in
+    let t4 : State = word_stored t3 base (t3.registers 1) in
+    let pc-1 : t1.pc < 2 ^ 64 = low-below (m.pc + 4) in
+    let pc-2 : t2.pc < 2 ^ 64 = subst (λ q. q < 2 ^ 64) (sym l.behind) (low-below (t1.pc + 4 * length C)) in
+    let pc-4 : t4.pc < 2 ^ 64 = low-below (t3.pc + 4) in
+    let sv : Saved y 10 18 base t4 =
+    saves y 10 18 base t4 pc-4 (written-there t2.registers 2 (2 ^ 32 + base) (λ z. omega (arith, z))) (omega arith) (omega arith)
+    (subst (λ z. base + 88 ≤ z) (sym (s1.long ∙ ap length (l.private))) (omega arith)) (subst (λ z. z ≤ 603979776) (sym (s1.long ∙ ap length (l.private))) most) region-3 in
+    let t5 : State = sv.after in
+    let D : List Instr = RegisterRegister Sub x2 x2 x6 ∷ Store Sd x2 x1 zero_immediate ∷ saved y 10 18 in
+    let after-1 : Stands program t1.pc (C ++ (D ++ rest)) = subst (λ z. Stands program t1.pc z) (append_assoc C D rest) there.1 in
+    let after-2 : Stands program t2.pc (D ++ rest) = subst (λ q. Stands program q (D ++ rest)) (sym l.behind) (stands-back program t1.pc C (D ++ rest) pc-1 after-1) in
+    let after-4 : Stands program t4.pc (saved y 10 18 ++ rest) = after-2.1.1 in
+    let after-5 : Stands program t5.pc rest = subst (λ q. Stands program q rest) (sym sv.is.behind) (stands-back program t4.pc (saved y 10 18) rest pc-4 after-4) in
+    let way-2 : Way program (1 + length C) m t2 =
+    way-both program 1 (length C) m t1 t2 (step-way program (RegisterRegister Sub x8 x8 x5) m t1 there.0 to-1)
+    (straight-way program C t1 t2 (stands-front program t1.pc C (D ++ rest) after-1) l.straight l.goes) in
+    let way-3 : Way program (1 + length C + 1) m t3 = way-both program (1 + length C) 1 m t2 t3 way-2 (step-way program (RegisterRegister Sub x2 x2 x6) t2 t3 after-2.0 to-3) in
+    let way-4 : Way program (1 + length C + 1 + 1) m t4 =
+    way-both program (1 + length C + 1) 1 m t3 t4 way-3 (straight-way program (Store Sd x2 x1 zero_immediate ∷ []) t3 t4 (after-2.1.0, tt) refl s1.goes) in
+    let way-5 : Way program (1 + length C + 1 + 1 + length (saved y 10 18)) m t5 =
+    way-both program (1 + length C + 1 + 1) (length (saved y 10 18)) m t4 t5 way-4
+    (straight-way program (saved y 10 18) t4 t5 (stands-front program t4.pc (saved y 10 18) rest after-4) sv.is.straight sv.is.goes) in
+    let count : length (frames_taken y bytes) ≡ suc (length C + suc (suc (length (saved y 10 18)))) = ap suc (length-append C D) in
+    let same : (r : ℕ) → r ≢ 2 → r ≢ 6 → r ≢ 7 → r ≢ 8 → t3.registers r ≡ m.registers r =
+    λ r two six seven eight'. written-elsewhere t2.registers 2 (2 ^ 32 + base) r two ∙ (l.keeps r six seven ∙ written-elsewhere m.registers 8 (placed - frame) r eight') in
+    record {
+      after = t5;
+      steps = 1 + length C + 1 + 1 + length (saved y 10 18);
+      way = way-5;
+      few = omega (arith, saved-count y 10 18, constant-short bytes);
+      some = omega arith;
+      pointer = sv.is.registers 2 ∙ written-there t2.registers 2 (2 ^ 32 + base) (λ z. omega (arith, z));
+      eight = sv.is.registers 8 ∙ (written-elsewhere t2.registers 2 (2 ^ 32 + base) 8 (λ z. omega (arith, z)) ∙ (l.keeps 8 (λ z. omega (arith, z)) (λ z. omega (arith, z))
+          ∙ written-there m.registers 8 (placed - frame) (λ z. omega (arith, z))));
+      others = λ r two six seven eight'. sv.is.registers r ∙ same r two six seven eight';
+      region = sv.is.region ∙ l.region;
+      long = sv.is.long ∙ (s1.long ∙ ap length l.private);
+      bytes_are = λ b. sv.is.bytes (s1.bytes (subst AreBytes (sym l.private) b));
+      above = λ at n h.
+          sv.is.outside at n (inr (omega (arith, h))) ∙ (s1.outside at n (inr (omega (arith, h))) ∙ ap (λ z. take n (drop at z)) l.private);
+      link =
+          ap number_of (sv.is.outside base 8 (inl (omega arith)))
+          ∙ (word-stored t3.private base (t3.registers 1) room-3 ∙ ap low (same 1 (λ z. omega (arith, z)) (λ z. omega (arith, z)) (λ z. omega (arith, z)) (λ z. omega (arith, z))));
+      kept = λ r h k used.
+          sv.words r h (omega (arith, k)) used
+          ∙ ap low (same r (λ z. omega (arith, z, h)) (λ z. omega (arith, z, h)) (λ z. omega (arith, z, h)) (λ z. omega (arith, z, h)));
+      pc = pc-frames m.pc (length C) t1.pc t2.pc t3.pc t4.pc t5.pc (length (saved y 10 18)) refl l.behind refl refl sv.is.behind ∙ ap (λ n. low (m.pc + 4 * n)) (sym count);
+      there = after-5;
+    }
+  where
+    constant-short : (n : ℕ) → length (short_constant x6 n) ≤ 2
+    constant-short n = short-count x6 n

@@ -1,0 +1,236 @@
+-- Where the parts of a function's code stand.
+use Rattle.std.proofs.Common.{◌≡◌, ◌≢◌, ℕ, zero, suc, ◌+◌, ◌-◌, ◌*◌, ◌%◌, ◌^◌, ◌<◌, ◌≤◌, Bool, true, false, List, [], ◌∷◌, ◌++◌, length, append_assoc, Option, Some, None, refl, sym, ap, ◌∙◌, subst, ⊎_elim, inl, inr, arith}
+use Rattle.std.specs.Prelude.{slice_get}
+use Rattle.std.proofs.lemmas.List.{length-append}
+use Rattle.tl_base.specs.declared.ids.FnId.{FnId}
+use Rattle.rv_isa.specs.declared.instr.Instr.{Instr}
+use Rattle.tac_form.specs.declared.tac.Instruction.{Instruction}
+use Rattle.tac_form.specs.declared.tac.Instruction.TheVariants.{Alloc, Call, CallValue, Clear, Compute, Copy, Load, Locate, Move, PutByte, Store, TestDivisor, Write}
+use Rattle.tac_form.specs.declared.tac.Exit.{Exit}
+use Rattle.tac_form.specs.declared.tac.Exit.TheVariants.{Branch, Fail, Jump, Return}
+use Rattle.tac_form.specs.declared.tac.Block.{Block}
+use Rattle.tac_form.specs.declared.tac.Tac.{Tac}
+use Rattle.rv_machine.specs.Word.{low}
+use Rattle.rv_operators.specs.Runs.{Stands}
+use Rattle.rv_select.specs.Places.{Layout, frame_bytes}
+use Rattle.rv_select.specs.Shapes.{branch_jumps, start_of, taken, x10}
+use Rattle.rv_select.specs.Calls.{block_code, block_starts, blocks_code, blocks_length, body_code, call_begun, call_ended, call_jump, exit_code, function_code, head_code, instruction_code, instructions_code, last_address, part_taken, starts_from}
+use Rattle.rv_select.specs.Entering.{begun, entered, left, received, words_offset}
+use Rattle.rv_select.specs.Waiting.{instruction_at}
+use Rattle.rv_select.proofs.Ways.{stands-back, stands-front}
+use Rattle.rv_select.proofs.Weights.{exits-within}
+
+near-low : (n : ℕ) → n ≤ 2 ^ 30 → low n ≡ n
+unfolding low
+near-low n h = omega arith
+
+no-more : (at : ℕ) → at ≡ at + 4 * 0
+no-more at = omega arith
+
+-- code behind other code, below 2 ^ 30
+pub stands-next : (program : List (Option Instr)) (at : ℕ) (a b : List Instr) → at + 4 * length a ≤ 2 ^ 30 → Stands program at (a ++ b) → Stands program (at + 4 * length a) b
+stands-next program at a b h there =
+    subst (λ q. Stands program q b) (near-low (at + 4 * length a) h) (stands-back program at a b (omega (arith, h)) there)
+
+-- the code of an instruction is as long wherever it and functions stand
+pub instruction-length : (y : Layout) (sizes : List ℕ) (places others : FnId → ℕ) (at other : ℕ) (i : Instruction) →
+    length (instruction_code y sizes places at i) ≡ length (instruction_code y sizes others other i)
+instruction-length y sizes places others at other (Call to place f arguments) =
+    let A = call_begun y place arguments in
+    let C = call_ended y sizes to in
+    length-append A (call_jump (at + 4 * length A) (places f) ++ C) ∙ sym (length-append A (call_jump (other + 4 * length A) (others f) ++ C))
+instruction-length y sizes places others at other (Compute d op form a b) = refl
+instruction-length y sizes places others at other (TestDivisor place a) = refl
+instruction-length y sizes places others at other (Copy d a) = refl
+instruction-length y sizes places others at other (Locate d offset) = refl
+instruction-length y sizes places others at other (Load d form spot) = refl
+instruction-length y sizes places others at other (Store spot size a) = refl
+instruction-length y sizes places others at other (Move to from size) = refl
+instruction-length y sizes places others at other (Clear n size) = refl
+instruction-length y sizes places others at other (CallValue to place sig a arguments) = refl
+instruction-length y sizes places others at other (PutByte a) = refl
+instruction-length y sizes places others at other (Write place a b) = refl
+instruction-length y sizes places others at other (Alloc d a) = refl
+
+pub exit-length : (y : Layout) (at other last final : ℕ) (starts others : ℕ → ℕ) (e : Exit) → length (exit_code y at starts last e) ≡ length (exit_code y other others final e)
+exit-length y at other last final starts others (Return v) =
+    let A = part_taken y x10 v in length-append A _ ∙ sym (length-append A _)
+exit-length y at other last final starts others (Jump e) = refl
+exit-length y at other last final starts others (Branch a e f) = length-append (taken y _ a) _ ∙ sym (length-append (taken y _ a) _)
+exit-length y at other last final starts others (Fail kind place) = refl
+
+pub instructions-length : (y : Layout) (sizes : List ℕ) (places others : FnId → ℕ) (at other : ℕ) (is : List Instruction) →
+    length (instructions_code y sizes places at is) ≡ length (instructions_code y sizes others other is)
+instructions-length y sizes places others at other [] = refl
+instructions-length y sizes places others at other (i ∷ is) =
+    let A = instruction_code y sizes places at i in
+    let B = instruction_code y sizes others other i in
+    let C = instructions_code y sizes places (at + 4 * length A) is in
+    let D = instructions_code y sizes others (other + 4 * length B) is in
+    let a : length A ≡ length B = instruction-length y sizes places others at other i in
+    let c : length C ≡ length D = instructions-length y sizes places others (at + 4 * length A) (other + 4 * length B) is in
+    length-append A C ∙ (sums (length A) (length B) (length C) (length D) a c ∙ sym (length-append B D))
+  where
+    sums : (a b c d : ℕ) → a ≡ b → c ≡ d → a + c ≡ b + d
+    sums a b c d e f = omega arith
+
+pub block-length : (y : Layout) (sizes : List ℕ) (places others : FnId → ℕ) (starts ends : ℕ → ℕ) (last final at other : ℕ) (b : Block) →
+    length (block_code y sizes places starts last at b) ≡ length (block_code y sizes others ends final other b)
+block-length y sizes places others starts ends last final at other b =
+    let A = instructions_code y sizes places at b.instructions in
+    let B = instructions_code y sizes others other b.instructions in
+    let C = exit_code y (at + 4 * length A) starts last b.exit in
+    let D = exit_code y (other + 4 * length B) ends final b.exit in
+    let a : length A ≡ length B = instructions-length y sizes places others at other b.instructions in
+    let c : length C ≡ length D = exit-length y (at + 4 * length A) (other + 4 * length B) last final starts ends b.exit in
+    length-append A C ∙ (sums (length A) (length B) (length C) (length D) a c ∙ sym (length-append B D))
+  where
+    sums : (a b c d : ℕ) → a ≡ b → c ≡ d → a + c ≡ b + d
+    sums a b c d e f = omega arith
+
+pub blocks-length : (y : Layout) (sizes : List ℕ) (places others : FnId → ℕ) (starts ends : ℕ → ℕ) (last final at other : ℕ) (bs : List Block) →
+    length (blocks_code y sizes places starts last at bs) ≡ length (blocks_code y sizes others ends final other bs)
+blocks-length y sizes places others starts ends last final at other [] = refl
+blocks-length y sizes places others starts ends last final at other (b ∷ bs) =
+    let A = block_code y sizes places starts last at b in
+    let B = block_code y sizes others ends final other b in
+    let C = blocks_code y sizes places starts last (at + 4 * length A) bs in
+    let D = blocks_code y sizes others ends final (other + 4 * length B) bs in
+    let a : length A ≡ length B = block-length y sizes places others starts ends last final at other b in
+    let c : length C ≡ length D = blocks-length y sizes places others starts ends last final (at + 4 * length A) (other + 4 * length B) bs in
+    length-append A C ∙ (sums (length A) (length B) (length C) (length D) a c ∙ sym (length-append B D))
+  where
+    sums : (a b c d : ℕ) → a ≡ b → c ≡ d → a + c ≡ b + d
+    sums a b c d e f = omega arith
+
+-- An instruction's code stands at its place, and what follows behind it.
+pub record Found (program : List (Option Instr)) (y : Layout) (sizes : List ℕ) (places : FnId → ℕ) (i : Instruction) (top at behind : ℕ) : Type 0 where
+  pub stands : Stands program at (instruction_code y sizes places at i)
+  pub next : behind ≡ at + 4 * length (instruction_code y sizes places at i)
+  pub near : at + 4 * length (instruction_code y sizes places at i) ≤ top
+
+pub find-instruction : (program : List (Option Instr)) (y : Layout) (sizes : List ℕ) (places : FnId → ℕ) (is : List Instruction) (k : ℕ) (i : Instruction) (top at : ℕ) (rest : List Instr) →
+    slice_get is k ≡ Some i → top ≤ 2 ^ 30 → at + 4 * length (instructions_code y sizes places at is) ≤ top → Stands program at (instructions_code y sizes places at is ++ rest) →
+    Found program y sizes places i top (instruction_at y sizes places at is k) (instruction_at y sizes places at is (suc k))
+find-instruction program y sizes places [] k i top at rest e small near there = cc
+find-instruction program y sizes places (j ∷ is) zero i top at rest e small near there =
+    let same : j ≡ i = cc in
+    let A = instruction_code y sizes places at j in
+    let B = instructions_code y sizes places (at + 4 * length A) is in
+    let here : Found program y sizes places j top at (at + 4 * length A) = record {
+      stands = stands-front program at A (B ++ rest) (subst (λ z. Stands program at z) (append_assoc A B rest) there);
+      next = refl;
+      near = omega (arith, near, length-append A B);
+    } in
+    subst (λ x. Found program y sizes places x top at (at + 4 * length A)) same here
+find-instruction program y sizes places (j ∷ is) (suc k) i top at rest e small near there =
+    let A = instruction_code y sizes places at j in
+    let B = instructions_code y sizes places (at + 4 * length A) is in
+    let count : length (A ++ B) ≡ length A + length B = length-append A B in
+    find-instruction program y sizes places is k i top (at + 4 * length A) rest e small (omega (arith, near, count))
+    (stands-next program at A (B ++ rest) (omega (arith, near, count, small)) (subst (λ z. Stands program at z) (append_assoc A B rest) there))
+
+pub find-exit : (program : List (Option Instr)) (y : Layout) (sizes : List ℕ) (places : FnId → ℕ) (is : List Instruction) (k at : ℕ) (rest : List Instr) →
+    slice_get is k ≡ None → at + 4 * length (instructions_code y sizes places at is) ≤ 2 ^ 30 → Stands program at (instructions_code y sizes places at is ++ rest) →
+    (instruction_at y sizes places at is k ≡ at + 4 * length (instructions_code y sizes places at is)) × Stands program (at + 4 * length (instructions_code y sizes places at is)) rest
+find-exit program y sizes places [] zero at rest e near there = (omega arith, subst (λ q. Stands program q rest) (no-more at) there)
+find-exit program y sizes places [] (suc k) at rest e near there = (omega arith, subst (λ q. Stands program q rest) (no-more at) there)
+find-exit program y sizes places (j ∷ is) zero at rest e near there = cc
+find-exit program y sizes places (j ∷ is) (suc k) at rest e near there =
+    let A = instruction_code y sizes places at j in
+    let B = instructions_code y sizes places (at + 4 * length A) is in
+    let count : length (A ++ B) ≡ length A + length B = length-append A B in
+    let all : at + 4 * length A + 4 * length B ≡ at + 4 * length (A ++ B) = omega (arith, count) in
+    let found = find-exit program y sizes places is k (at + 4 * length A) rest e (omega (arith, near, count))
+        (stands-next program at A (B ++ rest) (omega (arith, near, count)) (subst (λ z. Stands program at z) (append_assoc A B rest) there)) in
+    (found.0 ∙ all, subst (λ q. Stands program q rest) all found.1)
+
+-- A block's code stands where its number says.
+pub record FoundBlock (program : List (Option Instr)) (y : Layout) (sizes : List ℕ) (places : FnId → ℕ) (starts : ℕ → ℕ) (last top at : ℕ) (b : Block) : Type 0 where
+  pub stands : Stands program at (block_code y sizes places starts last at b)
+  pub near : at + 4 * length (block_code y sizes places starts last at b) ≤ top
+  pub aligned : at % 4 ≡ 0
+
+pub find-block : (program : List (Option Instr)) (y : Layout) (sizes : List ℕ) (places : FnId → ℕ) (starts : ℕ → ℕ) (last top : ℕ) (bs : List Block) (k : ℕ) (b : Block) (at : ℕ) (rest : List Instr) →
+    slice_get bs k ≡ Some b → at % 4 ≡ 0 → at + 4 * length (blocks_code y sizes places starts last at bs) ≤ top → top ≤ 2 ^ 30 →
+    Stands program at (blocks_code y sizes places starts last at bs ++ rest) → FoundBlock program y sizes places starts last top (start_of (starts_from y sizes at bs) k) b
+find-block program y sizes places starts last top [] k b at rest e even near small there = cc
+find-block program y sizes places starts last top (j ∷ bs) zero b at rest e even near small there =
+    let same : j ≡ b = cc in
+    let A = block_code y sizes places starts last at j in
+    let B = blocks_code y sizes places starts last (at + 4 * length A) bs in
+    let here : FoundBlock program y sizes places starts last top at j = record {
+      stands = stands-front program at A (B ++ rest) (subst (λ z. Stands program at z) (append_assoc A B rest) there);
+      near = omega (arith, near, length-append A B);
+      aligned = even;
+    } in
+    subst (λ x. FoundBlock program y sizes places starts last top at x) same here
+find-block program y sizes places starts last top (j ∷ bs) (suc k) b at rest e even near small there =
+    let A = block_code y sizes places starts last at j in
+    let B = blocks_code y sizes places starts last (at + 4 * length A) bs in
+    let count : length (A ++ B) ≡ length A + length B = length-append A B in
+    let found = find-block program y sizes places starts last top bs k b (at + 4 * length A) rest e (omega (arith, even)) (omega (arith, near, count)) small
+        (stands-next program at A (B ++ rest) (omega (arith, near, count, small)) (subst (λ z. Stands program at z) (append_assoc A B rest) there)) in
+    subst (λ n. FoundBlock program y sizes places starts last top (start_of (starts_from y sizes (at + 4 * n) bs) k) b)
+    (block-length y sizes places (λ f. 0) starts (λ c. 0) last 0 at 0 j) found
+
+-- where blocks begin
+pub starts-near : (y : Layout) (sizes : List ℕ) (places : FnId → ℕ) (starts : ℕ → ℕ) (last top : ℕ) (bs : List Block) (k at : ℕ) → at % 4 ≡ 0 →
+    at + 4 * length (blocks_code y sizes places starts last at bs) ≤ top → (start_of (starts_from y sizes at bs) k ≤ top) × (start_of (starts_from y sizes at bs) k % 4 ≡ 0)
+starts-near y sizes places starts last top [] k at even near = (omega arith, refl)
+starts-near y sizes places starts last top (j ∷ bs) zero at even near = (omega (arith, near), even)
+starts-near y sizes places starts last top (j ∷ bs) (suc k) at even near =
+    let A = block_code y sizes places starts last at j in
+    let B = blocks_code y sizes places starts last (at + 4 * length A) bs in
+    let count : length (A ++ B) ≡ length A + length B = length-append A B in
+    let found = starts-near y sizes places starts last top bs k (at + 4 * length A) (omega (arith, even)) (omega (arith, near, count)) in
+    subst (λ n. (start_of (starts_from y sizes (at + 4 * n) bs) k ≤ top) × (start_of (starts_from y sizes (at + 4 * n) bs) k % 4 ≡ 0))
+    (block-length y sizes places (λ f. 0) starts (λ c. 0) last 0 at 0 j) found
+
+pub instruction-aligned : (y : Layout) (sizes : List ℕ) (places : FnId → ℕ) (is : List Instruction) (k at : ℕ) → at % 4 ≡ 0 → instruction_at y sizes places at is k % 4 ≡ 0
+instruction-aligned y sizes places is zero at h = h
+instruction-aligned y sizes places [] (suc k) at h = h
+instruction-aligned y sizes places (i ∷ is) (suc k) at h =
+    instruction-aligned y sizes places is k (at + 4 * length (instruction_code y sizes places at i)) (omega (arith, h))
+
+-- The parts of a function's code.
+pub record FoundFunction (program : List (Option Instr)) (y : Layout) (code : Tac) (places : FnId → ℕ) (at : ℕ) : Type 0 where
+  pub begins : Stands program at (begun code)
+  pub enters : Stands program (at + 4 * length (begun code)) (entered y (frame_bytes y) code.frame)
+  pub receives : Stands program (at + 4 * length (begun code) + 4 * length (entered y (frame_bytes y) code.frame)) (received y code.areas (words_offset y) code.parameters)
+  pub first : at + 4 * length (begun code) + 4 * length (entered y (frame_bytes y) code.frame) + 4 * length (received y code.areas (words_offset y) code.parameters) ≡ at + 4 * length (head_code y code)
+  pub body : Stands program (at + 4 * length (head_code y code)) (body_code y code places at ++ left y (frame_bytes y) code.frame)
+  pub leaves : Stands program (last_address y code at) (left y (frame_bytes y) code.frame)
+  pub whole : at + 4 * length (head_code y code) + 4 * length (body_code y code places at) ≡ last_address y code at
+  pub near : last_address y code at + 256 ≤ 2 ^ 30
+
+pub find-function : (program : List (Option Instr)) (y : Layout) (code : Tac) (places : FnId → ℕ) (at : ℕ) → at + 4 * length (function_code y code places at) + 256 ≤ 2 ^ 30 →
+    Stands program at (function_code y code places at) → FoundFunction program y code places at
+find-function program y code places at near there =
+    let A : List Instr = begun code in
+    let B : List Instr = entered y (frame_bytes y) code.frame in
+    let C : List Instr = received y code.areas (words_offset y) code.parameters in
+    let H : List Instr = head_code y code in
+    let D : List Instr = body_code y code places at in
+    let L : List Instr = left y (frame_bytes y) code.frame in
+    let count : length (H ++ (D ++ L)) ≡ length H + (length D + length L) = length-append H (D ++ L) ∙ ap (λ n. length H + n) (length-append D L) in
+    let counts : length H ≡ length A + (length B + length C) = length-append A (B ++ C) ∙ ap (λ n. length A + n) (length-append B C) in
+    let all : Stands program at (A ++ (B ++ (C ++ (D ++ L)))) =
+    subst (λ z. Stands program at z) (append_assoc A (B ++ C) (D ++ L) ∙ ap (λ z. A ++ z) (append_assoc B C (D ++ L))) there in
+    let enters : Stands program (at + 4 * length A) (B ++ (C ++ (D ++ L))) = stands-next program at A (B ++ (C ++ (D ++ L))) (omega (arith, near, count, counts)) all in
+    let receives : Stands program (at + 4 * length A + 4 * length B) (C ++ (D ++ L)) =
+    stands-next program (at + 4 * length A) B (C ++ (D ++ L)) (omega (arith, near, count, counts)) enters in
+    let body : Stands program (at + 4 * length H) (D ++ L) = stands-next program at H (D ++ L) (omega (arith, near, count)) there in
+    let blocks : length D ≡ blocks_length y code.areas code.blocks =
+    blocks-length y code.areas places (λ f. 0) (start_of (block_starts y code at)) (λ b. 0) (last_address y code at) 0 (at + 4 * length H) 0 code.blocks in
+    let whole : at + 4 * length H + 4 * length D ≡ last_address y code at = omega (arith, blocks) in
+    record {
+      begins = stands-front program at A (B ++ (C ++ (D ++ L))) all;
+      enters = stands-front program (at + 4 * length A) B (C ++ (D ++ L)) enters;
+      receives = stands-front program (at + 4 * length A + 4 * length B) C (D ++ L) receives;
+      first = omega (arith, counts);
+      body = body;
+      leaves = subst (λ q. Stands program q L) whole (stands-next program (at + 4 * length H) D L (omega (arith, near, count)) body);
+      whole = whole;
+      near = omega (arith, near, count, whole);
+    }

@@ -1,0 +1,195 @@
+-- Parameters go from their words to where they are taken.
+use Rattle.std.proofs.Common.{◌≡◌, ◌≢◌, ℕ, zero, suc, ◌+◌, ◌-◌, ◌*◌, ◌%◌, ◌^◌, ◌<◌, ◌≤◌, Bool, true, false, ◌&&◌, ◌||◌, List, [], ◌∷◌, ◌++◌, length, take, drop, append_assoc, Option, Some, refl, sym, ap, ◌∙◌, subst, ⊎_elim, inl, inr, arith}
+use Rattle.std.specs.Prelude.{if◌then◌else◌, nat_eq, ◌⊎◌}
+use Rattle.std.specs.List.{list_all, list_any}
+use Rattle.std.proofs.lemmas.Bool.{cases_Bool, eq-eqb, eqb-true}
+use Rattle.std.proofs.lemmas.List.{append-nil, length-append}
+use Rattle.rv_isa.specs.declared.instr.Instr.{Instr}
+use Rattle.rv_isa.specs.declared.instr.Instr.TheVariants.{Load}
+use Rattle.rv_isa.specs.declared.operation.LoadOp.TheVariants.{Ld}
+use Rattle.terra_memory.specs.Numbers.{number_of}
+use Rattle.terra_memory.specs.Region.{Contents}
+use Rattle.terra_words.specs.Runs.{Value, word, bytes}
+use Rattle.tac_form.specs.declared.tac.Destination.{Destination}
+use Rattle.tac_form.specs.declared.tac.Destination.TheVariants.{Temp, Area}
+use Rattle.tac_form.specs.declared.tac.Tac.{Tac}
+use Rattle.tac_form.specs.Flow.{Activation, accepts, accepts_all, takes, takes_all}
+use Rattle.tac_form.specs.Fits.{goes_to}
+use Rattle.rv_machine.specs.Word.{low}
+use Rattle.rv_machine.specs.Memory.{place_of}
+use Rattle.rv_machine.specs.Machine.{State, GoesOn, at_with, loads, loads_from}
+use Rattle.rv_operators.specs.Codes.{x5}
+use Rattle.rv_operators.specs.Runs.{Stands}
+use Rattle.rv_select.specs.Places.{Holds, Housed, Keeps, Layout, World, frame_bytes, home_of, layout_of, private_word, with_homes}
+use Rattle.rv_select.specs.Shapes.{framed, put_to, to_area}
+use Rattle.rv_select.specs.Steps.{Comes, Follows, with_temp}
+use Rattle.rv_select.specs.Entering.{received, received_one, size_in, words_offset}
+pub use Rattle.rv_select.specs.Frames.{HasWords, IsWordOf, ParametersAreReceived, Received, is_word, seen, without_words}
+use Rattle.reg_alloc.specs.declared.assignment.Home.{Home}
+use Rattle.tac_form.specs.Graph.{graph_of}
+use Rattle.tac_form.specs.Live.{InUse}
+use Rattle.rv_select.proofs.Lives.{housed}
+use Rattle.rv_select.proofs.Bytes.{private-place}
+use Rattle.rv_select.proofs.Frames.{framed-count, framed-loads}
+use Rattle.rv_select.proofs.Homes.{put-count, region-small}
+use Rattle.rv_select.proofs.Moves.{fewer-holds, keeps-both, near-keeps, straight-put}
+use Rattle.rv_select.proofs.Straight.{Loads, loads-five, low-below}
+use Rattle.rv_select.proofs.Ways.{Way, near-same, stands-back, stands-front, way-both, way-none}
+
+both-true : (a b : Bool) → (a && b) ≡ true → (a ≡ true) × (b ≡ true)
+both-true true b e = (refl, e)
+both-true false b e = cc
+
+frame-sum : (x base offset size : ℕ) → x ≡ 2 ^ 32 + base → base + offset + 8 ≤ size → size ≤ 603979776 → low (x + offset) ≡ 2 ^ 32 + (base + offset)
+unfolding low
+frame-sum x base offset size e h k = omega arith
+
+-- a word of private memory at an offset of the frame
+pub word-loads : (base offset : ℕ) (m : State) → m.pc < 2 ^ 64 → m.registers 2 ≡ 2 ^ 32 + base → base + offset + 8 ≤ length m.private → length m.private ≤ 603979776 → length m.region ≤ 67108864 →
+    Loads 5 (framed (λ r far. Load Ld x5 r far) offset) m (private_word m (base + offset))
+word-loads base offset m p two room most g =
+    framed-loads (λ r far. Load Ld x5 r far) 5 (private_word m (base + offset)) offset m (λ z. omega (arith, z)) p (omega (arith, room, most)) (λ r far. refl)
+    (λ r far s a e q.
+    ap (λ x. loads s Ld x5 x) (a ∙ frame-sum (m.registers 2) base offset (length m.private) two room most)
+    ∙ (ap (λ x. loads_from s Ld x5 (place_of (length x) (length s.private) (2 ^ 32 + (base + offset)) 8)) e
+    ∙ (ap (λ x. loads_from s Ld x5 (place_of (length m.region) (length x) (2 ^ 32 + (base + offset)) 8)) q
+    ∙ (ap (λ x. loads_from s Ld x5 x) (private-place (length m.region) (length m.private) (base + offset) g room)
+    ∙ ap (λ x. GoesOn (at_with s (low (s.pc + 4)) 5 (number_of (take 8 (drop (base + offset) x))))) q))))
+
+words-keep : (y : Layout) (base last : ℕ) (ds : List Destination) (vs : List Value) (m n : State) → Keeps y base m n → frame_bytes y ≤ last → HasWords base last ds vs m → HasWords base last ds vs n
+words-keep y base last [] vs m n k l h = tt
+words-keep y base last (d ∷ ds) [] m n k l h = tt
+words-keep y base last (d ∷ ds) (v ∷ vs) m n k l h =
+    let same : private_word n (base + (last + 8 * length ds)) ≡ private_word m (base + (last + 8 * length ds)) =
+        ap number_of (k.outside (base + (last + 8 * length ds)) 8 (omega arith) (inr (omega (arith, l)))) in
+    (subst (λ z. IsWordOf v z) (sym same) h.0, words-keep y base last ds vs m n k l h.1)
+
+housed-fewer : (y : Layout) (U V : ℕ → Type 0) → ((t : ℕ) → V t → U t) → Housed y U → Housed y V
+housed-fewer y U V f h = record { homes = λ t u. h.homes t (f t u); apart = λ t u a b e. h.apart t u (f t a) (f u b) e }
+
+-- All parameters are taken.
+pub record GotAll (program : List (Option Instr)) (y : Layout) (Fin : ℕ → Type 0) (w : World) (base most : ℕ) (code rest : List Instr) (m : State) : Type 0 where
+  pub steps : ℕ
+  pub after : State
+  pub few : steps ≤ most
+  pub way : Way program steps m after
+  pub holds : Holds y Fin w base after
+  pub keeps : Keeps y base m after
+  pub pc : after.pc ≡ low (m.pc + 4 * length code)
+  pub there : Stands program after.pc rest
+
+pc-none : (p : ℕ) → p < 2 ^ 64 → p ≡ low (p + 4 * 0)
+unfolding low
+pc-none p h = omega arith
+
+pc-both : (p a b n k : ℕ) → a ≡ low (p + 4 * n) → b ≡ low (a + 4 * k) → b ≡ low (p + 4 * (n + k))
+unfolding low
+pc-both p a b n k e h = omega arith
+
+split-any : (t d : ℕ) (ds : List Destination) (X : Type 0) → (list_any (goes_to t) (Temp d ∷ ds) ≡ true) ⊎ X → (list_any (goes_to t) ds ≡ true) ⊎ ((t ≡ d) ⊎ X)
+split-any t d ds X (inl e) =
+    ⊎_elim (λ same. inr (inl (sym (eqb-true d t same)))) (λ other. inl (sym (ap (λ b. b || list_any (goes_to t) ds) other) ∙ e)) (cases_Bool (nat_eq d t))
+split-any t d ds X (inr x) = inr (inr x)
+
+or-second : (a b : Bool) → b ≡ true → (a || b) ≡ true
+or-second true b q = refl
+or-second false b q = q
+
+or-first : (a b : Bool) → a ≡ true → (a || b) ≡ true
+or-first true b q = refl
+or-first false b q = cc
+
+pub receives : (program : List (Option Instr)) (y : Layout) (code : Tac) (sizes : List ℕ) (U Used Fin : ℕ → Type 0) (base last depth : ℕ) (region : Contents) (ds : List Destination) (vs : List Value) (a : Activation)
+    (rest : List Instr) (m : State) → Stands program m.pc (received y sizes last ds ++ rest) → Holds y Used (seen a region depth) base m → Housed y U → ((t : ℕ) → Used t → U t) →
+    ((t : ℕ) → list_any (goes_to t) ds ≡ true → U t) → ((t : ℕ) → Fin t → (list_any (goes_to t) ds ≡ true) ⊎ Used t) → list_all is_word ds ≡ true → accepts_all code ds vs ≡ true →
+    HasWords base last ds vs m → frame_bytes y ≤ last → base + (last + 8 * length ds) ≤ length m.private →
+    GotAll program y Fin (seen (takes_all ds vs a) region depth) base (6 * length ds) (received y sizes last ds) rest m
+receives program y code sizes U Used Fin base last depth region [] [] a rest m there p h sub goes fin are accepts words within room = record {
+  steps = 0;
+  after = m;
+  few = omega arith;
+  way = way-none program m;
+  holds = fewer-holds y Used Fin (seen a region depth) base m (λ t u. ⊎_elim (λ e. let no : false ≡ true = e in cc) (λ o. o) (fin t u)) p;
+  keeps = near-keeps y base m m (near-same m);
+  pc = pc-none m.pc p.pc;
+  there = there;
+}
+receives program y code sizes U Used Fin base last depth region [] (v ∷ vs) a rest m there p h sub goes fin are accepts words within room = cc
+receives program y code sizes U Used Fin base last depth region (d ∷ ds) [] a rest m there p h sub goes fin are accepts words within room = cc
+receives program y code sizes U Used Fin base last depth region (Area n ∷ ds) (v ∷ vs) a rest m there p h sub goes fin are accepts words within room = cc
+receives program y code sizes U Used Fin base last depth region (Temp d ∷ ds) (bytes bs ∷ vs) a rest m there p h sub goes fin are accepts words within room = cc
+receives program y code sizes U Used Fin base last depth region (Temp d ∷ ds) (word x ∷ vs) a rest m there p h sub goes fin are accepts words within room =
+    let at : ℕ = last + 8 * length ds in
+    let A : List Instr = framed (λ r far. Load Ld x5 r far) at in
+    let B : List Instr = put_to (home_of y d) in
+    let C : List Instr = received y sizes last ds in
+    let w : World = seen a region depth in
+    let Next : ℕ → Type 0 = λ t. (t ≡ d) ⊎ Used t in
+    let in-u : (t : ℕ) → Next t → U t =
+        λ t u. ⊎_elim (λ e. goes t (or-first (nat_eq d t) (list_any (goes_to t) ds) (eq-eqb d t (sym e)))) (λ o. sub t o) u in
+    let all : Stands program m.pc ((A ++ B) ++ (C ++ rest)) = subst (λ z. Stands program m.pc z) (append_assoc (A ++ B) C rest) there in
+    let l : Loads 5 A m (private_word m (base + at)) =
+        word-loads base at m p.pc p.frame.pointer (omega (arith, room)) p.frame.private (region-small y Used w base m p) in
+    let one : Comes y program Next (with_temp w d x) base 6 (low (m.pc + 4 * length (A ++ B))) [] m =
+        straight-put y Used Next w base d x 6 A program m l.after p (housed-fewer y U Used sub h) (housed-fewer y U Next in-u h) (inl refl) (λ t u. u)
+        (loads-five A m (private_word m (base + at)) l) (l.gives ∙ words.0.0) words.0.1 (omega (arith, framed-count (λ r far. Load Ld x5 r far) at)) (stands-front program m.pc (A ++ B) (C ++ rest) all) in
+    let t : State = one.after in
+    let after-t : Stands program t.pc (C ++ rest) = subst (λ q. Stands program q (C ++ rest)) (sym one.at) (stands-back program m.pc (A ++ B) (C ++ rest) p.pc all) in
+    let more : GotAll program y Fin (seen (takes_all ds vs (takes (Temp d) (word x) a)) region depth) base (6 * length ds) C rest t =
+        receives program y code sizes U Next Fin base last depth region ds vs (takes (Temp d) (word x) a) rest t after-t one.holds h in-u
+        (λ s e. goes s (or-second (nat_eq d s) (list_any (goes_to s) ds) e)) (λ s u. split-any s d ds (Used s) (fin s u)) are accepts
+        (words-keep y base last ds vs m t one.keeps within words.1) within (subst (λ z. base + (last + 8 * length ds) ≤ z) (sym one.keeps.long) (omega (arith, room))) in
+    record {
+      steps = one.steps + more.steps;
+      after = more.after;
+      few = omega (arith, one.few, more.few);
+      way = way-both program one.steps more.steps m t more.after (record { runs = one.runs }) more.way;
+      holds = more.holds;
+      keeps = keeps-both y base m t more.after one.keeps more.keeps;
+      pc = pc-both m.pc t.pc more.after.pc (length (A ++ B)) (length C) one.at more.pc ∙ ap (λ n. low (m.pc + 4 * n)) (sym (length-append (A ++ B) C));
+      there = more.there;
+    }
+
+-- the code of parameters depends on homes alone
+received-same : (homes : List (Option Home)) (a b p q last : ℕ) (sizes : List ℕ) (ds : List Destination) →
+    received (record { homes = homes; areas = a; parameters = p }) sizes last ds ≡ received (record { homes = homes; areas = b; parameters = q }) sizes last ds
+received-same homes a b p q last sizes [] = refl
+received-same homes a b p q last sizes (Temp d ∷ ds) =
+    ap (λ z. (framed (λ r far. Load Ld x5 r far) (last + 8 * length ds) ++ put_to (home_of (with_homes homes) d)) ++ z) (received-same homes a b p q last sizes ds)
+received-same homes a b p q last sizes (Area n ∷ ds) =
+    ap (λ z. (framed (λ r far. Load Ld x5 r far) (last + 8 * length ds) ++ to_area (with_homes homes) n 0 (size_in sizes n)) ++ z) (received-same homes a b p q last sizes ds)
+
+pub parameters-received : ParametersAreReceived
+parameters-received code homes program values a region depth base m fits right are accepts there p words room =
+    let y : Layout = layout_of code homes in
+    let z : Layout = without_words y in
+    let U : ℕ → Type 0 = InUse (graph_of code) 0 0 in
+    let same : received z code.areas (words_offset y) code.parameters ≡ received y code.areas (words_offset y) code.parameters =
+    received-same homes (length code.areas) (length code.areas) 0 (length code.parameters) (words_offset y) code.areas code.parameters in
+    let all : Stands program m.pc (received z code.areas (words_offset y) code.parameters ++ []) =
+    subst (λ c. Stands program m.pc c) (sym (append-nil (received z code.areas (words_offset y) code.parameters) ∙ same)) there in
+    made same
+    (receives program z code code.areas U (λ t. ⊥) U base (words_offset y) depth region code.parameters values a [] m all p
+    (shorter code homes (housed code homes 0 0 right)) (λ t u. absurd u)
+    (λ t e. inl ((fits.begins t).1 e)) (λ t u. ⊎_elim (λ live. inl ((fits.begins t).0 live)) (λ no. absurd (no-way no)) u) are accepts words (omega arith) (omega (arith, room)))
+  where
+    no-way : false ≡ true → ⊥
+    no-way e = cc
+
+    shorter : (code : Tac) (homes : List (Option Home)) → Housed (layout_of code homes) (InUse (graph_of code) 0 0) → Housed (without_words (layout_of code homes)) (InUse (graph_of code) 0 0)
+    shorter code homes h = record { homes = h.homes; apart = h.apart }
+
+    made : received (without_words (layout_of code homes)) code.areas (words_offset (layout_of code homes)) code.parameters ≡ received (layout_of code homes) code.areas (words_offset (layout_of code homes)) code.parameters →
+        GotAll program (without_words (layout_of code homes)) (InUse (graph_of code) 0 0) (seen (takes_all code.parameters values a) region depth) base (6 * length code.parameters)
+        (received (without_words (layout_of code homes)) code.areas (words_offset (layout_of code homes)) code.parameters) [] m →
+        Received program (without_words (layout_of code homes)) (InUse (graph_of code) 0 0) (seen (takes_all code.parameters values a) region depth) base (6 * length code.parameters)
+        (low (m.pc + 4 * length (received (layout_of code homes) code.areas (words_offset (layout_of code homes)) code.parameters))) m
+    made same g = record {
+      steps = g.steps;
+      after = g.after;
+      few = g.few;
+      runs = g.way.runs;
+      at = g.pc ∙ ap (λ c. low (m.pc + 4 * length c)) same;
+      holds = g.holds;
+      keeps = g.keeps;
+    }

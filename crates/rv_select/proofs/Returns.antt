@@ -1,0 +1,221 @@
+-- Returns.
+use Rattle.std.proofs.Common.{◌≡◌, ◌≢◌, ℕ, zero, suc, ◌+◌, ◌-◌, ◌*◌, ◌%◌, ◌^◌, ◌<◌, ◌≤◌, Bool, true, false, ◌&&◌, ◌||◌, List, [], ◌∷◌, ◌++◌, length, take, drop, append_assoc, Option, Some, None, refl, sym, ap, ◌∙◌, subst, ⊎_elim, inl, inr, arith}
+use Rattle.std.specs.Prelude.{if◌then◌else◌, nat_eq, slice_get, ◌⊎◌}
+use Rattle.std.specs.List.{list_all}
+use Rattle.std.proofs.lemmas.Bool.{cases_eq, eq-eqb}
+use Rattle.std.proofs.lemmas.List.{append-nil, length-append}
+use Rattle.rv_isa.specs.declared.instr.Instr.{Instr}
+use Rattle.rv_isa.specs.declared.instr.Instr.TheVariants.{RegisterImmediate}
+use Rattle.rv_isa.specs.declared.operation.ImmediateOp.TheVariants.{Addi}
+use Rattle.tac_form.specs.declared.tac.Part.{Part}
+use Rattle.tac_form.specs.declared.tac.Part.TheVariants as parts
+use Rattle.tac_form.specs.declared.tac.Destination.{Destination}
+use Rattle.tac_form.specs.declared.tac.Destination.TheVariants.{Temp, Area}
+use Rattle.tac_form.specs.declared.tac.Tac.{Tac}
+use Rattle.tac_form.specs.Flow as tac
+use Rattle.tac_form.specs.Flow.{Caller, Program, put}
+use Rattle.tac_form.specs.Graph.{destination_write, graph_of, step_of, block_of}
+use Rattle.tac_form.specs.Live.{InUse}
+use Rattle.terra_memory.specs.Numbers.{number_of}
+use Rattle.terra_memory.specs.Region.{IsLawful, end_address, heap_limit}
+use Rattle.rv_machine.specs.Word.{low}
+use Rattle.rv_machine.specs.Machine.{State, GoesOn, act, at_with, run_of, stands}
+use Rattle.rv_machine.specs.declared.stops.Stop.TheVariants as stops
+use Rattle.rv_operators.specs.Codes.{x5}
+use Rattle.rv_operators.specs.Runs.{Stands}
+use Rattle.rv_select.specs.Numbers.{below_zero}
+use Rattle.rv_select.specs.Places.{AreBytes, Holds, Housed, Keeps, Layout, World, area_offset, frame_bytes, home_of, layout_of, private_word, uses}
+use Rattle.rv_select.specs.Shapes.{jump, moved, put_to, x10}
+use Rattle.rv_select.specs.Steps.{Comes, Follows, with_temp, world_of}
+use Rattle.rv_select.specs.Entering.{kept_offset, left, x28}
+use Rattle.rv_select.specs.Calls.{part_taken, returned}
+use Rattle.rv_select.specs.Waiting.{Arrives, HasRoom, Image, IsLinked, StandsIn, Waiting, Waits, restored}
+use Rattle.rv_select.proofs.Jumps.{Jumped, jumps-there}
+use Rattle.rv_select.proofs.Lives.{housed}
+use Rattle.rv_select.proofs.Moves.{then-put}
+use Rattle.rv_select.proofs.Homes.{region-small}
+use Rattle.rv_select.proofs.Numbers.{below-is}
+use Rattle.rv_select.proofs.Passes.{IsPartRead, part-count, part_value, take-part}
+use Rattle.rv_select.proofs.Quits.{Quit, quits}
+use Rattle.rv_select.proofs.Straight.{Loads, low-below, low-small, written-elsewhere, written-there}
+use Rattle.rv_select.proofs.Waits.{SameAbove, restored-same, same-home, waits-keeps, waits-same, waits-within}
+use Rattle.rv_select.proofs.Ways.{Near, Way, stands-back, stands-front, step-way, straight-way, way-both}
+
+-- The result is in x10, and the machine goes on where the return address says, with the caller's frames and registers.
+pub record BackIn (program : List (Option Instr)) (y : Layout) (bytes base over link v : ℕ) (m : State) : Type 0 where
+  pub after : State
+  pub steps : ℕ
+  pub way : Way program steps m after
+  pub few : steps ≤ 34
+  pub some : 1 ≤ steps
+  pub pc : after.pc ≡ link
+  pub ten : after.registers 10 ≡ v
+  pub pointer : after.registers 2 ≡ 2 ^ 32 + (base + bytes)
+  pub eight : after.registers 8 ≡ over
+  pub others : (r : ℕ) → (r ≡ 3) ⊎ ((r ≡ 4) ⊎ (r ≡ 28)) → after.registers r ≡ m.registers r
+  pub registers : (r : ℕ) → 18 ≤ r → r < 28 → after.registers r ≡ (if uses y r then private_word m (base + kept_offset r) else m.registers r)
+  pub same : SameAbove (base + bytes) (restored y base m) after
+  pub region : after.region ≡ m.region
+  pub private : after.private ≡ m.private
+
+if-is : (b : Bool) (x u v : ℕ) → (b ≡ true → x ≡ u) → (b ≡ false → x ≡ v) → x ≡ (if b then u else v)
+if-is true x u v f g = f refl
+if-is false x u v f g = g refl
+
+absurd-of : true ≡ false → ⊥
+absurd-of e = cc
+
+abbrev private-of : List ℕ → ℕ → ℕ
+private-of z at = number_of (take 8 (drop at z))
+
+not-r : (r n : ℕ) → (r ≡ 3) ⊎ ((r ≡ 4) ⊎ (r ≡ 28)) → (nat_eq n 3 || (nat_eq n 4 || nat_eq n 28)) ≡ false → r ≢ n
+not-r r n o f e =
+    ⊎_elim (λ z. absurd-of (ap (λ k. nat_eq k 3 || (nat_eq k 4 || nat_eq k 28)) (sym z ∙ e) ∙ f))
+    (λ k. ⊎_elim (λ z. absurd-of (ap (λ j. nat_eq j 3 || (nat_eq j 4 || nat_eq j 28)) (sym z ∙ e) ∙ f)) (λ z. absurd-of (ap (λ j. nat_eq j 3 || (nat_eq j 4 || nat_eq j 28)) (sym z ∙ e) ∙ f)) k) o
+
+below-r : (r : ℕ) → (r ≡ 3) ⊎ ((r ≡ 4) ⊎ (r ≡ 28)) → (r < 18) ⊎ (28 ≤ r)
+below-r r o = ⊎_elim (λ z. inl (omega (arith, z))) (λ k. ⊎_elim (λ z. inl (omega (arith, z))) (λ z. inr (omega (arith, z))) k) o
+
+-- the code of a return, from where its part is to be taken
+pub goes-back : (program : List (Option Instr)) (y : Layout) (Used : ℕ → Type 0) (w : World) (base frame last link from : ℕ) (v : Part) (m : State) → Holds y Used w base m → Housed y Used → IsPartRead y Used v →
+    m.pc + 256 ≤ 2 ^ 30 → last < 2 ^ 30 → last % 2 ≡ 0 → w.placed + frame < 2 ^ 63 → private_word m base ≡ link → link % 2 ≡ 0 → link < 2 ^ 64 →
+    Stands program m.pc (returned y m.pc last v) → Stands program last (left y (frame_bytes y) frame) →
+    BackIn program y (frame_bytes y) base (w.placed + frame) link (part_value y base w v) m
+goes-back program y Used w base frame last link from v m p h reads near last-small last-even fits link-is even link-small there leaves =
+    let A : List Instr = part_taken y x10 v in
+    let at : ℕ = m.pc + 4 * length A in
+    let few : length A ≤ 8 = part-count y x10 v in
+    let l : Loads 10 A m (part_value y base w v) = take-part y x10 Used w base m v (λ z. omega (arith, z)) p h reads in
+    let t1 : State = l.after in
+    let at-is : t1.pc ≡ at = l.behind ∙ low-small (m.pc + 4 * length A) (omega (arith, near, few)) in
+    let one : Way program (length A) m t1 = straight-way program A m t1 (stands-front program m.pc A (jump at last) there) l.straight l.goes in
+    let after-1 : Stands program at (jump at last) =
+    subst (λ q. Stands program q (jump at last)) (low-small (m.pc + 4 * length A) (omega (arith, near, few))) (stands-back program m.pc A (jump at last) p.pc there) in
+    let j : Jumped program 2 last t1 = jumps-there program t1 at last at-is (omega (arith, near, few)) last-small last-even after-1 in
+    let t2 : State = j.after in
+    let same-2 : (r : ℕ) → r ≢ 5 → r ≢ 6 → r ≢ 7 → r ≢ 10 → t2.registers r ≡ m.registers r = λ r five six seven ten. j.near.keeps r five six seven ∙ l.keeps r ten seven in
+    let private-2 : t2.private ≡ m.private = j.near.private ∙ l.private in
+    let region-2 : t2.region ≡ m.region = j.near.region ∙ l.region in
+    let within : base + frame_bytes y ≤ length t2.private = subst (λ z. base + frame_bytes y ≤ length z) (sym private-2) p.frame.within in
+    let q : Quit program y (frame_bytes y) base (w.placed + frame) link t2 =
+    quits program y (frame_bytes y) base w.placed frame link t2 (subst (λ z. z < 2 ^ 64) (sym j.pc) (omega (arith, last-small)))
+    (same-2 2 (λ z. omega (arith, z)) (λ z. omega (arith, z)) (λ z. omega (arith, z)) (λ z. omega (arith, z)) ∙ p.frame.pointer)
+    (same-2 8 (λ z. omega (arith, z)) (λ z. omega (arith, z)) (λ z. omega (arith, z)) (λ z. omega (arith, z)) ∙ p.placed) fits (omega arith) within
+    (subst (λ z. length z ≤ 603979776) (sym private-2) p.frame.private) (subst (λ z. length z ≤ 67108864) (sym region-2) (region-small y Used w base m p))
+    (ap (λ z. private-of z base) private-2 ∙ link-is) even link-small (subst (λ z. Stands program z (left y (frame_bytes y) frame)) (sym j.pc) leaves) in
+    let other : (r : ℕ) → (r ≡ 3) ⊎ ((r ≡ 4) ⊎ (r ≡ 28)) → q.after.registers r ≡ m.registers r =
+    λ r o. q.others r (not-r r 0 o refl) (not-r r 1 o refl) (not-r r 2 o refl) (not-r r 5 o refl) (not-r r 6 o refl) (not-r r 7 o refl) (not-r r 8 o refl) (below-r r o)
+        ∙ same-2 r (not-r r 5 o refl) (not-r r 6 o refl) (not-r r 7 o refl) (not-r r 10 o refl) in
+    let back : (r : ℕ) → 18 ≤ r → r < 28 → q.after.registers r ≡ (if uses y r then private_word m (base + kept_offset r) else m.registers r) =
+    λ r lo hi.
+    if-is (uses y r) (q.after.registers r) (private_word m (base + kept_offset r)) (m.registers r)
+    (λ e. q.there r lo hi e ∙ ap (λ z. private-of z (base + kept_offset r)) private-2)
+    (λ e. q.unused r lo hi e ∙ same-2 r (λ z. omega (arith, z, lo)) (λ z. omega (arith, z, lo)) (λ z. omega (arith, z, lo)) (λ z. omega (arith, z, lo))) in
+    record {
+      after = q.after;
+      steps = length A + 2 + q.steps;
+      way = way-both program (length A + 2) q.steps m t2 q.after (way-both program (length A) 2 m t1 t2 one j.way) q.way;
+      few = omega (arith, few, q.few);
+      some = omega arith;
+      pc = q.pc;
+      ten = q.others 10 (λ z. omega (arith, z)) (λ z. omega (arith, z)) (λ z. omega (arith, z)) (λ z. omega (arith, z)) (λ z. omega (arith, z)) (λ z. omega (arith, z)) (λ z. omega (arith, z)) (inl (omega arith))
+          ∙ (j.near.keeps 10 (λ z. omega (arith, z)) (λ z. omega (arith, z)) (λ z. omega (arith, z)) ∙ l.gives);
+      pointer = q.pointer;
+      eight = q.eight;
+      others = other;
+      registers = back;
+      same = record {
+        registers = λ r lo hi small. back r lo hi;
+        private = λ a k o. ap (λ z. take k (drop a z)) (q.private ∙ private-2);
+        long = ap length (q.private ∙ private-2);
+      };
+      region = q.region ∙ region-2;
+      private = q.private ∙ private-2;
+    }
+
+decrement : (n : ℕ) → n < 2 ^ 63 → low (suc n + (2 ^ 64 - 1)) ≡ n
+unfolding low
+decrement n h = omega arith
+
+pc-eight : (p : ℕ) → low (low (p + 4) + 4) ≡ low (p + 4 * 2)
+unfolding low
+pc-eight p = omega arith
+
+-- The caller holds all but the result, which is in x5.
+pub record Resumes (program : List (Option Instr)) (y : Layout) (Used : ℕ → Type 0) (w : World) (base v : ℕ) (rest : List Instr) (m : State) : Type 0 where
+  pub after : State
+  pub way : Way program 2 m after
+  pub five : after.registers 5 ≡ v
+  pub pc : after.pc ≡ low (m.pc + 4 * 2)
+  pub same : (r : ℕ) → r ≢ 5 → r ≢ 28 → after.registers r ≡ m.registers r
+  pub region : after.region ≡ m.region
+  pub private : after.private ≡ m.private
+  pub waiting : after.registers 28 ≡ w.depth
+  pub there : Stands program after.pc rest
+
+pub resumes : (program : List (Option Instr)) (y : Layout) (Used : ℕ → Type 0) (w : World) (base v : ℕ) (rest : List Instr) (m : State) → m.registers 10 ≡ v → v < 2 ^ 64 → m.registers 28 ≡ suc w.depth → w.depth < 2 ^ 63 →
+    Stands program m.pc (RegisterImmediate Addi x28 x28 (below_zero 0) ∷ moved x5 x10 ∷ rest) → Resumes program y Used w base v rest m
+resumes program y Used w base v rest m ten small waiting shallow there =
+    let t1 : State = at_with m (low (m.pc + 4)) 28 w.depth in
+    let to-1 : act (RegisterImmediate Addi x28 x28 (below_zero 0)) m ≡ GoesOn t1 =
+    ap (λ z. GoesOn (at_with m (low (m.pc + 4)) 28 (low (m.registers 28 + z)))) (below-is 0 (omega arith))
+    ∙ (ap (λ z. GoesOn (at_with m (low (m.pc + 4)) 28 (low (z + (2 ^ 64 - 1))))) waiting ∙ ap (λ z. GoesOn (at_with m (low (m.pc + 4)) 28 z)) (decrement w.depth shallow)) in
+    let t2 : State = at_with t1 (low (t1.pc + 4)) 5 v in
+    let none : v + 0 ≡ v = omega arith in
+    let to-2 : act (moved x5 x10) t1 ≡ GoesOn t2 =
+    ap (λ z. GoesOn (at_with t1 (low (t1.pc + 4)) 5 (low (z + 0)))) (written-elsewhere m.registers 28 w.depth 10 (λ z. omega (arith, z)) ∙ ten)
+    ∙ ap (λ z. GoesOn (at_with t1 (low (t1.pc + 4)) 5 z)) (ap low none ∙ low-small v small) in
+    record {
+      after = t2;
+      way = way-both program 1 1 m t1 t2 (step-way program (RegisterImmediate Addi x28 x28 (below_zero 0)) m t1 there.0 to-1) (step-way program (moved x5 x10) t1 t2 there.1.0 to-2);
+      five = written-there t1.registers 5 v (λ z. omega (arith, z));
+      pc = pc-eight m.pc;
+      same = λ r five more. written-elsewhere t1.registers 5 v r five ∙ written-elsewhere m.registers 28 w.depth r more;
+      region = refl;
+      private = refl;
+      waiting = written-elsewhere t1.registers 5 v 28 (λ z. omega (arith, z)) ∙ written-there m.registers 28 w.depth (λ z. omega (arith, z));
+      there = there.1.1;
+    }
+
+-- what is in use behind the call, but for the result
+abbrev pub UsedBut : (ℕ → Type 0) → Destination → ℕ → Type 0
+UsedBut Used to t = Used t × (destination_write to ≢ Some t)
+
+-- what holds of the region and the registers of the whole program
+pub record HeldIn (w : World) (n : State) : Type 0 where
+  pub region : n.region ≡ w.region.bytes
+  pub bytes : AreBytes w.region.bytes
+  pub lawful : IsLawful w.region
+  pub heap : n.registers 3 ≡ w.region.heap
+  pub limit : n.registers 4 ≡ end_address w.region
+  pub placed : n.registers 8 ≡ w.placed
+  pub above : heap_limit w.region ≤ w.placed
+  pub below : w.placed ≤ end_address w.region
+  pub depth : n.registers 28 ≡ w.depth
+
+-- what the caller holds once the machine is back in it
+pub back-holds : (p : Program) (image : Image) (program : List (Option Instr)) (most depth link base placed : ℕ) (c : Caller) (w : World) (M n : State) → IsLinked p image program most →
+    (x : Waiting p image most c depth link base placed M) → SameAbove base M n → HeldIn w n → base + frame_bytes (layout_of x.code (image c.waits.function).homes) ≤ length n.private →
+    length n.private ≤ 603979776 → AreBytes n.private → n.pc < 2 ^ 64 → n.registers 2 ≡ 2 ^ 32 + base →
+    Holds (layout_of x.code (image c.waits.function).homes) (UsedBut (InUse (graph_of x.code) c.waits.block c.waits.at) c.to) (record w { temps = c.waits.temps; areas = c.waits.areas }) base n
+back-holds p image program most depth link base placed c w M n linked x s g within small bytes pc pointer =
+    let yc : Layout = layout_of x.code (image c.waits.function).homes in
+    let h : Housed yc (InUse (graph_of x.code) c.waits.block c.waits.at) = housed x.code (image c.waits.function).homes c.waits.block c.waits.at (linked c.waits.function x.code x.function).right in
+    record {
+      frame = record { pointer = pointer; within = within; private = small; bytes = bytes };
+      pc = pc;
+      values = λ t u. same-home yc base (c.waits.temps t) M n (home_of yc t) (h.homes t u.0) s (x.values t u.0 u.1) (x.words t u.0 u.1);
+      words = λ t u. x.words t u.0 u.1;
+      areas = λ k l. s.private (base + area_offset yc k) (length (c.waits.areas k)) (omega arith) ∙ x.areas k l;
+      short = x.short;
+      area_bytes = x.area_bytes;
+      region = g.region;
+      bytes = g.bytes;
+      lawful = g.lawful;
+      heap = g.heap;
+      limit = g.limit;
+      placed = g.placed;
+      above = g.above;
+      below = g.below;
+      depth = g.depth;
+    }

@@ -1,0 +1,126 @@
+-- Where the machine stands in a program of several functions.
+use Rattle.std.proofs.Common.{◌≡◌, ◌≢◌, ℕ, zero, suc, ◌+◌, ◌-◌, ◌*◌, ◌%◌, ◌^◌, ◌<◌, ◌≤◌, Bool, true, false, ◌&&◌, List, [], ◌∷◌, ◌++◌, length, Option, Some, None, refl, sym, ap, ◌∙◌, subst, inl, inr, arith}
+use Rattle.std.specs.Prelude.{nat_eq, nat_lt, slice_get}
+use Rattle.std.specs.List.{list_all}
+use Rattle.std.proofs.lemmas.Bool.{eqb-true, ltb-true}
+use Rattle.std.proofs.lemmas.List.{length-append}
+use Rattle.rv_isa.specs.declared.instr.Instr.{Instr}
+use Rattle.tac_form.specs.declared.tac.Part.{Part}
+use Rattle.tac_form.specs.declared.tac.Part.TheVariants as parts
+use Rattle.tac_form.specs.declared.tac.Destination.{Destination}
+use Rattle.tac_form.specs.declared.tac.Instruction.{Instruction}
+use Rattle.tac_form.specs.declared.tac.Exit.{Exit}
+use Rattle.tac_form.specs.declared.tac.Block.{Block}
+use Rattle.tac_form.specs.declared.tac.Tac.{Tac}
+use Rattle.tac_form.specs.Flow as tac
+use Rattle.tac_form.specs.Flow.{Program}
+use Rattle.tac_form.specs.Fits.{area_fits, block_fits, destination_fits, exit_fits, instruction_fits, place_fits}
+use Rattle.rv_machine.specs.Machine.{State}
+use Rattle.rv_operators.specs.Runs.{Stands}
+use Rattle.rv_select.specs.Places.{Layout, frame_bytes, layout_of}
+use Rattle.rv_select.specs.Shapes.{start_of}
+use Rattle.rv_select.specs.Entering.{left}
+use Rattle.rv_select.specs.Calls.{block_code, block_starts, exit_code, head_code, instruction_code, instructions_code, last_address}
+use Rattle.rv_select.specs.Waiting.{Image, IsLinked, IsPlaced, Placed, entries_of, instruction_at, instructions_in, place_in}
+use Rattle.rv_select.proofs.Finds.{Found, FoundBlock, FoundFunction, find-block, find-exit, find-function, find-instruction, instruction-aligned}
+use Rattle.rv_select.proofs.Ways.{stands-front}
+
+pub both-true : (a b : Bool) → (a && b) ≡ true → (a ≡ true) × (b ≡ true)
+both-true true b e = (refl, e)
+both-true false b e = cc
+
+pub list-all-get : {A : Type 0} (f : A → Bool) (xs : List A) (k : ℕ) (x : A) → list_all f xs ≡ true → slice_get xs k ≡ Some x → f x ≡ true
+list-all-get f [] k x h e = cc
+list-all-get f (z ∷ xs) zero x h e = let same : z ≡ x = cc in ap f (sym same) ∙ (both-true (f z) (list_all f xs) h).0
+list-all-get f (z ∷ xs) (suc k) x h e = list-all-get f xs k x (both-true (f z) (list_all f xs) h).1 e
+
+-- the parts of what code that fits keeps within
+pub record Within (code : Tac) : Type 0 where
+  pub blocks : list_all (block_fits code) code.blocks ≡ true
+  pub areas : list_all area_fits code.areas ≡ true
+  pub place : place_fits code.place ≡ true
+  pub frame : code.frame < 2 ^ 63
+  pub entered : 0 < length code.blocks
+
+pub within-parts : (p : Program) (image : Image) (program : List (Option Instr)) (most : ℕ) (code : Tac) (x : Placed) → IsPlaced p image program most code x → Within code
+within-parts p image program most code x h =
+    let a = both-true _ (nat_lt 0 (length code.blocks)) h.fits.within in
+    let b = both-true _ (nat_lt code.frame (2 ^ 63)) a.0 in
+    let c = both-true _ (place_fits code.place) b.0 in
+    let d = both-true _ (list_all area_fits code.areas) c.0 in
+    let e = both-true (list_all (block_fits code) code.blocks) (list_all (destination_fits code) code.parameters) d.0 in
+    record { blocks = e.0; areas = d.1; place = c.1; frame = ltb-true code.frame (2 ^ 63) b.1; entered = ltb-true 0 (length code.blocks) a.1 }
+
+pub instruction-within : (code : Tac) (b k : ℕ) (block : Block) (i : Instruction) → list_all (block_fits code) code.blocks ≡ true → slice_get code.blocks b ≡ Some block → slice_get block.instructions k ≡ Some i →
+    instruction_fits code i ≡ true
+instruction-within code b k block i h e g =
+    list-all-get (instruction_fits code) block.instructions k i (both-true (list_all (instruction_fits code) block.instructions) (exit_fits code block.exit) (list-all-get (block_fits code) code.blocks b block h e)).0 g
+
+pub exit-within : (code : Tac) (b : ℕ) (block : Block) → list_all (block_fits code) code.blocks ≡ true → slice_get code.blocks b ≡ Some block → exit_fits code block.exit ≡ true
+exit-within code b block h e =
+    (both-true (list_all (instruction_fits code) block.instructions) (exit_fits code block.exit) (list-all-get (block_fits code) code.blocks b block h e)).1
+
+-- An instruction's code stands at its place in a function.
+pub record AtPlace (p : Program) (image : Image) (program : List (Option Instr)) (code : Tac) (x : Placed) (b k : ℕ) (i : Instruction) (at : ℕ) : Type 0 where
+  pub stands : Stands program at (instruction_code (layout_of code x.homes) code.areas (entries_of p image) at i)
+  pub next : place_in p image code x b (suc k) ≡ at + 4 * length (instruction_code (layout_of code x.homes) code.areas (entries_of p image) at i)
+  pub near : at + 4 * length (instruction_code (layout_of code x.homes) code.areas (entries_of p image) at i) + 256 ≤ 2 ^ 30
+  pub aligned : at % 4 ≡ 0
+
+-- and so does an exit's
+pub record AtExit (p : Program) (image : Image) (program : List (Option Instr)) (code : Tac) (x : Placed) (e : Exit) (at : ℕ) : Type 0 where
+  pub stands : Stands program at
+      (exit_code (layout_of code x.homes) at (start_of (block_starts (layout_of code x.homes) code x.at)) (last_address (layout_of code x.homes) code x.at) e)
+  pub near : at + 256 ≤ 2 ^ 30
+  pub aligned : at % 4 ≡ 0
+
+pub the-function : (p : Program) (image : Image) (program : List (Option Instr)) (most : ℕ) (code : Tac) (x : Placed) → IsPlaced p image program most code x →
+    FoundFunction program (layout_of code x.homes) code (entries_of p image) x.at
+the-function p image program most code x h = find-function program (layout_of code x.homes) code (entries_of p image) x.at h.near h.stands
+
+pub the-block : (p : Program) (image : Image) (program : List (Option Instr)) (most : ℕ) (code : Tac) (x : Placed) (b : ℕ) (block : Block) → IsPlaced p image program most code x → slice_get code.blocks b ≡ Some block →
+    FoundBlock program (layout_of code x.homes) code.areas (entries_of p image) (start_of (block_starts (layout_of code x.homes) code x.at)) (last_address (layout_of code x.homes) code x.at)
+    (last_address (layout_of code x.homes) code x.at) (start_of (block_starts (layout_of code x.homes) code x.at) b) block
+the-block p image program most code x b block h e =
+    let y : Layout = layout_of code x.homes in
+    let f : FoundFunction program y code (entries_of p image) x.at = the-function p image program most code x h in
+    find-block program y code.areas (entries_of p image) (start_of (block_starts y code x.at)) (last_address y code x.at) (last_address y code x.at) code.blocks b block (x.at + 4 * length (head_code y code))
+    (left y (frame_bytes y) code.frame) e (omega (arith, h.aligned)) (omega (arith, f.whole)) (omega (arith, f.near)) f.body
+
+pub at-instruction : (p : Program) (image : Image) (program : List (Option Instr)) (most : ℕ) (code : Tac) (x : Placed) (b k : ℕ) (block : Block) (i : Instruction) → IsPlaced p image program most code x →
+    slice_get code.blocks b ≡ Some block → slice_get block.instructions k ≡ Some i → AtPlace p image program code x b k i (place_in p image code x b k)
+at-instruction p image program most code x b k block i h e g =
+    let y : Layout = layout_of code x.homes in
+    let places = entries_of p image in
+    let S : ℕ = start_of (block_starts y code x.at) b in
+    let f : FoundFunction program y code places x.at = the-function p image program most code x h in
+    let fb = the-block p image program most code x b block h e in
+    let A = instructions_code y code.areas places S block.instructions in
+    let E = exit_code y (S + 4 * length A) (start_of (block_starts y code x.at)) (last_address y code x.at) block.exit in
+    let count : length (A ++ E) ≡ length A + length E = length-append A E in
+    let fi : Found program y code.areas places i (S + 4 * length A) (instruction_at y code.areas places S block.instructions k) (instruction_at y code.areas places S block.instructions (suc k)) =
+    find-instruction program y code.areas places block.instructions k i (S + 4 * length A) S E g (omega (arith, fb.near, f.near, count)) (omega arith) fb.stands in
+    let here : (j : ℕ) → place_in p image code x b j ≡ instruction_at y code.areas places S block.instructions j = λ j. ap (λ o. instruction_at y code.areas places S (instructions_in o) j) e in
+    subst (λ at. AtPlace p image program code x b k i at) (sym (here k))
+    (record {
+      stands = fi.stands;
+      next = here (suc k) ∙ fi.next;
+      near = omega (arith, fi.near, fb.near, f.near, count);
+      aligned = instruction-aligned y code.areas places block.instructions k S fb.aligned;
+    })
+
+pub at-exit : (p : Program) (image : Image) (program : List (Option Instr)) (most : ℕ) (code : Tac) (x : Placed) (b k : ℕ) (block : Block) → IsPlaced p image program most code x →
+    slice_get code.blocks b ≡ Some block → slice_get block.instructions k ≡ None → AtExit p image program code x block.exit (place_in p image code x b k)
+at-exit p image program most code x b k block h e g =
+    let y : Layout = layout_of code x.homes in
+    let places = entries_of p image in
+    let S : ℕ = start_of (block_starts y code x.at) b in
+    let f : FoundFunction program y code places x.at = the-function p image program most code x h in
+    let fb = the-block p image program most code x b block h e in
+    let A = instructions_code y code.areas places S block.instructions in
+    let E = exit_code y (S + 4 * length A) (start_of (block_starts y code x.at)) (last_address y code x.at) block.exit in
+    let count : length (A ++ E) ≡ length A + length E = length-append A E in
+    let fe = find-exit program y code.areas places block.instructions k S E g (omega (arith, fb.near, f.near, count)) fb.stands in
+    let here : place_in p image code x b k ≡ S + 4 * length A = ap (λ o. instruction_at y code.areas places S (instructions_in o) k) e ∙ fe.0 in
+    subst (λ at. AtExit p image program code x block.exit at) (sym here)
+    (record { stands = fe.1; near = omega (arith, fb.near, f.near, count); aligned = omega (arith, fb.aligned) })

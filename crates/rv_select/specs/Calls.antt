@@ -1,0 +1,170 @@
+-- Calls and returns, and the code of a whole function.
+use Rattle.std.specs.Prelude.{◌≡◌, ℕ, zero, suc, ◌+◌, ◌-◌, ◌*◌, Bool, ◌&&◌, true, false, List, [], ◌∷◌, ◌++◌, length, map, Option}
+use Rattle.std.specs.List.{list_all}
+use Rattle.tl_base.specs.declared.place.Place.{Place}
+use Rattle.tl_base.specs.declared.ids.FnId.{FnId}
+use Rattle.rv_isa.specs.declared.instr.Instr.{Instr}
+use Rattle.rv_isa.specs.declared.instr.Instr.TheVariants.{Auipc, Jalr, Branch, RegisterImmediate}
+use Rattle.rv_isa.specs.declared.operation.BranchCondition.TheVariants.{Ltu}
+use Rattle.rv_isa.specs.declared.operation.ImmediateOp.TheVariants.{Addi}
+use Rattle.rv_isa.specs.declared.operand.Register.{Register}
+use Rattle.rv_isa.specs.Table.{word_of}
+use Rattle.reg_alloc.specs.declared.assignment.Home.{Home}
+use Rattle.terra_words.specs.declared.words.FaultKind.TheVariants.{CallDepth}
+use Rattle.tac_form.specs.declared.tac.Part.{Part}
+use Rattle.tac_form.specs.declared.tac.Part.TheVariants as parts
+use Rattle.tac_form.specs.declared.tac.Destination.{Destination}
+use Rattle.tac_form.specs.declared.tac.Instruction.{Instruction}
+use Rattle.tac_form.specs.declared.tac.Instruction.TheVariants.{Call}
+use Rattle.tac_form.specs.declared.tac.Exit.{Exit}
+use Rattle.tac_form.specs.declared.tac.Exit.TheVariants.{Return}
+use Rattle.tac_form.specs.declared.tac.Block.{Block}
+use Rattle.tac_form.specs.declared.tac.Tac.{Tac}
+use Rattle.rv_operators.specs.Codes.{x5}
+use Rattle.rv_select.specs.declared.selected.Code.{Code}
+use Rattle.rv_select.specs.declared.selected.Call.{Call as Site}
+use Rattle.rv_select.specs.Numbers.{below_zero, constant, immediate_of, lower_of, upper_of}
+use Rattle.rv_select.specs.Places.{Layout, frame_bytes, layout_of}
+use Rattle.rv_select.specs.Shapes.{area_reached, distance, exit_shape, fault_call, has_exit_shape, has_shape, jump, moved, over, place_number, shape_of, small, start_of, taken, x10, x11}
+use Rattle.rv_select.specs.Entering.{begun, entered, left, received, result_put, stored_below, words_offset, x1, x28}
+
+-- The run fails at the place in x11 where 511 calls wait already.
+abbrev pub depth_tested : List Instr
+depth_tested = small x5 511 ++ (Branch Ltu x28 x5 (over (fault_call CallDepth)) ∷ fault_call CallDepth)
+
+-- what is passed: a word, or the address of an area
+abbrev pub part_taken : Layout → Register → Part → List Instr
+part_taken y d (parts.Word a) = taken y d a
+part_taken y d (parts.Area n) = area_reached y d n 0
+
+-- the words of the parts from one on go below the frame
+abbrev pub passed : Layout → (i : ℕ) → List Part → List Instr
+passed y i [] = []
+passed y i (p ∷ ps) = part_taken y x5 p ++ (stored_below x5 (8 * (i + 1)) ++ passed y (i + 1) ps)
+
+abbrev pub one_more : List Instr
+one_more = RegisterImmediate Addi x28 x28 (immediate_of 1) ∷ []
+
+-- what comes before the jump of a call: its place is in x11, and one more call waits
+abbrev pub call_begun : Layout → Place → List Part → List Instr
+call_begun y at arguments =
+    constant x11 (place_number at)
+    ++ (depth_tested ++ (passed y 0 arguments ++ one_more))
+
+-- a jump from an address to a function, with the return address in x1
+abbrev pub call_jump : (from to : ℕ) → List Instr
+call_jump from to = Auipc x5 (upper_of (distance from to)) ∷ Jalr x1 x5 (lower_of (distance from to)) ∷ []
+
+-- what follows the jump: one call fewer waits, and the result, which is in x10, goes where it is taken
+abbrev pub call_ended : Layout → (sizes : List ℕ) → Destination → List Instr
+call_ended y sizes to =
+    RegisterImmediate Addi x28 x28 (below_zero 0) ∷ moved x5 x10 ∷ result_put y sizes to
+
+-- a call that stands at an address, by the addresses of functions
+abbrev pub called : Layout → (sizes : List ℕ) → (places : FnId → ℕ) → (at : ℕ) → Destination → Place → FnId → List Part → List Instr
+called y sizes places at to place f arguments =
+    call_begun y place arguments
+    ++ (call_jump (at + 4 * length (call_begun y place arguments)) (places f) ++ call_ended y sizes to)
+
+-- the code of an instruction that stands at an address
+abbrev pub instruction_code : Layout → (sizes : List ℕ) → (places : FnId → ℕ) → (at : ℕ) → Instruction → List Instr
+instruction_code y sizes places at (Call to place f arguments) = called y sizes places at to place f arguments
+instruction_code y sizes places at i = shape_of y i
+
+-- that of an exit, by the addresses of blocks and of the code that leaves the function: it gives back a part
+abbrev pub returned : Layout → (at last : ℕ) → Part → List Instr
+returned y at last v = part_taken y x10 v ++ jump (at + 4 * length (part_taken y x10 v)) last
+
+abbrev pub exit_code : Layout → (at : ℕ) → (starts : ℕ → ℕ) → (last : ℕ) → Exit → List Instr
+exit_code y at starts last (Return v) = returned y at last v
+exit_code y at starts last e = exit_shape y at starts e
+
+abbrev pub instructions_code : Layout → (sizes : List ℕ) → (places : FnId → ℕ) → (at : ℕ) → List Instruction → List Instr
+instructions_code y sizes places at [] = []
+instructions_code y sizes places at (i ∷ is) =
+    instruction_code y sizes places at i
+    ++ instructions_code y sizes places (at + 4 * length (instruction_code y sizes places at i)) is
+
+abbrev pub block_code : Layout → (sizes : List ℕ) → (places : FnId → ℕ) (starts : ℕ → ℕ) → (last at : ℕ) → Block → List Instr
+block_code y sizes places starts last at b =
+    instructions_code y sizes places at b.instructions
+    ++ exit_code y (at + 4 * length (instructions_code y sizes places at b.instructions)) starts last b.exit
+
+abbrev pub blocks_code : Layout → (sizes : List ℕ) → (places : FnId → ℕ) (starts : ℕ → ℕ) → (last at : ℕ) → List Block → List Instr
+blocks_code y sizes places starts last at [] = []
+blocks_code y sizes places starts last at (b ∷ bs) =
+    block_code y sizes places starts last at b
+    ++ blocks_code y sizes places starts last (at + 4 * length (block_code y sizes places starts last at b)) bs
+
+-- where calls of functions stand in code: the number of the first word of a jump, and the function
+abbrev pub instruction_calls : Layout → (at : ℕ) → Instruction → List Site
+instruction_calls y at (Call to place f arguments) =
+    record { at = at + length (call_begun y place arguments); callee = f } ∷ []
+instruction_calls y at i = []
+
+abbrev pub instructions_calls : Layout → (sizes : List ℕ) → (at : ℕ) → List Instruction → List Site
+instructions_calls y sizes at [] = []
+instructions_calls y sizes at (i ∷ is) =
+    instruction_calls y at i
+    ++ instructions_calls y sizes (at + length (instruction_code y sizes (λ f. 0) 0 i)) is
+
+abbrev pub blocks_calls : Layout → (sizes : List ℕ) → (at : ℕ) → List Block → List Site
+blocks_calls y sizes at [] = []
+blocks_calls y sizes at (b ∷ bs) =
+    instructions_calls y sizes at b.instructions
+    ++ blocks_calls y sizes (at + length (block_code y sizes (λ f. 0) (λ c. 0) 0 0 b)) bs
+
+-- how many words the blocks take, and where each begins
+abbrev pub blocks_length : Layout → (sizes : List ℕ) → List Block → ℕ
+blocks_length y sizes bs = length (blocks_code y sizes (λ f. 0) (λ b. 0) 0 0 bs)
+
+abbrev pub starts_from : Layout → (sizes : List ℕ) → (at : ℕ) → List Block → List ℕ
+starts_from y sizes at [] = []
+starts_from y sizes at (b ∷ bs) =
+    at ∷ starts_from y sizes (at + 4 * length (block_code y sizes (λ f. 0) (λ c. 0) 0 0 b)) bs
+
+-- the code that comes before the blocks, by the layout and the bytes of the frame
+abbrev pub head_code : Layout → Tac → List Instr
+head_code y code =
+    begun code
+    ++ (entered y (frame_bytes y) code.frame ++ received y code.areas (words_offset y) code.parameters)
+
+-- the addresses of the blocks, and of the code that leaves the function, where the function's code stands at an address
+abbrev pub block_starts : Layout → Tac → (at : ℕ) → List ℕ
+block_starts y code at = starts_from y code.areas (at + 4 * length (head_code y code)) code.blocks
+
+abbrev pub last_address : Layout → Tac → (at : ℕ) → ℕ
+last_address y code at = at + 4 * (length (head_code y code) + blocks_length y code.areas code.blocks)
+
+-- The code of a function that stands at an address, by the addresses at which functions are entered.
+abbrev pub body_code : Layout → Tac → (places : FnId → ℕ) → (at : ℕ) → List Instr
+body_code y code places at =
+    blocks_code y code.areas places (start_of (block_starts y code at)) (last_address y code at) (at + 4 * length (head_code y code)) code.blocks
+
+abbrev pub function_code : Layout → Tac → (places : FnId → ℕ) → (at : ℕ) → List Instr
+function_code y code places at = head_code y code ++ (body_code y code places at ++ left y (frame_bytes y) code.frame)
+
+abbrev pub function_calls : Layout → Tac → List Site
+function_calls y code = blocks_calls y code.areas (length (head_code y code)) code.blocks
+
+-- What selection gives: the words of the code as they are at address 0, with each function at address 0 too, the calls in it, and
+-- the bytes of a frame.
+pub record IsSelected (code : Tac) (homes : List (Option Home)) (selected : Code) : Type 0 where
+  pub words : selected.words.items ≡ map word_of (function_code (layout_of code homes) code (λ f. 0) 0)
+  pub calls : selected.calls.items ≡ function_calls (layout_of code homes) code
+  pub frame : selected.frame ≡ frame_bytes (layout_of code homes)
+
+-- which code has machine code: all but calls of function values, which the machine of this version has no fault for
+abbrev pub has_code : Instruction → Bool
+has_code (Call to place f arguments) = true
+has_code i = has_shape i
+
+abbrev pub has_exit_code : Exit → Bool
+has_exit_code (Return v) = true
+has_exit_code e = has_exit_shape e
+
+abbrev pub block_has_code : Block → Bool
+block_has_code b = list_all has_code b.instructions && has_exit_code b.exit
+
+abbrev pub all_has_code : Tac → Bool
+all_has_code code = list_all block_has_code code.blocks

@@ -1,0 +1,118 @@
+-- How a function is entered and left.
+use Rattle.std.specs.Prelude.{ℕ, zero, suc, ◌+◌, ◌-◌, ◌*◌, ◌^◌, slice_get, unwrap_or, Bool, true, false, nat_le, if◌then◌else◌, List, [], ◌∷◌, ◌++◌, length}
+use Rattle.std.proofs.Common.{lit≤}
+use Rattle.tl_base.specs.declared.place.Place.{Place}
+use Rattle.rv_isa.specs.declared.instr.Instr.{Instr}
+use Rattle.rv_isa.specs.declared.instr.Instr.TheVariants.{Lui, Jalr, Branch, Load, Store, RegisterRegister}
+use Rattle.rv_isa.specs.declared.operation.BranchCondition.TheVariants.{Geu}
+use Rattle.rv_isa.specs.declared.operation.RegisterOp.TheVariants.{Add, Sub}
+use Rattle.rv_isa.specs.declared.operation.LoadOp.TheVariants.{Ld}
+use Rattle.rv_isa.specs.declared.operation.StoreOp.TheVariants.{Sd}
+use Rattle.rv_isa.specs.declared.operand.Register.{Register}
+use Rattle.terra_words.specs.declared.words.FaultKind.TheVariants.{StackFull}
+use Rattle.tac_form.specs.declared.tac.Destination.{Destination}
+use Rattle.tac_form.specs.declared.tac.Destination.TheVariants.{Temp, Area}
+use Rattle.tac_form.specs.declared.tac.Tac.{Tac}
+use Rattle.tac_form.specs.Weights.{kept_bytes, most_moved}
+use Rattle.rv_operators.specs.Codes.{x0, x5, x6, zero_immediate}
+use Rattle.rv_select.specs.Numbers.{below_zero, constant, immediate_of, lower_of, register_of, short_constant, upper_of}
+use Rattle.rv_select.specs.Places.{Layout, home_of, uses}
+use Rattle.rv_select.specs.Shapes.{far_part, fault_call, framed, limit_found, moved, over, place_number, put_to, to_area, x2, x4, x7, x8, x11}
+
+-- the return address, and the number of calls that wait
+abbrev pub x1 : Register
+x1 = record { number = 1; in_range = lit≤ tt }
+
+abbrev pub x28 : Register
+x28 = record { number = 28; in_range = lit≤ tt }
+
+-- where the caller's word of a register from x18 on is kept in the frame
+abbrev pub kept_offset : ℕ → ℕ
+kept_offset x = 8 * (x - 17)
+
+abbrev pub if_used : Bool → Instr → List Instr
+if_used true i = i ∷ []
+if_used false i = []
+
+-- so many registers from one on are kept in the frame where the function uses them, and put back
+abbrev pub saved_one : Layout → ℕ → List Instr
+saved_one y x = if_used (uses y x) (Store Sd x2 (register_of x) (immediate_of (kept_offset x)))
+
+abbrev pub saved : Layout → (count x : ℕ) → List Instr
+saved y zero x = []
+saved y (suc n) x = saved_one y x ++ saved y n (x + 1)
+
+abbrev pub put_back_one : Layout → ℕ → List Instr
+put_back_one y x = if_used (uses y x) (Load Ld (register_of x) x2 (immediate_of (kept_offset x)))
+
+abbrev pub put_back : Layout → (count x : ℕ) → List Instr
+put_back y zero x = []
+put_back y (suc n) x = put_back_one y x ++ put_back y n (x + 1)
+
+-- The run fails at the place in x11 unless the data stack has room for a frame of so many bytes, which x5 gets.
+abbrev pub stack_branch : List Instr
+stack_branch =
+    RegisterRegister Add x7 x7 x5 ∷ Branch Geu x8 x7 (over (fault_call StackFull)) ∷ fault_call StackFull
+
+abbrev pub stack_tested : ℕ → List Instr
+stack_tested frame = constant x5 frame ++ (limit_found ++ stack_branch)
+
+-- both frames go down, and what is kept for the caller is stored
+abbrev pub frames_taken : Layout → (bytes : ℕ) → List Instr
+frames_taken y bytes =
+    RegisterRegister Sub x8 x8 x5
+    ∷ (short_constant x6 bytes
+    ++ (RegisterRegister Sub x2 x2 x6 ∷ Store Sd x2 x1 zero_immediate ∷ saved y 10 18))
+
+-- how a function is entered by a call, whose frames have so many bytes in private memory and in the region
+abbrev pub entered : Layout → (bytes frame : ℕ) → List Instr
+entered y bytes frame = stack_tested frame ++ frames_taken y bytes
+
+-- where the parameters' words begin in the frame, the last first
+abbrev pub words_offset : Layout → ℕ
+words_offset y = kept_bytes + 8 * length y.homes + most_moved * y.areas
+
+-- a word in x5, or the bytes that lie at the address in x5, where a parameter or a result is taken
+abbrev pub size_in : List ℕ → ℕ → ℕ
+size_in sizes n = unwrap_or (slice_get sizes n) 0
+
+abbrev pub result_put : Layout → (sizes : List ℕ) → Destination → List Instr
+result_put y sizes (Temp t) = put_to (home_of y t)
+result_put y sizes (Area n) = to_area y n 0 (size_in sizes n)
+
+-- a parameter from its word, which lies at an offset of the frame: that of an area is an address
+abbrev pub received_one : Layout → (sizes : List ℕ) → Destination → (at : ℕ) → List Instr
+received_one y sizes d at = framed (λ r far. Load Ld x5 r far) at ++ result_put y sizes d
+
+abbrev pub received : Layout → (sizes : List ℕ) → (last : ℕ) → List Destination → List Instr
+received y sizes last [] = []
+received y sizes last (d ∷ ds) = received_one y sizes d (last + 8 * length ds) ++ received y sizes last ds
+
+-- back to the caller, with the result in x10
+abbrev pub frames_given : (bytes frame : ℕ) → List Instr
+frames_given bytes frame =
+    constant x5 frame
+    ++ (RegisterRegister Add x8 x8 x5
+    ∷ (short_constant x6 bytes ++ (RegisterRegister Add x2 x2 x6 ∷ Jalr x0 x1 zero_immediate ∷ [])))
+
+abbrev pub left : Layout → (bytes frame : ℕ) → List Instr
+left y bytes frame = Load Ld x1 x2 zero_immediate ∷ (put_back y 10 18 ++ frames_given bytes frame)
+
+-- a register is stored so many bytes below the frame
+abbrev pub stored_below : Register → ℕ → List Instr
+stored_below r n =
+    if nat_le n 2048 then Store Sd x2 r (below_zero (n - 1)) ∷ []
+    else far_part (2 ^ 32 - n) ++ Store Sd x7 r (lower_of (2 ^ 32 - n)) ∷ []
+
+-- The machine's arguments, which stand in the registers from x10 on, as parameters' words. There are at most eight of them.
+abbrev pub arguments_stored : (count i : ℕ) → List Instr
+arguments_stored zero i = []
+arguments_stored (suc n) i = stored_below (register_of (10 + i)) (8 * (i + 1)) ++ arguments_stored n (i + 1)
+
+abbrev pub most_arguments : ℕ → ℕ
+most_arguments n = if nat_le n 8 then n else 0
+
+-- A function as the entry: its frame in the region lies below the region's end, and no call waits. The code that enters it by a
+-- call follows.
+abbrev pub begun : Tac → List Instr
+begun code = moved x8 x4 ∷ (arguments_stored (most_arguments (length code.parameters)) 0 ++ constant x11 (place_number code.place))

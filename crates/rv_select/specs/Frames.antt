@@ -1,0 +1,184 @@
+-- What the code that enters and leaves functions promises.
+use Rattle.std.specs.Prelude.{◌≡◌, ◌≢◌, ℕ, Bool, IsTrue, [], ◌∷◌, suc, ◌+◌, ◌-◌, ◌*◌, ◌/◌, ◌%◌, ◌^◌, ◌<◌, ◌≤◌, true, false, List, length, take, drop, Option, Some, slice_get, if◌then◌else◌, ◌⊎◌}
+use Rattle.std.specs.List.{list_all}
+use Rattle.tl_base.specs.declared.place.Place.{Place}
+use Rattle.rv_isa.specs.declared.instr.Instr.{Instr}
+use Rattle.terra_words.specs.declared.words.FaultKind.TheVariants.{CallDepth, StackFull}
+use Rattle.rv_machine.specs.Word.{low}
+use Rattle.rv_machine.specs.Machine.{State, run_of}
+use Rattle.reg_alloc.specs.declared.assignment.Home.{Home}
+use Rattle.reg_alloc.specs.Right.{IsRight}
+use Rattle.tac_form.specs.declared.tac.Tac.{Tac}
+use Rattle.terra_memory.specs.Region.{Contents}
+use Rattle.terra_words.specs.Runs.{Value, word, bytes}
+use Rattle.tac_form.specs.declared.tac.Destination.{Destination}
+use Rattle.tac_form.specs.declared.tac.Destination.TheVariants.{Temp, Area}
+use Rattle.tac_form.specs.Flow.{Activation, accepts_all, takes_all}
+use Rattle.tac_form.specs.Fits.{Fits}
+use Rattle.tac_form.specs.Graph.{graph_of}
+use Rattle.tac_form.specs.Live.{InUse}
+use Rattle.tac_form.specs.declared.tac.Part.{Part}
+use Rattle.tac_form.specs.declared.tac.Part.TheVariants as parts
+use Rattle.rv_operators.specs.Runs.{Stands}
+use Rattle.rv_select.specs.Places.{AreBytes, Holds, IsRead, Keeps, Layout, World, area_offset, frame_bytes, layout_of, private_word, uses, value_in}
+use Rattle.rv_select.specs.Shapes.{place_number}
+use Rattle.rv_select.specs.Steps.{Ends}
+use Rattle.rv_select.specs.Entering.{entered, kept_offset, left, received, words_offset}
+use Rattle.rv_select.specs.Calls.{call_begun, returned}
+
+-- what is passed: a word, or the address of an area
+abbrev pub part_value : Layout → (base : ℕ) → World → Part → ℕ
+part_value y base w (parts.Word a) = value_in w.temps a
+part_value y base w (parts.Area n) = 2 ^ 32 + (base + area_offset y n)
+
+abbrev pub IsPartRead : Layout → (ℕ → Type 0) → Part → Type 0
+IsPartRead y Used (parts.Word a) = IsRead Used a
+IsPartRead y Used (parts.Area n) = n < y.areas
+
+-- The machine enters a function whose frame in private memory begins at `base` then, and that in the region at `under`. The return address
+-- and the caller's words of the registers that the function uses are kept in the frame, and all that lies above them is as it was.
+pub record Enters (program : List (Option Instr)) (y : Layout) (base under target : ℕ) (m : State) : Type 0 where
+  pub steps : ℕ
+  pub after : State
+  pub some : 1 ≤ steps
+  pub few : steps ≤ 36
+  pub runs : (more : ℕ) → run_of program m (steps + more) ≡ run_of program after more
+  pub at : after.pc ≡ target
+  pub pointer : after.registers 2 ≡ 2 ^ 32 + base
+  pub placed : after.registers 8 ≡ under
+  pub others : (r : ℕ) → r ≢ 2 → r ≢ 5 → r ≢ 6 → r ≢ 7 → r ≢ 8 → after.registers r ≡ m.registers r
+  pub region : after.region ≡ m.region
+  pub long : length after.private ≡ length m.private
+  pub bytes : AreBytes m.private → AreBytes after.private
+  pub above : (at n : ℕ) → base + 88 ≤ at → take n (drop at after.private) ≡ take n (drop at m.private)
+  pub link : private_word after base ≡ low (m.registers 1)
+  pub kept : (r : ℕ) → 18 ≤ r → r < 28 → uses y r ≡ true → private_word after (base + kept_offset r) ≡ low (m.registers r)
+
+-- Where the code of entering a function stands: x2 is the end of the caller's frame, x4 that of the region, x8 the caller's frame in the region, and
+-- x11 the place of the call.
+pub record BeforeEntering (program : List (Option Instr)) (y : Layout) (bytes frame top placed size : ℕ) (at : Place) (m : State) : Type 0 where
+  pub stands : Stands program m.pc (entered y bytes frame)
+  pub pc : m.pc < 2 ^ 64
+  pub pointer : m.registers 2 ≡ 2 ^ 32 + top
+  pub limit : m.registers 4 ≡ 2 ^ 30 + size
+  pub placed_is : m.registers 8 ≡ placed
+  pub place : m.registers 11 ≡ place_number at
+  pub small : frame < 2 ^ 63
+  pub below : placed ≤ 2 ^ 30 + size
+  pub region : length m.region ≤ 67108864
+  pub region_is : size ≤ 67108864
+  pub private : length m.private ≤ 603979776
+  pub within : top ≤ length m.private
+  pub least : 88 ≤ bytes
+  pub room : bytes ≤ top
+
+-- The last quarter of the region is the data stack's. A function whose frame has no room there ends the run by a fault at the place of its call,
+-- and any other is entered.
+abbrev pub FunctionsAreEntered : Type 0
+FunctionsAreEntered =
+    (program : List (Option Instr)) (y : Layout) (bytes frame top placed size : ℕ) (at : Place) (m : State) →
+    BeforeEntering program y bytes frame top placed size at m →
+    (placed < 2 ^ 30 + size - size / 4 + frame → Ends program StackFull at 36 m) ×
+    (2 ^ 30 + size - size / 4 + frame ≤ placed → Enters program y (top - bytes) (placed - frame) (low (m.pc + 4 * length (entered y bytes frame))) m)
+
+-- A call has come to its jump: the words of all that it passes lie below the frame, the first uppermost, one more call waits, and x11 is the
+-- place of the call. The caller's frame and all above it are as they were.
+pub record Calls (program : List (Option Instr)) (y : Layout) (base : ℕ) (w : World) (at : Place) (ps : List Part) (m : State) : Type 0 where
+  pub steps : ℕ
+  pub after : State
+  pub few : steps ≤ 11 + 11 * length ps
+  pub runs : (more : ℕ) → run_of program m (steps + more) ≡ run_of program after more
+  pub pc : after.pc ≡ low (m.pc + 4 * length (call_begun y at ps))
+  pub place : after.registers 11 ≡ place_number at
+  pub waiting : after.registers 28 ≡ suc w.depth
+  pub others : (r : ℕ) → r ≢ 5 → r ≢ 6 → r ≢ 7 → r ≢ 11 → r ≢ 28 → after.registers r ≡ m.registers r
+  pub region : after.region ≡ m.region
+  pub long : length after.private ≡ length m.private
+  pub bytes : AreBytes m.private → AreBytes after.private
+  pub above : (at k : ℕ) → base ≤ at → take k (drop at after.private) ≡ take k (drop at m.private)
+  pub words : (k : ℕ) (p : Part) → slice_get ps k ≡ Some p → private_word after (base - 8 * (k + 1)) ≡ part_value y base w p
+
+-- A call where 511 calls wait already ends the run by a fault at its place, before it passes anything, and any other comes to its jump where there
+-- is room for what it passes.
+abbrev pub CallsAreBegun : Type 0
+CallsAreBegun =
+    (code : Tac) (homes : List (Option Home)) (block step : ℕ) (program : List (Option Instr)) (w : World) (base : ℕ) (at : Place) (ps : List Part) (m : State) →
+    let y : Layout = layout_of code homes in
+    let Used : ℕ → Type 0 = InUse (graph_of code) block step in
+    IsRight code homes → Holds y Used w base m → place_number at < 2 ^ 64 → Stands program m.pc (call_begun y at ps) →
+    (511 ≤ w.depth → Ends program CallDepth at 13 m) ×
+    (w.depth < 511 → ((k : ℕ) (p : Part) → slice_get ps k ≡ Some p → IsPartRead y Used p) → 8 * length ps ≤ base → Calls program y base w at ps m)
+
+-- A function is left: x10 has its result, and the machine goes on at the return address, with the caller's frames, and its registers as the function
+-- found them.
+pub record Returns (program : List (Option Instr)) (y : Layout) (base over link v : ℕ) (m : State) : Type 0 where
+  pub steps : ℕ
+  pub after : State
+  pub some : 1 ≤ steps
+  pub few : steps ≤ 36
+  pub runs : (more : ℕ) → run_of program m (steps + more) ≡ run_of program after more
+  pub at : after.pc ≡ link
+  pub result : after.registers 10 ≡ v
+  pub pointer : after.registers 2 ≡ 2 ^ 32 + (base + frame_bytes y)
+  pub placed : after.registers 8 ≡ over
+  pub heap : after.registers 3 ≡ m.registers 3
+  pub limit : after.registers 4 ≡ m.registers 4
+  pub waiting : after.registers 28 ≡ m.registers 28
+  pub registers : (r : ℕ) → 18 ≤ r → r < 28 → after.registers r ≡ (if uses y r then private_word m (base + kept_offset r) else m.registers r)
+  pub region : after.region ≡ m.region
+  pub private : after.private ≡ m.private
+
+abbrev pub FunctionsAreLeft : Type 0
+FunctionsAreLeft =
+    (code : Tac) (homes : List (Option Home)) (block step : ℕ) (program : List (Option Instr)) (w : World) (base frame last link : ℕ) (v : Part) (m : State) →
+    let y : Layout = layout_of code homes in
+    let Used : ℕ → Type 0 = InUse (graph_of code) block step in
+    IsRight code homes → Holds y Used w base m → IsPartRead y Used v → m.pc + 256 ≤ 2 ^ 30 → last < 2 ^ 30 → last % 2 ≡ 0 → w.placed + frame < 2 ^ 63 →
+    private_word m base ≡ link → link % 2 ≡ 0 → link < 2 ^ 64 → Stands program m.pc (returned y m.pc last v) → Stands program last (left y (frame_bytes y) frame) →
+    Returns program y base (w.placed + frame) link (part_value y base w v) m
+
+-- what three-address code sees of an activation
+abbrev pub seen : Activation → Contents → (depth : ℕ) → World
+seen a region depth =
+    record { temps = a.temps; areas = a.areas; region = region; placed = a.base; depth = depth }
+
+-- The parameters' words lie at the end of the frame, the first uppermost, from an offset of the frame on.
+abbrev pub IsWordOf : Value → ℕ → Type 0
+IsWordOf (word x) n = (n ≡ x) × (x < 2 ^ 64)
+IsWordOf (bytes bs) n = Unit {0}
+
+abbrev pub HasWords : (base last : ℕ) → List Destination → List Value → State → Type 0
+HasWords base last (d ∷ ds) (v ∷ vs) m =
+    IsWordOf v (private_word m (base + (last + 8 * length ds))) × HasWords base last ds vs m
+HasWords base last _ _ m = Unit {0}
+
+-- a parameter that is a word
+abbrev pub is_word : Destination → Bool
+is_word (Temp t) = true
+is_word (Area n) = false
+
+-- the layout without the parameters' words
+abbrev pub without_words : Layout → Layout
+without_words y = record y { parameters = 0 }
+
+-- The machine comes behind the code that takes the parameters, and holds what three-address code sees where the function begins.
+pub record Received (program : List (Option Instr)) (y : Layout) (Used : ℕ → Type 0) (w : World) (base most target : ℕ) (m : State) : Type 0 where
+  pub steps : ℕ
+  pub after : State
+  pub few : steps ≤ most
+  pub runs : (more : ℕ) → run_of program m (steps + more) ≡ run_of program after more
+  pub at : after.pc ≡ target
+  pub holds : Holds y Used w base after
+  pub keeps : Keeps y base m after
+
+-- Words that are passed go to the homes of the temporaries that take them, in at most six steps each. Then each temporary in use where
+-- the function begins stands at its home.
+abbrev pub ParametersAreReceived : Type 0
+ParametersAreReceived =
+    (code : Tac) (homes : List (Option Home)) (program : List (Option Instr)) (values : List Value) (a : Activation) (region : Contents) (depth base : ℕ) (m : State) →
+    let y : Layout = layout_of code homes in
+    Fits code → IsRight code homes → IsTrue (list_all is_word code.parameters) → IsTrue (accepts_all code code.parameters values) →
+    Stands program m.pc (received y code.areas (words_offset y) code.parameters) → Holds (without_words y) (λ t. ⊥) (seen a region depth) base m →
+    HasWords base (words_offset y) code.parameters values m → base + frame_bytes y ≤ length m.private →
+    Received program (without_words y) (InUse (graph_of code) 0 0) (seen (takes_all code.parameters values a) region depth) base (6 * length code.parameters)
+    (low (m.pc + 4 * length (received y code.areas (words_offset y) code.parameters))) m

@@ -1,0 +1,164 @@
+// The words of calls and returns.
+
+ghost use Rattle.std.specs.Prelude.{◌≡◌, ◌*◌, ◌+◌, ◌^◌, ◌<◌, ◌≤◌, [], ◌∷◌, ◌++◌, map, length, IfOk, OnOk};
+ghost use Rattle.rv_isa.specs.Table.{word_of};
+ghost use Rattle.rv_operators.specs.Codes.{x5};
+ghost use Rattle.rv_select.specs.Calls.{call_begun, call_ended, call_jump, called, depth_tested, one_more, part_taken, passed};
+ghost use Rattle.rv_select.specs.Entering.{result_put};
+ghost use Rattle.rv_select.specs.Places.{with_homes};
+ghost use Rattle.rv_select.specs.Shapes.{jump, x10};
+
+use crate::emit::{X5, push_constant, push_moved, push_taken, put};
+use crate::entries::{X1, X28, push_result_put, push_stored_below};
+use crate::exits::{distance, push_jump};
+use crate::instructions::{X10, X11, place_number, push_area_address, push_fault_call, push_small};
+use crate::operands::{below_zero, immediate, lower, offset, upper};
+use reg_alloc::Home;
+use rv_isa::{BranchCondition, ImmediateOp, Instr, Register};
+use tac_form::{Destination, Part};
+use terra_words::FaultKind;
+use tl_base::{NoMemory, Place};
+
+/// How many calls may wait besides the one that is made.
+const MOST_WAITING: u64 = 511;
+
+/// The run fails at the place in x11 where 511 calls wait already.
+fn push_depth_test(code: &mut Vec<u32>) -> Result<(), NoMemory>
+    ensures { OnOk result (code.new.items ≡ code.old.items ++ map word_of depth_tested) }
+{
+    push_small(code, X5, MOST_WAITING)?;
+    put(
+        code,
+        Instr::Branch {
+            condition: BranchCondition::Ltu,
+            rs1: X28,
+            rs2: X5,
+            offset: offset(16),
+        },
+    )?;
+    push_fault_call(code, FaultKind::CallDepth)
+}
+
+/// A register gets what is passed: a word, or the address of an area.
+fn push_part(
+    code: &mut Vec<u32>,
+    homes: &[Option<Home>],
+    rd: Register,
+    part: Part,
+) -> Result<(), NoMemory>
+    ensures { OnOk result (code.new.items ≡ code.old.items ++ map word_of (part_taken (with_homes homes.now) rd part)) }
+{
+    match part {
+        Part::Word(a) => push_taken(code, homes, rd, a),
+        Part::Area(area) => push_area_address(code, homes, rd, area, 0),
+    }
+}
+
+/// x5 gets what is passed.
+fn push_first_part(code: &mut Vec<u32>, homes: &[Option<Home>], part: Part) -> Result<(), NoMemory>
+    ensures { OnOk result (code.new.items ≡ code.old.items ++ map word_of (part_taken (with_homes homes.now) x5 part)) }
+{
+    push_part(code, homes, X5, part)
+}
+
+/// x10 gets what is given back.
+pub(crate) fn push_given(code: &mut Vec<u32>, homes: &[Option<Home>], part: Part) -> Result<(), NoMemory>
+    ensures { OnOk result (code.new.items ≡ code.old.items ++ map word_of (part_taken (with_homes homes.now) x10 part)) }
+{
+    push_part(code, homes, X10, part)
+}
+
+/// The words of parts from one on go below the frame.
+fn push_passed(
+    code: &mut Vec<u32>,
+    homes: &[Option<Home>],
+    first: u64,
+    parts: &[Part],
+) -> Result<(), NoMemory>
+    ensures { OnOk result (code.new.items ≡ code.old.items ++ map word_of (passed (with_homes homes.now) first parts.now)) }
+{
+    if let [part, rest @ ..] = parts {
+        if first >= 1 << 28 {
+            return Err(NoMemory);
+        }
+        push_first_part(code, homes, *part)?;
+        push_stored_below(code, X5, 8 * (first + 1))?;
+        push_passed(code, homes, first + 1, rest)?;
+    }
+    Ok(())
+}
+
+/// One more call waits.
+fn push_one_more(code: &mut Vec<u32>) -> Result<(), NoMemory>
+    ensures { OnOk result (code.new.items ≡ code.old.items ++ map word_of one_more) }
+{
+    put(
+        code,
+        Instr::RegisterImmediate {
+            op: ImmediateOp::Addi,
+            rd: X28,
+            rs1: X28,
+            imm: immediate(1),
+        },
+    )
+}
+
+/// What comes before the jump of a call.
+pub(crate) fn push_call_begun(
+    code: &mut Vec<u32>,
+    homes: &[Option<Home>],
+    at: Place,
+    arguments: &[Part],
+) -> Result<(), NoMemory>
+    ensures { OnOk result (code.new.items ≡ code.old.items ++ map word_of (call_begun (with_homes homes.now) at arguments.now)) }
+{
+    push_constant(code, X11, place_number(at))?;
+    push_depth_test(code)?;
+    push_passed(code, homes, 0, arguments)?;
+    push_one_more(code)
+}
+
+/// A jump from an address to a function, with the return address in x1.
+pub(crate) fn push_call_jump(code: &mut Vec<u32>, from: u64, to: u64) -> Result<(), NoMemory>
+    requires { from ≤ 2 ^ 32 }
+    ensures { OnOk result (code.new.items ≡ code.old.items ++ map word_of (call_jump from to)) }
+{
+    let bytes = distance(from, to);
+    put(
+        code,
+        Instr::Auipc {
+            rd: X5,
+            imm: upper(bytes),
+        },
+    )?;
+    put(
+        code,
+        Instr::Jalr {
+            rd: X1,
+            rs1: X5,
+            offset: lower(bytes),
+        },
+    )
+}
+
+/// What follows the jump of a call.
+pub(crate) fn push_call_ended(
+    code: &mut Vec<u32>,
+    homes: &[Option<Home>],
+    sizes: &[u64],
+    to: Destination,
+) -> Result<(), NoMemory>
+    ensures { OnOk result (code.new.items ≡ code.old.items ++ map word_of (call_ended (with_homes homes.now) sizes.now to)) }
+{
+    put(
+        code,
+        Instr::RegisterImmediate {
+            op: ImmediateOp::Addi,
+            rd: X28,
+            rs1: X28,
+            imm: below_zero(0),
+        },
+    )?;
+    push_moved(code, X5, X10)?;
+    push_result_put(code, homes, sizes, to)
+}

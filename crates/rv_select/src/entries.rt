@@ -1,0 +1,416 @@
+// The words by which functions are entered and left.
+
+ghost use Rattle.std.specs.Prelude.{◌≡◌, ◌*◌, ◌+◌, ◌^◌, ◌<◌, ◌≤◌, [], ◌∷◌, ◌++◌, map, length, IfOk, IsTrue, OnOk};
+ghost use Rattle.rv_isa.specs.Table.{word_of};
+ghost use Rattle.rv_select.specs.Entering.{arguments_stored, begun, entered, frames_given, frames_taken, kept_offset, left, most_arguments, put_back, put_back_one, received, received_one, result_put, saved, saved_one, size_in, stack_branch, stack_tested, stored_below};
+ghost use Rattle.rv_select.specs.Places.{is_register, uses, with_homes};
+ghost use Rattle.rv_select.specs.Shapes.{to_area};
+
+use crate::emit::{
+    X0, X2, X5, X6, X7, push_constant, push_far, push_frame_load, push_moved, push_put,
+    push_short_constant, put,
+};
+use crate::instructions::{X4, X8, X11, place_number, push_fault_call};
+use crate::operands::{below_zero, immediate, lower, offset, register, upper};
+use crate::outputs::push_limit_found;
+use reg_alloc::Home;
+use rv_isa::{
+    BranchCondition, Immediate, Instr, LoadOp, Register, RegisterOp, StoreOp,
+};
+use tac_form::{Destination, Tac};
+use terra_words::FaultKind;
+use tl_base::NoMemory;
+
+/// The return address.
+pub(crate) const X1: Register = Register { number: 1 };
+
+/// The number of calls that wait.
+pub(crate) const X28: Register = Register { number: 28 };
+
+/// The first of the registers that calls keep, and how many they are.
+const FIRST_KEPT: u64 = 18;
+
+const KEPT: u64 = 10;
+
+/// What a function keeps for its caller, in bytes.
+const KEPT_BYTES: u64 = 88;
+
+/// Whether a temporary's home is a register.
+fn is_register(number: u64, home: Option<Home>) -> bool
+    ensures { result ≡ is_register number home }
+{
+    match home {
+        Some(Home::Register(register)) => number == register,
+        _ => false,
+    }
+}
+
+/// Whether a function uses a register.
+fn uses(homes: &[Option<Home>], number: u64) -> bool
+    ensures { result ≡ uses (with_homes homes.now) number }
+{
+    homes.iter().any(|home| is_register(number, *home))
+}
+
+/// Where the caller's word of a register is kept in the frame, in bytes.
+fn kept_offset(number: u64) -> u64
+    requires first { 18 ≤ number }
+    requires last { number ≤ 27 }
+    ensures offset { result ≡ kept_offset number }
+    ensures few { result ≤ 80 }
+{
+    8 * (number - 17)
+}
+
+/// A register is kept in the frame if the function uses it.
+fn push_saved_one(code: &mut Vec<u32>, homes: &[Option<Home>], number: u64) -> Result<(), NoMemory>
+    requires first { 18 ≤ number }
+    requires last { number ≤ 27 }
+    ensures { OnOk result (code.new.items ≡ code.old.items ++ map word_of (saved_one (with_homes homes.now) number)) }
+{
+    if !uses(homes, number) {
+        return Ok(());
+    }
+    put(
+        code,
+        Instr::Store {
+            op: StoreOp::Sd,
+            rs1: X2,
+            rs2: register(number),
+            offset: immediate(kept_offset(number)),
+        },
+    )
+}
+
+/// So many registers from one on are kept in the frame where the function uses them.
+fn push_saved(
+    code: &mut Vec<u32>,
+    homes: &[Option<Home>],
+    count: u64,
+    number: u64,
+) -> Result<(), NoMemory>
+    requires first { 18 ≤ number }
+    requires last { number + count ≤ 28 }
+    ensures { OnOk result (code.new.items ≡ code.old.items ++ map word_of (saved (with_homes homes.now) count number)) }
+{
+    if count == 0 {
+        return Ok(());
+    }
+    push_saved_one(code, homes, number)?;
+    push_saved(code, homes, count - 1, number + 1)
+}
+
+/// A register gets the caller's word again if the function uses it.
+fn push_put_back_one(
+    code: &mut Vec<u32>,
+    homes: &[Option<Home>],
+    number: u64,
+) -> Result<(), NoMemory>
+    requires first { 18 ≤ number }
+    requires last { number ≤ 27 }
+    ensures { OnOk result (code.new.items ≡ code.old.items ++ map word_of (put_back_one (with_homes homes.now) number)) }
+{
+    if !uses(homes, number) {
+        return Ok(());
+    }
+    put(
+        code,
+        Instr::Load {
+            op: LoadOp::Ld,
+            rd: register(number),
+            rs1: X2,
+            offset: immediate(kept_offset(number)),
+        },
+    )
+}
+
+/// So many registers from one on get their callers' words again where the function uses them.
+fn push_put_back(
+    code: &mut Vec<u32>,
+    homes: &[Option<Home>],
+    count: u64,
+    number: u64,
+) -> Result<(), NoMemory>
+    requires first { 18 ≤ number }
+    requires last { number + count ≤ 28 }
+    ensures { OnOk result (code.new.items ≡ code.old.items ++ map word_of (put_back (with_homes homes.now) count number)) }
+{
+    if count == 0 {
+        return Ok(());
+    }
+    push_put_back_one(code, homes, number)?;
+    push_put_back(code, homes, count - 1, number + 1)
+}
+
+/// The run fails at the place in x11 unless the data stack has room for a frame of so many bytes, which x5 gets.
+fn push_stack_test(code: &mut Vec<u32>, frame: u64) -> Result<(), NoMemory>
+    ensures { OnOk result (code.new.items ≡ code.old.items ++ map word_of (stack_tested frame)) }
+{
+    push_constant(code, X5, frame)?;
+    push_limit_found(code)?;
+    push_stack_branch(code)
+}
+
+/// The run fails unless x8 is at least x5 above x7.
+fn push_stack_branch(code: &mut Vec<u32>) -> Result<(), NoMemory>
+    ensures { OnOk result (code.new.items ≡ code.old.items ++ map word_of stack_branch) }
+{
+    put(
+        code,
+        Instr::RegisterRegister {
+            op: RegisterOp::Add,
+            rd: X7,
+            rs1: X7,
+            rs2: X5,
+        },
+    )?;
+    put(
+        code,
+        Instr::Branch {
+            condition: BranchCondition::Geu,
+            rs1: X8,
+            rs2: X7,
+            offset: offset(16),
+        },
+    )?;
+    push_fault_call(code, FaultKind::StackFull)
+}
+
+/// Both frames go down, and what is kept for the caller is stored.
+fn push_frames_taken(code: &mut Vec<u32>, homes: &[Option<Home>], bytes: u64) -> Result<(), NoMemory>
+    ensures { OnOk result (code.new.items ≡ code.old.items ++ map word_of (frames_taken (with_homes homes.now) bytes)) }
+{
+    put(
+        code,
+        Instr::RegisterRegister {
+            op: RegisterOp::Sub,
+            rd: X8,
+            rs1: X8,
+            rs2: X5,
+        },
+    )?;
+    push_short_constant(code, X6, bytes)?;
+    put(
+        code,
+        Instr::RegisterRegister {
+            op: RegisterOp::Sub,
+            rd: X2,
+            rs1: X2,
+            rs2: X6,
+        },
+    )?;
+    put(
+        code,
+        Instr::Store {
+            op: StoreOp::Sd,
+            rs1: X2,
+            rs2: X1,
+            offset: Immediate { value: 0 },
+        },
+    )?;
+    push_saved(code, homes, KEPT, FIRST_KEPT)
+}
+
+/// The words by which a function is entered, whose frames have so many bytes in private memory and in the region.
+pub(crate) fn push_entered(
+    code: &mut Vec<u32>,
+    homes: &[Option<Home>],
+    bytes: u64,
+    frame: u64,
+) -> Result<(), NoMemory>
+    ensures { OnOk result (code.new.items ≡ code.old.items ++ map word_of (entered (with_homes homes.now) bytes frame)) }
+{
+    push_stack_test(code, frame)?;
+    push_frames_taken(code, homes, bytes)
+}
+
+/// The words by which a function is left, with its result in x10.
+pub(crate) fn push_left(
+    code: &mut Vec<u32>,
+    homes: &[Option<Home>],
+    bytes: u64,
+    frame: u64,
+) -> Result<(), NoMemory>
+    ensures { OnOk result (code.new.items ≡ code.old.items ++ map word_of (left (with_homes homes.now) bytes frame)) }
+{
+    put(
+        code,
+        Instr::Load {
+            op: LoadOp::Ld,
+            rd: X1,
+            rs1: X2,
+            offset: Immediate { value: 0 },
+        },
+    )?;
+    push_put_back(code, homes, KEPT, FIRST_KEPT)?;
+    push_frames_given(code, bytes, frame)
+}
+
+/// Both frames go up again, and the caller goes on.
+fn push_frames_given(code: &mut Vec<u32>, bytes: u64, frame: u64) -> Result<(), NoMemory>
+    ensures { OnOk result (code.new.items ≡ code.old.items ++ map word_of (frames_given bytes frame)) }
+{
+    push_constant(code, X5, frame)?;
+    put(
+        code,
+        Instr::RegisterRegister {
+            op: RegisterOp::Add,
+            rd: X8,
+            rs1: X8,
+            rs2: X5,
+        },
+    )?;
+    push_short_constant(code, X6, bytes)?;
+    put(
+        code,
+        Instr::RegisterRegister {
+            op: RegisterOp::Add,
+            rd: X2,
+            rs1: X2,
+            rs2: X6,
+        },
+    )?;
+    put(
+        code,
+        Instr::Jalr {
+            rd: X0,
+            rs1: X1,
+            offset: Immediate { value: 0 },
+        },
+    )
+}
+
+/// A register is stored so many bytes below the frame.
+pub(crate) fn push_stored_below(
+    code: &mut Vec<u32>,
+    rs2: Register,
+    bytes: u64,
+) -> Result<(), NoMemory>
+    requires some { 1 ≤ bytes }
+    requires few { bytes ≤ 2 ^ 32 }
+    ensures { OnOk result (code.new.items ≡ code.old.items ++ map word_of (stored_below rs2 bytes)) }
+{
+    if bytes <= 2048 {
+        return put(
+            code,
+            Instr::Store {
+                op: StoreOp::Sd,
+                rs1: X2,
+                rs2,
+                offset: below_zero(bytes - 1),
+            },
+        );
+    }
+    let far = (1 << 32) - bytes;
+    push_far(code, far)?;
+    put(
+        code,
+        Instr::Store {
+            op: StoreOp::Sd,
+            rs1: X7,
+            rs2,
+            offset: lower(far),
+        },
+    )
+}
+
+/// The machine's arguments as parameters' words.
+fn push_arguments(code: &mut Vec<u32>, count: u64, first: u64) -> Result<(), NoMemory>
+    requires { count + first ≤ 8 }
+    ensures { OnOk result (code.new.items ≡ code.old.items ++ map word_of (arguments_stored count first)) }
+{
+    if count == 0 {
+        return Ok(());
+    }
+    push_stored_below(code, register(10 + first), 8 * (first + 1))?;
+    push_arguments(code, count - 1, first + 1)
+}
+
+/// How many arguments the machine may have for so many parameters.
+fn most_arguments(parameters: u64) -> u64
+    ensures most { result ≡ most_arguments parameters }
+    ensures few { result ≤ 8 }
+{
+    if parameters <= 8 { parameters } else { 0 }
+}
+
+/// The words by which a function begins as the entry.
+pub(crate) fn push_begun(code: &mut Vec<u32>, tac: &Tac) -> Result<(), NoMemory>
+    ensures { OnOk result (code.new.items ≡ code.old.items ++ map word_of (begun tac.now)) }
+{
+    push_moved(code, X8, X4)?;
+    let parameters = tac.parameters.as_slice().len() as u64;
+    push_arguments(code, most_arguments(parameters), 0)?;
+    push_constant(code, X11, place_number(tac.place))
+}
+
+/// A parameter from its word, which lies at an offset of the frame.
+fn push_received_one(
+    code: &mut Vec<u32>,
+    homes: &[Option<Home>],
+    sizes: &[u64],
+    parameter: Destination,
+    at: u64,
+) -> Result<(), NoMemory>
+    ensures { OnOk result (code.new.items ≡ code.old.items ++ map word_of (received_one (with_homes homes.now) sizes.now parameter at)) }
+{
+    push_frame_load(code, LoadOp::Ld, X5, at)?;
+    push_result_put(code, homes, sizes, parameter)
+}
+
+/// The result of a call or a parameter, which is in x5, goes where it is taken: a word, or bytes at that address.
+pub(crate) fn push_result_put(
+    code: &mut Vec<u32>,
+    homes: &[Option<Home>],
+    sizes: &[u64],
+    to: Destination,
+) -> Result<(), NoMemory>
+    ensures { OnOk result (code.new.items ≡ code.old.items ++ map word_of (result_put (with_homes homes.now) sizes.now to)) }
+{
+    match to {
+        Destination::Temp(temp) => push_put(code, homes, temp),
+        Destination::Area(area) => push_to_area(code, homes, area, 0, size_of(sizes, area)?),
+    }
+}
+
+/// The bytes of an area. None has more than 128.
+fn size_of(sizes: &[u64], area: u64) -> Result<u64, NoMemory>
+    ensures size { IfOk result (λ size. size ≡ size_in sizes.now area) }
+    ensures few { IfOk result (λ size. size ≤ 128) }
+{
+    let size = match sizes.get(area as usize) {
+        Some(size) => *size,
+        None => 0,
+    };
+    if size <= 128 { Ok(size) } else { Err(NoMemory) }
+}
+
+/// The parameters, from words of which the last lies at an offset of the frame.
+pub(crate) fn push_received(
+    code: &mut Vec<u32>,
+    homes: &[Option<Home>],
+    sizes: &[u64],
+    parameters: &[Destination],
+    last: u64,
+) -> Result<(), NoMemory>
+    requires { last < 2 ^ 63 }
+    ensures { OnOk result (code.new.items ≡ code.old.items ++ map word_of (received (with_homes homes.now) sizes.now last parameters.now)) }
+{
+    if let [first, rest @ ..] = parameters {
+        push_received_one(code, homes, sizes, *first, last + 8 * rest.len() as u64)?;
+        push_received(code, homes, sizes, rest, last)?;
+    }
+    Ok(())
+}
+
+fn push_to_area(
+    _code: &mut Vec<u32>,
+    _homes: &[Option<Home>],
+    _area: u64,
+    _offset: u64,
+    _size: u64,
+) -> Result<(), NoMemory>
+    ensures { OnOk result (_code.new.items ≡ _code.old.items ++ map word_of (to_area (with_homes _homes.now) _area _offset _size)) }
+{
+    Err(NoMemory)
+}

@@ -1,0 +1,294 @@
+// The code of a function.
+
+ghost use Rattle.std.specs.Prelude.{◌≡◌, ◌*◌, ◌+◌, ◌^◌, ◌<◌, ◌≤◌, ◌&&◌, [], ◌∷◌, ◌++◌, map, length, IfOk, IsTrue, OnOk};
+ghost use Rattle.std.specs.List.{list_all};
+ghost use Rattle.rv_isa.specs.Table.{word_of};
+ghost use Rattle.rv_select.specs.Calls.{IsSelected, all_has_code, block_code, block_has_code, block_starts, blocks_calls, blocks_code, call_jump, called, exit_code, has_code, has_exit_code, head_code, instruction_calls, instruction_code, instructions_calls, instructions_code, last_address, returned, starts_from};
+ghost use Rattle.rv_select.specs.Entering.{received, words_offset};
+ghost use Rattle.rv_select.specs.Places.{frame_bytes, layout_of, with_homes};
+ghost use Rattle.rv_select.specs.Shapes.{jump, start_of};
+ghost use Rattle.tac_form.specs.declared.tac.Instruction.TheVariants as instructions;
+
+use crate::calls::{push_call_begun, push_call_ended, push_call_jump, push_given};
+use crate::selected::{Call, Code};
+use crate::entries::{push_begun, push_entered, push_left, push_received};
+use crate::exits::{push_exit, push_jump};
+use crate::instructions::{push_failed, push_instruction};
+use reg_alloc::{Assignment, Home};
+use std::alloc::Global;
+use tac_form::{Block, Destination, Exit, Instruction, Part, Tac};
+use tl_base::{FnId, NoMemory, Place};
+
+/// The address at which the next word stands in code that begins at address 0. No memory has code of 2 ^ 27 words.
+fn address(code: &[u32]) -> Result<u64, NoMemory>
+    ensures at { IfOk result (λ at. at ≡ 4 * length code.now) }
+    ensures few { IfOk result (λ at. at ≤ 2 ^ 29) }
+{
+    if code.len() <= 1 << 27 {
+        Ok(4 * code.len() as u64)
+    } else {
+        Err(NoMemory)
+    }
+}
+
+/// A jump to a function, which stands in the list of calls.
+fn push_jump_to(
+    code: &mut Vec<u32>,
+    calls: &mut Vec<Call>,
+    callee: FnId,
+) -> Result<(), NoMemory>
+    ensures code { OnOk result (code.new.items ≡ code.old.items ++ map word_of (call_jump (4 * length code.old.items) 0)) }
+    ensures calls { OnOk result (calls.new.items ≡ calls.old.items ++ record { at = length code.old.items; callee = callee } ∷ []) }
+{
+    let at = address(code)?;
+    calls.push(Call {
+        at: code.len() as u64,
+        callee,
+    })?;
+    push_call_jump(code, at, 0)
+}
+
+/// A call of a function.
+fn push_called(
+    code: &mut Vec<u32>,
+    calls: &mut Vec<Call>,
+    homes: &[Option<Home>],
+    sizes: &[u64],
+    to: Destination,
+    at: Place,
+    callee: FnId,
+    arguments: &[Part],
+) -> Result<(), NoMemory>
+    ensures code { OnOk result (code.new.items ≡ code.old.items ++ map word_of (called (with_homes homes.now) sizes.now (λ f. 0) (4 * length code.old.items) to at callee arguments.now)) }
+    ensures calls { OnOk result (calls.new.items ≡ calls.old.items ++ instruction_calls (with_homes homes.now) (length code.old.items) (instructions.Call to at callee arguments.now)) }
+{
+    push_call_begun(code, homes, at, arguments)?;
+    push_jump_to(code, calls, callee)?;
+    push_call_ended(code, homes, sizes, to)
+}
+
+/// The code of an instruction.
+fn push_one(
+    code: &mut Vec<u32>,
+    calls: &mut Vec<Call>,
+    homes: &[Option<Home>],
+    sizes: &[u64],
+    instruction: &Instruction,
+) -> Result<(), NoMemory>
+    requires { IsTrue (has_code instruction.now) }
+    ensures code { OnOk result (code.new.items ≡ code.old.items ++ map word_of (instruction_code (with_homes homes.now) sizes.now (λ f. 0) (4 * length code.old.items) instruction.now)) }
+    ensures calls { OnOk result (calls.new.items ≡ calls.old.items ++ instruction_calls (with_homes homes.now) (length code.old.items) instruction.now) }
+{
+    match instruction {
+        Instruction::Call(to, at, callee, arguments) => push_called(
+            code,
+            calls,
+            homes,
+            sizes,
+            *to,
+            *at,
+            *callee,
+            arguments.as_slice(),
+        ),
+        _ => push_instruction(code, homes, instruction),
+    }
+}
+
+/// The code of instructions.
+fn push_all(
+    code: &mut Vec<u32>,
+    calls: &mut Vec<Call>,
+    homes: &[Option<Home>],
+    sizes: &[u64],
+    instructions: &[Instruction],
+) -> Result<(), NoMemory>
+    requires { IsTrue (list_all has_code instructions.now) }
+    ensures code { OnOk result (code.new.items ≡ code.old.items ++ map word_of (instructions_code (with_homes homes.now) sizes.now (λ f. 0) (4 * length code.old.items) instructions.now)) }
+    ensures calls { OnOk result (calls.new.items ≡ calls.old.items ++ instructions_calls (with_homes homes.now) sizes.now (length code.old.items) instructions.now) }
+{
+    if let [first, rest @ ..] = instructions {
+        push_one(code, calls, homes, sizes, first)?;
+        push_all(code, calls, homes, sizes, rest)?;
+    }
+    Ok(())
+}
+
+/// A jump from where the code ends.
+fn push_jump_here(code: &mut Vec<u32>, to: u64) -> Result<(), NoMemory>
+    ensures { OnOk result (code.new.items ≡ code.old.items ++ map word_of (jump (4 * length code.old.items) to)) }
+{
+    let at = address(code)?;
+    push_jump(code, at, to)
+}
+
+/// The code by which a function gives back a part, and goes to where it is left.
+fn push_returned(
+    code: &mut Vec<u32>,
+    homes: &[Option<Home>],
+    part: Part,
+    last: u64,
+) -> Result<(), NoMemory>
+    ensures { OnOk result (code.new.items ≡ code.old.items ++ map word_of (returned (with_homes homes.now) (4 * length code.old.items) last part)) }
+{
+    push_given(code, homes, part)?;
+    push_jump_here(code, last)
+}
+
+/// The code of an exit.
+fn push_end(
+    code: &mut Vec<u32>,
+    homes: &[Option<Home>],
+    starts: &[u64],
+    last: u64,
+    exit: &Exit,
+) -> Result<(), NoMemory>
+    requires { IsTrue (has_exit_code exit.now) }
+    ensures { OnOk result (code.new.items ≡ code.old.items ++ map word_of (exit_code (with_homes homes.now) (4 * length code.old.items) (start_of starts.now) last exit.now)) }
+{
+    match exit {
+        Exit::Return(part) => push_returned(code, homes, *part, last),
+        _ => {
+            let at = address(code)?;
+            push_exit(code, homes, at, starts, exit)
+        }
+    }
+}
+
+/// The code of a block.
+fn push_block(
+    code: &mut Vec<u32>,
+    calls: &mut Vec<Call>,
+    homes: &[Option<Home>],
+    sizes: &[u64],
+    starts: &[u64],
+    last: u64,
+    block: &Block,
+) -> Result<(), NoMemory>
+    requires { IsTrue (block_has_code block.now) }
+    ensures code { OnOk result (code.new.items ≡ code.old.items ++ map word_of (block_code (with_homes homes.now) sizes.now (λ f. 0) (start_of starts.now) last (4 * length code.old.items) block.now)) }
+    ensures calls { OnOk result (calls.new.items ≡ calls.old.items ++ instructions_calls (with_homes homes.now) sizes.now (length code.old.items) block.now.instructions) }
+{
+    push_all(code, calls, homes, sizes, block.instructions.as_slice())?;
+    push_end(code, homes, starts, last, &block.exit)
+}
+
+/// The code of blocks, each of whose addresses goes to a list.
+fn push_blocks(
+    code: &mut Vec<u32>,
+    calls: &mut Vec<Call>,
+    begins: &mut Vec<u64>,
+    homes: &[Option<Home>],
+    sizes: &[u64],
+    starts: &[u64],
+    last: u64,
+    blocks: &[Block],
+) -> Result<(), NoMemory>
+    requires { IsTrue (list_all block_has_code blocks.now) }
+    ensures code { OnOk result (code.new.items ≡ code.old.items ++ map word_of (blocks_code (with_homes homes.now) sizes.now (λ f. 0) (start_of starts.now) last (4 * length code.old.items) blocks.now)) }
+    ensures calls { OnOk result (calls.new.items ≡ calls.old.items ++ blocks_calls (with_homes homes.now) sizes.now (length code.old.items) blocks.now) }
+    ensures begins { OnOk result (begins.new.items ≡ begins.old.items ++ starts_from (with_homes homes.now) sizes.now (4 * length code.old.items) blocks.now) }
+{
+    if let [first, rest @ ..] = blocks {
+        begins.push(address(code)?)?;
+        push_block(code, calls, homes, sizes, starts, last, first)?;
+        push_blocks(
+            code, calls, begins, homes, sizes, starts, last, rest,
+        )?;
+    }
+    Ok(())
+}
+
+/// Where the parameters' words begin in the frame, and the bytes of the frame.
+fn frame_of(homes: &[Option<Home>], tac: &Tac) -> Result<(u64, u64), NoMemory>
+    ensures words { IfOk result (λ both. both.0 ≡ words_offset (layout_of tac.now homes.now)) }
+    ensures bytes { IfOk result (λ both. both.1 ≡ frame_bytes (layout_of tac.now homes.now)) }
+    ensures few { IfOk result (λ both. both.0 < 2 ^ 63) }
+{
+    let temps = homes.len() as u64;
+    let areas = tac.areas.as_slice().len() as u64;
+    let parameters = tac.parameters.as_slice().len() as u64;
+    if temps >= 1 << 56 || areas >= 1 << 52 || parameters >= 1 << 56 {
+        return Err(NoMemory);
+    }
+    let words = 88 + 8 * temps + 128 * areas;
+    Ok((words, words + 8 * parameters))
+}
+
+/// The code that comes before the blocks of a function. The answer is the bytes of its frame.
+fn push_head(code: &mut Vec<u32>, homes: &[Option<Home>], tac: &Tac) -> Result<u64, NoMemory>
+    ensures code { OnOk result (code.new.items ≡ code.old.items ++ map word_of (head_code (layout_of tac.now homes.now) tac.now)) }
+    ensures bytes { IfOk result (λ bytes. bytes ≡ frame_bytes (layout_of tac.now homes.now)) }
+{
+    let (words, bytes) = frame_of(homes, tac)?;
+    push_begun(code, tac)?;
+    push_entered(code, homes, bytes, tac.frame)?;
+    push_received(
+        code,
+        homes,
+        tac.areas.as_slice(),
+        tac.parameters.as_slice(),
+        words,
+    )?;
+    Ok(bytes)
+}
+
+/// Where the blocks begin, and where the code that leaves the function does.
+#[derive(Debug, Drop)]
+struct Places {
+    starts: Vec<u64>,
+    last: u64,
+}
+
+/// The addresses of a function's blocks. Their code is as long wherever they stand, so it is put somewhere to see them.
+fn find_places(alloc: Global, homes: &[Option<Home>], tac: &Tac) -> Result<Places, NoMemory>
+    requires { IsTrue (all_has_code tac.now) }
+    ensures starts { IfOk result (λ places. places.starts.items ≡ block_starts (layout_of tac.now homes.now) tac.now 0) }
+    ensures last { IfOk result (λ places. places.last ≡ last_address (layout_of tac.now homes.now) tac.now 0) }
+{
+    let mut code = Vec::new(alloc);
+    let mut calls = Vec::new(alloc);
+    let mut starts = Vec::new(alloc);
+    push_head(&mut code, homes, tac)?;
+    push_blocks(
+        &mut code,
+        &mut calls,
+        &mut starts,
+        homes,
+        tac.areas.as_slice(),
+        &[],
+        0,
+        tac.blocks.as_slice(),
+    )?;
+    let last = address(&code)?;
+    Ok(Places { starts, last })
+}
+
+/// The machine's code of a function by its three-address code and an assignment, from where a call enters it on behind the words
+/// by which it begins as the entry. Its temporaries stand where the assignment says.
+pub fn select(alloc: Global, tac: &Tac, assignment: &Assignment) -> Result<Code, NoMemory>
+    requires { IsTrue (all_has_code tac.now) }
+    ensures { IfOk result (λ code. IsSelected tac.now assignment.now code) }
+{
+    let homes = assignment.as_slice();
+    let places = find_places(alloc, homes, tac)?;
+    let mut code = Vec::new(alloc);
+    let mut calls = Vec::new(alloc);
+    let mut starts = Vec::new(alloc);
+    let frame = push_head(&mut code, homes, tac)?;
+    push_blocks(
+        &mut code,
+        &mut calls,
+        &mut starts,
+        homes,
+        tac.areas.as_slice(),
+        &places.starts,
+        places.last,
+        tac.blocks.as_slice(),
+    )?;
+    push_left(&mut code, homes, frame, tac.frame)?;
+    Ok(Code {
+        words: code,
+        calls,
+        frame,
+    })
+}
