@@ -12,7 +12,7 @@ use Rattle.lua_value.specs.declared.value.Value.{Value}
 use Rattle.lua_value.specs.declared.value.Value.TheVariants as values
 use Rattle.lua_value.specs.Values.{is_nil}
 use Rattle.lua_table.specs.Heap.{macro_at}
-use Rattle.terra_term.specs.declared.refusal.RefusalKind.TheVariants.{Undefined, NotCallable, BadOperand, WrongCount, RecursiveNeedsType}
+use Rattle.terra_term.specs.declared.refusal.RefusalKind.TheVariants.{Undefined, NotCallable, BadOperand, WrongCount, RecursiveNeedsType, NotBuilt}
 use Rattle.terra_term.specs.declared.operators.Operation.TheVariants as operations
 use Rattle.lua_value.specs.declared.primitive.Primitive.{Primitive}
 use Rattle.lua_value.specs.declared.primitive.Primitive.TheVariants.{PutByte, Write, Alloc}
@@ -40,7 +40,7 @@ use Rattle.check_model.specs.declared.question.CheckAnswer.TheVariants as answer
 use Rattle.exotype.specs.World.{StageState}
 use Rattle.check_model.specs.Typing.{Made, bytes_in, expression_at, place_of, function_at}
 use Rattle.check_model.specs.Structs.{metamethod}
-use Rattle.check_model.specs.Plans.{BodyPlan, reading, give, gives, refuse, laid_out, calling, becoming, in_place, operand, ready, quotes_of, pointing}
+use Rattle.check_model.specs.Plans.{BodyPlan, reading, asks_lua, give, gives, refuse, laid_out, calling, becoming, in_place, operand, ready, quotes_of, pointing}
 use Rattle.check_model.specs.Converting.{Implicit, Explicit, convert, fit}
 
 -- ---- what is known of a function
@@ -218,7 +218,8 @@ call_term t os at fitting source site =
 
 -- a call of a metamethod
 abbrev pub call_metamethod : Value → List Operand → Place → TermId → Site → BodyPlan
-call_metamethod h os at source site = becoming h at site (λ t. call_term t os at false source site)
+call_metamethod h os at source site =
+    if asks_lua then becoming h at site (λ t. call_term t os at false source site) else refuse NotBuilt at site
 
 abbrev apply : Value → Made → List Operand → Place → TermId → Site → BodyPlan
 apply h m os at source site = if is_nil h then refuse NotCallable at site else call_metamethod h (ready m ∷ os) at source site

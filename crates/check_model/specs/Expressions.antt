@@ -15,7 +15,7 @@ use Rattle.lua_value.specs.declared.value.Value.{Value}
 use Rattle.lua_value.specs.declared.value.Value.TheVariants as values
 use Rattle.lua_value.specs.Values.{is_nil}
 use Rattle.terra_term.specs.declared.refusal.RefusalKind.{RefusalKind}
-use Rattle.terra_term.specs.declared.refusal.RefusalKind.TheVariants.{Mismatch, NoField, NoMethod, BadOperand, NotPlace, WrongCount, OutOfScope, Incomplete, TooWide, CallbackRaised, FunctionValue}
+use Rattle.terra_term.specs.declared.refusal.RefusalKind.TheVariants.{Mismatch, NoField, NoMethod, BadOperand, NotPlace, WrongCount, OutOfScope, Incomplete, TooWide, CallbackRaised, FunctionValue, NotBuilt}
 use Rattle.terra_term.specs.declared.operators.Operation.TheVariants as operations
 use Rattle.terra_term.specs.declared.operators.Constant.TheVariants as constants
 use Rattle.terra_term.specs.declared.store.TerraGlobal.{TerraGlobal}
@@ -41,7 +41,7 @@ use Rattle.exotype.specs.declared.property.Known.TheVariants as known
 use Rattle.check_model.specs.declared.end.PartEnd.TheVariants as ends
 use Rattle.check_model.specs.Typing.{TypingState, Made, form_in, is_place_form, struct_of, bytes_in, expression_at, variable_at}
 use Rattle.check_model.specs.Structs.{metamethod, method_at}
-use Rattle.check_model.specs.Plans.{BodyPlan, reading, writing, give, gives, refuse, on_stated, typing, laid_out, as_value, asking, calling, quoting, becoming, in_place, ready, untyped, quotes_of, leaving}
+use Rattle.check_model.specs.Plans.{BodyPlan, reading, writing, asks_lua, give, gives, refuse, on_stated, typing, laid_out, as_value, asking, calling, quoting, becoming, in_place, ready, untyped, quotes_of, leaving}
 use Rattle.check_model.specs.Converting.{Implicit, convert}
 use Rattle.check_model.specs.Calls.{is_called, call_named, call_term}
 use Rattle.check_model.specs.Operators.{binary_plan, unary_plan}
@@ -123,11 +123,20 @@ by_known w known.Asked s name at site go = refuse Incomplete at site
 by_known w known.Unasked s name at site go =
     keeping s name known.Asked (find_method w (metamethod w s (codes "__getmethod")) s name at site go)
 
+-- where Lua isn't asked, a method is read at each use
+abbrev read_method : StageState → Value → TypeId → TextId → Place → Site → (Value → BodyPlan) → BodyPlan
+read_method w h s name at site go = if is_nil h then go (method_at w s name) else refuse NotBuilt at site
+
+abbrev the_method : StageState → TypeId → TextId → Place → Site → (Value → BodyPlan) → BodyPlan
+the_method w s name at site go =
+    if asks_lua then by_known w (known_of w.kept (Method s name)) s name at site go
+    else read_method w (metamethod w s (codes "__getmethod")) s name at site go
+
 abbrev missing_method : Value → Made → TextId → List TermId → Place → Site → BodyPlan
 missing_method h o name args at site =
     if is_nil h then refuse NoMethod at site
-    else quoting o (λ q. quotes_of (untyped args) site [] (λ qs.
-    calling h (values.Text name ∷ q ∷ qs) at site (λ v. in_place v at site give)))
+    else (if asks_lua then quoting o (λ q. quotes_of (untyped args) site [] (λ qs.
+    calling h (values.Text name ∷ q ∷ qs) at site (λ v. in_place v at site give))) else refuse NotBuilt at site)
 
 abbrev call_method : Value → TypeId → Made → TextId → List TermId → Place → TermId → Site → BodyPlan
 call_method v s o name args at source site =
@@ -137,7 +146,7 @@ call_method v s o name args at source site =
 abbrev method_plan : StageState → Option TypeId → Made → TextId → List TermId → Place → TermId → Site → BodyPlan
 method_plan w None o name args at source site = refuse NoMethod at site
 method_plan w (Some s) o name args at source site =
-    by_known w (known_of w.kept (Method s name)) s name at site (λ v. call_method v s o name args at source site)
+    the_method w s name at site (λ v. call_method v s o name args at source site)
 
 -- ---- constructors
 

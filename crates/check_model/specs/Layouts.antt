@@ -20,7 +20,7 @@ use Rattle.lua_table.specs.Metatables.{value_under}
 use Rattle.lua_table.specs.Pairs.{Pairs, value_at, border_of}
 use Rattle.lua_table.specs.Cells.{first_value}
 use Rattle.terra_term.specs.declared.refusal.RefusalKind.{RefusalKind}
-use Rattle.terra_term.specs.declared.refusal.RefusalKind.TheVariants.{Incomplete, BadEntries, CallbackRaised}
+use Rattle.terra_term.specs.declared.refusal.RefusalKind.TheVariants.{Incomplete, BadEntries, CallbackRaised, NotBuilt}
 use Rattle.terra_term.specs.Held.{with_types}
 use Rattle.exotype.specs.World.{StageState, with_store}
 use Rattle.exotype.specs.Properties.{known_of, with_known}
@@ -36,6 +36,7 @@ use Rattle.check_model.specs.declared.question.CheckAnswer.{CheckAnswer}
 use Rattle.check_model.specs.declared.question.CheckAnswer.TheVariants as answers
 use Rattle.check_model.specs.Typing.{form_in}
 use Rattle.check_model.specs.Structs.{metamethod, entries_at}
+use Rattle.check_model.specs.Plans.{asks_lua}
 
 -- there are no jobs: a layout pays nothing by itself
 abbrev pub LayoutPlan : Type 0
@@ -113,7 +114,8 @@ on_values _ t at = keep t CallbackRaised
 
 abbrev asked_entries : StageState → Value → TypeId → Place → LayoutPlan
 asked_entries w h t at =
-    if is_nil h then by_entries t (entries_at w t) at else AskFor (CallLua h (values.TerraType t ∷ []) at) (λ a. on_values a t at)
+    if is_nil h then by_entries t (entries_at w t) at
+    else (if asks_lua then AskFor (CallLua h (values.TerraType t ∷ []) at) (λ a. on_values a t at) else keep t NotBuilt)
 
 abbrev by_known : StageState → Known → TypeId → Place → LayoutPlan
 by_known w (known.Value v) t at = Give ends.Done

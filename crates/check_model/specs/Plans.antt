@@ -1,5 +1,5 @@
 -- What the plans of bodies are made of.
-use Rattle.std.specs.Prelude.{ℕ, Bool, ◌&&◌, nat_lt, if◌then◌else◌, List, [], ◌∷◌, ◌++◌, Option, None}
+use Rattle.std.specs.Prelude.{ℕ, Bool, false, ◌&&◌, nat_lt, if◌then◌else◌, List, [], ◌∷◌, ◌++◌, Option, None}
 use Rattle.tl_base.specs.declared.place.Place.{Place}
 use Rattle.tl_base.specs.declared.ids.TypeId.{TypeId}
 use Rattle.tl_base.specs.declared.ids.TermId.{TermId}
@@ -8,7 +8,7 @@ use Rattle.lua_value.specs.declared.value.Value.{Value}
 use Rattle.lua_value.specs.declared.value.Value.TheVariants as values
 use Rattle.lua_table.specs.Cells.{first_value}
 use Rattle.terra_term.specs.declared.refusal.RefusalKind.{RefusalKind}
-use Rattle.terra_term.specs.declared.refusal.RefusalKind.TheVariants.{NotConstant, CallbackRaised, TooWide}
+use Rattle.terra_term.specs.declared.refusal.RefusalKind.TheVariants.{NotConstant, CallbackRaised, TooWide, NotBuilt}
 use Rattle.terra_term.specs.declared.store.Quote.TheVariants as quotes
 use Rattle.terra_term.specs.declared.typed.Typed.{Typed as TypedNode}
 use Rattle.terra_term.specs.declared.typed.Typed.TheVariants as typed_kinds
@@ -129,6 +129,10 @@ as_value m site rest = laid_out m.of m.at site (reading (λ w. if is_wide w m.of
 
 -- ---- Lua
 
+-- Lua isn't asked yet: a rule that would ask it is refused, at the node that would.
+abbrev pub asks_lua : Bool
+asks_lua = false
+
 abbrev on_values : CheckAnswer → (Value → BodyPlan) → BodyPlan → BodyPlan
 on_values (answers.Values vs) go otherwise = go (first_value vs)
 on_values _ go otherwise = otherwise
@@ -138,7 +142,7 @@ abbrev pub asking : Value → List Value → Place → (Value → BodyPlan) → 
 asking h vs at go otherwise = AskFor (CallLua h vs at) (λ a. on_values a go otherwise)
 
 abbrev pub calling : Value → List Value → Place → Site → (Value → BodyPlan) → BodyPlan
-calling h vs at site go = asking h vs at go (refuse CallbackRaised at site)
+calling h vs at site go = if asks_lua then asking h vs at go (refuse CallbackRaised at site) else refuse NotBuilt at site
 
 -- a typed quote of an expression
 abbrev pub quoting : Made → (Value → BodyPlan) → BodyPlan
