@@ -60,14 +60,14 @@ abbrev pub storing : Target → Value → SpecPlan → SpecPlan
 storing target v rest = Read (λ w. Write (with_heap w (with_held w.heap target v)) rest)
 
 -- the struct whose method is defined, if one is
-abbrev Go : Type 0
+abbrev pub Go : Type 0
 Go = Target → Option TypeId → SpecPlan
 
-abbrev key : TextId → Value → Place → Go → SpecPlan
+abbrev pub key : TextId → Value → Place → Go → SpecPlan
 key name (values.Table t) place go = go (targets.Key t name) None
 key name v place go = raise place (faults.Index (kind_of v))
 
-abbrev method_key : TextId → Value → Place → Go → SpecPlan
+abbrev pub method_key : TextId → Value → Place → Go → SpecPlan
 method_key name (values.TerraType t) place go =
     Read (λ w.
     if is_struct w t then go (targets.Key (tables_of w t).methods name) (Some t)
@@ -75,18 +75,18 @@ method_key name (values.TerraType t) place go =
 method_key name v place go = raise place (faults.Index (kind_of v))
 
 -- the names behind the first one: those before the last are read, and behind the `:` of a method its struct's methods take the last
-abbrev steps : Items → Bool → List NodeId → Value → Go → SpecPlan
+abbrev pub steps : Items → Bool → List NodeId → Value → Go → SpecPlan
 steps items method [] object go = raise (record { line = 0; word = 0 }) (faults.Index (kind_of object))
 steps items method (n ∷ []) object go =
     with_text_of (name_at items n) (λ name.
     if method then method_key name object (place_at items n) go else key name object (place_at items n) go)
 steps items method (n ∷ m ∷ ns) object go = index object (name_at items n) (place_at items n) (λ next. steps items method (m ∷ ns) next go)
 
-abbrev only_name : Option Declared → List ℕ → EnvId → Go → SpecPlan
+abbrev pub only_name : Option Declared → List ℕ → EnvId → Go → SpecPlan
 only_name (Some declared) name env go = Read (λ w. go (targets.Cell (local_cell w.heap env declared.depth declared.position)) None)
 only_name None name env go = with_text_of name (λ text. go (targets.Key globals text) None)
 
-abbrev targeted : Items → List NodeId → Bool → EnvId → Go → SpecPlan
+abbrev pub targeted : Items → List NodeId → Bool → EnvId → Go → SpecPlan
 targeted items [] method env go = over
 targeted items (n ∷ []) method env go = only_name (binder items n) (name_at items n) env go
 targeted items (n ∷ m ∷ ns) method env go =
@@ -99,76 +99,76 @@ target items path env go = Pay 1 (targeted items (path_at items path) (names_met
 -- ---- parameters
 
 -- draws a symbol of a type
-abbrev draw : TypeId → (SymId → SpecPlan) → SpecPlan
+abbrev pub draw : TypeId → (SymId → SpecPlan) → SpecPlan
 draw of go = Read (λ w. Write (with_symbol w (Some of)) (go (next_symbol w)))
 
-abbrev spliced_one : SymId → Option TypeId → Place → List Drawn → (List Drawn → SpecPlan) → SpecPlan
+abbrev pub spliced_one : SymId → Option TypeId → Place → List Drawn → (List Drawn → SpecPlan) → SpecPlan
 spliced_one x (Some of) place ds go = go (ds ++ record { symbol = x; of = of; place = place; named = false } ∷ [])
 spliced_one x None place ds go = raise place faults.SymbolWithoutType
 
 -- symbols that an escape gave, which must have types
-abbrev spliced : List SymId → Place → List Drawn → (List Drawn → SpecPlan) → SpecPlan
+abbrev pub spliced : List SymId → Place → List Drawn → (List Drawn → SpecPlan) → SpecPlan
 spliced [] place ds go = go ds
 spliced (x ∷ xs) place ds go = Read (λ w. spliced_one x (symbol_type w x) place ds (λ more. spliced xs place more go))
 
-abbrev named_parameter : Items → Typing → Option NodeId → EnvId → List Drawn → (List Drawn → SpecPlan) → SpecPlan
+abbrev pub named_parameter : Items → Typing → Option NodeId → EnvId → List Drawn → (List Drawn → SpecPlan) → SpecPlan
 named_parameter items p (Some type) env ds go =
     type_of items type env (λ of. draw of (λ x.
     go (ds ++ record { symbol = x; of = of; place = place_at items p.name; named = true } ∷ [])))
 named_parameter items p None env ds go = go ds
 
-abbrev parameter : Items → Typing → Option NodeId → EnvId → List Drawn → (List Drawn → SpecPlan) → SpecPlan
+abbrev pub parameter : Items → Typing → Option NodeId → EnvId → List Drawn → (List Drawn → SpecPlan) → SpecPlan
 parameter items p (Some e) env ds go =
     eval e env (λ v. symbols_of v (place_at items p.name) (λ xs. spliced xs (place_at items p.name) ds go))
 parameter items p None env ds go = named_parameter items p p.type env ds go
 
 -- Each parameter pays for itself. A type lies outside of the function's scope.
-abbrev parameters : Items → List NodeId → EnvId → List Drawn → (List Drawn → SpecPlan) → SpecPlan
+abbrev pub parameters : Items → List NodeId → EnvId → List Drawn → (List Drawn → SpecPlan) → SpecPlan
 parameters items [] env ds go = go ds
 parameters items (n ∷ ns) env ds go =
     Pay 1 (parameter items (typing_at items n) (escaped_at items (typing_at items n).name) env ds (λ more. parameters items ns env more go))
 
 -- the implicit first parameter of a method
-abbrev self : Option TypeId → Place → (List Drawn → SpecPlan) → SpecPlan
+abbrev pub self : Option TypeId → Place → (List Drawn → SpecPlan) → SpecPlan
 self None place go = go []
 self (Some struct) place go =
     Read (λ w. Write (with_pointer w struct) (draw (pointer_id w struct) (λ x.
     go (record { symbol = x; of = pointer_id w struct; place = place; named = true } ∷ []))))
 
-abbrev parameter_list : List Drawn → List Parameter
+abbrev pub parameter_list : List Drawn → List Parameter
 parameter_list [] = []
 parameter_list (d ∷ ds) = record { symbol = d.symbol; of = d.of; place = d.place } ∷ parameter_list ds
 
-abbrev drawn_types : List Drawn → List TypeId
+abbrev pub drawn_types : List Drawn → List TypeId
 drawn_types [] = []
 drawn_types (d ∷ ds) = d.of ∷ drawn_types ds
 
 -- declares the names of parameters
-abbrev declaring_all : List Drawn → EnvId → SpecPlan → SpecPlan
+abbrev pub declaring_all : List Drawn → EnvId → SpecPlan → SpecPlan
 declaring_all [] env rest = rest
 declaring_all (d ∷ ds) env rest =
     if d.named then declaring env (values.Symbol d.symbol) (declaring_all ds env rest) else declaring_all ds env rest
 
 -- ---- a declaration's type
 
-abbrev agrees : Option TypeId → TypeId → Bool
+abbrev pub agrees : Option TypeId → TypeId → Bool
 agrees (Some t) result = same_type t result
 agrees None result = true
 
-abbrev as_declared : Option TypeForm → List Drawn → Option TypeId → Place → (Option TypeId → SpecPlan) → SpecPlan
+abbrev pub as_declared : Option TypeForm → List Drawn → Option TypeId → Place → (Option TypeId → SpecPlan) → SpecPlan
 as_declared (Some (forms.Function params declared)) ds result place go =
     if same_types (drawn_types ds) params && agrees result declared then go (Some declared) else raise place faults.DiffersFromDeclaration
 as_declared form ds result place go = raise place faults.DiffersFromDeclaration
 
 -- the result type: the declared one, with which what is written must agree, or the written one
-abbrev result_type : StageState → Option TypeId → List Drawn → Option TypeId → Place → (Option TypeId → SpecPlan) → SpecPlan
+abbrev pub result_type : StageState → Option TypeId → List Drawn → Option TypeId → Place → (Option TypeId → SpecPlan) → SpecPlan
 result_type w None ds result place go = go result
 result_type w (Some t) ds result place go = as_declared (form_at w t) ds result place go
 
 -- ---- definitions
 
 -- the function takes its term, if it has none yet
-abbrev finish : FnId → List Drawn → Option TypeId → List TermId → Place → SpecPlan → SpecPlan
+abbrev pub finish : FnId → List Drawn → Option TypeId → List TermId → Place → SpecPlan → SpecPlan
 finish f ds result ts place rest =
     Read (λ w.
     limited (function_size w (length ds) ts) place
@@ -187,11 +187,11 @@ define items f parts owner struct place env rest =
 abbrev pub new_function : Place → Option TypeId → (FnId → SpecPlan) → SpecPlan
 new_function place declared go = Read (λ w. Write (with_function w place declared) (go (next_function w)))
 
-abbrev made : Target → Place → (FnId → SpecPlan) → SpecPlan
+abbrev pub made : Target → Place → (FnId → SpecPlan) → SpecPlan
 made t place go = new_function place None (λ f. storing t (values.TerraFunction f) (go f))
 
 -- the function that stands there and isn't defined, or a new one, which is stored there
-abbrev standing : StageState → Value → Target → Place → (FnId → SpecPlan) → SpecPlan
+abbrev pub standing : StageState → Value → Target → Place → (FnId → SpecPlan) → SpecPlan
 standing w (values.TerraFunction f) t place go = if is_undefined w f then go f else made t place go
 standing w v t place go = made t place go
 
@@ -212,12 +212,12 @@ anonymous_plan items body place env =
 
 -- ---- declarations
 
-abbrev function_form : Option TypeForm → Bool
+abbrev pub function_form : Option TypeForm → Bool
 function_form (Some (forms.Function params result)) = true
 function_form _ = false
 
 -- the type behind `::`, which must be one of functions
-abbrev function_type : Items → NodeId → EnvId → (TypeId → SpecPlan) → SpecPlan
+abbrev pub function_type : Items → NodeId → EnvId → (TypeId → SpecPlan) → SpecPlan
 function_type items n env go =
     type_of items n env (λ t. Read (λ w. if function_form (form_at w t) then go t else raise (place_at items n) faults.NotAType))
 

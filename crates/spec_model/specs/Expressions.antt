@@ -1,5 +1,5 @@
 -- Expressions of Terra code.
-use Rattle.std.specs.Prelude.{ℕ, true, false, List, [], ◌∷◌, ◌++◌, Option, Some, None, if◌then◌else◌}
+use Rattle.std.specs.Prelude.{ℕ, true, false, List, [], ◌∷◌, ◌++◌, Option, Some, None, unwrap_or, if◌then◌else◌}
 use Rattle.tl_base.specs.declared.ids.EnvId.{EnvId}
 use Rattle.tl_base.specs.declared.ids.NodeId.{NodeId}
 use Rattle.tl_base.specs.declared.ids.TermId.{TermId}
@@ -12,7 +12,7 @@ use Rattle.tl_tree.specs.declared.node.TerraExpression.{TerraExpression}
 use Rattle.tl_tree.specs.declared.node.TerraExpression.TheVariants as tree
 use Rattle.tl_tree.specs.Item.{Item}
 use Rattle.tl_tree.specs.Item as kept
-use Rattle.tl_tree.specs.Numbers.{value_of as numeral_value}
+use Rattle.tl_tree.specs.Numbers.{value_of as written_value, fitting}
 use Rattle.lua_value.specs.declared.value.Value.{Value}
 use Rattle.lua_value.specs.declared.value.Value.TheVariants as values
 use Rattle.tl_tree.specs.Code.{Items, name_at, place_at}
@@ -36,7 +36,7 @@ use Rattle.spec_model.specs.Types.{as_type}
 
 -- ---- names
 
-abbrev found : Place → Value → SpecPlan
+abbrev pub found : Place → Value → SpecPlan
 found place v = Give (Found v place)
 
 -- the value of a name at this moment: a local's, or what stands under it in the globals
@@ -46,59 +46,59 @@ named_value None name place env go = index (values.Table globals) name place go
 
 -- ---- selection
 
-abbrev select_term : Items → TermId → NodeId → Place → EnvId → SpecPlan
+abbrev pub select_term : Items → TermId → NodeId → Place → EnvId → SpecPlan
 select_term items object name place env = member items name env (λ field. naming field (make place (e.Select object field)))
 
 -- A table before the `.` is read at once. Any other value becomes a term before the name's escape is evaluated.
-abbrev select_from : Items → Value → Place → NodeId → Place → EnvId → SpecPlan
+abbrev pub select_from : Items → Value → Place → NodeId → Place → EnvId → SpecPlan
 select_from items (values.Table t) at name place env =
     member items name env (λ field. AskFor (questions.Index (values.Table t) field place) (λ a. on_value a (found place)))
 select_from items v at name place env = one v at (λ object. select_term items object name place env)
 
-abbrev select : Items → End → NodeId → Place → EnvId → SpecPlan
+abbrev pub select : Items → End → NodeId → Place → EnvId → SpecPlan
 select items (Found v at) name place env = select_from items v at name place env
 select items r name place env = as_term r (λ object. select_term items object name place env)
 
 -- ---- constructors
 
-abbrev or_no_type : Option TypeId → Place → (TypeId → SpecPlan) → SpecPlan
+abbrev pub or_no_type : Option TypeId → Place → (TypeId → SpecPlan) → SpecPlan
 or_no_type (Some t) place go = go t
 or_no_type None place go = raise place faults.NotAType
 
 -- the type of a quote whose term is a type: it is spliced, which its one node pays for
-abbrev spliced_type : Option TypeId → Place → (TypeId → SpecPlan) → SpecPlan
+abbrev pub spliced_type : Option TypeId → Place → (TypeId → SpecPlan) → SpecPlan
 spliced_type (Some t) place go = Pay 1 (go t)
 spliced_type None place go = raise place faults.NotAType
 
-abbrev quoted_type : Option Quote → Place → (TypeId → SpecPlan) → SpecPlan
+abbrev pub quoted_type : Option Quote → Place → (TypeId → SpecPlan) → SpecPlan
 quoted_type (Some (quotes.Expression t)) place go = Read (λ w. spliced_type (type_at w t) place go)
 quoted_type q place go = raise place faults.NotAType
 
-abbrev type_from : Value → Place → (TypeId → SpecPlan) → SpecPlan
+abbrev pub type_from : Value → Place → (TypeId → SpecPlan) → SpecPlan
 type_from (values.Quote q) place go = Read (λ w. quoted_type (quote_at w q) place go)
 type_from v place go = as_type v place go
 
 -- what stands before a constructor's initialisers, at this place
-abbrev constructed : End → Place → (TypeId → SpecPlan) → SpecPlan
+abbrev pub constructed : End → Place → (TypeId → SpecPlan) → SpecPlan
 constructed (Found v at) place go = type_from v place go
 constructed (Made t) place go = Read (λ w. or_no_type (type_at w t) place go)
 constructed r place go = Give r
 
-abbrev Initials : Type 0
+abbrev pub Initials : Type 0
 Initials = List TextId → List TermId → SpecPlan
 
 -- no initialiser is without a name where the first one has one
-abbrev named_initial : Items → Option Initial → EnvId → List TextId → List TermId → Initials → SpecPlan
+abbrev pub named_initial : Items → Option Initial → EnvId → List TextId → List TermId → Initials → SpecPlan
 named_initial items (Some i) env names ts go =
     term i.value env (λ t. with_text_of (name_at items i.name) (λ name. naming name (go (names ++ name ∷ []) (ts ++ t ∷ []))))
 named_initial items None env names ts go = go names ts
 
-abbrev named_initials : Items → List NodeId → EnvId → List TextId → List TermId → Initials → SpecPlan
+abbrev pub named_initials : Items → List NodeId → EnvId → List TextId → List TermId → Initials → SpecPlan
 named_initials items [] env names ts go = go names ts
 named_initials items (n ∷ ns) env names ts go =
     named_initial items (initial_at items n) env names ts (λ more others. named_initials items ns env more others go)
 
-abbrev construct : Items → TypeId → List NodeId → Place → EnvId → SpecPlan
+abbrev pub construct : Items → TypeId → List NodeId → Place → EnvId → SpecPlan
 construct items of ns place env =
     if are_named items ns then named_initials items ns env [] [] (λ names ts. make place (e.New of (initialisers.Named names ts)))
     else terms_of ns env [] (λ ts. make place (e.New of (initialisers.Positional ts)))
@@ -122,6 +122,10 @@ expression_of items (tree.Method a name arguments) place env =
     terms_of arguments env [] (λ ts. naming method (make place (e.Method object method ts)))))
 expression_of items (tree.Construct a ns) place env =
     Do (jobs.Expression a env) (λ r. constructed r (place_at items a) (λ of. construct items of ns place env))
+
+-- A numeral of a source has 64 bits. What has more is none, and stands for zero.
+abbrev pub numeral_value : List ℕ → ℕ
+numeral_value digits = unwrap_or (fitting (written_value digits)) 0
 
 -- What is no expression is nil.
 abbrev pub expression_plan : Items → Item → NodeId → EnvId → SpecPlan

@@ -29,7 +29,7 @@ next_term w = stores.next_term w.store
 abbrev pub with_term : StageState → Term → StageState
 with_term w term = with_store w (stores.with_term w.store term)
 
-abbrev type_in : Option Term → Option TypeId
+abbrev pub type_in : Option Term → Option TypeId
 type_in (Some (terms.Expression place (e.Type t))) = Some t
 type_in _ = None
 
@@ -45,7 +45,7 @@ next_symbol w = stores.next_symbol w.store
 abbrev pub with_symbol : StageState → Option TypeId → StageState
 with_symbol w of = with_store w (stores.with_symbol w.store of)
 
-abbrev type_of_symbol : Option Symbol → Option TypeId
+abbrev pub type_of_symbol : Option Symbol → Option TypeId
 type_of_symbol (Some x) = x.of
 type_of_symbol None = None
 
@@ -61,14 +61,14 @@ next_function w = stores.next_function w.store
 abbrev pub with_function : StageState → Place → Option TypeId → StageState
 with_function w place declared = with_store w (stores.with_function w.store declared place)
 
-abbrev declaration : Option Function → Option TypeId
+abbrev pub declaration : Option Function → Option TypeId
 declaration (Some f) = f.declared
 declaration None = None
 
 abbrev pub declared_type : StageState → FnId → Option TypeId
 declared_type w f = declaration (slice_get w.store.functions f.0)
 
-abbrev undefined_state : FunctionState → Bool
+abbrev pub undefined_state : FunctionState → Bool
 undefined_state states.Undefined = true
 undefined_state _ = false
 

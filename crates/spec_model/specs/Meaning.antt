@@ -16,7 +16,7 @@ use Rattle.lua_value.specs.declared.value.Value.TheVariants as values
 use Rattle.tl_tree.specs.Code.{Items}
 use Rattle.exotype.specs.World.{StageState}
 use Rattle.spec_model.specs.declared.end.End.{End}
-use Rattle.spec_model.specs.declared.end.End.TheVariants.{Found, Made, Joined, Gave, Raised}
+use Rattle.spec_model.specs.declared.end.End.TheVariants.{Found, Made, Joined, Gave, Answered, Raised}
 use Rattle.spec_model.specs.declared.end.SpecEnd.{SpecEnd}
 use Rattle.spec_model.specs.declared.end.SpecEnd.TheVariants as ends
 use Rattle.spec_model.specs.declared.job.SpecJob.{SpecJob}
@@ -70,6 +70,7 @@ close (Found v place) = ends.Done v
 close (Made t) = ends.Done values.Nil
 close (Joined ts) = ends.Done values.Nil
 close (Gave v) = ends.Done v
+close (Answered vs) = ends.Done values.Nil
 close (Raised v place) = ends.Raised v place
 
 -- ---- the meaning

@@ -18,11 +18,11 @@ use Rattle.spec_model.specs.Plans.{SpecPlan, with_text_of, raise, eval, values_i
 
 -- ---- behind `.` and `:`
 
-abbrev text_in : Value → Place → (TextId → SpecPlan) → SpecPlan
+abbrev pub text_in : Value → Place → (TextId → SpecPlan) → SpecPlan
 text_in (values.Text text) place go = go text
 text_in v place go = raise place (faults.InTerraCode (kind_of v))
 
-abbrev member_of : Items → Option NodeId → NodeId → EnvId → (TextId → SpecPlan) → SpecPlan
+abbrev pub member_of : Items → Option NodeId → NodeId → EnvId → (TextId → SpecPlan) → SpecPlan
 member_of items (Some e) n env go = eval e env (λ v. text_in v (place_at items n) go)
 member_of items None n env go = with_text_of (name_at items n) go
 
@@ -36,7 +36,7 @@ naming text rest = Read (λ w. Write (with_name w text) rest)
 
 -- ---- in the place of a declared name
 
-abbrev symbols_in : List Value → Place → List SymId → (List SymId → SpecPlan) → SpecPlan
+abbrev pub symbols_in : List Value → Place → List SymId → (List SymId → SpecPlan) → SpecPlan
 symbols_in [] place xs go = go xs
 symbols_in (values.Symbol x ∷ vs) place xs go = symbols_in vs place (xs ++ x ∷ []) go
 symbols_in (v ∷ vs) place xs go = raise place (faults.InTerraCode (kind_of v))

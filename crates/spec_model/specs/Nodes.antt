@@ -86,7 +86,7 @@ initial_of item = None
 abbrev pub initial_at : Items → NodeId → Option Initial
 initial_at items n = initial_of (item_at items n)
 
-abbrev is_some : Option Initial → Bool
+abbrev pub is_some : Option Initial → Bool
 is_some (Some i) = true
 is_some None = false
 
@@ -129,14 +129,14 @@ unary_of written_unary.Dereference = unary.Dereference
 -- ---- numerals
 
 -- `L` and `U`, small or large
-abbrev is_l : ℕ → Bool
+abbrev pub is_l : ℕ → Bool
 is_l c = (c == 76) || (c == 108)
 
-abbrev is_u : ℕ → Bool
+abbrev pub is_u : ℕ → Bool
 is_u c = (c == 85) || (c == 117)
 
 -- the type by the last three bytes of a numeral
-abbrev suffixed : List ℕ → TypeId
+abbrev pub suffixed : List ℕ → TypeId
 suffixed (a ∷ b ∷ c ∷ []) = if is_l c then (if is_u a then uint64 else int64) else int32
 suffixed _ = int32
 

@@ -23,7 +23,7 @@ use Rattle.exotype.specs.Becoming.{Text, became_of, after, term_of, with_term_of
 use Rattle.exotype.specs.declared.became.Became.{Became}
 use Rattle.exotype.specs.declared.became.Became.TheVariants as became
 use Rattle.spec_model.specs.declared.end.End.{End}
-use Rattle.spec_model.specs.declared.end.End.TheVariants.{Found, Made, Joined, Gave, Raised}
+use Rattle.spec_model.specs.declared.end.End.TheVariants.{Found, Made, Joined, Gave, Answered, Raised}
 use Rattle.spec_model.specs.declared.job.Job.{Job}
 use Rattle.spec_model.specs.declared.job.Job.TheVariants as jobs
 use Rattle.spec_model.specs.declared.question.SpecQuestion.{SpecQuestion}
@@ -132,6 +132,7 @@ as_term (Found v place) go = one v place go
 as_term (Made t) go = go t
 as_term (Joined ts) go = Give (Joined ts)
 as_term (Gave v) go = Give (Gave v)
+as_term (Answered vs) go = Give (Answered vs)
 as_term (Raised v place) go = Give (Raised v place)
 
 -- goes on with the terms of a list position, behind others
@@ -140,6 +141,7 @@ as_terms (Found v place) ts go = listed v place ts go
 as_terms (Made t) ts go = go (ts ++ t ∷ [])
 as_terms (Joined us) ts go = Give (Joined us)
 as_terms (Gave v) ts go = Give (Gave v)
+as_terms (Answered vs) ts go = Give (Answered vs)
 as_terms (Raised v place) ts go = Give (Raised v place)
 
 -- goes on with statements, behind others
@@ -148,6 +150,7 @@ as_statements (Found v place) ts go = Give (Found v place)
 as_statements (Made t) ts go = Give (Made t)
 as_statements (Joined us) ts go = go (ts ++ us)
 as_statements (Gave v) ts go = Give (Gave v)
+as_statements (Answered vs) ts go = Give (Answered vs)
 as_statements (Raised v place) ts go = Give (Raised v place)
 
 -- ---- jobs

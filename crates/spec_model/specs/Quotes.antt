@@ -31,18 +31,18 @@ limited size place rest =
     if nat_le size.nodes most_nodes then (if nat_le size.levels most_levels then rest else raise place faults.TermTooDeep)
     else raise place faults.TermTooLarge
 
-abbrev give_quote : Quote → SpecPlan
+abbrev pub give_quote : Quote → SpecPlan
 give_quote q = Read (λ w. Write (with_quote w q) (Give (Gave (values.Quote (next_quote w)))))
 
 -- an expression as a quote
-abbrev quote_term : Place → TermId → SpecPlan
+abbrev pub quote_term : Place → TermId → SpecPlan
 quote_term place t = Read (λ w. limited (term_size w t) place (give_quote (quotes.Expression t)))
 
 abbrev pub backtick_plan : NodeId → Place → EnvId → SpecPlan
 backtick_plan n place env = term n env (λ t. quote_term place t)
 
 -- statements, or statements and an expression in their scope
-abbrev quoted_plan : Option NodeId → List TermId → Place → EnvId → SpecPlan
+abbrev pub quoted_plan : Option NodeId → List TermId → Place → EnvId → SpecPlan
 quoted_plan (Some n) ts place inner = term n inner (λ t. expression place (e.Let ts t) (λ l. quote_term place l))
 quoted_plan None ts place inner = Read (λ w. limited (terms_size w ts) place (give_quote (quotes.Statements ts)))
 

@@ -32,24 +32,24 @@ use Rattle.spec_model.specs.Plans.{declaring}
 use Rattle.spec_model.specs.Names.{symbols_of, symbol_of}
 use Rattle.spec_model.specs.Types.{type_if_any}
 
-abbrev joined : List TermId → SpecPlan
+abbrev pub joined : List TermId → SpecPlan
 joined ts = Give (Joined ts)
 
 -- ---- values as statements
 
-abbrev performed : Value → Place → List TermId → (List TermId → SpecPlan) → SpecPlan
+abbrev pub performed : Value → Place → List TermId → (List TermId → SpecPlan) → SpecPlan
 performed v place ts go = one v place (λ t. node (terms.Statement place (s.Perform t)) (λ u. go (ts ++ u ∷ [])))
 
 -- a quote's statements join the block, and its nodes are paid for
-abbrev quoted : StageState → Option Quote → Value → Place → List TermId → (List TermId → SpecPlan) → SpecPlan
+abbrev pub quoted : StageState → Option Quote → Value → Place → List TermId → (List TermId → SpecPlan) → SpecPlan
 quoted w (Some (quotes.Statements us)) v place ts go = Pay (terms_size w us).nodes (go (ts ++ us))
 quoted w q v place ts go = performed v place ts go
 
-abbrev item_of : Value → Place → List TermId → (List TermId → SpecPlan) → SpecPlan
+abbrev pub item_of : Value → Place → List TermId → (List TermId → SpecPlan) → SpecPlan
 item_of (values.Quote q) place ts go = Read (λ w. quoted w (quote_at w q) (values.Quote q) place ts go)
 item_of v place ts go = performed v place ts go
 
-abbrev each_item : List Value → Place → List TermId → (List TermId → SpecPlan) → SpecPlan
+abbrev pub each_item : List Value → Place → List TermId → (List TermId → SpecPlan) → SpecPlan
 each_item [] place ts go = go ts
 each_item (v ∷ vs) place ts go = item_of v place ts (λ us. each_item vs place us go)
 
@@ -58,17 +58,17 @@ abbrev pub spliced : Value → Place → List TermId → (List TermId → SpecPl
 spliced (values.Table t) place ts go = Read (λ w. each_item (values_in (table_at w.heap t)) place ts go)
 spliced v place ts go = item_of v place ts go
 
-abbrev each_spliced : List Value → Place → List TermId → (List TermId → SpecPlan) → SpecPlan
+abbrev pub each_spliced : List Value → Place → List TermId → (List TermId → SpecPlan) → SpecPlan
 each_spliced [] place ts go = go ts
 each_spliced (v ∷ vs) place ts go = spliced v place ts (λ us. each_spliced vs place us go)
 
 -- ---- `var`
 
-abbrev given : List SymId → Option TypeId → Place → List Wanted
+abbrev pub given : List SymId → Option TypeId → Place → List Wanted
 given [] of place = []
 given (x ∷ xs) of place = record { symbol = Some x; of = of; place = place } ∷ given xs of place
 
-abbrev wanted_one : Items → Typing → Option NodeId → EnvId → List Wanted → (List Wanted → SpecPlan) → SpecPlan
+abbrev pub wanted_one : Items → Typing → Option NodeId → EnvId → List Wanted → (List Wanted → SpecPlan) → SpecPlan
 wanted_one items v (Some e) env ws go =
     eval e env (λ x. symbols_of x (place_at items v.name) (λ xs.
     type_if_any items v.type env (λ of. go (ws ++ given xs of (place_at items v.name)))))
@@ -76,16 +76,16 @@ wanted_one items v None env ws go =
     type_if_any items v.type env (λ of. go (ws ++ record { symbol = None; of = of; place = place_at items v.name } ∷ []))
 
 -- Escapes in the place of names, and types, go first, in their order; each variable pays for itself.
-abbrev wanted : Items → List NodeId → EnvId → List Wanted → (List Wanted → SpecPlan) → SpecPlan
+abbrev pub wanted : Items → List NodeId → EnvId → List Wanted → (List Wanted → SpecPlan) → SpecPlan
 wanted items [] env ws go = go ws
 wanted items (n ∷ ns) env ws go =
     Pay 1 (wanted_one items (typing_at items n) (escaped_at items (typing_at items n).name) env ws (λ more. wanted items ns env more go))
 
-abbrev or_own : Option TypeId → Option TypeId → Option TypeId
+abbrev pub or_own : Option TypeId → Option TypeId → Option TypeId
 or_own (Some t) own = Some t
 or_own None own = own
 
-abbrev drawn_one : Wanted → Option SymId → EnvId → List VarName → (List VarName → SpecPlan) → SpecPlan
+abbrev pub drawn_one : Wanted → Option SymId → EnvId → List VarName → (List VarName → SpecPlan) → SpecPlan
 drawn_one v (Some x) env names go =
     Read (λ w. go (names ++ record { symbol = x; of = or_own v.of (symbol_type w x); place = v.place } ∷ []))
 drawn_one v None env names go =
@@ -93,16 +93,16 @@ drawn_one v None env names go =
     (go (names ++ record { symbol = next_symbol w; of = v.of; place = v.place } ∷ []))))
 
 -- Then, behind the values, plain names draw their symbols, in their order, and are declared.
-abbrev drawn : List Wanted → EnvId → List VarName → (List VarName → SpecPlan) → SpecPlan
+abbrev pub drawn : List Wanted → EnvId → List VarName → (List VarName → SpecPlan) → SpecPlan
 drawn [] env names go = go names
 drawn (v ∷ vs) env names go = drawn_one v v.symbol env names (λ more. drawn vs env more go)
 
 -- There are values where there is a `=`, also if no term comes of them.
-abbrev values_if_any : List NodeId → EnvId → (Option (List TermId) → SpecPlan) → SpecPlan
+abbrev pub values_if_any : List NodeId → EnvId → (Option (List TermId) → SpecPlan) → SpecPlan
 values_if_any [] env go = go None
 values_if_any (n ∷ ns) env go = terms_of (n ∷ ns) env [] (λ ts. go (Some ts))
 
-abbrev var_plan : Items → List NodeId → List NodeId → Place → EnvId → SpecPlan
+abbrev pub var_plan : Items → List NodeId → List NodeId → Place → EnvId → SpecPlan
 var_plan items ns es place env =
     wanted items ns env [] (λ ws. values_if_any es env (λ values. drawn ws env [] (λ names. join place (s.Var names values))))
 
@@ -112,46 +112,46 @@ var_plan items ns es place env =
 abbrev pub inner_block : Items → NodeId → EnvId → (List TermId → SpecPlan) → SpecPlan
 inner_block items b env go = entering b env (λ inner. block (statements_at items b) inner [] go)
 
-abbrev repeat_plan : Items → NodeId → NodeId → NodeId → Place → EnvId → SpecPlan
+abbrev pub repeat_plan : Items → NodeId → NodeId → NodeId → Place → EnvId → SpecPlan
 repeat_plan items n b condition place env =
     entering n env (λ inner. block (statements_at items b) inner [] (λ ts. term condition inner (λ t. join place (s.Repeat ts t))))
 
 -- ---- `if`
 
 -- goes on with the block behind `else`, if there is one
-abbrev Others : Type 0
+abbrev pub Others : Type 0
 Others = (Option (List TermId) → SpecPlan) → SpecPlan
 
 -- an arm, and what comes of the others
-abbrev arm : Items → Item → Place → EnvId → Others → (TermId → SpecPlan) → SpecPlan
+abbrev pub arm : Items → Item → Place → EnvId → Others → (TermId → SpecPlan) → SpecPlan
 arm items a place env others go =
     term (arm_condition a) env (λ test. inner_block items (arm_block a) env (λ ts.
     others (λ us. node (terms.Statement place (s.If test ts us)) go)))
 
-abbrev else_block : Items → Option NodeId → EnvId → Others
+abbrev pub else_block : Items → Option NodeId → EnvId → Others
 else_block items (Some b) env go = inner_block items b env (λ ts. go (Some ts))
 else_block items None env go = go None
 
 -- an arm behind `elseif` is an `if` in the block behind `else`, at its condition's place
-abbrev else_of : Items → List NodeId → Option NodeId → EnvId → Others
+abbrev pub else_of : Items → List NodeId → Option NodeId → EnvId → Others
 else_of items [] otherwise env go = else_block items otherwise env go
 else_of items (n ∷ ns) otherwise env go =
     arm items (item_at items n) (place_at items (arm_condition (item_at items n))) env
     (λ next. else_of items ns otherwise env next) (λ t. go (Some (t ∷ [])))
 
-abbrev if_plan : Items → List NodeId → Option NodeId → Place → EnvId → SpecPlan
+abbrev pub if_plan : Items → List NodeId → Option NodeId → Place → EnvId → SpecPlan
 if_plan items [] otherwise place env = joined []
 if_plan items (n ∷ ns) otherwise place env =
     arm items (item_at items n) place env (λ next. else_of items ns otherwise env next) (λ t. joined (t ∷ []))
 
 -- ---- `for`
 
-abbrev for_body : Items → NodeId → NodeId → SymId → Place → List TermId → Place → EnvId → SpecPlan
+abbrev pub for_body : Items → NodeId → NodeId → SymId → Place → List TermId → Place → EnvId → SpecPlan
 for_body items n b x at bounds place inner =
     block (statements_at items b) inner [] (λ ts. join place (s.For (record { symbol = x; of = None; place = at }) bounds ts))
 
 -- an escape for the name comes before the bounds, and a plain name draws its symbol behind them
-abbrev for_plan : Items → NodeId → Option NodeId → Place → List NodeId → NodeId → Place → EnvId → SpecPlan
+abbrev pub for_plan : Items → NodeId → Option NodeId → Place → List NodeId → NodeId → Place → EnvId → SpecPlan
 for_plan items n (Some e) at bounds b place env =
     eval e env (λ v. symbol_of v at (λ x. each_term bounds env [] (λ ts. entering n env (λ inner. for_body items n b x at ts place inner))))
 for_plan items n None at bounds b place env =

@@ -22,12 +22,12 @@ use Rattle.spec_model.specs.Types.{type_if_any}
 use Rattle.spec_model.specs.Definitions.{target, storing, over}
 
 -- the heap with a value under a number of a table
-abbrev put : LuaState → TableId → Option ℤ → Value → LuaState
+abbrev pub put : LuaState → TableId → Option ℤ → Value → LuaState
 put heap table (Some z) v = with_stored heap table (values.Number z) v
 put heap table None v = heap
 
 -- a new table with the fields `field` and `type`, as the entry of a number
-abbrev with_entry : LuaState → TableId → ℕ → TextId → TextId → TextId → TypeId → LuaState
+abbrev pub with_entry : LuaState → TableId → ℕ → TextId → TextId → TextId → TypeId → LuaState
 with_entry heap entries i field name type of =
     let entry = next_table heap in
     put
@@ -35,13 +35,13 @@ with_entry heap entries i field name type of =
     entry (values.Text type) (values.TerraType of))
     entries (number_from (pos i)) (values.Table entry)
 
-abbrev entry : TableId → ℕ → List ℕ → TypeId → SpecPlan → SpecPlan
+abbrev pub entry : TableId → ℕ → List ℕ → TypeId → SpecPlan → SpecPlan
 entry entries i bytes of rest =
     with_text_of (codes "field") (λ field. with_text_of bytes (λ name. with_text_of (codes "type") (λ type.
     Read (λ w. Write (with_heap w (with_entry w.heap entries i field name type of)) rest))))
 
 -- what has no type isn't an entry
-abbrev entry_if_any : TableId → ℕ → List ℕ → Option TypeId → SpecPlan → SpecPlan
+abbrev pub entry_if_any : TableId → ℕ → List ℕ → Option TypeId → SpecPlan → SpecPlan
 entry_if_any entries i bytes (Some of) rest = entry entries i bytes of rest
 entry_if_any entries i bytes None rest = rest
 

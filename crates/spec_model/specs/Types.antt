@@ -14,7 +14,7 @@ use Rattle.exotype.specs.declared.fault.Fault.TheVariants as faults
 use Rattle.spec_model.specs.Plans.{SpecPlan, raise, eval, values_in}
 
 -- the type of a table's values: none is the unit type, and one type is that type
-abbrev type_in : List Value → Place → (TypeId → SpecPlan) → SpecPlan
+abbrev pub type_in : List Value → Place → (TypeId → SpecPlan) → SpecPlan
 type_in [] place go = go unit
 type_in (values.TerraType t ∷ []) place go = go t
 type_in vs place go = raise place faults.NotAType
