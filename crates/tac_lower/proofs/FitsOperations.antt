@@ -40,7 +40,8 @@ use Rattle.tac_lower.proofs.Standing.{Grown}
 use Rattle.tac_lower.proofs.Simulates.{grown-none, grown-then}
 use Rattle.tac_lower.proofs.Writes.{grown-temp, grown-area}
 use Rattle.tac_lower.proofs.Homes.{sized}
-use Rattle.tac_lower.proofs.Typing.{no, plain-boolean, operation-needs}
+use Rattle.tac_lower.proofs.Typing.{no}
+use Rattle.tac_lower.proofs.Needing.{plain-boolean, operation-needs}
 use Rattle.tac_lower.proofs.Fitting as pieces_fit
 
 module _ (types : List TypeForm) (tac : Tac) where

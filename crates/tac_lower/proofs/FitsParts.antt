@@ -39,7 +39,8 @@ use Rattle.tac_lower.proofs.Writes.{grown-temp}
 use Rattle.tac_lower.proofs.Keeps.{sizes}
 use Rattle.tac_lower.proofs.Words.{value-small}
 use Rattle.tac_lower.proofs.Homes.{Homes}
-use Rattle.tac_lower.proofs.Typing.{no, three, four, five, same-id, same-ids, types-are, Asked, boolean-is, constant-value}
+use Rattle.tac_lower.proofs.Typing.{no, three, four, five, same-id, same-ids, types-are, Asked}
+use Rattle.tac_lower.proofs.Needing.{boolean-is, constant-value}
 use Rattle.tac_lower.proofs.Fitting as fits
 use Rattle.tac_lower.proofs.FitsOperations as operations_fit
 use Rattle.tac_lower.proofs.Fitting.{count-append}

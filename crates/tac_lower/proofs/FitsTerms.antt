@@ -26,7 +26,8 @@ use Rattle.tac_lower.specs.Lowering.{reached, entry, element, operation, opposit
 use Rattle.tac_lower.proofs.Simulates.{grown-none, grown-then}
 use Rattle.tac_lower.proofs.Writes.{grown-temp}
 use Rattle.tac_lower.proofs.Homes.{Homes, halves, second-half, in-scope, behind-both, declared-takes, declared-operation}
-use Rattle.tac_lower.proofs.Typing.{three, four, five, same-id, same-ids, types-are, Asked, plain-boolean}
+use Rattle.tac_lower.proofs.Typing.{three, four, five, same-id, same-ids, types-are, Asked}
+use Rattle.tac_lower.proofs.Needing.{plain-boolean}
 use Rattle.tac_lower.proofs.Fitting as fits
 use Rattle.tac_lower.proofs.FitsOperations as operations_fit
 use Rattle.tac_lower.proofs.Fitting.{count-append}

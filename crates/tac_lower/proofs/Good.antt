@@ -15,7 +15,7 @@ use Rattle.tac_form.specs.Weights.{code_words, private_bytes}
 use Rattle.tac_form.specs.Fits.{Fits, place_fits, is_within, most_nodes, receives}
 use Rattle.tac_lower.specs.Lowering.{code_of, unreached, are_narrow, parameter_types, lowered}
 use Rattle.tac_lower.specs.Laws.{GoodWhereTyped, IsGood, LoweredIsGood}
-use Rattle.tac_lower.proofs.Typing.{body-needs}
+use Rattle.tac_lower.proofs.Needing.{body-needs}
 use Rattle.tac_lower.proofs.Ways.{code-counted}
 use Rattle.tac_lower.proofs.Weights.{lowered-words}
 use Rattle.tac_lower.proofs.Bytes.{lowered-bytes}

@@ -13,7 +13,7 @@ use Rattle.tac_lower.specs.Lowering.{lowered}
 use Rattle.tac_lower.specs.Laws.{LoweringKeepsRuns}
 use Rattle.tac_lower.proofs.Standing.{SizedBy}
 use Rattle.tac_lower.proofs.Runs.{has_run}
-use Rattle.tac_lower.proofs.Typing.{body-needs}
+use Rattle.tac_lower.proofs.Needing.{body-needs}
 
 -- forms that aren't made of others
 abbrev is_plain : TypeForm → Type 0

@@ -20,7 +20,8 @@ use Rattle.tac_lower.specs.Lowering.{lowered}
 use Rattle.tac_lower.proofs.Calls.{CallOk, beside}
 use Rattle.tac_lower.proofs.Keeps.{sizes}
 use Rattle.tac_lower.proofs.Runs.{apply_ok}
-use Rattle.tac_lower.proofs.Typing.{no, body-needs}
+use Rattle.tac_lower.proofs.Typing.{no}
+use Rattle.tac_lower.proofs.Needing.{body-needs}
 use Rattle.terra_sound.specs.Laws.{TypedRunsGiveValues}
 use Rattle.terra_sound.proofs.Covering.{is_abrupt, Sound}
 use Rattle.terra_sound.proofs.Whole.{sound-apply}

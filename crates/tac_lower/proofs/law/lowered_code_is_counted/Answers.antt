@@ -1,4 +1,4 @@
-use Rattle.tac_lower.proofs.Typing.{body-needs}
+use Rattle.tac_lower.proofs.Needing.{body-needs}
 use Rattle.tac_lower.proofs.Ways.{code-counted}
 use Rattle.tac_lower.proofs.law.lowered_code_is_counted.Goals as goal
 
