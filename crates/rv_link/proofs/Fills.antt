@@ -20,7 +20,6 @@ use Rattle.tac_form.specs.declared.tac.Instruction.{Instruction}
 use Rattle.tac_form.specs.declared.tac.Instruction.TheVariants.{Alloc, Call, CallValue, Clear, Compute, Copy, Load, Locate, Move, PutByte, Store, TestDivisor, Write}
 use Rattle.tac_form.specs.declared.tac.Block.{Block}
 use Rattle.tac_form.specs.declared.tac.Tac.{Tac}
-use Rattle.tac_form.specs.Fits.{block_fits, edge_fits, exit_fits, instruction_fits, operand_fits}
 use Rattle.rv_operators.specs.Codes.{x0, x5}
 use Rattle.rv_select.specs.declared.selected.Call.{Call as Site}
 use Rattle.rv_select.specs.Numbers.{lower_of, upper_of}
@@ -33,6 +32,7 @@ use Rattle.rv_select.proofs.Lengths.{block-length, blocks-length, exit-length, i
 use Rattle.rv_select.proofs.Passes.{part-count}
 use Rattle.rv_select.proofs.Stands.{both-true}
 use Rattle.rv_link.specs.Filling.{AreIn, filled}
+use Rattle.rv_link.specs.Linked.{block_there, edge_there, exit_there}
 
 -- the words of instructions
 abbrev pub words : List Instr → List ℕ
@@ -269,13 +269,13 @@ jump-from b f t p q e g h = ap (λ z. jump z q) e ∙ (ap (jump (b + f)) g ∙ j
 
 -- an exit's code is the same where it, the blocks and the function's end are moved
 exit-moved : (code : Tac) (y : Layout) (b at last : ℕ) (starts moved : ℕ → ℕ) (e : Exit) →
-    ((k : ℕ) → k < length code.blocks → moved k ≡ b + starts k) → exit_fits code e ≡ true → b + at + 64 ≤ 2 ^ 32 →
+    ((k : ℕ) → k < length code.blocks → moved k ≡ b + starts k) → exit_there code e ≡ true → b + at + 64 ≤ 2 ^ 32 →
     exit_code y (b + at) moved (b + last) e ≡ exit_code y at starts last e
 exit-moved code y b at last starts moved (Jump e) same fits near =
     jump-from b at (starts e.block) (b + at) (moved e.block) refl (same e.block (ltb-true e.block (length code.blocks) fits)) (omega (arith, near))
 exit-moved code y b at last starts moved (Branch a e f) same fits near =
     ap (λ z. T ++ z) (two (4 * length T) (starts e.block) (starts f.block) (moved e.block) (moved f.block) (omega (arith, few))
-    (same e.block (ltb-true e.block (length code.blocks) parts.1.0)) (same f.block (ltb-true f.block (length code.blocks) parts.1.1)))
+    (same e.block (ltb-true e.block (length code.blocks) parts.0)) (same f.block (ltb-true f.block (length code.blocks) parts.1)))
   where
     T : List Instr
     T = taken y x5 a
@@ -283,11 +283,8 @@ exit-moved code y b at last starts moved (Branch a e f) same fits near =
     few : length T ≤ 8
     few = taken-count y x5 a
 
-    parts : (operand_fits code a ≡ true) × ((edge_fits code e ≡ true) × (edge_fits code f ≡ true))
-    parts =
-        let one = both-true (operand_fits code a && edge_fits code e) (edge_fits code f) fits in
-        let two = both-true (operand_fits code a) (edge_fits code e) one.0 in
-        (two.0, (two.1, one.1))
+    parts : (edge_there code e ≡ true) × (edge_there code f ≡ true)
+    parts = both-true (edge_there code e) (edge_there code f) fits
 
     two : (n first second to other : ℕ) → n ≤ 32 → to ≡ b + first → other ≡ b + second →
         two_jumps (b + at + n) to other ≡ two_jumps (at + n) first second
@@ -307,7 +304,7 @@ exit-moved code y b at last starts moved (Fail kind place) same fits near = refl
 
 -- A block.
 fill-block : (code : Tac) (places others : FnId → ℕ) (agree : (f : FnId) → places f ≡ others f) (base : ℕ) (y : Layout) (sizes : List ℕ) (from end last : ℕ) (starts moved : ℕ → ℕ)
-    (cs : List Site) (k : Block) → ((j : ℕ) → j < length code.blocks → moved j ≡ base + starts j) → block_fits code k ≡ true →
+    (cs : List Site) (k : Block) → ((j : ℕ) → j < length code.blocks → moved j ≡ base + starts j) → block_there code k ≡ true →
     base + 4 * (from + length (block_code y sizes (λ f. 0) starts last (4 * from) k)) + 64 ≤ 2 ^ 32 →
     AreIn (from + length (block_code y sizes (λ f. 0) starts last (4 * from) k)) end cs →
     Filled places base y sizes from end cs (block_code y sizes (λ f. 0) starts last (4 * from) k)
@@ -326,7 +323,7 @@ fill-block code places others agree base y sizes from end last starts moved cs k
     let exit : exit_code y (base + 4 * from + 4 * length P) moved (base + last) k.exit ≡ E =
     ap (λ z. exit_code y z moved (base + last) k.exit) address
     ∙ exit-moved code y base (4 * from + 4 * length A) last starts moved k.exit same
-    (both-true (list_all (instruction_fits code) k.instructions) (exit_fits code k.exit) fits).1 (omega (arith, near, count)) in
+    fits (omega (arith, near, count)) in
     subst (λ z. Filled places base y sizes from end cs (A ++ E) (P ++ z) (instructions_calls y sizes from k.instructions)) (sym exit)
     (record {
       fills = λ ws.
@@ -341,7 +338,7 @@ fill-block code places others agree base y sizes from end last starts moved cs k
 -- Blocks.
 fill-blocks : (code : Tac) (places others : FnId → ℕ) (agree : (f : FnId) → places f ≡ others f) (base : ℕ) (y : Layout) (sizes : List ℕ) (from end last : ℕ) (starts moved : ℕ → ℕ)
     (cs : List Site) (ks : List Block) → ((j : ℕ) → j < length code.blocks → moved j ≡ base + starts j) →
-    list_all (block_fits code) ks ≡ true →
+    list_all (block_there code) ks ≡ true →
     base + 4 * (from + length (blocks_code y sizes (λ f. 0) starts last (4 * from) ks)) + 64 ≤ 2 ^ 32 →
     AreIn (from + length (blocks_code y sizes (λ f. 0) starts last (4 * from) ks)) end cs →
     Filled places base y sizes from end cs (blocks_code y sizes (λ f. 0) starts last (4 * from) ks)
@@ -351,7 +348,7 @@ fill-blocks code places others agree base y sizes from end last starts moved cs 
   calls = in-less (from + 0) from end cs (omega arith) h;
 }
 fill-blocks code places others agree base y sizes from end last starts moved cs (k ∷ ks) same fits near h =
-    let both = both-true (block_fits code k) (list_all (block_fits code) ks) fits in
+    let both = both-true (block_there code k) (list_all (block_there code) ks) fits in
     let A : List Instr = block_code y sizes (λ f. 0) starts last (4 * from) k in
     let A0 : List Instr = block_code y sizes (λ f. 0) (λ c. 0) 0 0 k in
     let P : List Instr = block_code y sizes others moved (base + last) (base + 4 * from) k in
@@ -408,7 +405,7 @@ pub record FilledFunction (places others : FnId → ℕ) (base : ℕ) (y : Layou
   pub fills : filled places base 0 (function_calls y code) (words (function_code y code (λ f. 0) 0)) ≡ words (function_code y code others base)
   pub calls : AreIn 0 (length (function_code y code (λ f. 0) 0)) (function_calls y code)
 
-pub fill-function : (places others : FnId → ℕ) (agree : (f : FnId) → places f ≡ others f) (base : ℕ) (y : Layout) (code : Tac) → list_all (block_fits code) code.blocks ≡ true →
+pub fill-function : (places others : FnId → ℕ) (agree : (f : FnId) → places f ≡ others f) (base : ℕ) (y : Layout) (code : Tac) → list_all (block_there code) code.blocks ≡ true →
     base + 4 * length (function_code y code (λ f. 0) 0) + 64 ≤ 2 ^ 32 → FilledFunction places others base y code
 fill-function places others agree base y code fits near =
     let H : List Instr = head_code y code in

@@ -1,14 +1,19 @@
 -- Functions one behind the other in a text, and the program that they are.
-use Rattle.std.specs.Prelude.{◌≡◌, ℕ, ◌+◌, ◌*◌, ◌^◌, ◌≤◌, nat_eq, nat_le, if◌then◌else◌, IsTrue, List, [], ◌∷◌, ◌++◌, length, map, Option, Some, None}
+use Rattle.std.specs.Prelude.{◌≡◌, ℕ, ◌+◌, ◌*◌, ◌^◌, ◌≤◌, Bool, true, ◌&&◌, nat_eq, nat_le, nat_lt, if◌then◌else◌, IsTrue, List, [], ◌∷◌, ◌++◌, length, map, Option, Some, None}
+use Rattle.std.specs.List.{list_all}
 use Rattle.tl_base.specs.declared.ids.FnId.{FnId}
 use Rattle.rv_isa.specs.declared.instr.Instr.{Instr}
 use Rattle.rv_isa.specs.Table.{word_of}
 use Rattle.elf_image.specs.Layout.{text_address}
 use Rattle.rv_machine.specs.Program.{IsProgram}
 use Rattle.reg_alloc.specs.Right.{IsRight}
+use Rattle.tac_form.specs.declared.tac.Edge.{Edge}
+use Rattle.tac_form.specs.declared.tac.Exit.{Exit}
+use Rattle.tac_form.specs.declared.tac.Exit.TheVariants.{Branch, Jump}
+use Rattle.tac_form.specs.declared.tac.Block.{Block}
 use Rattle.tac_form.specs.declared.tac.Tac.{Tac}
 use Rattle.tac_form.specs.Flow.{Program}
-use Rattle.tac_form.specs.Fits.{Counted, Fits, is_within}
+use Rattle.tac_form.specs.Fits.{Counted, Fits}
 use Rattle.rv_select.specs.Places.{layout_of}
 use Rattle.rv_select.specs.Calls.{IsSelected, all_has_code, function_code}
 use Rattle.rv_select.specs.Waiting.{Image, IsLinked, PassesAll, Placed, entries_of}
@@ -66,10 +71,24 @@ abbrev pub AreSelected : List Function → Type 0
 AreSelected [] = Unit {0}
 AreSelected (x ∷ xs) = IsSelected x.tac x.homes x.code × AreSelected xs
 
--- What the code of each names is there.
-abbrev pub AreWithin : List Function → Type 0
-AreWithin [] = Unit {0}
-AreWithin (x ∷ xs) = IsTrue (is_within x.tac) × AreWithin xs
+-- Each way on from a block of code leads to one of its blocks, as in all code that machine code may be made of.
+abbrev pub edge_there : Tac → Edge → Bool
+edge_there code e = nat_lt e.block (length code.blocks)
+
+abbrev pub exit_there : Tac → Exit → Bool
+exit_there code (Jump e) = edge_there code e
+exit_there code (Branch a e f) = edge_there code e && edge_there code f
+exit_there code _ = true
+
+abbrev pub block_there : Tac → Block → Bool
+block_there code b = exit_there code b.exit
+
+abbrev pub blocks_there : Tac → Bool
+blocks_there code = list_all (block_there code) code.blocks
+
+abbrev pub AreThere : List Function → Type 0
+AreThere [] = Unit {0}
+AreThere (x ∷ xs) = IsTrue (blocks_there x.tac) × AreThere xs
 
 -- A function of a program that machine code may be made of: its calls pass as many parts as the function that they call takes.
 pub record IsSound (p : Program) (x : Function) : Type 0 where

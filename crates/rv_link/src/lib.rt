@@ -7,7 +7,9 @@
 pub mod function;
 pub mod law;
 pub mod linking;
+pub mod ways;
 
 pub use function::{Function, Linked};
 pub use law::{images_are_carried, images_start, linked_texts_are_linked};
 pub use linking::link;
+pub use ways::blocks_there;

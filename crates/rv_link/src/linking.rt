@@ -2,10 +2,9 @@
 
 ghost use Rattle.std.specs.Prelude.{◌≡◌, ◌*◌, ◌+◌, ◌^◌, ◌≤◌, ◌++◌, length, IfOk, IsTrue, OnOk};
 ghost use Rattle.tl_base.specs.declared.ids.FnId.{FnId};
-ghost use Rattle.tac_form.specs.Fits.{is_within};
 ghost use Rattle.rv_select.specs.Calls.{IsSelected};
 ghost use Rattle.rv_link.specs.Filling.{AreIn, entries_in, entry_among, filled, words_in};
-ghost use Rattle.rv_link.specs.Linked.{AreSelected, AreWithin, IsLinkedText, function_words, larger, most_frame, places_of, starts_in, text_from};
+ghost use Rattle.rv_link.specs.Linked.{AreSelected, AreThere, IsLinkedText, blocks_there, function_words, larger, most_frame, places_of, starts_in, text_from};
 
 use crate::function::{Function, Linked};
 use rv_select::{Call, push_call_jump};
@@ -116,7 +115,7 @@ fn push_function(
     function: &Function,
 ) -> Result<(), NoMemory>
     requires selected { IsSelected function.now.tac function.now.homes function.now.code }
-    requires within { IsTrue (is_within function.now.tac) }
+    requires there { IsTrue (blocks_there function.now.tac) }
     requires places { (f : FnId) → entry_among functions.now entries.now f ≡ places_of functions.now f }
     requires near { 65536 + 4 * (length text.now.items + length function.now.code.words.items) + 256 ≤ 2 ^ 30 }
     ensures { OnOk result (text.new.items ≡ text.old.items ++ function_words function.now (places_of functions.now) (65536 + 4 * length text.old.items)) }
@@ -141,7 +140,7 @@ fn push_functions(
     rest: &[Function],
 ) -> Result<(), NoMemory>
     requires selected { AreSelected rest.now }
-    requires within { AreWithin rest.now }
+    requires there { AreThere rest.now }
     requires places { (f : FnId) → entry_among functions.now entries.now f ≡ places_of functions.now f }
     requires near { 65536 + 4 * (length text.now.items + words_in rest.now) + 256 ≤ 2 ^ 30 }
     ensures { OnOk result (text.new.items ≡ text.old.items ++ text_from (places_of functions.now) (65536 + 4 * length text.old.items) rest.now) }
@@ -169,7 +168,7 @@ fn largest(most: u64, functions: &[Function]) -> u64
 /// text that ends above 2 ^ 30, is answered as a want of memory.
 pub fn link(alloc: Global, functions: &[Function]) -> Result<Linked, NoMemory>
     requires selected { AreSelected functions.now }
-    requires within { AreWithin functions.now }
+    requires there { AreThere functions.now }
     ensures { IfOk result (λ linked. IsLinkedText functions.now linked) }
 {
     let mut starts = Vec::new(alloc);

@@ -7,7 +7,7 @@ use Rattle.tl_base.specs.declared.ids.FnId.{FnId}
 use Rattle.tl_base.specs.declared.place.Place.{Place}
 use Rattle.rv_isa.specs.declared.instr.Instr.{Instr}
 use Rattle.rv_machine.specs.Machine.{Ran, State, after_output, run_of}
-use Rattle.terra_words.specs.Runs.{Fault, More, Over, Returned, Run, Stuck, Value}
+use Rattle.terra_words.specs.Runs.{End, Fault, More, Over, Returned, Run, Stuck, Value}
 use Rattle.tac_form.specs.declared.tac.Part.{Part}
 use Rattle.tac_form.specs.declared.tac.Destination.{Destination}
 use Rattle.tac_form.specs.declared.tac.Exit.{Exit}
@@ -68,6 +68,10 @@ place-high p image code x b k block e z =
     none : (h s n : ℕ) → x.at + 4 * h ≤ s → s ≤ n → 1 ≤ h → n ≡ 0 → ⊥
     none h s n a c d f = omega (arith, a, c, d, f)
 
+-- a run that is over needs no more counts
+not-more : (e : End) (a b : List ℕ) → Stops (Over e a) ≡ Stops (More b) → ⊥
+not-more e a b q = cc
+
 -- A step is carried out, and takes no more than is taken off what is left.
 pub record Done (p : Program) (image : Image) (program : List (Option Instr)) (most size words : ℕ) (s : tac.State) (m : State)
     (moved : tac.Moved) : Type 0 where
@@ -85,7 +89,7 @@ a-step p image program most size words linked s base m x = in-block (slice_get x
     pl = linked s.here.function x.code x.function
 
     stuck : slice_get x.code.blocks s.here.block ≡ None → Done p image program most size words s m (step p s)
-    stuck e = let e1 = x.function in rw (e1, e) (record { bound = 0; stepped = tt; falls = λ short. tt; there = λ out q. cc })
+    stuck e = let e1 = x.function in rw (e1, e) (record { bound = 0; stepped = tt; falls = λ short. tt; there = λ out q. absurd (not-more _ _ _ q) })
 
     parts : (block : Block) → slice_get x.code.blocks s.here.block ≡ Some block → (list_all has_code block.instructions ≡ true) ×
         (has_exit_code block.exit ≡ true)

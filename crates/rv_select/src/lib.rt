@@ -33,6 +33,3 @@ pub use law::{
 pub use selectable::all_has_code;
 pub use selected::{Call, Code};
 pub use selection::select;
-
-#[cfg(test)]
-mod tests;
