@@ -1,9 +1,9 @@
 -- A function's words, with its calls filled in, are those of its code where it stands.
-use Rattle.std.proofs.Common.{◌≡◌, ◌≢◌, ℕ, zero, suc, ◌+◌, ◌-◌, ◌*◌, ◌%◌, ◌^◌, ◌<◌, ◌≤◌, Bool, true, false, ◌&&◌, List, [], ◌∷◌, ◌++◌, length, take, drop, append_assoc, Option, Some, None, refl, sym, ap, ◌∙◌, subst, arith}
-use Rattle.std.specs.Prelude.{map, nat_lt, slice_get, IsTrue}
+use Rattle.std.proofs.Common.{◌≡◌, ℕ, zero, suc, ◌+◌, ◌-◌, ◌*◌, ◌%◌, ◌^◌, ◌<◌, ◌≤◌, true, List, [], ◌∷◌, ◌++◌, length, take, drop, append_assoc, refl, sym, ap, ◌∙◌, subst, arith}
+use Rattle.std.specs.Prelude.{map}
 use Rattle.std.specs.List.{list_all}
 use Rattle.std.proofs.lemmas.Bool.{ltb-true}
-use Rattle.std.proofs.lemmas.List.{append-nil, drop-append-le, drop_at, length-append, length-map, map-append, take_at}
+use Rattle.std.proofs.lemmas.List.{append-nil, length-append, length-map, map-append}
 use Rattle.std.proofs.Math.Seq.{take-append-add}
 use Rattle.tl_base.specs.declared.ids.FnId.{FnId}
 use Rattle.rv_isa.specs.declared.instr.Instr.{Instr}
@@ -24,11 +24,11 @@ use Rattle.rv_operators.specs.Codes.{x0, x5}
 use Rattle.rv_select.specs.declared.selected.Call.{Call as Site}
 use Rattle.rv_select.specs.Numbers.{lower_of, upper_of}
 use Rattle.rv_select.specs.Places.{Layout, frame_bytes}
-use Rattle.rv_select.specs.Shapes.{branch_jumps, distance, jump, offset_of, shape_of, start_of, taken, two_jumps, x10}
+use Rattle.rv_select.specs.Shapes.{distance, jump, offset_of, shape_of, start_of, taken, two_jumps, x10}
 use Rattle.rv_select.specs.Entering.{left}
-use Rattle.rv_select.specs.Calls.{block_code, block_starts, blocks_calls, blocks_code, blocks_length, body_code, call_begun, call_ended, call_jump, exit_code, function_calls, function_code, head_code, instruction_calls, instruction_code, instructions_calls, instructions_code, last_address, part_taken, returned, starts_from}
+use Rattle.rv_select.specs.Calls.{block_code, block_starts, blocks_calls, blocks_code, body_code, call_begun, call_ended, call_jump, exit_code, function_calls, function_code, head_code, instruction_calls, instruction_code, instructions_calls, instructions_code, last_address, part_taken, starts_from}
 use Rattle.rv_select.proofs.Homes.{taken-count}
-use Rattle.rv_select.proofs.Lengths.{block-length, blocks-length, exit-length, instruction-length, instructions-length}
+use Rattle.rv_select.proofs.Lengths.{block-length, instruction-length, instructions-length}
 use Rattle.rv_select.proofs.Passes.{part-count}
 use Rattle.rv_select.proofs.Stands.{both-true}
 use Rattle.rv_link.specs.Filling.{AreIn, filled}

@@ -1,9 +1,8 @@
 -- In a text of functions one behind the other each function stands at its place.
-use Rattle.std.proofs.Common.{◌≡◌, ◌≢◌, ℕ, zero, suc, ◌+◌, ◌-◌, ◌*◌, ◌%◌, ◌^◌, ◌<◌, ◌≤◌, Bool, true, false, ◌&&◌, List, [], ◌∷◌, ◌++◌, length, append_assoc, Option, Some, None, refl, sym, ap, ◌∙◌, subst, ⊎_elim, inl, inr, arith}
-use Rattle.std.specs.Prelude.{map, nat_eq, nat_le, if◌then◌else◌, ◌⊎◌}
-use Rattle.std.specs.List.{list_all}
+use Rattle.std.proofs.Common.{◌≡◌, ℕ, ◌+◌, ◌*◌, ◌%◌, ◌^◌, ◌≤◌, Bool, true, false, List, [], ◌∷◌, ◌++◌, length, append_assoc, Some, refl, sym, ap, ◌∙◌, subst, ⊎_elim, arith}
+use Rattle.std.specs.Prelude.{map, nat_eq, nat_le, if◌then◌else◌}
 use Rattle.std.proofs.lemmas.Bool.{cases_lt, le-leb, leb-true}
-use Rattle.std.proofs.lemmas.List.{append-nil, length-append, length-map}
+use Rattle.std.proofs.lemmas.List.{length-append, length-map}
 use Rattle.tl_base.specs.declared.ids.FnId.{FnId}
 use Rattle.rv_isa.specs.declared.instr.Instr.{Instr}
 use Rattle.rv_isa.specs.Table.{word_of}
@@ -16,15 +15,14 @@ use Rattle.reg_alloc.specs.Right.{IsRight}
 use Rattle.tac_form.specs.Flow.{Program}
 use Rattle.tac_form.specs.Fits.{Counted, Fits}
 use Rattle.rv_select.specs.Places.{Layout, frame_bytes, layout_of}
-use Rattle.rv_select.specs.Entering.{begun, left}
+use Rattle.rv_select.specs.Entering.{left}
 use Rattle.rv_select.specs.Shapes.{start_of}
 use Rattle.rv_select.specs.Calls.{IsSelected, all_has_code, block_starts, body_code, function_code, head_code, last_address}
-use Rattle.rv_select.specs.Waiting.{Image, IsLinked, IsPlaced, PassesAll, Placed, entries_of, entry_of}
+use Rattle.rv_select.specs.Waiting.{IsPlaced, PassesAll, Placed, entry_of}
 use Rattle.rv_select.proofs.Lengths.{blocks-length}
 use Rattle.rv_link.specs.declared.function.Function.{Function}
-use Rattle.rv_link.specs.declared.function.Linked.{Linked}
-use Rattle.rv_link.specs.Filling.{entries_in, entry_among}
-use Rattle.rv_link.specs.Linked.{AreSelected, AreSound, IsLinkedText, IsSound, LinkedTextsAreLinked, code_in, function_words, image_of, larger, most_frame, placed_in, places_of, program_of, text_from, text_of}
+use Rattle.rv_link.specs.Filling.{entry_in}
+use Rattle.rv_link.specs.Linked.{AreSelected, AreSound, IsSound, LinkedTextsAreLinked, code_in, function_words, image_of, larger, most_frame, placed_in, places_of, program_of, text_from, text_of}
 
 -- a function's code is as long wherever it and others stand
 pub function-length : (y : Layout) (code : Tac) (places others : FnId → ℕ) (at other : ℕ) →
@@ -190,17 +188,17 @@ texts-linked functions values linked program selected sound t decoded f code is 
           stands = stands;
         }
 
--- where calls enter functions, by a list of the places
+-- where calls enter functions
 pub entries-are : (functions : List Function) (at : ℕ) (f : FnId) → AreSelected functions →
-    entry_among functions (entries_in at functions) f ≡ entry_of (code_in functions f) (placed_in at functions f)
+    entry_in at functions f ≡ entry_of (code_in functions f) (placed_in at functions f)
 entries-are [] at f s = refl
 entries-are (x ∷ xs) at f s =
     either (nat_eq x.id.0 f.0) (entries-are xs (at + 4 * length x.code.words.items) f s.1)
   where
     either : (c : Bool) →
-        entry_among xs (entries_in (at + 4 * length x.code.words.items) xs) f ≡
+        entry_in (at + 4 * length x.code.words.items) xs f ≡
         entry_of (code_in xs f) (placed_in (at + 4 * length x.code.words.items) xs f) →
-        (if c then at + 4 * x.code.entry else entry_among xs (entries_in (at + 4 * length x.code.words.items) xs) f) ≡
+        (if c then at + 4 * x.code.entry else entry_in (at + 4 * length x.code.words.items) xs f) ≡
         entry_of (if c then Some x.tac else code_in xs f)
         (if c then record { homes = x.homes; at = at } else placed_in (at + 4 * length x.code.words.items) xs f)
     either true later = ap (λ n. at + 4 * n) s.0.entry

@@ -1,9 +1,8 @@
 -- What linking puts into a text, part by part.
-use Rattle.std.proofs.Common.{◌≡◌, ℕ, zero, suc, ◌+◌, ◌-◌, ◌*◌, ◌^◌, ◌<◌, ◌≤◌, Bool, true, false, ◌&&◌, List, [], ◌∷◌, ◌++◌, length, take, drop, append_assoc, Option, Some, refl, sym, ap, ◌∙◌, subst, arith}
-use Rattle.std.specs.Prelude.{map, nat_le, nat_lt, if◌then◌else◌, Result, Ok, Err, OnOk}
+use Rattle.std.proofs.Common.{◌≡◌, ℕ, ◌+◌, ◌-◌, ◌*◌, ◌^◌, ◌<◌, ◌≤◌, true, ◌&&◌, List, [], ◌∷◌, ◌++◌, length, take, drop, append_assoc, refl, sym, ap, ◌∙◌, subst, arith}
+use Rattle.std.specs.Prelude.{get_or, map, nat_lt}
 use Rattle.std.specs.List.{list_all}
-use Rattle.std.proofs.lemmas.Bool.{le-leb, leb-false, leb-true, lt-leb}
-use Rattle.std.proofs.lemmas.List.{append-nil, drop-drop, length-append, length-map}
+use Rattle.std.proofs.lemmas.List.{drop-drop, drop_more, length-append, length-map}
 use Rattle.tl_base.specs.declared.ids.FnId.{FnId}
 use Rattle.rv_isa.specs.Table.{word_of}
 use Rattle.elf_image.specs.Layout.{text_address}
@@ -17,11 +16,19 @@ use Rattle.rv_select.specs.Places.{Layout, layout_of}
 use Rattle.rv_select.specs.Calls.{IsSelected, call_jump, function_calls, function_code}
 use Rattle.rv_select.proofs.Stands.{both-true}
 use Rattle.rv_link.specs.declared.function.Function.{Function}
-use Rattle.rv_link.specs.declared.function.Linked.{Linked}
-use Rattle.rv_link.specs.Filling.{AreIn, entries_in, entry_among, filled, words_in}
-use Rattle.rv_link.specs.Linked.{AreSelected, IsLinkedText, block_there, blocks_there, exit_there, function_words, image_of, larger, most_frame, places_of, starts_in, text_from, text_of}
-use Rattle.rv_link.proofs.Fills.{FilledFunction, fill-function, in-less, words}
-use Rattle.rv_link.proofs.Links.{entries-are, function-length, selected-length}
+use Rattle.rv_link.specs.Filling.{AreIn, entry_in, filled, words_in}
+use Rattle.rv_link.specs.Linked.{AreSelected, AreThere, block_there, blocks_there, exit_there, function_words, places_of, text_from}
+use Rattle.rv_link.proofs.Fills.{FilledFunction, fill-function}
+use Rattle.rv_link.proofs.Links.{entries-are, selected-length}
+
+-- the item at which a loop stands
+pub drop-item : {X : Type 0} (xs : List X) (i : ℕ) (x : X) → x ≡ get_or xs i x → i < length xs → drop i xs ≡ x ∷ drop (i + 1) xs
+drop-item xs i x e h = drop_more xs i x h ∙ ap (λ y. y ∷ drop (i + 1) xs) (sym e)
+
+-- what a loop puts behind the words that it has
+pub turn : (out new part rest whole total : List ℕ) → new ≡ out ++ part → out ++ whole ≡ total → whole ≡ part ++ rest → new ++ rest ≡ total
+turn out new part rest whole total e f g =
+    ap (λ z. z ++ rest) e ∙ (append_assoc out part rest ∙ (ap (λ z. out ++ z) (sym g) ∙ f))
 
 pub in-ends : (from end : ℕ) (cs : List Site) → AreIn from end cs → from ≤ end
 in-ends from end [] h = h
@@ -30,24 +37,33 @@ in-ends from end (c ∷ cs) h = chain c.at h.0 (in-ends (c.at + 2) end cs h.1)
     chain : (n : ℕ) → from ≤ n → n + 2 ≤ end → from ≤ end
     chain n a b = omega (arith, a, b)
 
+-- the next call lies behind the words so far, and before the end
+pub next-in : (from end i : ℕ) (cs : List Site) (c : Site) → c ≡ get_or cs i c → i < length cs → AreIn from end (drop i cs) →
+    (from ≤ c.at) × ((c.at + 2 ≤ end) × AreIn (c.at + 2) end (drop (i + 1) cs))
+next-in from end i cs c e h k =
+    let both : AreIn from end (c ∷ drop (i + 1) cs) = subst (AreIn from end) (drop-item cs i c e h) k in
+    (both.0, (in-ends (c.at + 2) end (drop (i + 1) cs) both.1, both.1))
+
 -- the words up to the next call, its jump, and all that follow
-pub filled-turn : {A E : Type 0} (r : Result A E) (places : FnId → ℕ) (base from : ℕ) (c : Site) (cs : List Site)
-    (ws before jumped old new : List ℕ) → from ≤ c.at → before ≡ old ++ take (c.at - from) ws →
-    jumped ≡ before ++ map word_of (call_jump (base + 4 * c.at) (places c.callee)) →
-    OnOk r (new ≡ jumped ++ filled places base (c.at + 2) cs (drop 2 (drop (c.at - from) ws))) →
-    OnOk r (new ≡ old ++ filled places base from (c ∷ cs) ws)
-filled-turn (Ok x) places base from c cs ws before jumped old new h e f g =
+pub filled-turn : (places : FnId → ℕ) (base from i : ℕ) (cs : List Site) (c : Site) (ws : List ℕ) →
+    c ≡ get_or cs i c → i < length cs → from ≤ c.at →
+    filled places base from (drop i cs) (drop from ws) ≡
+    (take (c.at - from) (drop from ws) ++ map word_of (call_jump (base + 4 * c.at) (places c.callee)))
+    ++ filled places base (c.at + 2) (drop (i + 1) cs) (drop (c.at + 2) ws)
+filled-turn places base from i cs c ws e k h =
     let J : List ℕ = map word_of (call_jump (base + 4 * c.at) (places c.callee)) in
-    let R : List ℕ → List ℕ = λ z. filled places base (c.at + 2) cs z in
-    let sum : c.at - from + 2 ≡ c.at + 2 - from = omega (arith, h) in
-    let same : drop 2 (drop (c.at - from) ws) ≡ drop (c.at + 2 - from) ws = after (c.at - from) (c.at + 2 - from) sum in
-    g ∙ (ap (λ z. jumped ++ R z) same ∙ (ap (λ z. z ++ R (drop (c.at + 2 - from) ws)) (f ∙ ap (λ z. z ++ J) e)
-    ∙ (append_assoc (old ++ take (c.at - from) ws) J (R (drop (c.at + 2 - from) ws))
-    ∙ append_assoc old (take (c.at - from) ws) (J ++ R (drop (c.at + 2 - from) ws)))))
-  where
-    after : (n k : ℕ) → n + 2 ≡ k → drop 2 (drop n ws) ≡ drop k ws
-    after n k e = drop-drop 2 n ws ∙ ap (λ i. drop i ws) e
-filled-turn (Err x) places base from c cs ws before jumped old new h e f g = g
+    let T : List ℕ = take (c.at - from) (drop from ws) in
+    let R : List ℕ → List ℕ = λ z. filled places base (c.at + 2) (drop (i + 1) cs) z in
+    let sum : from + (c.at + 2 - from) ≡ c.at + 2 = omega (arith, h) in
+    let same : drop (c.at + 2 - from) (drop from ws) ≡ drop (c.at + 2) ws =
+    drop-drop (c.at + 2 - from) from ws ∙ ap (λ n. drop n ws) sum in
+    ap (λ z. filled places base from z (drop from ws)) (drop-item cs i c e k)
+    ∙ (ap (λ z. T ++ (J ++ R z)) same ∙ sym (append_assoc T J (R (drop (c.at + 2) ws))))
+
+-- how many words functions have
+pub words-turn : (xs : List Function) (i : ℕ) (x : Function) → x ≡ get_or xs i x → i < length xs →
+    words_in (drop i xs) ≡ length x.code.words.items + words_in (drop (i + 1) xs)
+words-turn xs i x e h = ap words_in (drop-item xs i x e h)
 
 -- code that machine code may be made of has the blocks that its exits lead to
 pub within-there : (code : Tac) → is_within code ≡ true → blocks_there code ≡ true
@@ -87,15 +103,13 @@ filled-words x places others agree base s h near =
     reach : (k n : ℕ) → k ≡ n → base + 4 * k + 256 ≤ 2 ^ 30 → base + 4 * n + 64 ≤ 2 ^ 32
     reach k n e h = omega (arith, e, h)
 
-pub function-turn : {A E : Type 0} (r : Result A E) (x : Function) (places others : FnId → ℕ) → ((f : FnId) → places f ≡ others f) →
-    (base : ℕ) (old new : List ℕ) → IsSelected x.tac x.homes x.code → blocks_there x.tac ≡ true →
-    base + 4 * length x.code.words.items + 256 ≤ 2 ^ 30 →
-    OnOk r (new ≡ old ++ filled places base 0 x.code.calls.items x.code.words.items) → OnOk r (new ≡ old ++ function_words x others base)
-function-turn (Ok v) x places others agree base old new s h near g =
+pub function-turn : (x : Function) (places others : FnId → ℕ) → ((f : FnId) → places f ≡ others f) → (base : ℕ) →
+    IsSelected x.tac x.homes x.code → blocks_there x.tac ≡ true → base + 4 * length x.code.words.items + 256 ≤ 2 ^ 30 →
+    filled places base 0 x.code.calls.items x.code.words.items ≡ function_words x others base
+function-turn x places others agree base s h near =
     let f = filled-words x places others agree base s h near in
-    g ∙ (ap (λ z. old ++ filled places base 0 z x.code.words.items) s.calls
-    ∙ (ap (λ z. old ++ filled places base 0 (function_calls (layout_of x.tac x.homes) x.tac) z) s.words ∙ ap (λ z. old ++ z) f.fills))
-function-turn (Err v) x places others agree base old new s h near g = g
+    ap (λ z. filled places base 0 z x.code.words.items) s.calls
+    ∙ (ap (λ z. filled places base 0 (function_calls (layout_of x.tac x.homes) x.tac) z) s.words ∙ f.fills)
 
 -- where its calls stand
 pub calls-there : (x : Function) → IsSelected x.tac x.homes x.code → blocks_there x.tac ≡ true →
@@ -116,51 +130,39 @@ text-length places at (x ∷ xs) s =
     ∙ (ap (λ n. n + length (text_from places (at + 4 * length x.code.words.items) xs)) (sym (selected-length x places at s.0))
     ∙ ap (λ n. length x.code.words.items + n) (text-length places (at + 4 * length x.code.words.items) xs s.1))
 
-pub functions-turn : {A E : Type 0} (r : Result A E) (x : Function) (xs : List Function) (places : FnId → ℕ) (old mid new : List ℕ) →
-    IsSelected x.tac x.homes x.code → mid ≡ old ++ function_words x places (text_address + 4 * length old) →
-    OnOk r (new ≡ mid ++ text_from places (text_address + 4 * length mid) xs) →
-    OnOk r (new ≡ old ++ text_from places (text_address + 4 * length old) (x ∷ xs))
-functions-turn (Ok v) x xs places old mid new s e g =
-    let W : List ℕ = function_words x places (text_address + 4 * length old) in
-    let count : length mid ≡ length old + length x.code.words.items =
-    ap length e ∙ (length-append old W ∙ ap (λ n. length old + n) (sym (selected-length x places (text_address + 4 * length old) s))) in
-    let at : text_address + 4 * length mid ≡ text_address + 4 * length old + 4 * length x.code.words.items =
-    next (length mid) (length old) (length x.code.words.items) count in
-    g ∙ (ap (λ n. mid ++ text_from places n xs) at
-    ∙ (ap (λ z. z ++ text_from places (text_address + 4 * length old + 4 * length x.code.words.items) xs) e
-    ∙ append_assoc old W (text_from places (text_address + 4 * length old + 4 * length x.code.words.items) xs)))
+-- the next function is selected, its blocks are there, and so it is of all behind it
+pub next-selected : (xs : List Function) (i : ℕ) (x : Function) → x ≡ get_or xs i x → i < length xs →
+    AreSelected (drop i xs) × AreThere (drop i xs) →
+    (IsSelected x.tac x.homes x.code × (blocks_there x.tac ≡ true)) × (AreSelected (drop (i + 1) xs) × AreThere (drop (i + 1) xs))
+next-selected xs i x e h k =
+    let both : AreSelected (x ∷ drop (i + 1) xs) × AreThere (x ∷ drop (i + 1) xs) =
+    subst (λ z. AreSelected z × AreThere z) (drop-item xs i x e h) k in
+    ((both.0.0, both.1.0), (both.0.1, both.1.1))
+
+-- one more function's words
+pub text-turn : (xs : List Function) (i : ℕ) (x : Function) (places others : FnId → ℕ) → ((f : FnId) → places f ≡ others f) →
+    (old new total : List ℕ) → x ≡ get_or xs i x → i < length xs → IsSelected x.tac x.homes x.code → blocks_there x.tac ≡ true →
+    text_address + 4 * length old + 4 * length x.code.words.items + 256 ≤ 2 ^ 30 →
+    new ≡ old ++ filled places (text_address + 4 * length old) 0 x.code.calls.items x.code.words.items →
+    old ++ text_from others (text_address + 4 * length old) (drop i xs) ≡ total →
+    (length new ≡ length old + length x.code.words.items) ×
+    (new ++ text_from others (text_address + 4 * length new) (drop (i + 1) xs) ≡ total)
+text-turn xs i x places others agree old new total e h s there near put before =
+    let at : ℕ = text_address + 4 * length old in
+    let W : List ℕ = function_words x others at in
+    let is : new ≡ old ++ W = put ∙ ap (λ z. old ++ z) (function-turn x places others agree at s there near) in
+    let count : length new ≡ length old + length x.code.words.items =
+    ap length is ∙ (length-append old W ∙ ap (λ n. length old + n) (sym (selected-length x others at s))) in
+    let next : text_address + 4 * length new ≡ at + 4 * length x.code.words.items = after (length new) (length old) (length x.code.words.items) count in (
+      count,
+      turn old new W (text_from others (text_address + 4 * length new) (drop (i + 1) xs)) (text_from others at (drop i xs)) total is before
+          (ap (text_from others at) (drop-item xs i x e h) ∙ ap (λ n. W ++ text_from others n (drop (i + 1) xs)) (sym next)),
+    )
   where
-    next : (m o w : ℕ) → m ≡ o + w → text_address + 4 * m ≡ text_address + 4 * o + 4 * w
-    next m o w e = omega (arith, e)
-functions-turn (Err v) x xs places old mid new s e g = g
+    after : (m o w : ℕ) → m ≡ o + w → text_address + 4 * m ≡ text_address + 4 * o + 4 * w
+    after m o w e = omega (arith, e)
 
--- calls enter where the list of places says
-pub agreeing : (functions : List Function) (entries : List ℕ) → AreSelected functions → entries ≡ [] ++ entries_in text_address functions →
-    (f : FnId) → entry_among functions entries f ≡ places_of functions f
-agreeing functions entries s e f =
-    ap (λ z. entry_among functions z f) e ∙ entries-are functions text_address f s
-
--- the larger of three
-pub larger-both : (a b c : ℕ) → larger (larger a b) c ≡ larger a (larger b c)
-larger-both a b c = either (nat_le a b) refl (nat_le b c) refl
-  where
-    through : (a b c : ℕ) → a ≤ b → b ≤ c → a ≤ c
-    through a b c h k = omega (arith, h, k)
-
-    more : (a b : ℕ) → nat_le a b ≡ false → b < a
-    more a b e = leb-false a b e
-
-    less : (a b c : ℕ) → b < a → c < b → c < a
-    less a b c h k = omega (arith, h, k)
-
-    not-le : (a c : ℕ) → c < a → nat_le a c ≡ false
-    not-le a c h = lt-leb a c h
-
-    either : (p : Bool) → nat_le a b ≡ p → (q : Bool) → nat_le b c ≡ q →
-        larger (if p then b else a) c ≡ larger a (if q then c else b)
-    either true e true g =
-        ap (λ z. if z then c else b) g ∙ sym (ap (λ z. if z then c else a) (le-leb a c (through a b c (leb-true a b e) (leb-true b c g))))
-    either true e false g = ap (λ z. if z then c else b) g ∙ sym (ap (λ z. if z then b else a) e)
-    either false e true g = refl
-    either false e false g =
-        ap (λ z. if z then c else a) (not-le a c (less a b c (more a b e) (more b c g))) ∙ sym (ap (λ z. if z then b else a) e)
+-- calls enter where the table says
+pub agreeing : (functions : List Function) (table : List ℕ) → AreSelected functions →
+    ((f : FnId) → get_or table f.0 0 ≡ entry_in text_address functions f) → (f : FnId) → get_or table f.0 0 ≡ places_of functions f
+agreeing functions table s e f = e f ∙ entries-are functions text_address f s

@@ -1,28 +1,23 @@
 -- The machine's start, and runs of a linked image.
-use Rattle.std.proofs.Common.{◌≡◌, ◌≢◌, ℕ, zero, suc, ◌+◌, ◌-◌, ◌*◌, ◌/◌, ◌%◌, ◌^◌, ◌<◌, ◌≤◌, Bool, true, false, ◌&&◌, List, [], ◌∷◌, ◌++◌, length, replicate, map, Option, Some, None, refl, sym, ap, ◌∙◌, subst, ⊎_elim, inl, inr, arith}
-use Rattle.std.specs.Prelude.{get_or, if◌then◌else◌, nat_eq, nat_le, nat_lt, slice_get, slice_index, ◌==◌}
-use Rattle.std.proofs.lemmas.Bool.{eqb-true, le-leb, le-ltb, leb-true, ne_eqb}
+use Rattle.std.proofs.Common.{◌≡◌, ℕ, zero, suc, ◌+◌, ◌-◌, ◌*◌, ◌/◌, ◌%◌, ◌<◌, ◌≤◌, true, ◌&&◌, List, [], ◌∷◌, ◌++◌, length, replicate, map, Option, Some, refl, sym, ap, ◌∙◌, subst, arith}
+use Rattle.std.specs.Prelude.{if◌then◌else◌, nat_eq, nat_le, nat_lt, slice_get, slice_index, ◌==◌}
+use Rattle.std.proofs.lemmas.Bool.{eqb-true, le-ltb, leb-true, ne_eqb}
 use Rattle.std.proofs.lemmas.List.{append-nil, get_or_past, length-append, length-replicate, map-append}
 use Rattle.tl_base.specs.declared.ids.FnId.{FnId}
 use Rattle.rv_isa.specs.declared.instr.Instr.{Instr}
 use Rattle.elf_image.specs.declared.image.Image.{Image}
-use Rattle.elf_image.specs.Fields.{allows}
-use Rattle.elf_image.specs.Layout.{memory_rule, private_rule, text_address}
-use Rattle.elf_image.specs.Lawful.{IsLawful}
+use Rattle.elf_image.specs.Layout.{text_address}
 use Rattle.rv_machine.specs.declared.stops.Stop.TheVariants as stops
 use Rattle.rv_isa.specs.Table.{word_of}
-use Rattle.rv_machine.specs.Machine.{State, after_output, run_of, stands, start_registers}
+use Rattle.rv_machine.specs.Machine.{State, after_output, stands, start_registers}
 use Rattle.rv_machine.specs.Program.{IsProgram}
-use Rattle.rv_machine.specs.ImageRun.{RvRun, image_start, region_bytes}
+use Rattle.rv_machine.specs.ImageRun.{image_start, region_bytes}
 use Rattle.terra_words.specs.Words.{fault_number}
-use Rattle.terra_words.specs.Runs.{Fault, More, Over, Returned, Run, Stuck, word}
+use Rattle.terra_words.specs.Runs.{Fault, More, Over, Returned, Run, Stuck}
 use Rattle.terra_memory.specs.Region.{fresh}
-use Rattle.terra_memory.specs.Region as region
-use Rattle.tac_form.specs.declared.tac.Tac.{Tac}
 use Rattle.tac_form.specs.Flow as tac
 use Rattle.tac_form.specs.Flow.{Program}
 use Rattle.rv_select.specs.Places.{AreBytes}
-use Rattle.rv_select.specs.Whole.{Starts}
 use Rattle.rv_select.proofs.Stands.{both-true}
 use Rattle.rv_select.specs.Whole.{Ended, before_entry}
 use Rattle.rv_select.specs.Places.{layout_of}
@@ -31,7 +26,7 @@ use Rattle.rv_select.specs.Calls.{function_code}
 use Rattle.rv_select.proofs.Entire.{programs-carried}
 use Rattle.rv_link.specs.declared.function.Function.{Function}
 use Rattle.rv_link.specs.Linked.{function_words, image_of, places_of, program_of, text_from}
-use Rattle.rv_link.specs.Images.{AreWords, EndsLike, ImagesAreCarried, ImagesStart}
+use Rattle.rv_link.specs.Images.{EndsLike, ImagesAreCarried, ImagesStart}
 use Rattle.rv_link.proofs.Links.{texts-linked}
 
 all-bytes : (xs : List ℕ) → ((k : ℕ) → slice_index xs k < 256) → AreBytes xs

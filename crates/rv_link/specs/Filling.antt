@@ -1,5 +1,5 @@
 -- Views of the code, which private contracts cite: a function's words with its calls filled in.
-use Rattle.std.specs.Prelude.{◌≡◌, ℕ, ◌+◌, ◌-◌, ◌*◌, ◌≤◌, nat_eq, if◌then◌else◌, List, [], ◌∷◌, ◌++◌, length, map, take, drop}
+use Rattle.std.specs.Prelude.{ℕ, ◌+◌, ◌-◌, ◌*◌, ◌≤◌, nat_eq, if◌then◌else◌, List, [], ◌∷◌, ◌++◌, length, map, take, drop, slice_index}
 use Rattle.tl_base.specs.declared.ids.FnId.{FnId}
 use Rattle.rv_isa.specs.Table.{word_of}
 use Rattle.rv_select.specs.declared.selected.Call.{Call}
@@ -23,11 +23,16 @@ abbrev pub words_in : List Function → ℕ
 words_in [] = 0
 words_in (x ∷ xs) = length x.code.words.items + words_in xs
 
--- where calls enter a function, by the first that has its number
-abbrev pub entries_in : (at : ℕ) → List Function → List ℕ
-entries_in at [] = []
-entries_in at (x ∷ xs) = (at + 4 * x.code.entry) ∷ entries_in (at + 4 * length x.code.words.items) xs
+-- where calls enter the function of a number, by a table
+abbrev pub entry_at : (entries : List ℕ) → FnId → ℕ
+entry_at entries f = slice_index entries f.0
 
-abbrev pub entry_among : List Function → (entries : List ℕ) → FnId → ℕ
-entry_among (x ∷ xs) (e ∷ es) f = if nat_eq x.id.0 f.0 then e else entry_among xs es f
-entry_among _ _ f = 0
+-- and by the functions, of which the first that has the number counts, where they lie one behind the other from an address on
+abbrev pub entry_in : (at : ℕ) → List Function → FnId → ℕ
+entry_in at [] f = 0
+entry_in at (x ∷ xs) f =
+    if nat_eq x.id.0 f.0 then at + 4 * x.code.entry else entry_in (at + 4 * length x.code.words.items) xs f
+
+-- a number, or another where it is 0
+abbrev pub first_of : ℕ → ℕ → ℕ
+first_of a b = if nat_eq a 0 then b else a

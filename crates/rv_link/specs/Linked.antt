@@ -16,7 +16,7 @@ use Rattle.tac_form.specs.Flow.{Program}
 use Rattle.tac_form.specs.Fits.{Counted, Fits}
 use Rattle.rv_select.specs.Places.{layout_of}
 use Rattle.rv_select.specs.Calls.{IsSelected, all_has_code, function_code}
-use Rattle.rv_select.specs.Waiting.{Image, IsLinked, PassesAll, Placed, entries_of}
+use Rattle.rv_select.specs.Waiting.{Image, IsLinked, PassesAll, entries_of}
 use Rattle.rv_link.specs.declared.function.Function.{Function}
 use Rattle.rv_link.specs.declared.function.Linked.{Linked}
 

@@ -7,6 +7,7 @@
 pub mod function;
 pub mod law;
 pub mod linking;
+mod placing;
 pub mod ways;
 
 pub use function::{Function, Linked};
