@@ -1,6 +1,6 @@
 -- A return of three-address code is carried out.
-use Rattle.std.proofs.Common.{◌≡◌, ◌≢◌, ℕ, zero, suc, ◌+◌, ◌-◌, ◌*◌, ◌%◌, ◌^◌, ◌<◌, ◌≤◌, Bool, true, false, ◌&&◌, List, [], ◌∷◌, ◌++◌, length, take, drop, Option, Some, None, refl, sym, ap, ◌∙◌, subst, ⊎_elim, inl, inr, arith}
-use Rattle.std.specs.Prelude.{if◌then◌else◌, nat_eq, slice_get, ◌⊎◌}
+use Rattle.std.proofs.Common.{◌≡◌, ℕ, zero, suc, ◌+◌, ◌*◌, ◌%◌, ◌^◌, ◌<◌, ◌≤◌, true, ◌&&◌, List, [], ◌∷◌, ◌++◌, length, take, drop, Option, Some, None, refl, sym, ap, ◌∙◌, subst, ⊎_elim, inl, inr, arith}
+use Rattle.std.specs.Prelude.{if◌then◌else◌, nat_eq, slice_get}
 use Rattle.std.specs.List.{list_all}
 use Rattle.std.proofs.lemmas.Bool.{cases_eq, eq-eqb, eqb-true, ltb-true}
 use Rattle.std.proofs.lemmas.List.{length-append}
@@ -13,17 +13,16 @@ use Rattle.tac_form.specs.declared.tac.Part.{Part}
 use Rattle.tac_form.specs.declared.tac.Part.TheVariants as parts
 use Rattle.tac_form.specs.declared.tac.Destination.{Destination}
 use Rattle.tac_form.specs.declared.tac.Destination.TheVariants.{Temp, Area}
-use Rattle.tac_form.specs.declared.tac.Exit.{Exit}
 use Rattle.tac_form.specs.declared.tac.Exit.TheVariants.{Return}
 use Rattle.tac_form.specs.declared.tac.Instruction.TheVariants.{Call}
 use Rattle.tac_form.specs.declared.tac.Block.{Block}
 use Rattle.tac_form.specs.declared.tac.Tac.{Tac}
 use Rattle.tac_form.specs.Flow as tac
 use Rattle.tac_form.specs.Flow.{Activation, Caller, Program, area_size, give, given, operand, put, step, value_of}
-use Rattle.tac_form.specs.Fits.{area_fits, area_there, destination_fits, exit_fits, operand_fits, part_fits, place_fits}
-use Rattle.tac_form.specs.Graph.{block_of, destination_write, exit_reads, graph_of, operand_reads, step_of}
+use Rattle.tac_form.specs.Fits.{area_fits, destination_fits, exit_fits, part_fits, place_fits}
+use Rattle.tac_form.specs.Graph.{block_of, destination_write, exit_reads, graph_of, step_of}
 use Rattle.tac_form.specs.Live.{InUse, has}
-use Rattle.terra_words.specs.Runs.{Value, word, bytes}
+use Rattle.terra_words.specs.Runs.{word}
 use Rattle.terra_memory.specs.Numbers.{number_of}
 use Rattle.terra_memory.specs.Region.{IsLawful, end_address, heap_limit}
 use Rattle.reg_alloc.specs.declared.assignment.Home.{Home}
@@ -32,24 +31,22 @@ use Rattle.rv_machine.specs.Machine.{Ran, State, after_step, run_of, stands, unl
 use Rattle.rv_machine.specs.Machine as machine
 use Rattle.rv_machine.specs.declared.stops.Stop.TheVariants as stops
 use Rattle.rv_operators.specs.Runs.{Stands}
-use Rattle.rv_select.specs.Places.{AreBytes, Holds, Housed, Keeps, Layout, World, area_offset, frame_bytes, home_of, layout_of, private_word, value_in}
-use Rattle.rv_select.specs.Shapes.{put_to, start_of}
-use Rattle.rv_select.specs.Steps.{Comes, with_temp, world_of}
+use Rattle.rv_select.specs.Places.{AreBytes, Holds, Housed, Layout, World, area_offset, frame_bytes, home_of, layout_of, private_word}
+use Rattle.rv_select.specs.Shapes.{put_to}
+use Rattle.rv_select.specs.Steps.{Comes, world_of}
 use Rattle.rv_select.specs.Calls.{blocks_length, call_begun, call_ended, call_jump, head_code, last_address}
 use Rattle.rv_select.specs.Entering.{result_put, result_words, size_in}
-use Rattle.rv_select.specs.Waiting.{Arrives, Finishes, HasRoom, Image, IsLinked, IsPlaced, StandsIn, Stepped, Waiting, Waits, entries_of, place_in, restored}
+use Rattle.rv_select.specs.Waiting.{Arrives, HasRoom, Image, IsLinked, IsPlaced, StandsIn, Stepped, Waiting, Waits, entries_of, place_in, restored}
 use Rattle.rv_select.proofs.Carries.{by-test, nothing-written, operand-read}
 use Rattle.rv_select.proofs.Copies.{copies-there, size-small}
 use Rattle.rv_select.proofs.Finds.{FoundFunction, stands-next}
 use Rattle.rv_select.proofs.Leaves.{exit-in-graph, exit-reads-live}
 use Rattle.rv_select.proofs.Lives.{housed, step-in-graph, write-used}
 use Rattle.rv_select.proofs.Moves.{then-put, value-small}
-use Rattle.rv_select.proofs.Homes.{put-count}
 use Rattle.rv_select.proofs.Passes.{IsPartRead, part_value}
 use Rattle.rv_select.proofs.Receives.{housed-fewer}
 use Rattle.rv_select.proofs.Returns.{BackIn, HeldIn, Resumes, UsedBut, back-holds, goes-back, resumes}
-use Rattle.rv_select.proofs.Stands.{AtExit, AtPlace, at-exit, at-instruction, both-true, exit-within, instruction-within, list-all-get, the-function, within-parts}
-use Rattle.rv_select.proofs.Straight.{low-below, low-small}
+use Rattle.rv_select.proofs.Stands.{AtExit, AtPlace, at-exit, at-instruction, both-true, exit-within, instruction-within, the-function, within-parts}
 use Rattle.rv_select.proofs.Waits.{SameAbove, restored-same, waits-keeps, waits-same, waits-within}
 use Rattle.rv_select.proofs.Ways.{Way, near-same, way-both, way-none}
 

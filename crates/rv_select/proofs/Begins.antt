@@ -1,17 +1,15 @@
 -- How the machine comes from its start into the first function.
-use Rattle.std.proofs.Common.{◌≡◌, ◌≢◌, ℕ, zero, suc, ◌+◌, ◌-◌, ◌*◌, ◌/◌, ◌%◌, ◌^◌, ◌<◌, ◌≤◌, Bool, true, false, List, [], ◌∷◌, ◌++◌, length, take, drop, map, append_assoc, Option, Some, None, refl, sym, ap, ◌∙◌, subst, ⊎_elim, inl, inr, arith}
-use Rattle.std.specs.Prelude.{if◌then◌else◌, nat_eq, nat_le, nat_lt, slice_get, ◌⊎◌}
-use Rattle.std.specs.List.{list_all}
-use Rattle.std.proofs.lemmas.Bool.{cases_eq, cases_lt, le-leb, leb-true, ltb-true, lt-ltb}
-use Rattle.std.proofs.lemmas.List.{append-nil, length-append}
+use Rattle.std.proofs.Common.{◌≡◌, ◌≢◌, ℕ, zero, suc, ◌+◌, ◌-◌, ◌*◌, ◌^◌, ◌<◌, ◌≤◌, true, false, List, [], ◌∷◌, ◌++◌, length, take, drop, map, append_assoc, Option, Some, refl, sym, ap, ◌∙◌, subst, ⊎_elim, inl, inr, arith}
+use Rattle.std.specs.Prelude.{if◌then◌else◌, nat_lt, slice_get, ◌⊎◌}
+use Rattle.std.proofs.lemmas.Bool.{cases_eq, cases_lt, le-leb, ltb-true, lt-ltb}
+use Rattle.std.proofs.lemmas.List.{length-append}
 use Rattle.tl_base.specs.declared.ids.FnId.{FnId}
 use Rattle.rv_isa.specs.declared.instr.Instr.{Instr}
 use Rattle.rv_isa.specs.declared.operand.Register.{Register}
 use Rattle.terra_memory.specs.Numbers.{low_bytes, number_of}
 use Rattle.terra_memory.specs.Region.{Contents, end_address, heap_limit}
 use Rattle.terra_words.specs.declared.words.FaultKind.TheVariants.{StackFull}
-use Rattle.terra_words.specs.Words.{most_calls}
-use Rattle.terra_words.specs.Runs.{Value, word}
+use Rattle.terra_words.specs.Runs.{word}
 use Rattle.tac_form.specs.declared.tac.Destination.{Destination}
 use Rattle.tac_form.specs.declared.tac.Tac.{Tac}
 use Rattle.tac_form.specs.Flow as tac
@@ -19,30 +17,29 @@ use Rattle.tac_form.specs.Flow.{Activation, Program, accepts_all, enter, takes_a
 use Rattle.tac_form.specs.Graph.{graph_of}
 use Rattle.tac_form.specs.Live.{InUse}
 use Rattle.rv_machine.specs.Word.{low}
-use Rattle.rv_machine.specs.Machine.{State, GoesOn, act, at_with, run_of}
+use Rattle.rv_machine.specs.Machine.{State, GoesOn, act, at_with}
 use Rattle.rv_operators.specs.Runs.{Stands}
 use Rattle.rv_select.specs.Numbers.{constant, register_of}
-use Rattle.rv_select.specs.Places.{AreBytes, Holds, Keeps, Layout, frame_bytes, layout_of, private_word, uses}
+use Rattle.rv_select.specs.Places.{AreBytes, frame_bytes, layout_of, private_word, uses}
 use Rattle.rv_select.specs.Shapes.{moved, place_number, x4, x8, x11}
-use Rattle.rv_select.specs.Steps.{Ends}
 use Rattle.rv_select.specs.Calls.{blocks_length, head_code, last_address}
-use Rattle.rv_select.specs.Entering.{arguments_stored, begun, entered, kept_offset, most_arguments, received, stored_below, words_offset, receiving}
+use Rattle.rv_select.specs.Entering.{arguments_stored, begun, entered, kept_offset, received, stored_below, words_offset, receiving}
 use Rattle.rv_select.specs.Frames.{BeforeEntering, Enters, HasWords, Received, seen, without_words}
-use Rattle.rv_select.specs.Waiting.{Arrives, HasRoom, Image, IsLinked, IsPlaced, Stepped, Waits, entries_of, place_in, restored}
+use Rattle.rv_select.specs.Waiting.{Arrives, Image, IsLinked, IsPlaced, Stepped, entries_of, place_in}
 use Rattle.rv_select.specs.Whole.{EntriesAreCarried, Starts, before_entry}
 use Rattle.rv_select.proofs.Arrivals.{InFunction, begin-holds, link-after}
-use Rattle.rv_select.proofs.Bytes.{stored-length, stored-word}
+use Rattle.rv_select.proofs.Bytes.{stored-word}
 use Rattle.rv_select.proofs.Calling.{first-start, fresh_call, takes-is, widen}
-use Rattle.rv_select.proofs.Carries.{by-test, nothing-written, place-small}
+use Rattle.rv_select.proofs.Carries.{by-test, place-small}
 use Rattle.rv_select.proofs.Areas.{Saves}
 use Rattle.rv_select.proofs.Entrances.{functions-entered}
 use Rattle.rv_select.proofs.Faults.{later-ends}
 use Rattle.rv_select.proofs.Finds.{FoundFunction}
 use Rattle.rv_select.proofs.Numbers.{constant-loads, register-is}
-use Rattle.rv_select.proofs.Passes.{Beneath, below-saves, beneath-both, beneath-more, near-beneath, saves-beneath}
+use Rattle.rv_select.proofs.Passes.{Beneath, below-saves, beneath-both, near-beneath, saves-beneath}
 use Rattle.rv_select.proofs.Receives.{parameters-received}
 use Rattle.rv_select.proofs.Returns.{if-is}
-use Rattle.rv_select.proofs.Stands.{Within, both-true, the-function, within-parts}
+use Rattle.rv_select.proofs.Stands.{Within, the-function, within-parts}
 use Rattle.rv_select.proofs.Straight.{Loads, low-below, low-small, written-elsewhere, written-there}
 use Rattle.rv_select.proofs.Ways.{Way, near-same, stands-back, stands-front, step-way, straight-way, way-both, way-none}
 

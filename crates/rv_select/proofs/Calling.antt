@@ -1,6 +1,6 @@
 -- A call of three-address code is carried out.
-use Rattle.std.proofs.Common.{◌≡◌, ◌≢◌, ℕ, zero, suc, ◌+◌, ◌-◌, ◌*◌, ◌/◌, ◌%◌, ◌^◌, ◌<◌, ◌≤◌, Bool, true, false, ◌&&◌, ◌||◌, List, [], ◌∷◌, ◌++◌, length, take, drop, Option, Some, None, refl, sym, ap, ◌∙◌, subst, ⊎_elim, inl, inr, arith}
-use Rattle.std.specs.Prelude.{if◌then◌else◌, nat_eq, nat_le, nat_lt, slice_get, ◌⊎◌}
+use Rattle.std.proofs.Common.{◌≡◌, ◌≢◌, ℕ, zero, suc, ◌+◌, ◌-◌, ◌*◌, ◌/◌, ◌%◌, ◌^◌, ◌<◌, ◌≤◌, true, false, ◌&&◌, List, [], ◌∷◌, ◌++◌, length, take, drop, Option, Some, None, refl, sym, ap, ◌∙◌, subst, ⊎_elim, inl, arith}
+use Rattle.std.specs.Prelude.{nat_le, nat_lt, slice_get}
 use Rattle.std.specs.List.{flat_map, list_all}
 use Rattle.std.proofs.lemmas.Bool.{cases_lt, eqb-true, le-leb, leb-true, lt-ltb, ltb-true}
 use Rattle.std.proofs.lemmas.List.{length-append}
@@ -12,8 +12,7 @@ use Rattle.terra_memory.specs.Numbers.{number_of}
 use Rattle.terra_memory.specs.Region.{end_address, heap_limit}
 use Rattle.terra_words.specs.declared.words.FaultKind.TheVariants.{CallDepth, StackFull}
 use Rattle.terra_words.specs.Words.{most_calls}
-use Rattle.terra_words.specs.Runs.{Fault, More, Over, Stuck, Value}
-use Rattle.tac_form.specs.declared.tac.Operand.TheVariants as operands
+use Rattle.terra_words.specs.Runs.{Value}
 use Rattle.tac_form.specs.declared.tac.Part.{Part}
 use Rattle.tac_form.specs.declared.tac.Part.TheVariants as parts
 use Rattle.tac_form.specs.declared.tac.Destination.{Destination}
@@ -23,25 +22,25 @@ use Rattle.tac_form.specs.declared.tac.Block.{Block}
 use Rattle.tac_form.specs.declared.tac.Tac.{Tac}
 use Rattle.tac_form.specs.Flow as tac
 use Rattle.tac_form.specs.Flow.{Activation, Caller, Goes, Program, Stops, accepts_all, enter, operand, step, takes, takes_all, values_of}
-use Rattle.tac_form.specs.Fits.{area_there, destination_fits, instruction_fits, operand_fits, part_fits, place_fits}
-use Rattle.tac_form.specs.Graph.{block_of, destination_write, graph_of, part_reads, parts_reads, step_of}
+use Rattle.tac_form.specs.Fits.{destination_fits, instruction_fits, part_fits, place_fits}
+use Rattle.tac_form.specs.Graph.{block_of, destination_write, graph_of, part_reads, step_of}
 use Rattle.tac_form.specs.Live.{InUse, has, is_written}
 use Rattle.rv_machine.specs.Word.{low}
 use Rattle.rv_machine.specs.Machine.{State, run_of}
 use Rattle.rv_operators.specs.Runs.{Stands}
-use Rattle.rv_select.specs.Places.{AreBytes, Holds, Housed, Keeps, Layout, World, area_offset, frame_bytes, home_of, layout_of, private_word}
+use Rattle.rv_select.specs.Places.{Holds, Housed, Layout, World, area_offset, frame_bytes, home_of, layout_of, private_word}
 use Rattle.rv_select.specs.Shapes.{place_number, start_of}
 use Rattle.rv_select.specs.Steps.{Ends, world_of}
 use Rattle.rv_select.specs.Calls.{block_starts, blocks_length, call_begun, call_ended, call_jump, head_code, instruction_code, last_address, starts_from}
 use Rattle.rv_select.specs.Entering.{begun, entered, received, receiving, words_offset}
 use Rattle.rv_select.specs.Frames.{BeforeEntering, Enters, IsPartRead, Received, part_value, seen, without_words}
-use Rattle.rv_select.specs.Waiting.{Arrives, HasRoom, Image, IsLinked, IsPlaced, Placed, StandsIn, Stepped, Waiting, Waits, entries_of, entry_of, place_in, restored}
+use Rattle.rv_select.specs.Waiting.{Arrives, HasRoom, Image, IsLinked, IsPlaced, StandsIn, Stepped, Waiting, Waits, entries_of, entry_of, place_in, restored}
 use Rattle.rv_select.proofs.Arrivals.{InFunction, areas-lie, begin-holds, enters-call, has-words, link-after, room-next, same-after}
 use Rattle.rv_select.proofs.Callings.{Begun, JumpedTo, begins, jumps-to, too-deep}
 use Rattle.rv_select.proofs.Carries.{by-test, has-left, has-right, nothing-written, operand-read, place-small}
 use Rattle.rv_select.proofs.Entrances.{functions-entered, more-ends}
 use Rattle.rv_select.proofs.Faults.{later-ends}
-use Rattle.rv_select.proofs.Finds.{FoundFunction, stands-next}
+use Rattle.rv_select.proofs.Finds.{FoundFunction}
 use Rattle.rv_select.proofs.Lives.{housed, read-live, step-in-graph, use-follows}
 use Rattle.rv_select.proofs.Moves.{value-small}
 use Rattle.rv_select.proofs.Receives.{parameters-received}

@@ -1,6 +1,6 @@
 -- Bytes of private memory go to an area, as those that are passed and given back do.
-use Rattle.std.proofs.Common.{◌≡◌, ◌≢◌, ℕ, zero, suc, ◌+◌, ◌*◌, ◌^◌, ◌<◌, ◌≤◌, true, ◌&&◌, List, [], ◌∷◌, ◌++◌, length, take, drop, Option, refl, sym, ap, ◌∙◌, subst, ⊎_elim, inl, inr, arith}
-use Rattle.std.specs.Prelude.{slice_get, unwrap_or, ◌⊎◌, nat_le}
+use Rattle.std.proofs.Common.{◌≡◌, ℕ, zero, suc, ◌+◌, ◌^◌, ◌<◌, ◌≤◌, true, List, [], ◌∷◌, ◌++◌, length, take, drop, Option, sym, ap, ◌∙◌, subst, ⊎_elim, inl, inr, arith}
+use Rattle.std.specs.Prelude.{◌⊎◌}
 use Rattle.std.specs.List.{list_all}
 use Rattle.std.proofs.lemmas.Bool.{leb-true}
 use Rattle.std.proofs.lemmas.List.{length-append}
@@ -9,7 +9,6 @@ use Rattle.terra_memory.specs.Numbers.{overwritten}
 use Rattle.terra_memory.proofs.Overwriting.{length-overwritten, part-overwritten}
 use Rattle.tac_form.specs.Fits.{area_fits}
 use Rattle.rv_machine.specs.declared.memory.Place.TheVariants.{Private}
-use Rattle.rv_machine.specs.Word.{low}
 use Rattle.rv_machine.specs.Machine.{State}
 use Rattle.rv_operators.specs.Codes.{x5, x6}
 use Rattle.rv_operators.specs.Runs.{Stands}

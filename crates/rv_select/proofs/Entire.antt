@@ -1,5 +1,5 @@
 -- Whole runs, from the machine's start.
-use Rattle.std.proofs.Common.{◌≡◌, ◌≢◌, ℕ, zero, suc, ◌+◌, ◌-◌, ◌*◌, ◌<◌, ◌≤◌, Bool, true, false, List, [], ◌∷◌, ◌++◌, length, map, sum_by, Option, Some, None, refl, sym, ap, ◌∙◌, subst, arith}
+use Rattle.std.proofs.Common.{◌≡◌, ℕ, suc, ◌+◌, ◌*◌, ◌≤◌, List, [], ◌∷◌, ◌++◌, length, map, sum_by, Option, Some, None, sym, ap, ◌∙◌, subst, arith}
 use Rattle.std.specs.Prelude.{if◌then◌else◌, nat_lt}
 use Rattle.std.proofs.Math.Nat.{suc-mul}
 use Rattle.std.proofs.lemmas.Bool.{le-leb}
@@ -7,17 +7,15 @@ use Rattle.std.proofs.lemmas.List.{length-append}
 use Rattle.tl_base.specs.declared.ids.FnId.{FnId}
 use Rattle.rv_isa.specs.declared.instr.Instr.{Instr}
 use Rattle.terra_memory.specs.Region.{Contents, end_address, fresh, heap_limit}
-use Rattle.terra_words.specs.Runs.{Run, Value, word}
+use Rattle.terra_words.specs.Runs.{Value, word}
 use Rattle.tac_form.specs.declared.tac.Tac.{Tac}
-use Rattle.tac_form.specs.Flow as tac
-use Rattle.tac_form.specs.Flow.{Activation, Goes, Program, Stops, accepts_all, enter, place_of, steps, takes_all}
+use Rattle.tac_form.specs.Flow.{Activation, Program, accepts_all, enter, place_of, steps, takes_all}
 use Rattle.tac_form.specs.Weights.{block_words, code_words}
-use Rattle.rv_machine.specs.Machine.{State, fetch}
+use Rattle.rv_machine.specs.Machine.{fetch}
 use Rattle.rv_select.specs.Numbers.{constant}
 use Rattle.rv_select.specs.Shapes.{moved, place_number, x4, x8, x11}
 use Rattle.rv_select.specs.Entering.{arguments_stored, begun, receiving}
-use Rattle.rv_select.specs.Waiting.{Image, IsLinked}
-use Rattle.rv_select.specs.Whole.{AreShort, Ended, ProgramsAreCarried, Starts, before_entry, steps_left, words_behind}
+use Rattle.rv_select.specs.Whole.{ProgramsAreCarried, before_entry, steps_left, words_behind}
 use Rattle.rv_select.proofs.Begins.{entries-carried}
 use Rattle.rv_select.proofs.Calling.{fresh_call, takes-is}
 use Rattle.rv_select.proofs.Carries.{by-test}

@@ -1,6 +1,6 @@
 -- Each step takes no more of the machine's steps than are taken off what is left of them.
-use Rattle.std.proofs.Common.{◌≡◌, ◌≢◌, ℕ, zero, suc, ◌+◌, ◌-◌, ◌*◌, ◌<◌, ◌≤◌, Bool, true, false, ◌&&◌, ◌||◌, List, [], ◌∷◌, ◌++◌, length, drop, sum_by, Option, Some, None, refl, sym, ap, ◌∙◌, subst, ⊎_elim, inl, inr, arith}
-use Rattle.std.specs.Prelude.{fold, if◌then◌else◌, nat_le, nat_lt, slice_get, ◌⊎◌}
+use Rattle.std.proofs.Common.{◌≡◌, ℕ, zero, suc, ◌+◌, ◌*◌, ◌<◌, ◌≤◌, Bool, true, false, ◌&&◌, ◌||◌, List, [], ◌∷◌, length, drop, sum_by, Option, Some, None, refl, sym, ap, ◌∙◌, subst, ⊎_elim, inl, inr, arith}
+use Rattle.std.specs.Prelude.{fold, nat_le, nat_lt, slice_get, ◌⊎◌}
 use Rattle.std.proofs.Math.Nat.{suc-mul}
 use Rattle.std.proofs.lemmas.Bool.{cases_Bool, ltb-true}
 use Rattle.std.proofs.lemmas.List.Sums.{sum_by-cons}
@@ -28,7 +28,7 @@ use Rattle.rv_select.specs.Whole.{AreShort, block_behind, steps_left, waiting_wo
 use Rattle.rv_select.proofs.Backs.{return_most}
 use Rattle.rv_select.proofs.Calling.{entered_state, fresh_call, takes-is, taking}
 use Rattle.rv_select.proofs.Carries.{by-test}
-use Rattle.rv_select.proofs.Inner.{IsNext, LeavesIf, LeavesTo, Stays, StaysIf}
+use Rattle.rv_select.proofs.Inner.{IsNext, LeavesIf, StaysIf}
 
 abbrev pub FallsIf : Program → (words bound : ℕ) → tac.State → tac.Moved → Type 0
 FallsIf p words bound s (Goes t) = (bound + steps_left p words t ≤ steps_left p words s) × (s.left ≤ suc t.left)

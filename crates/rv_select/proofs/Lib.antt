@@ -28,7 +28,7 @@ pub mod Jumps
 pub mod Leaves
 pub mod Pushed
 pub mod Lengths
-pub mod Selects
+pub mod Loops
 pub mod Layouts
 pub mod Bodies
 pub mod Kept

@@ -1,6 +1,6 @@
 -- Parameters go from their words to where they are taken.
-use Rattle.std.proofs.Common.{◌≡◌, ◌≢◌, ℕ, zero, suc, ◌+◌, ◌-◌, ◌*◌, ◌%◌, ◌^◌, ◌<◌, ◌≤◌, Bool, true, false, ◌&&◌, ◌||◌, List, [], ◌∷◌, ◌++◌, length, take, drop, append_assoc, Option, Some, refl, sym, ap, ◌∙◌, subst, ⊎_elim, inl, inr, arith}
-use Rattle.std.specs.Prelude.{if◌then◌else◌, nat_eq, nat_lt, ◌⊎◌}
+use Rattle.std.proofs.Common.{◌≡◌, ℕ, ◌+◌, ◌*◌, ◌^◌, ◌<◌, ◌≤◌, Bool, true, false, ◌||◌, List, [], ◌∷◌, ◌++◌, length, take, drop, append_assoc, Option, refl, sym, ap, ◌∙◌, subst, ⊎_elim, inl, inr, arith}
+use Rattle.std.specs.Prelude.{nat_eq, nat_lt, ◌⊎◌}
 use Rattle.std.specs.List.{list_all, list_any}
 use Rattle.std.proofs.lemmas.Bool.{cases_Bool, eq-eqb, eqb-true, ltb-true}
 use Rattle.std.proofs.lemmas.List.{append-nil, length-append}
@@ -22,7 +22,7 @@ use Rattle.rv_operators.specs.Codes.{x5}
 use Rattle.rv_operators.specs.Runs.{Stands}
 use Rattle.rv_select.specs.Places.{Holds, Housed, Keeps, Layout, World, area_offset, frame_bytes, home_of, layout_of, private_word, with_homes}
 use Rattle.rv_select.specs.Shapes.{framed, put_to, to_area}
-use Rattle.rv_select.specs.Steps.{Comes, Follows, behind, with_temp}
+use Rattle.rv_select.specs.Steps.{Comes, behind, with_temp}
 use Rattle.rv_select.specs.Entering.{received, received_one, receiving, size_in, words_offset}
 pub use Rattle.rv_select.specs.Frames.{HasWords, IsWordOf, LiesAt, ParametersAreReceived, Received, seen, without_words}
 use Rattle.reg_alloc.specs.declared.assignment.Home.{Home}
@@ -33,10 +33,10 @@ use Rattle.rv_select.proofs.Copies.{copies-there, size-small}
 use Rattle.rv_select.proofs.Lives.{housed}
 use Rattle.rv_select.proofs.Bytes.{private-place}
 use Rattle.rv_select.proofs.Frames.{framed-count, framed-loads}
-use Rattle.rv_select.proofs.Homes.{put-count, region-small}
+use Rattle.rv_select.proofs.Homes.{region-small}
 use Rattle.rv_select.proofs.Moves.{fewer-holds, keeps-both, near-keeps, scratch-holds, straight-put}
 use Rattle.rv_select.proofs.Stands.{both-true}
-use Rattle.rv_select.proofs.Straight.{Loads, Scratch, behind-both, loads-five, low-below}
+use Rattle.rv_select.proofs.Straight.{Loads, Scratch, behind-both, loads-five}
 use Rattle.rv_select.proofs.Transports.{later-comes}
 use Rattle.rv_select.proofs.Ways.{Way, near-same, scratch-near, stands-back, stands-front, straight-way, way-both, way-none}
 

@@ -1,5 +1,5 @@
 -- Steps and runs of a program of several functions.
-use Rattle.std.proofs.Common.{◌≡◌, ◌≢◌, ℕ, zero, suc, ◌+◌, ◌-◌, ◌*◌, ◌<◌, ◌≤◌, Bool, true, false, ◌&&◌, List, [], ◌∷◌, ◌++◌, length, append_assoc, Option, Some, None, refl, sym, ap, ◌∙◌, subst, inl, inr, arith}
+use Rattle.std.proofs.Common.{◌≡◌, ◌≢◌, ℕ, zero, suc, ◌+◌, ◌*◌, ◌≤◌, true, List, [], ◌∷◌, ◌++◌, length, append_assoc, Option, Some, None, refl, sym, ap, ◌∙◌, subst, arith}
 use Rattle.std.specs.Prelude.{slice_get}
 use Rattle.std.specs.List.{list_all}
 use Rattle.std.proofs.lemmas.List.{append-nil}
@@ -7,7 +7,7 @@ use Rattle.tl_base.specs.declared.ids.FnId.{FnId}
 use Rattle.tl_base.specs.declared.place.Place.{Place}
 use Rattle.rv_isa.specs.declared.instr.Instr.{Instr}
 use Rattle.rv_machine.specs.Machine.{Ran, State, after_output, run_of}
-use Rattle.terra_words.specs.Runs.{End, Fault, More, Over, Returned, Run, Stuck, Value}
+use Rattle.terra_words.specs.Runs.{End, Fault, More, Over, Returned, Run, Stuck}
 use Rattle.tac_form.specs.declared.tac.Part.{Part}
 use Rattle.tac_form.specs.declared.tac.Destination.{Destination}
 use Rattle.tac_form.specs.declared.tac.Exit.{Exit}
@@ -21,10 +21,9 @@ use Rattle.tac_form.specs.Flow.{Goes, Program, Stops, step, steps}
 use Rattle.tac_form.specs.Weights.{exit_words, words_of}
 use Rattle.rv_select.specs.Places.{Layout, layout_of}
 use Rattle.rv_select.specs.Shapes.{has_exit_shape, has_shape, start_of}
-use Rattle.rv_select.specs.Steps.{Ends}
 use Rattle.rv_select.specs.Calls.{block_code, block_has_code, block_starts, has_code, has_exit_code, head_code, instruction_code, starts_from}
-use Rattle.rv_select.specs.Waiting.{Arrives, Finishes, Image, IsLinked, IsPlaced, Placed, StandsIn, Stepped, entries_of, instruction_at, instructions_in, place_in}
-use Rattle.rv_select.specs.Whole.{AreShort, Ended, RunFails, RunGoesOn, RunReturns, RunsAreCarried, StepsAreCarried, steps_left}
+use Rattle.rv_select.specs.Waiting.{Arrives, Image, IsLinked, IsPlaced, Placed, StandsIn, Stepped, entries_of, instruction_at, instructions_in, place_in}
+use Rattle.rv_select.specs.Whole.{AreShort, Ended, RunsAreCarried, StepsAreCarried, steps_left}
 use Rattle.rv_select.proofs.Backs.{return-steps, return_most}
 use Rattle.rv_select.proofs.Calling.{call-step, taking}
 use Rattle.rv_select.proofs.Falls.{FallsIf, falls-call, falls-exit, falls-inner, falls-return}

@@ -1,7 +1,7 @@
 -- Moves of bytes from one spot to another.
 use Rattle.std.proofs.Common.{◌≡◌, ◌≢◌, ℕ, zero, suc, ◌+◌, ◌-◌, ◌*◌, ◌/◌, ◌%◌, ◌^◌, ◌<◌, ◌≤◌, Bool, true, false, List, [], ◌∷◌, ◌++◌, length, take, drop, Option, Some, None, refl, sym, ap, ◌∙◌, subst, ⊎_elim, inl, inr, arith}
 use Rattle.std.specs.Prelude.{if◌then◌else◌, nat_eq, ◌⊎◌}
-use Rattle.std.proofs.lemmas.Bool.{cases_lt, eq-eqb, ne_eqb}
+use Rattle.std.proofs.lemmas.Bool.{cases_lt, ne_eqb}
 use Rattle.std.proofs.lemmas.List.{length-append, length-drop, length-take-le}
 use Rattle.tl_base.specs.declared.place.Place.{Place}
 use Rattle.rv_isa.specs.declared.instr.Instr.{Instr}
@@ -14,36 +14,33 @@ use Rattle.rv_isa.specs.declared.operation.StoreOp.TheVariants.{Sb, Sh, Sw}
 use Rattle.rv_isa.specs.declared.operand.Register.{Register}
 use Rattle.rv_machine.specs.declared.memory.Place.TheVariants.{Region, Private}
 use Rattle.rv_machine.specs.Word.{low}
-use Rattle.rv_machine.specs.Machine.{State, GoesOn, act, at_with, after_output, run_of}
+use Rattle.rv_machine.specs.Machine.{State, at_with, run_of}
 use Rattle.terra_memory.specs.Numbers.{overwritten, part}
 use Rattle.terra_memory.specs.Region.{Contents, end_address, first_address, is_inside, range_of}
-use Rattle.terra_memory.proofs.Overwriting.{length-overwritten}
 use Rattle.terra_words.specs.declared.words.FaultKind.TheVariants.{BadAddress}
 use Rattle.terra_words.specs.Runs.{put_bytes}
-use Rattle.tac_form.specs.declared.tac.Operand.{Operand}
 use Rattle.tac_form.specs.declared.tac.Address.{Address}
 use Rattle.tac_form.specs.declared.tac.Address.TheVariants.{Word, Frame}
 use Rattle.tac_form.specs.declared.tac.Spot.{Spot}
 use Rattle.tac_form.specs.declared.tac.Spot.TheVariants as spots
 use Rattle.tac_form.specs.declared.tac.Instruction.TheVariants.{Move}
-use Rattle.tac_form.specs.Weights.{most_moved, words_of}
-use Rattle.rv_operators.specs.Claims.{acts, then_on}
+use Rattle.tac_form.specs.Weights.{words_of}
 use Rattle.rv_operators.specs.Codes.{x0, x5, x6}
-use Rattle.rv_operators.specs.Runs.{AreStraight, Stands}
+use Rattle.rv_operators.specs.Runs.{Stands}
 use Rattle.rv_operators.proofs.Runs.{straight-both}
-use Rattle.rv_select.specs.Places.{AreBytes, Layout, World, HasFrame, Holds, Housed, Keeps, area_offset, frame_bytes, home_of, value_in}
-use Rattle.rv_select.specs.Shapes.{all_carried, area_reached, bounds_tested, bytes_moved, carried_eights, carried_if, from_area, located, moved, reached, some_moved, taken, to_area}
+use Rattle.rv_select.specs.Places.{AreBytes, Layout, World, Holds, Housed, area_offset, frame_bytes, home_of, value_in}
+use Rattle.rv_select.specs.Shapes.{all_carried, area_reached, bounds_tested, bytes_moved, carried_eights, carried_if, from_area, located, moved, some_moved, taken, to_area}
 use Rattle.rv_select.specs.Steps.{AreFewer, Comes, Ends, IsPlace, behind}
 use Rattle.rv_select.proofs.Claims.{IsReached, address_in, with_area, with_region}
-use Rattle.rv_select.proofs.Areas.{AreaSet, Saves, area-comes, area-near, area-room, area-written, then-saves}
+use Rattle.rv_select.proofs.Areas.{Saves, area-comes, area-near, area-room, area-written, then-saves}
 use Rattle.rv_select.proofs.Frames.{framed-address, framed-count, framed-some}
 use Rattle.rv_select.proofs.Homes.{region-small}
-use Rattle.rv_select.proofs.Moves.{fewer-holds, home-keeps, keeps-both, lasts-not, near-holds, near-keeps, scratch-holds, value-small}
+use Rattle.rv_select.proofs.Moves.{fewer-holds, home-keeps, keeps-both, lasts-not, near-holds, near-keeps, scratch-holds}
 use Rattle.rv_select.proofs.Parts.{none-written, part-within}
 use Rattle.rv_select.proofs.Regions.{Reached, end-small, frame-reached, inside-true, insides, low-enough, outside-false, range-is, weaker, weaker-ends, word-inside, word-outside}
 use Rattle.rv_select.proofs.Stores.{lawful-still, put-is, stored-count, stored-region}
-use Rattle.rv_select.proofs.Straight.{Loads, Scratch, behind-both, goes-both, loads-five, loads-six, low-below, low-first, written-elsewhere}
-use Rattle.rv_select.proofs.Transfers.{AreApart, Moving, Transfer, all-moved, if-some}
+use Rattle.rv_select.proofs.Straight.{Loads, Scratch, behind-both, goes-both, loads-five, loads-six, low-below, low-first}
+use Rattle.rv_select.proofs.Transfers.{Moving, Transfer, all-moved, if-some}
 use Rattle.rv_select.proofs.Ways.{Near, Way, scratch-near, stands-back, stands-front, straight-way, way-both}
 use Rattle.rv_select.proofs.Words.{drop-bytes, overwritten-bytes, take-bytes}
 

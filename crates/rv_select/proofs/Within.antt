@@ -1,8 +1,8 @@
 -- The code of calls, and that of entering and leaving functions, keeps within its weight.
-use Rattle.std.proofs.Common.{◌≡◌, ℕ, zero, suc, ◌+◌, ◌-◌, ◌*◌, ◌^◌, ◌≤◌, Bool, true, false, List, [], ◌∷◌, ◌++◌, length, refl, sym, ap, ◌∙◌, subst, ⊎_elim, arith}
+use Rattle.std.proofs.Common.{◌≡◌, ℕ, zero, suc, ◌+◌, ◌-◌, ◌*◌, ◌^◌, ◌≤◌, Bool, true, false, List, [], ◌∷◌, ◌++◌, length, refl, sym, subst, arith}
 use Rattle.std.specs.Prelude.{if◌then◌else◌, nat_le}
 use Rattle.std.specs.List.{list_all}
-use Rattle.std.proofs.lemmas.Bool.{cases_Bool, le-leb, leb-true}
+use Rattle.std.proofs.lemmas.Bool.{le-leb, leb-true}
 use Rattle.std.proofs.lemmas.List.{length-append}
 use Rattle.rv_isa.specs.declared.instr.Instr.{Instr}
 use Rattle.rv_isa.specs.declared.instr.Instr.TheVariants.{Jalr, Load, RegisterRegister, Store}
@@ -20,7 +20,7 @@ use Rattle.tac_form.specs.declared.tac.Part.{Part}
 use Rattle.rv_operators.specs.Codes.{x0, x5, x6, zero_immediate}
 use Rattle.rv_select.specs.Numbers.{below_zero, constant, lower_of, register_of, short_constant}
 use Rattle.rv_select.specs.Places.{Layout, home_of}
-use Rattle.rv_select.specs.Shapes.{far_part, fault_call, framed, jump, limit_found, place_number, put_to, x2, x7, x8, x10, x11}
+use Rattle.rv_select.specs.Shapes.{far_part, framed, jump, limit_found, place_number, x2, x7, x8, x10, x11}
 use Rattle.rv_select.specs.Entering.{arguments_stored, entered, frames_given, frames_taken, stack_tested, x1, most_arguments, put_back, received, receiving, result_put, result_words, saved, size_in, stack_branch, stored_below}
 use Rattle.rv_select.specs.Calls.{call_begun, call_ended, called, call_jump, depth_tested, one_more, part_taken, passed}
 use Rattle.rv_select.specs.Frames.{CallsKeepWithin, FramesKeepWithin, ParametersKeepWithin}

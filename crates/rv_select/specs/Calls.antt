@@ -1,5 +1,5 @@
 -- Calls and returns, and the code of a whole function.
-use Rattle.std.specs.Prelude.{◌≡◌, ℕ, zero, suc, ◌+◌, ◌-◌, ◌*◌, ◌≤◌, IsTrue, Bool, ◌&&◌, true, false, List, [], ◌∷◌, ◌++◌, length, map, Option}
+use Rattle.std.specs.Prelude.{◌≡◌, ℕ, ◌+◌, ◌*◌, ◌≤◌, IsTrue, Bool, ◌&&◌, true, List, [], ◌∷◌, ◌++◌, length, map, Option}
 use Rattle.std.specs.List.{list_all}
 use Rattle.tl_base.specs.declared.place.Place.{Place}
 use Rattle.tl_base.specs.declared.ids.FnId.{FnId}

@@ -1,9 +1,8 @@
 -- How a function is entered and left.
 use Rattle.std.specs.Prelude.{ℕ, zero, suc, ◌+◌, ◌-◌, ◌*◌, ◌^◌, slice_get, unwrap_or, Bool, true, false, nat_le, if◌then◌else◌, List, [], ◌∷◌, ◌++◌, length}
 use Rattle.std.proofs.Common.{lit≤}
-use Rattle.tl_base.specs.declared.place.Place.{Place}
 use Rattle.rv_isa.specs.declared.instr.Instr.{Instr}
-use Rattle.rv_isa.specs.declared.instr.Instr.TheVariants.{Lui, Jalr, Branch, Load, Store, RegisterRegister}
+use Rattle.rv_isa.specs.declared.instr.Instr.TheVariants.{Jalr, Branch, Load, Store, RegisterRegister}
 use Rattle.rv_isa.specs.declared.operation.BranchCondition.TheVariants.{Geu}
 use Rattle.rv_isa.specs.declared.operation.RegisterOp.TheVariants.{Add, Sub}
 use Rattle.rv_isa.specs.declared.operation.LoadOp.TheVariants.{Ld}
@@ -15,7 +14,7 @@ use Rattle.tac_form.specs.declared.tac.Destination.TheVariants.{Temp, Area}
 use Rattle.tac_form.specs.declared.tac.Tac.{Tac}
 use Rattle.tac_form.specs.Weights.{kept_bytes, most_moved}
 use Rattle.rv_operators.specs.Codes.{x0, x5, x6, zero_immediate}
-use Rattle.rv_select.specs.Numbers.{below_zero, constant, immediate_of, lower_of, register_of, short_constant, upper_of}
+use Rattle.rv_select.specs.Numbers.{below_zero, constant, immediate_of, lower_of, register_of, short_constant}
 use Rattle.rv_select.specs.Places.{Layout, home_of, uses}
 use Rattle.rv_select.specs.Shapes.{far_part, fault_call, framed, limit_found, moved, over, place_number, put_to, to_area, x2, x4, x7, x8, x11}
 

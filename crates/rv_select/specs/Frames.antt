@@ -1,5 +1,5 @@
 -- What the code that enters and leaves functions promises.
-use Rattle.std.specs.Prelude.{◌≡◌, ◌≢◌, ℕ, Bool, IsTrue, [], ◌∷◌, suc, ◌+◌, ◌-◌, ◌*◌, ◌/◌, ◌%◌, ◌^◌, ◌<◌, ◌≤◌, true, false, List, length, take, drop, Option, Some, slice_get, if◌then◌else◌, ◌⊎◌}
+use Rattle.std.specs.Prelude.{◌≡◌, ◌≢◌, ℕ, IsTrue, ◌∷◌, suc, ◌+◌, ◌-◌, ◌*◌, ◌/◌, ◌%◌, ◌^◌, ◌<◌, ◌≤◌, true, List, length, take, drop, Option, Some, slice_get, if◌then◌else◌}
 use Rattle.std.specs.List.{list_all}
 use Rattle.tl_base.specs.declared.ids.FnId.{FnId}
 use Rattle.tl_base.specs.declared.place.Place.{Place}

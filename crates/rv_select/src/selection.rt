@@ -102,9 +102,8 @@ fn push_all(
     ensures code { OnOk result (code.new.items ≡ code.old.items ++ map word_of (instructions_code (with_homes homes.now) sizes.now (λ f. 0) (4 * length code.old.items) instructions.now)) }
     ensures calls { OnOk result (calls.new.items ≡ calls.old.items ++ instructions_calls (with_homes homes.now) sizes.now (length code.old.items) instructions.now) }
 {
-    if let [first, rest @ ..] = instructions {
-        push_one(code, calls, homes, sizes, first)?;
-        return push_all(code, calls, homes, sizes, rest);
+    for instruction in instructions {
+        push_one(code, calls, homes, sizes, instruction)?;
     }
     Ok(())
 }
@@ -184,10 +183,9 @@ fn push_blocks(
     ensures calls { OnOk result (calls.new.items ≡ calls.old.items ++ blocks_calls (with_homes homes.now) sizes.now (length code.old.items) blocks.now) }
     ensures begins { OnOk result (begins.new.items ≡ begins.old.items ++ starts_from (with_homes homes.now) sizes.now (4 * length code.old.items) blocks.now) }
 {
-    if let [first, rest @ ..] = blocks {
+    for block in blocks {
         begins.push(address(code)?)?;
-        push_block(code, calls, homes, sizes, starts, last, first)?;
-        push_blocks(code, calls, begins, homes, sizes, starts, last, rest)?;
+        push_block(code, calls, homes, sizes, starts, last, block)?;
     }
     Ok(())
 }
