@@ -1,11 +1,11 @@
 -- Calls, up to where the function is entered.
-use Rattle.std.proofs.Common.{◌≡◌, ◌≢◌, ℕ, zero, suc, ◌+◌, ◌-◌, ◌*◌, ◌%◌, ◌^◌, ◌<◌, ◌≤◌, Bool, true, false, List, [], ◌∷◌, ◌++◌, length, take, drop, append_assoc, Option, Some, refl, sym, ap, ◌∙◌, subst, ⊎_elim, inl, inr, arith}
-use Rattle.std.specs.Prelude.{if◌then◌else◌, nat_lt, slice_get, ◌⊎◌}
-use Rattle.std.proofs.lemmas.Bool.{cases_lt, le-ltb, lt-ltb}
+use Rattle.std.proofs.Common.{◌≡◌, ◌≢◌, ℕ, suc, ◌+◌, ◌-◌, ◌*◌, ◌%◌, ◌^◌, ◌<◌, ◌≤◌, true, false, List, ◌++◌, length, take, drop, append_assoc, Option, Some, refl, sym, ap, ◌∙◌, subst, arith}
+use Rattle.std.specs.Prelude.{nat_lt, slice_get}
+use Rattle.std.proofs.lemmas.Bool.{le-ltb, lt-ltb}
 use Rattle.std.proofs.lemmas.List.{length-append}
 use Rattle.tl_base.specs.declared.place.Place.{Place}
 use Rattle.rv_isa.specs.declared.instr.Instr.{Instr}
-use Rattle.rv_isa.specs.declared.instr.Instr.TheVariants.{Auipc, Branch, Jalr, RegisterImmediate}
+use Rattle.rv_isa.specs.declared.instr.Instr.TheVariants.{Auipc, Jalr, RegisterImmediate}
 use Rattle.rv_isa.specs.declared.operation.BranchCondition.TheVariants.{Ltu}
 use Rattle.rv_isa.specs.declared.operation.ImmediateOp.TheVariants.{Addi}
 use Rattle.terra_words.specs.declared.words.FaultKind.TheVariants.{CallDepth}
@@ -27,7 +27,7 @@ use Rattle.rv_select.proofs.Jumps.{even-stays, target-is}
 use Rattle.rv_select.proofs.Numbers.{constant-count, constant-loads, immediate-is}
 use Rattle.rv_select.proofs.Passes.{IsPartRead, PassedParts, part_value, passes}
 use Rattle.rv_select.proofs.Straight.{Loads, low-below, low-small, written-elsewhere, written-there}
-use Rattle.rv_select.proofs.Ways.{Near, Way, at_pc, near-pc, stands-back, stands-front, step-way, straight-way, way-both}
+use Rattle.rv_select.proofs.Ways.{Way, at_pc, near-pc, stands-back, stands-front, step-way, straight-way, way-both}
 
 -- A jump to a function, which gets the return address.
 pub record JumpedTo (program : List (Option Instr)) (to : ℕ) (m : State) : Type 0 where

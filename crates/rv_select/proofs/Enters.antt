@@ -1,11 +1,11 @@
 -- How functions are entered.
-use Rattle.std.proofs.Common.{◌≡◌, ◌≢◌, ℕ, zero, suc, ◌+◌, ◌-◌, ◌*◌, ◌/◌, ◌%◌, ◌^◌, ◌<◌, ◌≤◌, Bool, true, false, List, [], ◌∷◌, ◌++◌, length, take, drop, append_assoc, Option, Some, refl, sym, ap, ◌∙◌, subst, ⊎_elim, inl, inr, arith}
-use Rattle.std.specs.Prelude.{if◌then◌else◌, nat_lt, nat_le, not, ◌⊎◌}
-use Rattle.std.proofs.lemmas.Bool.{cases_lt, le-ltb, lt-ltb}
+use Rattle.std.proofs.Common.{◌≡◌, ◌≢◌, ℕ, zero, suc, ◌+◌, ◌-◌, ◌*◌, ◌/◌, ◌^◌, ◌<◌, ◌≤◌, Bool, true, false, List, [], ◌∷◌, ◌++◌, length, take, drop, append_assoc, Option, refl, sym, ap, ◌∙◌, subst, inl, inr, arith}
+use Rattle.std.specs.Prelude.{nat_lt, not}
+use Rattle.std.proofs.lemmas.Bool.{le-ltb, lt-ltb}
 use Rattle.std.proofs.lemmas.List.{length-append}
 use Rattle.tl_base.specs.declared.place.Place.{Place}
 use Rattle.rv_isa.specs.declared.instr.Instr.{Instr}
-use Rattle.rv_isa.specs.declared.instr.Instr.TheVariants.{Branch, Ecall, Lui, RegisterImmediate, RegisterRegister, Shift, Store}
+use Rattle.rv_isa.specs.declared.instr.Instr.TheVariants.{Ecall, Lui, RegisterImmediate, RegisterRegister, Shift, Store}
 use Rattle.rv_isa.specs.declared.operation.BranchCondition.TheVariants.{Geu}
 use Rattle.rv_isa.specs.declared.operation.ImmediateOp.TheVariants.{Addi}
 use Rattle.rv_isa.specs.declared.operation.RegisterOp.TheVariants.{Add, Sub}
@@ -20,16 +20,16 @@ use Rattle.rv_operators.specs.Codes.{x0, x5, x6, zero_immediate}
 use Rattle.rv_operators.specs.Runs.{Stands}
 use Rattle.rv_select.specs.Numbers.{constant, immediate_of, register_of, short_constant, upper_of}
 use Rattle.rv_select.specs.Places.{AreBytes, Layout, private_word, uses}
-use Rattle.rv_select.specs.Shapes.{fault_call, limit_found, over, place_number, two, x2, x4, x7, x8, x10, x17}
+use Rattle.rv_select.specs.Shapes.{fault_call, limit_found, place_number, two, x2, x4, x7, x8, x10, x17}
 use Rattle.rv_select.specs.Steps.{Ends}
-use Rattle.rv_select.specs.Entering.{entered, frames_taken, if_used, kept_offset, saved, stack_branch, stack_tested, x1}
+use Rattle.rv_select.specs.Entering.{frames_taken, if_used, kept_offset, saved, stack_branch, stack_tested, x1}
 use Rattle.rv_select.proofs.Allocs.{less, right-two}
 use Rattle.rv_select.proofs.Faults.{branch-way, later-ends, small-load, throws}
 use Rattle.terra_memory.specs.Numbers.{number_of}
 use Rattle.rv_select.proofs.Homes.{word_stored}
 use Rattle.rv_select.proofs.Kept.{Saved, Stored, saves, stored-one, word-stored}
 use Rattle.rv_select.proofs.Numbers.{constant-count, constant-loads, short-count, short-loads, extended-small}
-use Rattle.rv_select.proofs.Straight.{Loads, behind-both, loads-both, loads-one, low-below, low-small, written-elsewhere, written-there}
+use Rattle.rv_select.proofs.Straight.{Loads, loads-both, loads-one, low-below, low-small, written-elsewhere, written-there}
 use Rattle.rv_select.proofs.Ways.{Near, Way, at_pc, near-both, near-pc, stands-back, stands-front, step-way, straight-way, throw-step, way-both}
 
 -- the call by which a run ends, at a place that stands in x11

@@ -1,5 +1,5 @@
 -- Where the parts of a function's code stand.
-use Rattle.std.proofs.Common.{◌≡◌, ◌≢◌, ℕ, zero, suc, ◌+◌, ◌-◌, ◌*◌, ◌%◌, ◌^◌, ◌<◌, ◌≤◌, Bool, true, false, List, [], ◌∷◌, ◌++◌, length, append_assoc, Option, Some, None, refl, sym, ap, ◌∙◌, subst, ⊎_elim, inl, inr, arith}
+use Rattle.std.proofs.Common.{◌≡◌, ℕ, zero, suc, ◌+◌, ◌*◌, ◌%◌, ◌^◌, ◌≤◌, List, [], ◌∷◌, ◌++◌, length, append_assoc, Option, Some, None, refl, sym, ap, ◌∙◌, subst, arith}
 use Rattle.std.specs.Prelude.{slice_get}
 use Rattle.std.proofs.lemmas.List.{length-append}
 use Rattle.tl_base.specs.declared.ids.FnId.{FnId}
@@ -13,12 +13,11 @@ use Rattle.tac_form.specs.declared.tac.Tac.{Tac}
 use Rattle.rv_machine.specs.Word.{low}
 use Rattle.rv_operators.specs.Runs.{Stands}
 use Rattle.rv_select.specs.Places.{Layout, frame_bytes}
-use Rattle.rv_select.specs.Shapes.{branch_jumps, start_of, taken, x10}
+use Rattle.rv_select.specs.Shapes.{start_of, taken, x10}
 use Rattle.rv_select.specs.Calls.{block_code, block_starts, blocks_code, blocks_length, body_code, call_begun, call_ended, call_jump, exit_code, function_code, head_code, instruction_code, instructions_code, last_address, part_taken, starts_from}
 use Rattle.rv_select.specs.Entering.{begun, entered, left, received, words_offset}
 use Rattle.rv_select.specs.Waiting.{instruction_at}
 use Rattle.rv_select.proofs.Ways.{stands-back, stands-front}
-use Rattle.rv_select.proofs.Weights.{exits-within}
 
 near-low : (n : ℕ) → n ≤ 2 ^ 30 → low n ≡ n
 unfolding low

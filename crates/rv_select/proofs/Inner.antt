@@ -1,15 +1,13 @@
 -- Steps of three-address code that stay within a function.
-use Rattle.std.proofs.Common.{◌≡◌, ◌≢◌, ℕ, zero, suc, ◌+◌, ◌-◌, ◌*◌, ◌%◌, ◌^◌, ◌<◌, ◌≤◌, Bool, true, false, ◌&&◌, List, [], ◌∷◌, ◌++◌, length, Option, Some, None, refl, sym, ap, ◌∙◌, subst, inl, inr, arith}
+use Rattle.std.proofs.Common.{◌≡◌, ℕ, zero, suc, ◌+◌, ◌-◌, Bool, true, false, ◌&&◌, List, [], ◌∷◌, length, Option, Some, None, refl, sym, ap, ◌∙◌, inl, inr, arith}
 use Rattle.std.specs.Prelude.{if◌then◌else◌, nat_eq, nat_le, ◌⊎◌}
-use Rattle.std.proofs.lemmas.Bool.{cases_Bool}
 use Rattle.std.specs.Prelude.{ℤ, pos, negsuc}
 use Rattle.tl_base.specs.declared.place.Place.{Place}
-use Rattle.rv_isa.specs.declared.instr.Instr.{Instr}
 use Rattle.terra_memory.specs.Numbers.{overwritten}
-use Rattle.terra_memory.specs.Region.{Contents, alloc_of, aligned, end_address, first_address, heap_limit, is_inside, range_of}
+use Rattle.terra_memory.specs.Region.{Contents, alloc_of, aligned, first_address, heap_limit, is_inside, range_of}
 use Rattle.terra_memory.proofs.Overwriting.{length-overwritten}
 use Rattle.terra_memory.proofs.RegionLaws.{inside_parts}
-use Rattle.terra_words.specs.Runs.{Fault, More, Over, Returned, Stuck, put_bytes}
+use Rattle.terra_words.specs.Runs.{More, Over, put_bytes}
 use Rattle.tac_form.specs.declared.tac.Spot.{Spot}
 use Rattle.tac_form.specs.declared.tac.Spot.TheVariants as spots
 use Rattle.tac_form.specs.declared.tac.Edge.{Edge}
@@ -17,16 +15,11 @@ use Rattle.tac_form.specs.declared.tac.Exit.{Exit}
 use Rattle.tac_form.specs.declared.tac.Exit.TheVariants.{Branch, Fail, Jump, Return}
 use Rattle.tac_form.specs.declared.tac.Instruction.{Instruction}
 use Rattle.tac_form.specs.declared.tac.Instruction.TheVariants.{Alloc, Call, CallValue, Clear, Compute, Copy, Load, Locate, Move, PutByte, Store, TestDivisor, Write}
-use Rattle.tac_form.specs.declared.tac.Block.{Block}
-use Rattle.tac_form.specs.declared.tac.Tac.{Tac}
 use Rattle.tac_form.specs.Flow as tac
 use Rattle.tac_form.specs.Flow.{Areas, Goes, Program, Stops, Temps, act, address, allocated, fetched, follow, from_spot, leave, operand, step, to_spot, written}
 use Rattle.terra_words.specs.Words.{divides, is_negative}
-use Rattle.rv_machine.specs.Word.{low}
-use Rattle.rv_machine.specs.Machine.{State}
 use Rattle.rv_select.specs.Shapes.{has_exit_shape, has_shape}
 use Rattle.rv_select.proofs.Carries.{by-test}
-use Rattle.rv_select.proofs.Leaves.{zero-or-more}
 
 -- A step goes on behind the instruction.
 pub record Stays (s t : tac.State) : Type 0 where

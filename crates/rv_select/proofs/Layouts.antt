@@ -18,8 +18,7 @@ use Rattle.rv_select.specs.Numbers.{constant}
 use Rattle.rv_select.specs.Places.{Layout}
 use Rattle.rv_select.specs.Shapes.{place_number, x11}
 use Rattle.rv_select.specs.Entering.{received, received_one, stored_below}
-use Rattle.rv_select.specs.Calls.{block_code, blocks_calls, blocks_code, call_begun, call_ended, call_jump, depth_tested, exit_code, instruction_calls, instruction_code, instructions_calls, instructions_code, one_more, part_taken, passed, starts_from}
-use Rattle.rv_select.specs.declared.selected.Call.{Call as Site}
+use Rattle.rv_select.specs.Calls.{block_code, blocks_calls, blocks_code, call_ended, call_jump, depth_tested, exit_code, instruction_calls, instruction_code, instructions_calls, instructions_code, one_more, part_taken, passed, starts_from}
 
 abbrev laid : List (Option Home) → (a p : ℕ) → Layout
 laid h a p = record { homes = h; areas = a; parameters = p }

@@ -28,7 +28,7 @@ pub mod Jumps
 pub mod Leaves
 pub mod Pushed
 pub mod Lengths
-pub mod Selects
+pub mod Loops
 pub mod Layouts
 pub mod Bodies
 pub mod Kept
@@ -40,6 +40,7 @@ pub mod Receives
 pub mod Waits
 pub mod Finds
 pub mod Stands
+pub mod Copies
 pub mod Returns
 pub mod Entrances
 pub mod Within
@@ -53,3 +54,4 @@ pub mod Falls
 pub mod Runs
 pub mod Begins
 pub mod Entire
+pub mod Weighed

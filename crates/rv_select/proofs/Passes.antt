@@ -1,6 +1,6 @@
 -- Words that are stored below the frame: what is passed to a call.
-use Rattle.std.proofs.Common.{◌≡◌, ◌≢◌, ℕ, zero, suc, ◌+◌, ◌-◌, ◌*◌, ◌%◌, ◌^◌, ◌<◌, ◌≤◌, Bool, true, false, List, [], ◌∷◌, ◌++◌, length, take, drop, append_assoc, Option, Some, refl, sym, ap, ◌∙◌, subst, ⊎_elim, inl, inr, arith}
-use Rattle.std.specs.Prelude.{if◌then◌else◌, nat_le, slice_get, ◌⊎◌}
+use Rattle.std.proofs.Common.{◌≡◌, ◌≢◌, ℕ, zero, suc, ◌+◌, ◌-◌, ◌*◌, ◌%◌, ◌^◌, ◌<◌, ◌≤◌, Bool, true, false, List, [], ◌∷◌, ◌++◌, length, take, drop, append_assoc, Option, Some, refl, sym, ap, ◌∙◌, subst, ⊎_elim, inr, arith}
+use Rattle.std.specs.Prelude.{if◌then◌else◌, nat_le, slice_get}
 use Rattle.std.proofs.lemmas.Bool.{cases_lt, le-leb, lt-leb}
 use Rattle.std.proofs.lemmas.List.{length-append}
 use Rattle.rv_isa.specs.declared.instr.Instr.{Instr}
@@ -15,13 +15,13 @@ use Rattle.terra_memory.specs.Numbers.{low_bytes, number_of, overwritten}
 use Rattle.tac_form.specs.declared.tac.Part.{Part}
 use Rattle.tac_form.specs.declared.tac.Part.TheVariants as parts
 use Rattle.rv_machine.specs.Word.{low, word, extended_word}
-use Rattle.rv_machine.specs.Machine.{State, GoesOn, act, at_with, value_at}
-use Rattle.rv_operators.specs.Claims.{acts, then_on}
+use Rattle.rv_machine.specs.Machine.{State, GoesOn, at_with, value_at}
+use Rattle.rv_operators.specs.Claims.{then_on}
 use Rattle.rv_operators.specs.Codes.{x5}
 use Rattle.rv_operators.specs.Runs.{Stands}
 use Rattle.rv_operators.proofs.Runs.{straight-both}
 use Rattle.rv_select.specs.Numbers.{below_zero, lower_of, upper_of}
-use Rattle.rv_select.specs.Places.{AreBytes, HasFrame, Holds, Housed, IsHome, IsRead, Layout, World, area_offset, frame_bytes, home_of, private_word, slot_offset, value_in, word_at}
+use Rattle.rv_select.specs.Places.{AreBytes, Holds, Housed, IsHome, Layout, World, area_offset, frame_bytes, home_of, private_word, slot_offset, word_at}
 use Rattle.rv_select.specs.Shapes.{far_part, x2, x7}
 use Rattle.rv_select.specs.Entering.{stored_below}
 use Rattle.rv_select.specs.Calls.{part_taken, passed}
@@ -31,7 +31,7 @@ use Rattle.rv_select.proofs.Bytes.{other-than-word, stored-length, stored-word}
 use Rattle.rv_select.proofs.Frames.{framed-address, framed-count}
 use Rattle.rv_select.proofs.Homes.{region-small, take-operand, taken-count, word_stored}
 use Rattle.rv_select.proofs.Moves.{near-holds, value-small}
-use Rattle.rv_select.proofs.Jumps.{Sum, sum-of}
+use Rattle.rv_select.proofs.Jumps.{sum-of}
 use Rattle.rv_select.proofs.Kept.{store-word}
 use Rattle.rv_select.proofs.Numbers.{below-is}
 use Rattle.rv_select.proofs.Straight.{Loads, behind-both, goes-both, loads-both, loads-five, loads-one, low-below, low-first, register-value}

@@ -1,20 +1,18 @@
 -- How functions are left.
-use Rattle.std.proofs.Common.{◌≡◌, ◌≢◌, ℕ, zero, suc, ◌+◌, ◌-◌, ◌*◌, ◌%◌, ◌^◌, ◌<◌, ◌≤◌, Bool, true, false, List, [], ◌∷◌, ◌++◌, length, take, drop, append_assoc, Option, Some, refl, sym, ap, ◌∙◌, subst, ⊎_elim, inl, inr, arith}
+use Rattle.std.proofs.Common.{◌≡◌, ◌≢◌, ℕ, zero, suc, ◌+◌, ◌-◌, ◌*◌, ◌%◌, ◌^◌, ◌<◌, ◌≤◌, true, false, List, [], ◌∷◌, ◌++◌, length, Option, refl, sym, ap, ◌∙◌, subst, ⊎_elim, inl, inr, arith}
 use Rattle.std.specs.Prelude.{◌⊎◌}
-use Rattle.std.proofs.lemmas.List.{length-append}
 use Rattle.rv_isa.specs.declared.instr.Instr.{Instr}
 use Rattle.rv_isa.specs.declared.instr.Instr.TheVariants.{Jalr, Load, RegisterRegister}
 use Rattle.rv_isa.specs.declared.operation.LoadOp.TheVariants.{Ld}
 use Rattle.rv_isa.specs.declared.operation.RegisterOp.TheVariants.{Add}
-use Rattle.terra_memory.specs.Numbers.{number_of}
 use Rattle.rv_machine.specs.Word.{low}
-use Rattle.rv_machine.specs.Machine.{State, GoesOn, act, at_with, value_at}
+use Rattle.rv_machine.specs.Machine.{State, GoesOn, act, at_with}
 use Rattle.rv_operators.specs.Codes.{x0, x5, x6, zero_immediate}
 use Rattle.rv_operators.specs.Runs.{Stands}
 use Rattle.rv_select.specs.Numbers.{constant, immediate_of, register_of, short_constant}
 use Rattle.rv_select.specs.Places.{Layout, private_word, uses}
 use Rattle.rv_select.specs.Shapes.{x2, x8}
-use Rattle.rv_select.specs.Entering.{frames_given, if_used, kept_offset, left, put_back, x1}
+use Rattle.rv_select.specs.Entering.{kept_offset, left, put_back, x1}
 use Rattle.rv_select.proofs.Enters.{used-count, zero-sum}
 use Rattle.rv_select.proofs.Kept.{PutBack, load-word, puts-back}
 use Rattle.rv_select.proofs.Numbers.{constant-count, constant-loads, extended-small, short-count, short-loads}

@@ -1,45 +1,35 @@
 -- Returns.
-use Rattle.std.proofs.Common.{◌≡◌, ◌≢◌, ℕ, zero, suc, ◌+◌, ◌-◌, ◌*◌, ◌%◌, ◌^◌, ◌<◌, ◌≤◌, Bool, true, false, ◌&&◌, ◌||◌, List, [], ◌∷◌, ◌++◌, length, take, drop, append_assoc, Option, Some, None, refl, sym, ap, ◌∙◌, subst, ⊎_elim, inl, inr, arith}
-use Rattle.std.specs.Prelude.{if◌then◌else◌, nat_eq, slice_get, ◌⊎◌}
-use Rattle.std.specs.List.{list_all}
-use Rattle.std.proofs.lemmas.Bool.{cases_eq, eq-eqb}
-use Rattle.std.proofs.lemmas.List.{append-nil, length-append}
+use Rattle.std.proofs.Common.{◌≡◌, ◌≢◌, ℕ, suc, ◌+◌, ◌-◌, ◌*◌, ◌%◌, ◌^◌, ◌<◌, ◌≤◌, Bool, true, false, ◌||◌, List, ◌∷◌, length, take, drop, Option, Some, refl, sym, ap, ◌∙◌, subst, ⊎_elim, inl, inr, arith}
+use Rattle.std.specs.Prelude.{if◌then◌else◌, nat_eq, ◌⊎◌}
 use Rattle.rv_isa.specs.declared.instr.Instr.{Instr}
 use Rattle.rv_isa.specs.declared.instr.Instr.TheVariants.{RegisterImmediate}
 use Rattle.rv_isa.specs.declared.operation.ImmediateOp.TheVariants.{Addi}
 use Rattle.tac_form.specs.declared.tac.Part.{Part}
-use Rattle.tac_form.specs.declared.tac.Part.TheVariants as parts
 use Rattle.tac_form.specs.declared.tac.Destination.{Destination}
-use Rattle.tac_form.specs.declared.tac.Destination.TheVariants.{Temp, Area}
-use Rattle.tac_form.specs.declared.tac.Tac.{Tac}
-use Rattle.tac_form.specs.Flow as tac
-use Rattle.tac_form.specs.Flow.{Caller, Program, put}
-use Rattle.tac_form.specs.Graph.{destination_write, graph_of, step_of, block_of}
+use Rattle.tac_form.specs.Flow.{Caller, Program}
+use Rattle.tac_form.specs.Graph.{destination_write, graph_of}
 use Rattle.tac_form.specs.Live.{InUse}
 use Rattle.terra_memory.specs.Numbers.{number_of}
 use Rattle.terra_memory.specs.Region.{IsLawful, end_address, heap_limit}
 use Rattle.rv_machine.specs.Word.{low}
-use Rattle.rv_machine.specs.Machine.{State, GoesOn, act, at_with, run_of, stands}
-use Rattle.rv_machine.specs.declared.stops.Stop.TheVariants as stops
+use Rattle.rv_machine.specs.Machine.{State, GoesOn, act, at_with}
 use Rattle.rv_operators.specs.Codes.{x5}
 use Rattle.rv_operators.specs.Runs.{Stands}
 use Rattle.rv_select.specs.Numbers.{below_zero}
-use Rattle.rv_select.specs.Places.{AreBytes, Holds, Housed, Keeps, Layout, World, area_offset, frame_bytes, home_of, layout_of, private_word, uses}
-use Rattle.rv_select.specs.Shapes.{jump, moved, put_to, x10}
-use Rattle.rv_select.specs.Steps.{Comes, Follows, with_temp, world_of}
+use Rattle.rv_select.specs.Places.{AreBytes, Holds, Housed, Layout, World, area_offset, frame_bytes, home_of, layout_of, private_word, uses}
+use Rattle.rv_select.specs.Shapes.{jump, moved, x10}
 use Rattle.rv_select.specs.Entering.{kept_offset, left, x28}
 use Rattle.rv_select.specs.Calls.{part_taken, returned}
-use Rattle.rv_select.specs.Waiting.{Arrives, HasRoom, Image, IsLinked, StandsIn, Waiting, Waits, restored}
+use Rattle.rv_select.specs.Waiting.{Image, IsLinked, Waiting, restored}
 use Rattle.rv_select.proofs.Jumps.{Jumped, jumps-there}
 use Rattle.rv_select.proofs.Lives.{housed}
-use Rattle.rv_select.proofs.Moves.{then-put}
 use Rattle.rv_select.proofs.Homes.{region-small}
 use Rattle.rv_select.proofs.Numbers.{below-is}
 use Rattle.rv_select.proofs.Passes.{IsPartRead, part-count, part_value, take-part}
 use Rattle.rv_select.proofs.Quits.{Quit, quits}
-use Rattle.rv_select.proofs.Straight.{Loads, low-below, low-small, written-elsewhere, written-there}
-use Rattle.rv_select.proofs.Waits.{SameAbove, restored-same, same-home, waits-keeps, waits-same, waits-within}
-use Rattle.rv_select.proofs.Ways.{Near, Way, stands-back, stands-front, step-way, straight-way, way-both}
+use Rattle.rv_select.proofs.Straight.{Loads, low-small, written-elsewhere, written-there}
+use Rattle.rv_select.proofs.Waits.{SameAbove, same-home}
+use Rattle.rv_select.proofs.Ways.{Way, stands-back, stands-front, step-way, straight-way, way-both}
 
 -- The result is in x10, and the machine goes on where the return address says, with the caller's frames and registers.
 pub record BackIn (program : List (Option Instr)) (y : Layout) (bytes base over link v : ℕ) (m : State) : Type 0 where

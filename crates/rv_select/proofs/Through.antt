@@ -1,16 +1,14 @@
 -- Steps that stay within a function, in a program of several functions.
-use Rattle.std.proofs.Common.{◌≡◌, ◌≢◌, ℕ, zero, suc, ◌+◌, ◌-◌, ◌*◌, ◌%◌, ◌^◌, ◌<◌, ◌≤◌, Bool, true, false, ◌&&◌, List, [], ◌∷◌, ◌++◌, length, Option, Some, None, refl, sym, ap, ◌∙◌, subst, inl, inr, arith}
+use Rattle.std.proofs.Common.{◌≡◌, ℕ, suc, ◌+◌, ◌*◌, ◌%◌, ◌^◌, ◌<◌, ◌≤◌, true, List, [], ◌++◌, length, Option, Some, None, refl, sym, ap, ◌∙◌, subst, arith}
 use Rattle.std.specs.Prelude.{slice_get}
 use Rattle.tl_base.specs.declared.ids.FnId.{FnId}
 use Rattle.rv_isa.specs.declared.instr.Instr.{Instr}
-use Rattle.terra_memory.specs.Region.{Contents, end_address}
 use Rattle.terra_words.specs.Runs.{Fault, More, Over, Returned, Stuck}
 use Rattle.tac_form.specs.declared.tac.Exit.{Exit}
 use Rattle.tac_form.specs.declared.tac.Exit.TheVariants.{Branch, Fail, Jump, Return}
 use Rattle.tac_form.specs.declared.tac.Instruction.{Instruction}
 use Rattle.tac_form.specs.declared.tac.Instruction.TheVariants.{Alloc, Call, CallValue, Clear, Compute, Copy, Load, Locate, Move, PutByte, Store, TestDivisor, Write}
 use Rattle.tac_form.specs.declared.tac.Block.{Block}
-use Rattle.tac_form.specs.declared.tac.Tac.{Tac}
 use Rattle.tac_form.specs.Flow as tac
 use Rattle.tac_form.specs.Flow.{Goes, Program, Stops, act, leave, step}
 use Rattle.tac_form.specs.Graph.{graph_of}
@@ -19,11 +17,11 @@ use Rattle.tac_form.specs.Weights.{exit_words, words_of}
 use Rattle.rv_machine.specs.Word.{low}
 use Rattle.rv_machine.specs.Machine.{State}
 use Rattle.rv_operators.specs.Runs.{Stands}
-use Rattle.rv_select.specs.Places.{Layout, frame_bytes, layout_of, private_word}
+use Rattle.rv_select.specs.Places.{Layout, layout_of}
 use Rattle.rv_select.specs.Shapes.{exit_shape, has_exit_shape, has_shape, shape_of, start_of}
 use Rattle.rv_select.specs.Steps.{Carried, Comes, Left, StandsAtExit, StandsBefore, behind, world_of}
 use Rattle.rv_select.specs.Calls.{block_starts, exit_code, head_code, instruction_code, last_address}
-use Rattle.rv_select.specs.Waiting.{Arrives, Image, IsLinked, IsPlaced, Placed, StandsIn, Stepped, Waits, entries_of, place_in, restored}
+use Rattle.rv_select.specs.Waiting.{Arrives, Image, IsLinked, IsPlaced, StandsIn, Stepped, entries_of, place_in}
 use Rattle.rv_select.proofs.Carries.{instructions, nothing-written}
 use Rattle.rv_select.proofs.Finds.{FoundFunction, starts-near}
 use Rattle.rv_select.proofs.Inner.{LeavesIf, LeavesTo, Stays, StaysIf, act-stays, leave-to}

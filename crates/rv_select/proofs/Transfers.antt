@@ -20,15 +20,15 @@ use Rattle.tac_form.specs.declared.tac.Size.TheVariants.{One, Two, Four, Eight}
 use Rattle.tac_form.specs.Flow.{bytes_of}
 use Rattle.rv_machine.specs.declared.memory.Place.{Place}
 use Rattle.rv_machine.specs.declared.memory.Place.TheVariants.{Region, Private}
-use Rattle.rv_machine.specs.Word.{low, word}
-use Rattle.rv_machine.specs.Memory.{FitsIn, bytes_at, load_value, load_width, place_of, store_width}
+use Rattle.rv_machine.specs.Word.{low}
+use Rattle.rv_machine.specs.Memory.{FitsIn, bytes_at, load_value, place_of}
 use Rattle.rv_machine.specs.Machine.{State, GoesOn, act, at_with, loads, loads_from, stores, stores_to, value_at}
 use Rattle.rv_operators.specs.Claims.{acts, then_on}
 use Rattle.rv_operators.specs.Runs.{AreStraight}
 use Rattle.rv_operators.proofs.Runs.{straight-both}
 use Rattle.rv_select.specs.Numbers.{immediate_of}
 use Rattle.rv_select.specs.Places.{AreBytes}
-use Rattle.rv_select.specs.Shapes.{all_carried, carried, carried_eights, carried_if, carried_rest, load_of, store_of, x7}
+use Rattle.rv_select.specs.Shapes.{all_carried, carried, carried_eights, carried_if, load_of, store_of, x7}
 use Rattle.rv_select.proofs.Bytes.{other-part, private-part}
 use Rattle.rv_select.proofs.Numbers.{immediate-is}
 use Rattle.rv_select.proofs.Parts.{none-written, part-within, written-twice}

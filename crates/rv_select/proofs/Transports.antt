@@ -1,7 +1,7 @@
 -- Moves of bytes from one spot to another.
 use Rattle.std.proofs.Common.{◌≡◌, ◌≢◌, ℕ, zero, suc, ◌+◌, ◌-◌, ◌*◌, ◌/◌, ◌%◌, ◌^◌, ◌<◌, ◌≤◌, Bool, true, false, List, [], ◌∷◌, ◌++◌, length, take, drop, Option, Some, None, refl, sym, ap, ◌∙◌, subst, ⊎_elim, inl, inr, arith}
 use Rattle.std.specs.Prelude.{if◌then◌else◌, nat_eq, ◌⊎◌}
-use Rattle.std.proofs.lemmas.Bool.{cases_lt, eq-eqb, ne_eqb}
+use Rattle.std.proofs.lemmas.Bool.{cases_lt, ne_eqb}
 use Rattle.std.proofs.lemmas.List.{length-append, length-drop, length-take-le}
 use Rattle.tl_base.specs.declared.place.Place.{Place}
 use Rattle.rv_isa.specs.declared.instr.Instr.{Instr}
@@ -14,41 +14,38 @@ use Rattle.rv_isa.specs.declared.operation.StoreOp.TheVariants.{Sb, Sh, Sw}
 use Rattle.rv_isa.specs.declared.operand.Register.{Register}
 use Rattle.rv_machine.specs.declared.memory.Place.TheVariants.{Region, Private}
 use Rattle.rv_machine.specs.Word.{low}
-use Rattle.rv_machine.specs.Machine.{State, GoesOn, act, at_with, after_output, run_of}
+use Rattle.rv_machine.specs.Machine.{State, at_with, run_of}
 use Rattle.terra_memory.specs.Numbers.{overwritten, part}
 use Rattle.terra_memory.specs.Region.{Contents, end_address, first_address, is_inside, range_of}
-use Rattle.terra_memory.proofs.Overwriting.{length-overwritten}
 use Rattle.terra_words.specs.declared.words.FaultKind.TheVariants.{BadAddress}
 use Rattle.terra_words.specs.Runs.{put_bytes}
-use Rattle.tac_form.specs.declared.tac.Operand.{Operand}
 use Rattle.tac_form.specs.declared.tac.Address.{Address}
 use Rattle.tac_form.specs.declared.tac.Address.TheVariants.{Word, Frame}
 use Rattle.tac_form.specs.declared.tac.Spot.{Spot}
 use Rattle.tac_form.specs.declared.tac.Spot.TheVariants as spots
 use Rattle.tac_form.specs.declared.tac.Instruction.TheVariants.{Move}
-use Rattle.tac_form.specs.Weights.{most_moved, words_of}
-use Rattle.rv_operators.specs.Claims.{acts, then_on}
+use Rattle.tac_form.specs.Weights.{words_of}
 use Rattle.rv_operators.specs.Codes.{x0, x5, x6}
-use Rattle.rv_operators.specs.Runs.{AreStraight, Stands}
+use Rattle.rv_operators.specs.Runs.{Stands}
 use Rattle.rv_operators.proofs.Runs.{straight-both}
-use Rattle.rv_select.specs.Places.{AreBytes, Layout, World, HasFrame, Holds, Housed, Keeps, area_offset, frame_bytes, home_of, value_in}
-use Rattle.rv_select.specs.Shapes.{all_carried, area_reached, bounds_tested, bytes_moved, carried_eights, carried_if, from_area, located, moved, reached, some_moved, taken, to_area}
+use Rattle.rv_select.specs.Places.{AreBytes, Layout, World, Holds, Housed, area_offset, frame_bytes, home_of, value_in}
+use Rattle.rv_select.specs.Shapes.{all_carried, area_reached, bounds_tested, bytes_moved, carried_eights, carried_if, from_area, located, moved, some_moved, taken, to_area}
 use Rattle.rv_select.specs.Steps.{AreFewer, Comes, Ends, IsPlace, behind}
 use Rattle.rv_select.proofs.Claims.{IsReached, address_in, with_area, with_region}
-use Rattle.rv_select.proofs.Areas.{AreaSet, Saves, area-comes, area-near, area-room, area-written, then-saves}
+use Rattle.rv_select.proofs.Areas.{Saves, area-comes, area-near, area-room, area-written, then-saves}
 use Rattle.rv_select.proofs.Frames.{framed-address, framed-count, framed-some}
 use Rattle.rv_select.proofs.Homes.{region-small}
-use Rattle.rv_select.proofs.Moves.{fewer-holds, home-keeps, keeps-both, lasts-not, near-holds, near-keeps, scratch-holds, value-small}
+use Rattle.rv_select.proofs.Moves.{fewer-holds, home-keeps, keeps-both, lasts-not, near-holds, near-keeps, scratch-holds}
 use Rattle.rv_select.proofs.Parts.{none-written, part-within}
 use Rattle.rv_select.proofs.Regions.{Reached, end-small, frame-reached, inside-true, insides, low-enough, outside-false, range-is, weaker, weaker-ends, word-inside, word-outside}
 use Rattle.rv_select.proofs.Stores.{lawful-still, put-is, stored-count, stored-region}
-use Rattle.rv_select.proofs.Straight.{Loads, Scratch, behind-both, goes-both, loads-five, loads-six, low-below, low-first, written-elsewhere}
-use Rattle.rv_select.proofs.Transfers.{AreApart, Moving, Transfer, all-moved, if-some}
+use Rattle.rv_select.proofs.Straight.{Loads, Scratch, behind-both, goes-both, loads-five, loads-six, low-below, low-first}
+use Rattle.rv_select.proofs.Transfers.{Moving, Transfer, all-moved, if-some}
 use Rattle.rv_select.proofs.Ways.{Near, Way, scratch-near, stands-back, stands-front, straight-way, way-both}
 use Rattle.rv_select.proofs.Words.{drop-bytes, overwritten-bytes, take-bytes}
 
 -- bytes that go to private memory
-transfer-saves : (code : List Instr) (m : State) (at : ℕ) (bs : List ℕ) → Transfer code m (Private at) bs → Saves code m at bs
+pub transfer-saves : (code : List Instr) (m : State) (at : ℕ) (bs : List ℕ) → Transfer code m (Private at) bs → Saves code m at bs
 transfer-saves code m at bs t = record {
   after = t.after;
   goes = t.goes;
@@ -105,22 +102,22 @@ carried-count from to size h =
 pub area-count : (y : Layout) (d : Register) (n offset : ℕ) → length (area_reached y d n offset) ≤ 3
 area-count y d n offset = framed-count (λ r far. RegisterImmediate Addi d r far) (area_offset y n + offset)
 
-area-some : (y : Layout) (d : Register) (n offset : ℕ) → 1 ≤ length (area_reached y d n offset)
+pub area-some : (y : Layout) (d : Register) (n offset : ℕ) → 1 ≤ length (area_reached y d n offset)
 area-some y d n offset = framed-some (λ r far. RegisterImmediate Addi d r far) (area_offset y n + offset)
 
 -- the address of an area's byte goes to a register
-area-address : (y : Layout) (Used : ℕ → Type 0) (w : World) (base n offset : ℕ) (d : Register) (m : State) → d.number ≢ 0 → Holds y Used w base m → n < y.areas → offset ≤ 128 →
+pub area-address : (y : Layout) (Used : ℕ → Type 0) (w : World) (base n offset : ℕ) (d : Register) (m : State) → d.number ≢ 0 → Holds y Used w base m → n < y.areas → offset ≤ 128 →
     Loads d.number (area_reached y d n offset) m (2 ^ 32 + (base + (area_offset y n + offset)))
 area-address y Used w base n offset d m o p there h =
     framed-address d (area_offset y n + offset) base m o p.pc (area-near y base n offset m p.frame there h) p.frame.pointer (omega (arith, p.frame.within, p.frame.private))
 
 -- the bytes of an area, which may go elsewhere
-area-inside : (y : Layout) (Used : ℕ → Type 0) (w : World) (base n offset size : ℕ) (m : State) → Holds y Used w base m → n < y.areas → offset + size ≤ 128 →
+pub area-inside : (y : Layout) (Used : ℕ → Type 0) (w : World) (base n offset size : ℕ) (m : State) → Holds y Used w base m → n < y.areas → offset + size ≤ 128 →
     base + (area_offset y n + offset) + size ≤ length m.private
 area-inside y Used w base n offset size m p there h =
     let all : base + (area_offset y n + (offset + size)) ≤ length m.private = area-room y base n (offset + size) m p.frame there h in omega arith
 
-small-after : (code : List Instr) (m z : State) → z.pc ≡ low (m.pc + 4 * length code) → z.pc < 2 ^ 64
+pub small-after : (code : List Instr) (m z : State) → z.pc ≡ low (m.pc + 4 * length code) → z.pc < 2 ^ 64
 small-after code m z e = subst (λ k. k < 2 ^ 64) (sym e) (low-below (m.pc + 4 * length code))
 
 -- from an area to another
@@ -173,7 +170,7 @@ area-moves y n offset k other size Used Next w base program m stands there from-
     p h f there (omega arith) (omega arith)
 
 -- first a way to a state near
-later-comes : (y : Layout) (program : List (Option Instr)) (Next : ℕ → Type 0) (w : World) (base k weight more target : ℕ) (m n : State) → Way program k m n → Near m n → k + weight ≤ more →
+pub later-comes : (y : Layout) (program : List (Option Instr)) (Next : ℕ → Type 0) (w : World) (base k weight more target : ℕ) (m n : State) → Way program k m n → Near m n → k + weight ≤ more →
     Comes y program Next w base weight target [] n → Comes y program Next w base more target [] m
 later-comes y program Next w base k weight more target m n way near few c = record {
   steps = k + c.steps;

@@ -1,5 +1,5 @@
 -- A comparison at a block's end and the branch on its result, as one branch of the machine.
-use Rattle.std.specs.Prelude.{◌≡◌, ℕ, suc, ◌+◌, ◌*◌, ◌%◌, ◌^◌, ◌<◌, ◌≤◌, Bool, true, false, IsTrue, List, [], ◌∷◌, ◌++◌, length, Option, Some, None, slice_get}
+use Rattle.std.specs.Prelude.{◌≡◌, ℕ, suc, ◌+◌, ◌*◌, ◌%◌, ◌^◌, ◌<◌, ◌≤◌, Bool, true, false, IsTrue, List, ◌∷◌, ◌++◌, length, Option, Some, None, slice_get}
 use Rattle.rv_isa.specs.declared.instr.Instr.{Instr}
 use Rattle.rv_isa.specs.declared.instr.Instr.TheVariants as instrs
 use Rattle.rv_isa.specs.declared.operation.BranchCondition.{BranchCondition}
@@ -9,7 +9,7 @@ use Rattle.reg_alloc.specs.declared.assignment.Home.{Home}
 use Rattle.reg_alloc.specs.Right.{IsRight}
 use Rattle.rv_machine.specs.Machine.{State}
 use Rattle.terra_words.specs.declared.words.BinaryOperator.{BinaryOperator}
-use Rattle.terra_words.specs.declared.words.BinaryOperator.TheVariants.{Equal, NotEqual, Less, LessEqual, Greater, GreaterEqual}
+use Rattle.terra_words.specs.declared.words.BinaryOperator.TheVariants.{Equal, Less, LessEqual, Greater, GreaterEqual}
 use Rattle.tac_form.specs.declared.tac.Number.{Number}
 use Rattle.tac_form.specs.declared.tac.Operand.{Operand}
 use Rattle.tac_form.specs.declared.tac.Operand.TheVariants.{Temp}

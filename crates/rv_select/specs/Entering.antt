@@ -1,9 +1,8 @@
 -- How a function is entered and left.
 use Rattle.std.specs.Prelude.{ℕ, zero, suc, ◌+◌, ◌-◌, ◌*◌, ◌^◌, slice_get, unwrap_or, Bool, true, false, nat_le, if◌then◌else◌, List, [], ◌∷◌, ◌++◌, length}
 use Rattle.std.proofs.Common.{lit≤}
-use Rattle.tl_base.specs.declared.place.Place.{Place}
 use Rattle.rv_isa.specs.declared.instr.Instr.{Instr}
-use Rattle.rv_isa.specs.declared.instr.Instr.TheVariants.{Lui, Jalr, Branch, Load, Store, RegisterRegister}
+use Rattle.rv_isa.specs.declared.instr.Instr.TheVariants.{Jalr, Branch, Load, Store, RegisterRegister}
 use Rattle.rv_isa.specs.declared.operation.BranchCondition.TheVariants.{Geu}
 use Rattle.rv_isa.specs.declared.operation.RegisterOp.TheVariants.{Add, Sub}
 use Rattle.rv_isa.specs.declared.operation.LoadOp.TheVariants.{Ld}
@@ -15,7 +14,7 @@ use Rattle.tac_form.specs.declared.tac.Destination.TheVariants.{Temp, Area}
 use Rattle.tac_form.specs.declared.tac.Tac.{Tac}
 use Rattle.tac_form.specs.Weights.{kept_bytes, most_moved}
 use Rattle.rv_operators.specs.Codes.{x0, x5, x6, zero_immediate}
-use Rattle.rv_select.specs.Numbers.{below_zero, constant, immediate_of, lower_of, register_of, short_constant, upper_of}
+use Rattle.rv_select.specs.Numbers.{below_zero, constant, immediate_of, lower_of, register_of, short_constant}
 use Rattle.rv_select.specs.Places.{Layout, home_of, uses}
 use Rattle.rv_select.specs.Shapes.{far_part, fault_call, framed, limit_found, moved, over, place_number, put_to, to_area, x2, x4, x7, x8, x11}
 
@@ -79,6 +78,16 @@ size_in sizes n = unwrap_or (slice_get sizes n) 0
 abbrev pub result_put : Layout → (sizes : List ℕ) → Destination → List Instr
 result_put y sizes (Temp t) = put_to (home_of y t)
 result_put y sizes (Area n) = to_area y n 0 (size_in sizes n)
+
+-- the most steps of that: a word takes three, and the bytes of an area as many as a copy of 128 bytes
+abbrev pub result_words : Destination → ℕ
+result_words (Temp t) = 3
+result_words (Area n) = 39
+
+-- the most steps in which parameters are taken, each from its word
+abbrev pub receiving : List Destination → ℕ
+receiving [] = 0
+receiving (d ∷ ds) = 3 + result_words d + receiving ds
 
 -- a parameter from its word, which lies at an offset of the frame: that of an area is an address
 abbrev pub received_one : Layout → (sizes : List ℕ) → Destination → (at : ℕ) → List Instr

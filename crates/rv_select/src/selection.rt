@@ -3,7 +3,7 @@
 ghost use Rattle.std.specs.Prelude.{◌≡◌, ◌*◌, ◌+◌, ◌^◌, ◌<◌, ◌≤◌, ◌&&◌, [], ◌∷◌, ◌++◌, map, length, IfOk, IsTrue, OnOk};
 ghost use Rattle.std.specs.List.{list_all};
 ghost use Rattle.rv_isa.specs.Table.{word_of};
-ghost use Rattle.rv_select.specs.Calls.{IsSelected, all_has_code, block_code, block_has_code, block_starts, blocks_calls, blocks_code, call_jump, called, exit_code, has_code, has_exit_code, head_code, instruction_calls, instruction_code, instructions_calls, instructions_code, last_address, returned, starts_from};
+ghost use Rattle.rv_select.specs.Calls.{IsSelected, KeepsWithin, all_has_code, block_code, block_has_code, block_starts, blocks_calls, blocks_code, call_jump, called, exit_code, has_code, has_exit_code, head_code, instruction_calls, instruction_code, instructions_calls, instructions_code, last_address, returned, starts_from};
 ghost use Rattle.rv_select.specs.Entering.{begun, entered, received, words_offset};
 ghost use Rattle.rv_select.specs.Places.{frame_bytes, layout_of, with_homes};
 ghost use Rattle.rv_select.specs.Shapes.{jump, start_of};
@@ -102,9 +102,8 @@ fn push_all(
     ensures code { OnOk result (code.new.items ≡ code.old.items ++ map word_of (instructions_code (with_homes homes.now) sizes.now (λ f. 0) (4 * length code.old.items) instructions.now)) }
     ensures calls { OnOk result (calls.new.items ≡ calls.old.items ++ instructions_calls (with_homes homes.now) sizes.now (length code.old.items) instructions.now) }
 {
-    if let [first, rest @ ..] = instructions {
-        push_one(code, calls, homes, sizes, first)?;
-        return push_all(code, calls, homes, sizes, rest);
+    for instruction in instructions {
+        push_one(code, calls, homes, sizes, instruction)?;
     }
     Ok(())
 }
@@ -184,10 +183,9 @@ fn push_blocks(
     ensures calls { OnOk result (calls.new.items ≡ calls.old.items ++ blocks_calls (with_homes homes.now) sizes.now (length code.old.items) blocks.now) }
     ensures begins { OnOk result (begins.new.items ≡ begins.old.items ++ starts_from (with_homes homes.now) sizes.now (4 * length code.old.items) blocks.now) }
 {
-    if let [first, rest @ ..] = blocks {
+    for block in blocks {
         begins.push(address(code)?)?;
-        push_block(code, calls, homes, sizes, starts, last, first)?;
-        push_blocks(code, calls, begins, homes, sizes, starts, last, rest)?;
+        push_block(code, calls, homes, sizes, starts, last, block)?;
     }
     Ok(())
 }
@@ -311,7 +309,10 @@ fn find_places(alloc: Global, homes: &[Option<Home>], tac: &Tac) -> Result<Place
 /// The machine's code of a function by its three-address code and an assignment. Its temporaries stand where the assignment says.
 pub fn select(alloc: Global, tac: &Tac, assignment: &Assignment) -> Result<Code, NoMemory>
     requires { IsTrue (all_has_code tac.now) }
-    ensures { IfOk result (λ code. IsSelected tac.now assignment.now code) }
+    ensures selected { IfOk result (λ code. IsSelected tac.now assignment.now code) }
+    // By the weights of three-address code: at most 250 words and 136 private bytes a typed node, and 65,536 bytes more, where the code
+    // is sized.
+    ensures within { IfOk result (λ code. KeepsWithin tac.now assignment.now code) }
 {
     let homes = assignment.as_slice();
     let places = find_places(alloc, homes, tac)?;

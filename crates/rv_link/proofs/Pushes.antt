@@ -1,0 +1,168 @@
+-- What linking puts into a text, part by part.
+use Rattle.std.proofs.Common.{◌≡◌, ℕ, ◌+◌, ◌-◌, ◌*◌, ◌^◌, ◌<◌, ◌≤◌, true, ◌&&◌, List, [], ◌∷◌, ◌++◌, length, take, drop, append_assoc, refl, sym, ap, ◌∙◌, subst, arith}
+use Rattle.std.specs.Prelude.{get_or, map, nat_lt}
+use Rattle.std.specs.List.{list_all}
+use Rattle.std.proofs.lemmas.List.{drop-drop, drop_more, length-append, length-map}
+use Rattle.tl_base.specs.declared.ids.FnId.{FnId}
+use Rattle.rv_isa.specs.Table.{word_of}
+use Rattle.elf_image.specs.Layout.{text_address}
+use Rattle.tac_form.specs.declared.tac.Exit.{Exit}
+use Rattle.tac_form.specs.declared.tac.Exit.TheVariants.{Branch, Fail, Jump, Return}
+use Rattle.tac_form.specs.declared.tac.Block.{Block}
+use Rattle.tac_form.specs.declared.tac.Tac.{Tac}
+use Rattle.tac_form.specs.Fits.{area_fits, block_fits, destination_fits, edge_fits, exit_fits, instruction_fits, is_within, operand_fits, place_fits}
+use Rattle.rv_select.specs.declared.selected.Call.{Call as Site}
+use Rattle.rv_select.specs.Places.{Layout, layout_of}
+use Rattle.rv_select.specs.Calls.{IsSelected, call_jump, function_calls, function_code}
+use Rattle.rv_select.proofs.Stands.{both-true}
+use Rattle.rv_link.specs.declared.function.Function.{Function}
+use Rattle.rv_link.specs.Filling.{AreIn, entry_in, filled, words_in}
+use Rattle.rv_link.specs.Linked.{AreSelected, AreThere, block_there, blocks_there, exit_there, function_words, places_of, text_from}
+use Rattle.rv_link.proofs.Fills.{FilledFunction, fill-function}
+use Rattle.rv_link.proofs.Links.{entries-are, selected-length}
+
+-- the item at which a loop stands
+pub drop-item : {X : Type 0} (xs : List X) (i : ℕ) (x : X) → x ≡ get_or xs i x → i < length xs → drop i xs ≡ x ∷ drop (i + 1) xs
+drop-item xs i x e h = drop_more xs i x h ∙ ap (λ y. y ∷ drop (i + 1) xs) (sym e)
+
+-- what a loop puts behind the words that it has
+pub turn : (out new part rest whole total : List ℕ) → new ≡ out ++ part → out ++ whole ≡ total → whole ≡ part ++ rest → new ++ rest ≡ total
+turn out new part rest whole total e f g =
+    ap (λ z. z ++ rest) e ∙ (append_assoc out part rest ∙ (ap (λ z. out ++ z) (sym g) ∙ f))
+
+pub in-ends : (from end : ℕ) (cs : List Site) → AreIn from end cs → from ≤ end
+in-ends from end [] h = h
+in-ends from end (c ∷ cs) h = chain c.at h.0 (in-ends (c.at + 2) end cs h.1)
+  where
+    chain : (n : ℕ) → from ≤ n → n + 2 ≤ end → from ≤ end
+    chain n a b = omega (arith, a, b)
+
+-- the next call lies behind the words so far, and before the end
+pub next-in : (from end i : ℕ) (cs : List Site) (c : Site) → c ≡ get_or cs i c → i < length cs → AreIn from end (drop i cs) →
+    (from ≤ c.at) × ((c.at + 2 ≤ end) × AreIn (c.at + 2) end (drop (i + 1) cs))
+next-in from end i cs c e h k =
+    let both : AreIn from end (c ∷ drop (i + 1) cs) = subst (AreIn from end) (drop-item cs i c e h) k in
+    (both.0, (in-ends (c.at + 2) end (drop (i + 1) cs) both.1, both.1))
+
+-- the words up to the next call, its jump, and all that follow
+pub filled-turn : (places : FnId → ℕ) (base from i : ℕ) (cs : List Site) (c : Site) (ws : List ℕ) →
+    c ≡ get_or cs i c → i < length cs → from ≤ c.at →
+    filled places base from (drop i cs) (drop from ws) ≡
+    (take (c.at - from) (drop from ws) ++ map word_of (call_jump (base + 4 * c.at) (places c.callee)))
+    ++ filled places base (c.at + 2) (drop (i + 1) cs) (drop (c.at + 2) ws)
+filled-turn places base from i cs c ws e k h =
+    let J : List ℕ = map word_of (call_jump (base + 4 * c.at) (places c.callee)) in
+    let T : List ℕ = take (c.at - from) (drop from ws) in
+    let R : List ℕ → List ℕ = λ z. filled places base (c.at + 2) (drop (i + 1) cs) z in
+    let sum : from + (c.at + 2 - from) ≡ c.at + 2 = omega (arith, h) in
+    let same : drop (c.at + 2 - from) (drop from ws) ≡ drop (c.at + 2) ws =
+    drop-drop (c.at + 2 - from) from ws ∙ ap (λ n. drop n ws) sum in
+    ap (λ z. filled places base from z (drop from ws)) (drop-item cs i c e k)
+    ∙ (ap (λ z. T ++ (J ++ R z)) same ∙ sym (append_assoc T J (R (drop (c.at + 2) ws))))
+
+-- how many words functions have
+pub words-turn : (xs : List Function) (i : ℕ) (x : Function) → x ≡ get_or xs i x → i < length xs →
+    words_in (drop i xs) ≡ length x.code.words.items + words_in (drop (i + 1) xs)
+words-turn xs i x e h = ap words_in (drop-item xs i x e h)
+
+-- code that machine code may be made of has the blocks that its exits lead to
+pub within-there : (code : Tac) → is_within code ≡ true → blocks_there code ≡ true
+within-there code h =
+    let a = both-true _ (nat_lt 0 (length code.blocks)) h in
+    let b = both-true _ (nat_lt code.frame (2 ^ 63)) a.0 in
+    let c = both-true _ (place_fits code.place) b.0 in
+    let d = both-true _ (list_all area_fits code.areas) c.0 in
+    each code.blocks (both-true (list_all (block_fits code) code.blocks) (list_all (destination_fits code) code.parameters) d.0).0
+  where
+    exit : (e : Exit) → exit_fits code e ≡ true → exit_there code e ≡ true
+    exit (Jump e) g = g
+    exit (Branch a e f) g =
+        let one = both-true (operand_fits code a && edge_fits code e) (edge_fits code f) g in
+        let two = both-true (operand_fits code a) (edge_fits code e) one.0 in
+        ap (λ z. z && edge_fits code f) two.1 ∙ one.1
+    exit (Return v) g = refl
+    exit (Fail kind place) g = refl
+
+    each : (bs : List Block) → list_all (block_fits code) bs ≡ true → list_all (block_there code) bs ≡ true
+    each [] g = refl
+    each (b ∷ bs) g =
+        let one = both-true (block_fits code b) (list_all (block_fits code) bs) g in
+        ap (λ z. z && list_all (block_there code) bs)
+        (exit b.exit (both-true (list_all (instruction_fits code) b.instructions) (exit_fits code b.exit) one.0).1) ∙ each bs one.1
+
+-- a function's words at its place
+filled-words : (x : Function) (places others : FnId → ℕ) → ((f : FnId) → places f ≡ others f) → (base : ℕ) → IsSelected x.tac x.homes x.code →
+    blocks_there x.tac ≡ true → base + 4 * length x.code.words.items + 256 ≤ 2 ^ 30 →
+    FilledFunction places others base (layout_of x.tac x.homes) x.tac
+filled-words x places others agree base s h near =
+    let y : Layout = layout_of x.tac x.homes in
+    let long : length x.code.words.items ≡ length (function_code y x.tac (λ f. 0) 0) =
+    ap length s.words ∙ length-map (function_code y x.tac (λ f. 0) 0) word_of in
+    fill-function places others agree base y x.tac h (reach (length x.code.words.items) _ long near)
+  where
+    reach : (k n : ℕ) → k ≡ n → base + 4 * k + 256 ≤ 2 ^ 30 → base + 4 * n + 64 ≤ 2 ^ 32
+    reach k n e h = omega (arith, e, h)
+
+pub function-turn : (x : Function) (places others : FnId → ℕ) → ((f : FnId) → places f ≡ others f) → (base : ℕ) →
+    IsSelected x.tac x.homes x.code → blocks_there x.tac ≡ true → base + 4 * length x.code.words.items + 256 ≤ 2 ^ 30 →
+    filled places base 0 x.code.calls.items x.code.words.items ≡ function_words x others base
+function-turn x places others agree base s h near =
+    let f = filled-words x places others agree base s h near in
+    ap (λ z. filled places base 0 z x.code.words.items) s.calls
+    ∙ (ap (λ z. filled places base 0 (function_calls (layout_of x.tac x.homes) x.tac) z) s.words ∙ f.fills)
+
+-- where its calls stand
+pub calls-there : (x : Function) → IsSelected x.tac x.homes x.code → blocks_there x.tac ≡ true →
+    4 * length x.code.words.items + 256 ≤ 2 ^ 30 → AreIn 0 (length x.code.words.items) x.code.calls.items
+calls-there x s h near =
+    let y : Layout = layout_of x.tac x.homes in
+    let long : length x.code.words.items ≡ length (function_code y x.tac (λ f. 0) 0) =
+    ap length s.words ∙ length-map (function_code y x.tac (λ f. 0) 0) word_of in
+    let f = filled-words x (λ f. 0) (λ f. 0) (λ f. refl) 0 s h (omega (arith, near)) in
+    subst (λ z. AreIn 0 (length x.code.words.items) z) (sym s.calls)
+    (subst (λ n. AreIn 0 n (function_calls y x.tac)) (sym long) f.calls)
+
+-- all words
+pub text-length : (places : FnId → ℕ) (at : ℕ) (xs : List Function) → AreSelected xs → length (text_from places at xs) ≡ words_in xs
+text-length places at [] s = refl
+text-length places at (x ∷ xs) s =
+    length-append (function_words x places at) (text_from places (at + 4 * length x.code.words.items) xs)
+    ∙ (ap (λ n. n + length (text_from places (at + 4 * length x.code.words.items) xs)) (sym (selected-length x places at s.0))
+    ∙ ap (λ n. length x.code.words.items + n) (text-length places (at + 4 * length x.code.words.items) xs s.1))
+
+-- the next function is selected, its blocks are there, and so it is of all behind it
+pub next-selected : (xs : List Function) (i : ℕ) (x : Function) → x ≡ get_or xs i x → i < length xs →
+    AreSelected (drop i xs) × AreThere (drop i xs) →
+    (IsSelected x.tac x.homes x.code × (blocks_there x.tac ≡ true)) × (AreSelected (drop (i + 1) xs) × AreThere (drop (i + 1) xs))
+next-selected xs i x e h k =
+    let both : AreSelected (x ∷ drop (i + 1) xs) × AreThere (x ∷ drop (i + 1) xs) =
+    subst (λ z. AreSelected z × AreThere z) (drop-item xs i x e h) k in
+    ((both.0.0, both.1.0), (both.0.1, both.1.1))
+
+-- one more function's words
+pub text-turn : (xs : List Function) (i : ℕ) (x : Function) (places others : FnId → ℕ) → ((f : FnId) → places f ≡ others f) →
+    (old new total : List ℕ) → x ≡ get_or xs i x → i < length xs → IsSelected x.tac x.homes x.code → blocks_there x.tac ≡ true →
+    text_address + 4 * length old + 4 * length x.code.words.items + 256 ≤ 2 ^ 30 →
+    new ≡ old ++ filled places (text_address + 4 * length old) 0 x.code.calls.items x.code.words.items →
+    old ++ text_from others (text_address + 4 * length old) (drop i xs) ≡ total →
+    (length new ≡ length old + length x.code.words.items) ×
+    (new ++ text_from others (text_address + 4 * length new) (drop (i + 1) xs) ≡ total)
+text-turn xs i x places others agree old new total e h s there near put before =
+    let at : ℕ = text_address + 4 * length old in
+    let W : List ℕ = function_words x others at in
+    let is : new ≡ old ++ W = put ∙ ap (λ z. old ++ z) (function-turn x places others agree at s there near) in
+    let count : length new ≡ length old + length x.code.words.items =
+    ap length is ∙ (length-append old W ∙ ap (λ n. length old + n) (sym (selected-length x others at s))) in
+    let next : text_address + 4 * length new ≡ at + 4 * length x.code.words.items = after (length new) (length old) (length x.code.words.items) count in (
+      count,
+      turn old new W (text_from others (text_address + 4 * length new) (drop (i + 1) xs)) (text_from others at (drop i xs)) total is before
+          (ap (text_from others at) (drop-item xs i x e h) ∙ ap (λ n. W ++ text_from others n (drop (i + 1) xs)) (sym next)),
+    )
+  where
+    after : (m o w : ℕ) → m ≡ o + w → text_address + 4 * m ≡ text_address + 4 * o + 4 * w
+    after m o w e = omega (arith, e)
+
+-- calls enter where the table says
+pub agreeing : (functions : List Function) (table : List ℕ) → AreSelected functions →
+    ((f : FnId) → get_or table f.0 0 ≡ entry_in text_address functions f) → (f : FnId) → get_or table f.0 0 ≡ places_of functions f
+agreeing functions table s e f = e f ∙ entries-are functions text_address f s
