@@ -46,14 +46,19 @@ fn main(rt: HostRuntime) -> anyhow::Result<()> {
         let line = line?;
         let row = line.as_str();
         let words: Vec<&str> = row.split_whitespace().collect(alloc)?;
-        let answer = match word_at(&words, 0) {
-            "run" => program_answer(alloc, &words)?,
-            "words" => words_answer(alloc, word_at(&words, 1))?,
-            _ => answer(alloc, &words)?,
-        };
+        let answer = row_answer(alloc, &words)?;
         println!(rt; "{row} = {answer}")?;
     }
     Ok(())
+}
+
+/// What comes of a row.
+fn row_answer(alloc: Global, words: &[&str]) -> Result<String, NoMemory> {
+    match word_at(words, 0) {
+        "run" => program_answer(alloc, words),
+        "words" => words_answer(alloc, word_at(words, 1)),
+        _ => answer(alloc, words),
+    }
 }
 
 /// A word of a row, and the empty one past the end.
@@ -138,7 +143,7 @@ fn selected(alloc: Global, program: Vec<Tac>) -> Result<Vec<Function>, NoMemory>
     Ok(functions)
 }
 
-/// What comes of a row, both ways.
+/// What comes of a row of an operator, both ways.
 fn answer(alloc: Global, words: &[&str]) -> Result<String, NoMemory> {
     let operator = operator_of(word_at(words, 0));
     let form = Number {
