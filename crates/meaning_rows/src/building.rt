@@ -1,6 +1,7 @@
 // The rows that add expressions.
 
 use crate::words::{count_at, number_at};
+use tac_form::Tac;
 use terra_term::{Constant, Store, TermList, Typed, TypedExpression, TypedStatement};
 use tl_base::{FnId, NoMemory, Place, SymId, TermId, TypeId};
 
@@ -11,6 +12,8 @@ pub struct Work {
     pub stack: Vec<TermId>,
     pub entries: Vec<FnId>,
     pub nodes: u32,
+    /// The code of the first functions.
+    pub codes: Vec<Tac>,
 }
 
 impl Work {

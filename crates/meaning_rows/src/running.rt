@@ -1,172 +1,216 @@
-// The rows that add types, statics and functions, and those that run functions.
+// The rows that run functions, by the plain evaluator and by the three-address code.
 
 use crate::building::Work;
-use crate::doing::names_from;
-use crate::words::{bytes_of, count_at, number_at, shown, word_at};
+use crate::machine::{self, Program};
+use crate::weights::code_words;
+use crate::words::{number_at, shown};
 use std::alloc::Global;
+use tac_lower::lower;
 use terra_eval::{End, Run, Value, evaluate, static_bytes};
-use terra_term::{ParameterList, Term, TermList, Typed};
-use terra_types::Entry;
+use terra_memory::Region;
 use terra_words::FaultKind;
-use tl_base::{FnId, NoMemory, Place, TermId, Text2, TextId, TypeId};
+use tl_base::{FnId, NoMemory};
 
-/// A type, a static, a function, the functions that stand as values, or a run.
+/// What runs a function, or shows its code.
 pub fn row(work: &mut Work, word: &str, words: &[&str]) -> Result<Option<String>, NoMemory> {
-    let n = number_at(words, 1);
+    let f = FnId(number_at(words, 1));
     match word {
-        "pointer" => pointer(work, TypeId(n)),
-        "array" => array(work, TypeId(n), number_at(words, 2)),
-        "function" => function_type(work, words),
-        "struct" => structure(work, words),
-        "bytes" => bytes(work, words),
-        "fn" => function(work, words),
-        "entries" => {
-            let mut entries = Vec::new(work.store.allocator());
-            for place in 1..words.len() {
-                entries.push(FnId(number_at(words, place)))?;
-            }
-            work.entries = entries;
-            Ok(None)
-        }
+        "lower" => lowered(work, f),
+        "weigh" => weighed(work, f),
+        _ => run_row(work, word, words),
+    }
+}
+
+/// What runs a function.
+fn run_row(work: &mut Work, word: &str, words: &[&str]) -> Result<Option<String>, NoMemory> {
+    let alloc = work.store.allocator();
+    if !lower_all(work)? {
+        return said(alloc, "a function has no code");
+    }
+    match word {
         "run" => run(work, words),
-        _ => Ok(Some(String::from_str(work.store.allocator(), "no such row")?)),
+        "counts" => counts(work, words),
+        "each" => each(work, words),
+        "pairs" => pairs(work, words),
+        _ => said(alloc, "no such row"),
     }
 }
 
-fn number(alloc: Global, n: u64) -> Result<Option<String>, NoMemory> {
-    Ok(Some(format!(in alloc; "{n}")?))
+fn said(alloc: Global, text: &str) -> Result<Option<String>, NoMemory> {
+    Ok(Some(String::from_str(alloc, text)?))
 }
 
-fn types_from(alloc: Global, words: &[&str], from: usize) -> Result<Vec<TypeId>, NoMemory> {
-    let mut types = Vec::new(alloc);
-    for place in from..words.len() {
-        types.push(TypeId(number_at(words, place)))?;
+/// The code of functions that have none yet. False where one has no code.
+fn lower_all(work: &mut Work) -> Result<bool, NoMemory> {
+    let from = work.codes.len() as u64;
+    for f in from..work.store.function_count() {
+        match lower(&work.store, &work.entries, FnId(f))? {
+            Some(code) => work.codes.push(code)?,
+            None => return Ok(false),
+        }
     }
-    Ok(types)
+    Ok(true)
 }
 
-/// `struct TYPE..`
-fn structure(work: &mut Work, words: &[&str]) -> Result<Option<String>, NoMemory> {
+/// `lower FUNCTION`: how many blocks and temporaries its code has
+fn lowered(work: &Work, f: FnId) -> Result<Option<String>, NoMemory> {
     let alloc = work.store.allocator();
-    let t = work
-        .store
-        .types_mut()
-        .new_struct(Place { line: 1, word: 1 })?;
-    let mut entries = Vec::new(alloc);
-    for (i, of) in types_from(alloc, words, 1)?.iter().enumerate() {
-        entries.push(Entry {
-            field: TextId(i as u64),
-            of: *of,
-        })?;
-    }
-    work.store.types_mut().settle(t, entries)?;
-    number(alloc, t.0)
-}
-
-/// `bytes DIGITS`: a static, in a region of 65,536 bytes
-fn bytes(work: &mut Work, words: &[&str]) -> Result<Option<String>, NoMemory> {
-    let alloc = work.store.allocator();
-    let bytes = Text2::from_vec(bytes_of(alloc, word_at(words, 1))?);
-    let Some(id) = work.store.new_global(TypeId(4), bytes, 65_536)? else {
-        return Ok(Some(String::from_str(alloc, "no room")?));
-    };
-    match work.store.global(id) {
-        Some(global) => number(alloc, global.address),
-        None => Ok(None),
+    match lower(&work.store, &work.entries, f)? {
+        Some(code) => {
+            let blocks = code.blocks.as_slice().len();
+            let temps = code.temps;
+            Ok(Some(format!(in alloc; "{blocks} blocks, {temps} temporaries")?))
+        }
+        None => said(alloc, "no code"),
     }
 }
 
-/// `fn COUNT RESULT NAME:TYPE..`, behind the body
-fn function(work: &mut Work, words: &[&str]) -> Result<Option<String>, NoMemory> {
+/// `weigh FUNCTION`: how many words its code may take, and its typed nodes
+fn weighed(work: &Work, f: FnId) -> Result<Option<String>, NoMemory> {
     let alloc = work.store.allocator();
-    let parameters = names_from(alloc, words, 3)?;
-    let body = work.take(count_at(words, 1))?;
-    let node = Typed::Function(parameters, TypeId(number_at(words, 2)), body);
-    let made = work.store.new_typed(node)?;
-    let none = Term::Function(
-        ParameterList::from_vec(Vec::new(alloc))?,
-        None,
-        TermList::from_vec(Vec::new(alloc))?,
-    );
-    let term = work.store.new_term(none)?;
-    let f = typed_function(work, term, made)?;
-    number(alloc, f.0)
-}
-
-fn typed_function(work: &mut Work, term: TermId, made: TermId) -> Result<FnId, NoMemory> {
-    let place = Place { line: 2, word: 1 };
-    let f = work.store.declare(None, place)?;
-    work.store.define(f, term, place)?;
-    work.store.begin_typing(f);
-    work.store.finish_typing(f, made);
-    Ok(f)
-}
-
-/// `pointer TYPE`
-fn pointer(work: &mut Work, target: TypeId) -> Result<Option<String>, NoMemory> {
-    let alloc = work.store.allocator();
-    let types = work.store.types_mut();
-    if target.0 >= types.len() {
-        return Ok(Some(String::from_str(alloc, "no such type")?));
+    match lower(&work.store, &work.entries, f)? {
+        Some(code) => {
+            let words = code_words(&code);
+            let nodes = code.nodes;
+            Ok(Some(format!(in alloc; "{words} words, {nodes} nodes")?))
+        }
+        None => said(alloc, "no code"),
     }
-    let t = types.pointer_to(target)?;
-    number(alloc, t.0)
-}
-
-/// `array ELEMENT COUNT`
-fn array(work: &mut Work, element: TypeId, count: u64) -> Result<Option<String>, NoMemory> {
-    let alloc = work.store.allocator();
-    let types = work.store.types_mut();
-    if element.0 >= types.len() {
-        return Ok(Some(String::from_str(alloc, "no such type")?));
-    }
-    let t = types.array_of(element, count)?;
-    number(alloc, t.0)
-}
-
-/// `function RESULT PARAMETER..`, of at most two parameters
-fn function_type(work: &mut Work, words: &[&str]) -> Result<Option<String>, NoMemory> {
-    let alloc = work.store.allocator();
-    let returns = TypeId(number_at(words, 1));
-    let first = TypeId(number_at(words, 2));
-    let second = TypeId(number_at(words, 3));
-    let types = work.store.types_mut();
-    let count = types.len();
-    if returns.0 >= count || first.0 >= count || second.0 >= count {
-        return Ok(Some(String::from_str(alloc, "no such type")?));
-    }
-    let t = match words.len() {
-        2 => types.function_of(&[], returns)?,
-        3 => types.function_of(&[first], returns)?,
-        _ => types.function_of(&[first, second], returns)?,
-    };
-    number(alloc, t.0)
 }
 
 /// `run FUNCTION MEMORY COUNT ARGUMENT..`
 fn run(work: &Work, words: &[&str]) -> Result<Option<String>, NoMemory> {
+    let mut arguments = Vec::new(work.store.allocator());
+    for place in 4..words.len() {
+        arguments.push(Value::word(number_at(words, place)))?;
+    }
+    Ok(Some(answer(work, words, number_at(words, 3), &arguments)?))
+}
+
+/// `counts FUNCTION MEMORY MOST ARGUMENT..`: the answers at each count up to the most, each with the first count
+/// that gives it
+fn counts(work: &Work, words: &[&str]) -> Result<Option<String>, NoMemory> {
     let alloc = work.store.allocator();
-    let f = FnId(number_at(words, 1));
-    let memory = number_at(words, 2);
     let mut arguments = Vec::new(alloc);
     for place in 4..words.len() {
         arguments.push(Value::word(number_at(words, place)))?;
     }
+    let mut text = String::new(alloc);
+    let mut last = String::new(alloc);
+    for n in 0..number_at(words, 3).saturating_add(1) {
+        let next = answer(work, words, n, &arguments)?;
+        if next.as_str() != last.as_str() {
+            let part = format!(in alloc; "{n}: {next}")?;
+            add(&mut text, part.as_str())?;
+        }
+        last = next;
+    }
+    Ok(Some(text))
+}
+
+/// `each FUNCTION MEMORY COUNT ARGUMENT..`: the answers for each argument
+fn each(work: &Work, words: &[&str]) -> Result<Option<String>, NoMemory> {
+    let alloc = work.store.allocator();
+    let mut text = String::new(alloc);
+    for place in 4..words.len() {
+        let arguments = vec![in alloc; Value::word(number_at(words, place))]?;
+        add_answer(work, words, &arguments, &mut text)?;
+    }
+    Ok(Some(text))
+}
+
+/// `pairs FUNCTION MEMORY COUNT ARGUMENT..`: the answers for each two of the arguments
+fn pairs(work: &Work, words: &[&str]) -> Result<Option<String>, NoMemory> {
+    let alloc = work.store.allocator();
+    let mut text = String::new(alloc);
+    for place in 4..words.len() {
+        for other in 4..words.len() {
+            let first = Value::word(number_at(words, place));
+            let second = Value::word(number_at(words, other));
+            let arguments = vec![in alloc; first, second]?;
+            add_answer(work, words, &arguments, &mut text)?;
+        }
+    }
+    Ok(Some(text))
+}
+
+/// The answer at the row's count, shortened.
+fn add_answer(
+    work: &Work,
+    words: &[&str],
+    arguments: &[Value],
+    text: &mut String,
+) -> Result<(), NoMemory> {
+    let answer = answer(work, words, number_at(words, 3), arguments)?;
+    add(text, without_output(without_returned(answer.as_str())))
+}
+
+/// Of a value that is returned the value alone.
+fn without_returned<'a>(answer: &'a str) -> &'a str {
+    match answer.strip_prefix("returned ") {
+        Some(rest) => rest,
+        None => answer,
+    }
+}
+
+/// Without an output that is empty.
+fn without_output<'a>(answer: &'a str) -> &'a str {
+    match answer.strip_suffix(" []") {
+        Some(rest) => rest,
+        None => answer,
+    }
+}
+
+/// Puts a part behind others.
+fn add(text: &mut String, part: &str) -> Result<(), NoMemory> {
+    if !text.is_empty() {
+        text.push_str("; ")?;
+    }
+    text.push_str(part)?;
+    Ok(())
+}
+
+/// What the plain evaluator gives, and what the code gives where that is something else.
+fn answer(work: &Work, words: &[&str], n: u64, arguments: &[Value]) -> Result<String, NoMemory> {
+    let alloc = work.store.allocator();
+    let memory = number_at(words, 2);
     if memory % 1024 != 0 || memory < 65_536 || memory > 67_108_864 {
-        return Ok(Some(String::from_str(alloc, "bad memory")?));
+        return Ok(String::from_str(alloc, "bad memory")?);
     }
-    if static_bytes(&work.store)?.len() as u64 > memory / 2 {
-        return Ok(Some(String::from_str(alloc, "bad statics")?));
+    let statics = static_bytes(&work.store)?;
+    if statics.len() as u64 > memory / 2 {
+        return Ok(String::from_str(alloc, "bad statics")?);
     }
-    let run = evaluate(
-        &work.store,
-        &work.entries,
-        memory,
-        number_at(words, 3),
-        f,
-        &arguments,
-    )?;
-    Ok(Some(run_text(alloc, &run)?))
+    let f = FnId(number_at(words, 1));
+    let run = evaluate(&work.store, &work.entries, memory, n, f, arguments)?;
+    let region = Region::new(alloc, memory, &statics)?;
+    compared(work, &run, region, n, f, arguments)
+}
+
+/// What the plain evaluator gave, and what the code gives in a fresh region where that is something else.
+fn compared(
+    work: &Work,
+    evaluated: &Run,
+    region: Region,
+    n: u64,
+    f: FnId,
+    arguments: &[Value],
+) -> Result<String, NoMemory> {
+    let alloc = work.store.allocator();
+    let wanted = run_text(alloc, evaluated)?;
+    let run = machine::run(alloc, &program_of(work), region, n, f, arguments)?;
+    let coded = run_text(alloc, &run)?;
+    if wanted.as_str() == coded.as_str() {
+        return Ok(wanted);
+    }
+    Ok(format!(in alloc; "{wanted}, but the code gives {coded}")?)
+}
+
+fn program_of<'a>(work: &'a Work) -> Program<'a> {
+    Program {
+        codes: &work.codes,
+        entries: &work.entries,
+    }
 }
 
 fn run_text(alloc: Global, run: &Run) -> Result<String, NoMemory> {
