@@ -1,0 +1,13 @@
+pub mod Closed
+pub mod Coded
+pub mod Compiles
+pub mod Composes
+pub mod Extends
+pub mod Following
+pub mod Growing
+pub mod Making
+pub mod Mentioning
+pub mod Naming
+pub mod Passing
+pub mod Sounds
+pub mod Worked
