@@ -6,14 +6,10 @@ use Rattle.tl_base.specs.declared.ids.TypeId.{TypeId}
 use Rattle.tl_base.specs.declared.ids.TermId.{TermId}
 use Rattle.tl_base.specs.Layer.{State, state}
 use Rattle.tl_base.specs.Plan.{Give, Do, AskFor, Read, Write, Pay, Run, Gives, Stops, Lacks, Course, then_do, paid, run}
-use Rattle.terra_types.proofs.Growing.{get-left}
 use Rattle.terra_term.specs.declared.typed.Typed.{Typed}
-use Rattle.terra_term.specs.declared.typed.Typed.TheVariants as typed_kinds
 use Rattle.terra_term.specs.declared.typed.TypedExpression.{TypedExpression}
 use Rattle.terra_term.specs.declared.refusal.RefusalKind.{RefusalKind}
 use Rattle.terra_term.specs.declared.refusal.RefusalKind.TheVariants.{TooWide}
-use Rattle.terra_term.specs.Held.{next_typed, with_typed}
-use Rattle.exotype.specs.World.{StageState, with_store}
 use Rattle.check_model.specs.declared.job.BodyJob.{BodyJob}
 use Rattle.check_model.specs.declared.site.Site.{Site}
 use Rattle.check_model.specs.declared.end.PartEnd.{PartEnd}
@@ -21,7 +17,8 @@ use Rattle.check_model.specs.declared.question.BodyQuestion.{BodyQuestion}
 use Rattle.check_model.specs.declared.question.BodyQuestion.TheVariants.{LayoutOf}
 use Rattle.check_model.specs.declared.question.CheckAnswer.{CheckAnswer}
 use Rattle.check_model.specs.declared.question.CheckAnswer.TheVariants as answers
-use Rattle.check_model.specs.Typing.{TypingState, Made, form_in, is_aggregate_form, made_in, made_at}
+use Rattle.check_model.specs.declared.made.Made.{Made}
+use Rattle.check_model.specs.Typing.{TypingState, form_in, is_aggregate_form}
 use Rattle.check_model.specs.Plans.{BodyPlan, then_on, reading, on_made, make, give, refuse, on_layout, laid_out, is_wide, as_value}
 use Rattle.check_model.specs.Bodies.{BodyGiven}
 
@@ -72,38 +69,16 @@ pub get_last : (xs : List Typed) (x : Typed) → slice_get (xs ++ x ∷ []) (len
 get_last [] x = refl
 get_last (y ∷ ys) x = get_last ys x
 
--- a node that was just made is found
-pub made_at_pushed :
-    (w : StageState) (at : Place) (of : TypeId) (form : TypedExpression) (source : TermId)
-    → made_at (with_store w (with_typed w.store (typed_kinds.Expression at of form))) (next_typed w.store) source
-    ≡ record { id = next_typed w.store; source = source; at = at; of = of; form = form }
-made_at_pushed w at of form source =
-    ap (λ o. made_in o (next_typed w.store) source) (get_last w.store.typed (typed_kinds.Expression at of form))
-
--- and stays, whatever is made behind it
-pub made_at_stays :
-    (before after : StageState) (more : List Typed) → after.store.typed ≡ before.store.typed ++ more → (id source : TermId) →
-    id.0 < length before.store.typed → made_at after id source ≡ made_at before id source
-made_at_stays before after more grown id source within =
-    ap (λ o. made_in o id source) (ap (λ l. slice_get l id.0) grown ∙ get-left before.store.typed more id.0 within)
-
 -- what goes on with an expression, as what follows its end
 abbrev pub going_on : (Made → BodyPlan) → PartEnd → BodyPlan
-going_on go r = on_made r (λ id source. reading (λ w. go (made_at w id source)))
-
--- the state behind a new typed expression
-abbrev pub behind : State TypingState → Place → TypeId → TypedExpression → State TypingState
-behind s at of form =
-    let w = s.world.stage in
-    state (record s.world { stage = with_store w (with_typed w.store (typed_kinds.Expression at of form)) }) s.left
+going_on go r = on_made r go
 
 -- a node that is made, and what is behind it
 pub run_make :
     (f : BodyJob → BodyCourse) (source : TermId) (at : Place) (of : TypeId) (form : TypedExpression) (go : Made → BodyPlan)
     (s : State TypingState) (l : List BodyGiven)
     → run f (make source at of form go) s l ≡ then_do (run f (make source at of form give) s l) (λ r. run f (going_on go r))
-run_make f source at of form go s l =
-    ap (λ m. run f (go m) (behind s at of form) l) (sym (made_at_pushed s.world.stage at of form source))
+run_make f source at of form go s l = refl
 
 -- ---- layouts and values
 

@@ -17,9 +17,9 @@ use Rattle.terra_term.specs.declared.term.Term.{Term}
 use Rattle.terra_term.specs.declared.term.Term.TheVariants as kinds
 use Rattle.terra_term.specs.declared.typed.Typed.TheVariants as typed_kinds
 use Rattle.terra_term.specs.Held.{state_of, with_state, term_in, begun, finished, refused}
-use Rattle.terra_term.specs.Planted.{nowhere, typed_block_at, typed_trees}
-use Rattle.terra_term.specs.Sizes.{body_size}
+use Rattle.terra_term.specs.Planted.{nowhere}
 use Rattle.exotype.specs.World.{StageState, with_store}
+use Rattle.exotype.specs.Terms.{typed_size}
 use Rattle.check_model.specs.declared.site.Site.{Site}
 use Rattle.check_model.specs.declared.job.BodyJob.{BodyJob}
 use Rattle.check_model.specs.declared.job.BodyJob.TheVariants as jobs
@@ -29,7 +29,7 @@ use Rattle.check_model.specs.declared.end.BodyEnd.{BodyEnd}
 use Rattle.check_model.specs.declared.end.BodyEnd.TheVariants as ends
 use Rattle.check_model.specs.declared.question.BodyQuestion.{BodyQuestion}
 use Rattle.check_model.specs.declared.question.CheckAnswer.{CheckAnswer}
-use Rattle.check_model.specs.Typing.{TypingState, made_at, function_at, with_variable, cut_to}
+use Rattle.check_model.specs.Typing.{TypingState, function_at, with_variable, cut_to}
 use Rattle.check_model.specs.Plans.{BodyPlan, then_on, reading, writing, on_made, refuse, adding}
 use Rattle.check_model.specs.Calls.{call_value}
 use Rattle.check_model.specs.Expressions.{statements, expression_job}
@@ -41,7 +41,7 @@ abbrev pub body_job : BodyJob → BodyPlan
 body_job (jobs.Expression t site) = expression_job t site
 body_job (jobs.Statement t site) = statement_job t site
 body_job (jobs.Callee t os at source site) =
-    then_on (expression_job t site) (λ r. on_made r (λ id from. reading (λ w. call_value (made_at w id from) os at source site)))
+    then_on (expression_job t site) (λ r. on_made r (λ m. call_value m os at source site))
 
 -- ---- what is asked for: a function that is defined
 
@@ -53,62 +53,58 @@ abbrev pub most_levels : ℕ
 most_levels = 1000
 
 -- each parameter is a node, and a variable of the body
-abbrev parameters : List Parameter → Site → BodyPlan → BodyPlan
+abbrev pub parameters : List Parameter → Site → BodyPlan → BodyPlan
 parameters [] site rest = rest
 parameters (p ∷ ps) site rest =
     Pay 1 (may_be p.of p.place site (Read (λ w. Write (with_variable w p.symbol p.of) (parameters ps site rest))))
 
-abbrev names_of : List Parameter → List TypedName
+abbrev pub names_of : List Parameter → List TypedName
 names_of [] = []
 names_of (p ∷ ps) = record { symbol = p.symbol; of = p.of } ∷ names_of ps
 
--- those of a function with these parameters and these typed statements
-abbrev function_size : StageState → List Parameter → TypeId → List TermId → Size
-function_size w ps result body =
-    body_size (record { parameters = names_of ps; result = result; body = typed_block_at (typed_trees w.store.typed) body })
-
-abbrev is_too_large : Size → Bool
+abbrev pub is_too_large : Size → Bool
 is_too_large size = nat_lt most_nodes size.nodes || nat_lt most_levels size.levels
 
-abbrev made_function : List Parameter → TypeId → List TermId → Place → Site → BodyPlan
-made_function ps result body at site =
-    reading (λ w.
-    if is_too_large (function_size w ps result body) then refuse TooLarge at site
-    else adding (typed_kinds.Function (names_of ps) result body) (λ id. Give (parts.Stated id (Some result))))
+-- the node of a function with these parameters and these typed statements; its size, with all its parts, is limited
+abbrev pub made_function : List TypedName → TypeId → List TermId → Place → Site → BodyPlan
+made_function names result body at site =
+    adding (typed_kinds.Function names result body) (λ id.
+    reading (λ w. if is_too_large (typed_size w id) then refuse TooLarge at site else Give (parts.Stated id (Some result))))
 
 -- the function's own node, its parameters, and its statements; a body that returns nothing has the unit type
-abbrev definition_plan : Option Term → Place → Site → BodyPlan
+abbrev pub definition_plan : Option Term → Place → Site → BodyPlan
 definition_plan (Some (kinds.Function ps result body)) at site =
     Pay 1 (parameters ps (record site { result = result }) (statements body (record site { result = result }) [] (λ typed found.
-    made_function ps (unwrap_or found unit) typed at site)))
+    made_function (names_of ps) (unwrap_or found unit) typed at site)))
 definition_plan _ at site = refuse Undefined at site
 
 -- what becomes of a function that was being typed: it has its typed term, or its refusal, unless something was undefined
 abbrev pub state_after : PartEnd → FunctionState → FunctionState
-state_after (parts.Made id source) state = finished state id
+state_after (parts.Made m) state = finished state m.id
 state_after (parts.Stated id result) state = finished state id
 state_after (parts.Refused why) state = refused state why
+state_after (parts.Answered a) state = state
 
-abbrev stage_after : FnId → PartEnd → StageState → StageState
+abbrev pub stage_after : FnId → PartEnd → StageState → StageState
 stage_after f r w = with_store w (with_state w.store f (state_after r (state_of w.store f)))
 
 -- however it ended, its variables go
-abbrev close_function : FnId → (base : ℕ) → PartEnd → BodyPlan
+abbrev pub close_function : FnId → (base : ℕ) → PartEnd → BodyPlan
 close_function f base r = Read (λ w. Write (cut_to (record w { stage = stage_after f r w.stage }) base) (Give r))
 
-abbrev site_of : FnId → TypingState → Site
+abbrev pub site_of : FnId → TypingState → Site
 site_of f w = record { function = f; base = length w.variables; in_loop = false; in_let = false; result = None }
 
-abbrev begun_in : StageState → FnId → StageState
+abbrev pub begun_in : StageState → FnId → StageState
 begun_in w f = with_store w (with_state w.store f (begun (state_of w.store f)))
 
-abbrev function_plan : TypingState → FnId → Function → Option TermId → BodyPlan
+abbrev pub function_plan : TypingState → FnId → Function → Option TermId → BodyPlan
 function_plan w f g (Some t) =
     writing (begun_in w.stage f)
     (then_on (definition_plan (slice_get w.stage.store.terms t.0) g.place (site_of f w)) (close_function f (length w.variables)))
 function_plan w f g None = refuse Undefined g.place (site_of f w)
 
-abbrev for_function : TypingState → FnId → Option Function → BodyPlan
+abbrev pub for_function : TypingState → FnId → Option Function → BodyPlan
 for_function w f (Some g) = function_plan w f g (term_in g.state)
 for_function w f None = refuse Undefined nowhere (site_of f w)
 
@@ -117,9 +113,10 @@ body_first f = Read (λ w. for_function w f (function_at w.stage f))
 
 -- how it ends
 abbrev pub close_body : PartEnd → BodyEnd
-close_body (parts.Made id source) = ends.Typed id
+close_body (parts.Made m) = ends.Typed m.id
 close_body (parts.Stated id result) = ends.Typed id
 close_body (parts.Refused why) = ends.Refused why
+close_body (parts.Answered a) = ends.Typed (record { 0 = 0 })
 
 -- ---- the meaning
 

@@ -38,34 +38,38 @@ use Rattle.check_model.specs.declared.question.BodyQuestion.TheVariants.{ResultO
 use Rattle.check_model.specs.declared.question.CheckAnswer.{CheckAnswer}
 use Rattle.check_model.specs.declared.question.CheckAnswer.TheVariants as answers
 use Rattle.exotype.specs.World.{StageState}
-use Rattle.check_model.specs.Typing.{Made, bytes_in, expression_at, place_of, function_at}
+use Rattle.check_model.specs.declared.known.KnownResult.{KnownResult}
+use Rattle.check_model.specs.declared.known.KnownResult.TheVariants.{Is, NotYet, BeingTyped}
+use Rattle.check_model.specs.declared.made.Made.{Made}
+use Rattle.check_model.specs.declared.rule.Mode.TheVariants.{Implicit, Explicit}
+use Rattle.check_model.specs.Typing.{bytes_in, expression_at, place_of, function_at}
 use Rattle.check_model.specs.Structs.{metamethod}
-use Rattle.check_model.specs.Plans.{BodyPlan, reading, asks_lua, give, gives, refuse, laid_out, calling, becoming, in_place, operand, ready, quotes_of, pointing}
-use Rattle.check_model.specs.Converting.{Implicit, Explicit, convert, fit}
+use Rattle.check_model.specs.Plans.{BodyPlan, reading, asks_lua, if_lua_is_asked, give, gives, refuse, laid_out, calling, becoming, in_place, operand, operands, ready, quotes_of, pointing}
+use Rattle.check_model.specs.Converting.{convert, fit}
 
 -- ---- what is known of a function
 
-abbrev types_of : List Parameter → List TypeId
+abbrev pub types_of : List Parameter → List TypeId
 types_of [] = []
 types_of (p ∷ ps) = p.of ∷ types_of ps
 
-abbrev params_of : Option nodes.Term → List TypeId
+abbrev pub params_of : Option nodes.Term → List TypeId
 params_of (Some (kinds.Function ps result body)) = types_of ps
 params_of _ = []
 
-abbrev written_in : Option nodes.Term → Option TypeId
+abbrev pub written_in : Option nodes.Term → Option TypeId
 written_in (Some (kinds.Function ps result body)) = result
 written_in _ = None
 
-abbrev found_in : Option typed_nodes.Typed → Option TypeId
+abbrev pub found_in : Option typed_nodes.Typed → Option TypeId
 found_in (Some (typed_kinds.Function ps result body)) = Some result
 found_in _ = None
 
-abbrev params_in : TypeForm → Option (List TypeId)
+abbrev pub params_in : TypeForm → Option (List TypeId)
 params_in (forms.Function ps result) = Some ps
 params_in _ = None
 
-abbrev declared_params : List TypeForm → Option TypeId → Option (List TypeId)
+abbrev pub declared_params : List TypeForm → Option TypeId → Option (List TypeId)
 declared_params types None = None
 declared_params types (Some t) = params_in (form_of types t)
 
@@ -77,20 +81,16 @@ parameter_types w g (standing.Typing t) = Some (params_of (slice_get w.store.ter
 parameter_types w g (standing.Typed t made) = Some (params_of (slice_get w.store.terms t.0))
 parameter_types w g (standing.Refused t why) = Some (params_of (slice_get w.store.terms t.0))
 
-abbrev result_in : TypeForm → Option TypeId
+abbrev pub result_in : TypeForm → Option TypeId
 result_in (forms.Function ps result) = Some result
 result_in _ = None
 
-abbrev declared_result : List TypeForm → Option TypeId → Option TypeId
+abbrev pub declared_result : List TypeForm → Option TypeId → Option TypeId
 declared_result types None = None
 declared_result types (Some t) = result_in (form_of types t)
 
 -- what is known of a function's result type
-pub data KnownResult : Type 0 where
-  Is : TypeId → KnownResult
-  NotYet BeingTyped : KnownResult
-
-abbrev known_or : Option TypeId → KnownResult → KnownResult
+abbrev pub known_or : Option TypeId → KnownResult → KnownResult
 known_or (Some t) otherwise = Is t
 known_or None otherwise = otherwise
 
@@ -101,11 +101,11 @@ known_result w g (standing.Typing t) = known_or (written_in (slice_get w.store.t
 known_result w g (standing.Typed t made) = known_or (found_in (slice_get w.store.typed made.0)) NotYet
 known_result w g (standing.Refused t why) = known_or (written_in (slice_get w.store.terms t.0)) NotYet
 
-abbrev result_in_state : StageState → Option Function → KnownResult
+abbrev pub result_in_state : StageState → Option Function → KnownResult
 result_in_state w (Some g) = known_result w g g.state
 result_in_state w None = NotYet
 
-abbrev parameters_in_state : StageState → Option Function → Option (List TypeId)
+abbrev pub parameters_in_state : StageState → Option Function → Option (List TypeId)
 parameters_in_state w (Some g) = parameter_types w g g.state
 parameters_in_state w None = None
 
@@ -116,12 +116,12 @@ parameters_of w f = parameters_in_state w (function_at w f)
 abbrev pub result_of : StageState → FnId → KnownResult
 result_of w f = result_in_state w (function_at w f)
 
-abbrev on_result : CheckAnswer → Place → Site → (TypeId → BodyPlan) → BodyPlan
+abbrev pub on_result : CheckAnswer → Place → Site → (TypeId → BodyPlan) → BodyPlan
 on_result (answers.Result t) at site go = go t
 on_result (answers.Refused r) at site go = Give (ends.Refused r)
 on_result _ at site go = refuse Undefined at site
 
-abbrev by_result : KnownResult → FnId → Place → Site → (TypeId → BodyPlan) → BodyPlan
+abbrev pub by_result : KnownResult → FnId → Place → Site → (TypeId → BodyPlan) → BodyPlan
 by_result (Is t) f at site go = go t
 by_result BeingTyped f at site go = refuse RecursiveNeedsType at site
 by_result NotYet f at site go = AskFor (ResultOf f) (λ a. on_result a at site go)
@@ -129,7 +129,7 @@ by_result NotYet f at site go = AskFor (ResultOf f) (λ a. on_result a at site g
 -- ---- arguments
 
 -- each operand is typed and converted before the next one; the first may be a receiver, which is made to fit
-abbrev argument : Bool → Made → TypeId → Place → Site → (Made → BodyPlan) → BodyPlan
+abbrev pub argument : Bool → Made → TypeId → Place → Site → (Made → BodyPlan) → BodyPlan
 argument true m p at site go = fit m p at site go
 argument false m p at site go = convert Implicit m p site go
 
@@ -140,54 +140,56 @@ arguments fitting (o ∷ os) (p ∷ ps) at site ids go =
     operand o site (λ m. argument fitting m p at site (λ r. arguments false os ps at site (ids ++ r.id ∷ []) go))
 
 -- the number of arguments comes first, then the result type, then the arguments
-abbrev counted : List Operand → List TypeId → Place → Site → BodyPlan → BodyPlan
+abbrev pub counted : List Operand → List TypeId → Place → Site → BodyPlan → BodyPlan
 counted os ps at site rest = if nat_eq (length os) (length ps) then rest else refuse WrongCount at site
 
 -- ---- what is called by its name
 
-abbrev with_params : Option (List TypeId) → StageState → FnId → Function → List Operand → Place → Bool → TermId → Site → BodyPlan
+abbrev pub with_params : Option (List TypeId) → StageState → FnId → Function → List Operand → Place → Bool → TermId → Site → BodyPlan
 with_params None w f g os at fitting source site = refuse Undefined at site
 with_params (Some ps) w f g os at fitting source site =
     counted os ps at site
     (by_result (known_result w g g.state) f at site (λ result.
     arguments fitting os ps at site [] (λ ids. gives source at result (te.Operate (operations.Call f) ids))))
 
-abbrev call_function : StageState → FnId → Option Function → List Operand → Place → Bool → TermId → Site → BodyPlan
+abbrev pub call_function : StageState → FnId → Option Function → List Operand → Place → Bool → TermId → Site → BodyPlan
 call_function w f (Some g) os at fitting source site = with_params (parameter_types w g g.state) w f g os at fitting source site
 call_function w f None os at fitting source site = refuse Undefined at site
 
-abbrev call_by : Primitive → List TypeId → TypeId → List Operand → Place → Bool → TermId → Site → BodyPlan
+abbrev pub call_by : Primitive → List TypeId → TypeId → List Operand → Place → Bool → TermId → Site → BodyPlan
 call_by p ps result os at fitting source site =
     counted os ps at site (arguments fitting os ps at site [] (λ ids. gives source at result (te.Operate (operations.Primitive p) ids)))
 
-abbrev call_primitive : Primitive → List Operand → Place → Bool → TermId → Site → BodyPlan
+abbrev pub call_primitive : Primitive → List Operand → Place → Bool → TermId → Site → BodyPlan
 call_primitive PutByte os at fitting source site = call_by PutByte (uint8 ∷ []) unit os at fitting source site
 call_primitive Write os at fitting source site = pointing uint8 (λ p. call_by Write (p ∷ int64 ∷ []) unit os at fitting source site)
 call_primitive Alloc os at fitting source site = pointing uint8 (λ p. call_by Alloc (int64 ∷ []) p os at fitting source site)
 
-abbrev cast : TypeId → List Operand → Place → TermId → Site → BodyPlan
-cast to (o ∷ []) at source site = operand o site (λ m. convert Explicit m to site (λ r. Give (ends.Made r.id source)))
+abbrev pub cast : TypeId → List Operand → Place → TermId → Site → BodyPlan
+cast to (o ∷ []) at source site = operand o site (λ m. convert Explicit m to site (λ r. give (record r { source = source })))
 cast to _ at source site = refuse WrongCount at site
 
-abbrev size_constant : TypeId → Place → TermId → Site → BodyPlan
+abbrev pub size_constant : TypeId → Place → TermId → Site → BodyPlan
 size_constant t at source site =
     Pay 1 (laid_out t at site (reading (λ w. gives source at uint64 (te.Constant (constants.Number (bytes_in w t))))))
 
-abbrev size_of_type : expressions.Expression → Place → Place → TermId → Site → BodyPlan
+abbrev pub size_of_type : expressions.Expression → Place → Place → TermId → Site → BodyPlan
 size_of_type (e.Type t) named at source site = size_constant t at source site
 size_of_type _ named at source site = refuse BadOperand named site
 
-abbrev size_of_operand : Operand → Place → TermId → Site → BodyPlan
+abbrev pub size_of_operand : Operand → Place → TermId → Site → BodyPlan
 size_of_operand (Untyped t) at source site = reading (λ w. size_of_type (expression_at w t) (place_of w t) at source site)
-size_of_operand (Typed from id) at source site = operand (Typed from id) site (λ m. refuse BadOperand m.at site)
+size_of_operand (Typed m) at source site = refuse BadOperand m.at site
 
-abbrev call_size : List Operand → Place → TermId → Site → BodyPlan
+abbrev pub call_size : List Operand → Place → TermId → Site → BodyPlan
 call_size (o ∷ []) at source site = size_of_operand o at source site
 call_size _ at source site = refuse WrongCount at site
 
 -- a macro is called with typed quotes of its operands
-abbrev call_macro : Value → List Operand → Place → Site → BodyPlan
-call_macro h os at site = quotes_of os site [] (λ qs. calling h qs at site (λ v. in_place v at site give))
+abbrev pub call_macro : Value → List Operand → Place → Site → BodyPlan
+call_macro h os at site =
+    if asks_lua then quotes_of os site [] (λ qs. calling h qs at site (λ v. in_place v at site give))
+    else operands os site (refuse NotBuilt at site)
 
 -- which terms are called without being typed
 abbrev pub is_called : expressions.Expression → Bool
@@ -219,9 +221,9 @@ call_term t os at fitting source site =
 -- a call of a metamethod
 abbrev pub call_metamethod : Value → List Operand → Place → TermId → Site → BodyPlan
 call_metamethod h os at source site =
-    if asks_lua then becoming h at site (λ t. call_term t os at false source site) else refuse NotBuilt at site
+    if_lua_is_asked at site (becoming h at site (λ t. call_term t os at false source site))
 
-abbrev apply : Value → Made → List Operand → Place → TermId → Site → BodyPlan
+abbrev pub apply : Value → Made → List Operand → Place → TermId → Site → BodyPlan
 apply h m os at source site = if is_nil h then refuse NotCallable at site else call_metamethod h (ready m ∷ os) at source site
 
 -- a call of a typed expression: of a struct with `__apply`

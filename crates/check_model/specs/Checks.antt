@@ -32,21 +32,21 @@ was_reached f [] = false
 was_reached f (r ∷ rs) = (f.0 == r.function.0) || was_reached f rs
 
 -- the queue with the functions that a function mentions, those that are new
-abbrev with_mentions : List Reached → FnId → List (Place × FnId) → List Reached
+abbrev pub with_mentions : List Reached → FnId → List (Place × FnId) → List Reached
 with_mentions queue by [] = queue
 with_mentions queue by (m ∷ ms) =
     if was_reached m.1 queue then with_mentions queue by ms
     else with_mentions (queue ++ record { function = m.1; by = Some (m.0, by) } ∷ []) by ms
 
-abbrev mentions_of : Option typed.Item → List (Place × FnId)
+abbrev pub mentions_of : Option typed.Item → List (Place × FnId)
 mentions_of (Some (typed.body b)) = mentions_in (body_events b)
 mentions_of _ = []
 
-abbrev typed_mentions : StageState → FunctionState → List (Place × FnId)
+abbrev pub typed_mentions : StageState → FunctionState → List (Place × FnId)
 typed_mentions w (standing.Typed t made) = mentions_of (slice_get (typed_trees w.store.typed) made.0)
 typed_mentions w _ = []
 
-abbrev mentions_in_state : StageState → Option Function → List (Place × FnId)
+abbrev pub mentions_in_state : StageState → Option Function → List (Place × FnId)
 mentions_in_state w (Some g) = typed_mentions w g.state
 mentions_in_state w None = []
 
@@ -54,34 +54,34 @@ mentions_in_state w None = []
 abbrev pub mentions_at : StageState → FnId → List (Place × FnId)
 mentions_at w f = mentions_in_state w (function_at w f)
 
-abbrev take_next : List Reached → ℕ → CheckPlan
+abbrev pub take_next : List Reached → ℕ → CheckPlan
 take_next queue i = if nat_lt i (length queue) then Do (Take queue i) Give else Give ends.Done
 
 -- goes on behind a function that is typed
-abbrev past : List Reached → ℕ → FnId → CheckPlan
+abbrev pub past : List Reached → ℕ → FnId → CheckPlan
 past queue i f = Read (λ w. take_next (with_mentions queue f (mentions_at w f)) (i + 1))
 
 -- a refusal at the first call that reached a function, or at its own place
-abbrev refused_at : RefusalKind → Reached → Option (Place × FnId) → Place → CheckPlan
+abbrev pub refused_at : RefusalKind → Reached → Option (Place × FnId) → Place → CheckPlan
 refused_at kind r (Some by) own = Give (ends.Refused (record { kind = kind; place = by.0; function = by.1 }))
 refused_at kind r None own = Give (ends.Refused (record { kind = kind; place = own; function = r.function }))
 
-abbrev on_body : CheckAnswer → List Reached → ℕ → FnId → CheckPlan
+abbrev pub on_body : CheckAnswer → List Reached → ℕ → FnId → CheckPlan
 on_body (answers.Refused r) queue i f = Give (ends.Refused r)
 on_body _ queue i f = past queue i f
 
-abbrev by_state : FunctionState → Place → List Reached → ℕ → Reached → CheckPlan
+abbrev pub by_state : FunctionState → Place → List Reached → ℕ → Reached → CheckPlan
 by_state standing.Undefined own queue i r = refused_at Undefined r r.by own
 by_state (standing.Typing t) own queue i r = refused_at RecursiveNeedsType r r.by own
 by_state (standing.Refused t why) own queue i r = Give (ends.Refused why)
 by_state (standing.Defined t) own queue i r = AskFor (questions.Body r.function) (λ a. on_body a queue i r.function)
 by_state (standing.Typed t made) own queue i r = past queue i r.function
 
-abbrev taken : Option Function → List Reached → ℕ → Reached → CheckPlan
+abbrev pub taken : Option Function → List Reached → ℕ → Reached → CheckPlan
 taken (Some g) queue i r = by_state g.state g.place queue i r
 taken None queue i r = Give ends.Done
 
-abbrev at_index : Option Reached → List Reached → ℕ → CheckPlan
+abbrev pub at_index : Option Reached → List Reached → ℕ → CheckPlan
 at_index (Some r) queue i = Read (λ w. taken (function_at w r.function) queue i r)
 at_index None queue i = Give ends.Done
 

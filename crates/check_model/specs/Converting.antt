@@ -16,42 +16,42 @@ use Rattle.terra_term.specs.WellTyped.{pointer_form, points_in}
 use Rattle.check_cast.specs.Conversions.{implicit, explicit}
 use Rattle.exotype.specs.World.{StageState}
 use Rattle.check_model.specs.declared.site.Site.{Site}
-use Rattle.check_model.specs.Typing.{Made, form_in, is_nil_made, is_place_form}
+use Rattle.check_model.specs.declared.made.Made.{Made}
+use Rattle.check_model.specs.declared.rule.Mode.{Mode}
+use Rattle.check_model.specs.declared.rule.Mode.TheVariants.{Implicit, Explicit}
+use Rattle.check_model.specs.Typing.{form_in, is_nil_made}
 use Rattle.check_model.specs.Structs.{metamethod_of_either}
-use Rattle.check_model.specs.Plans.{BodyPlan, reading, refuse, make, as_value, calling, quoting, in_place}
+use Rattle.check_model.specs.Plans.{BodyPlan, reading, refuse, make, as_value, if_lua_is_asked, calling, quoting, in_place}
 
--- whether a cast is written
-pub data Mode : Type 0 where
-  Implicit Explicit : Mode
-
-abbrev conv_of : Mode → StageState → TypeId → TypeId → Conv
+abbrev pub conv_of : Mode → StageState → TypeId → TypeId → Conv
 conv_of Implicit w from to = implicit w.store.types from to
 conv_of Explicit w from to = explicit w.store.types from to
 
 -- what `__cast` gives must have the type
-abbrev cast_to : Value → Made → TypeId → Site → (Made → BodyPlan) → BodyPlan
+abbrev pub cast_to : Value → Made → TypeId → Site → (Made → BodyPlan) → BodyPlan
 cast_to h m to site go =
     if is_nil h then refuse Mismatch m.at site
-    else quoting m (λ q.
+    else if_lua_is_asked m.at site
+    (quoting m (λ q.
     calling h (values.TerraType m.of ∷ values.TerraType to ∷ q ∷ []) m.at site (λ v.
     in_place v m.at site (λ r.
-    if same_type r.of to then as_value r site (go r) else refuse Mismatch m.at site)))
+    if same_type r.of to then as_value r site (go r) else refuse Mismatch m.at site))))
 
-abbrev by_conv : Conv → StageState → Made → TypeId → Site → (Made → BodyPlan) → BodyPlan
+abbrev pub by_conv : Conv → StageState → Made → TypeId → Site → (Made → BodyPlan) → BodyPlan
 by_conv conv.Same w m to site go = as_value m site (go m)
-by_conv conv.Array w m to site go = if is_place_form m.form then make m.source m.at to (te.Decay m.id) go else refuse NotPlace m.at site
+by_conv conv.Array w m to site go = if m.is_place then make m.source m.at to (te.Decay m.id) go else refuse NotPlace m.at site
 by_conv conv.No w m to site go = cast_to (metamethod_of_either w m.of to (codes "__cast")) m to site go
 by_conv _ w m to site go = make m.source m.at to (te.Operate operations.Convert (m.id ∷ [])) go
 
-abbrev is_same : Conv → Bool
+abbrev pub is_same : Conv → Bool
 is_same conv.Same = true
 is_same _ = false
 
 -- `nil` takes the type of any pointer
-abbrev takes_type : StageState → Made → TypeId → Bool
+abbrev pub takes_type : StageState → Made → TypeId → Bool
 takes_type w m to = is_nil_made w m && pointer_form (form_in w to)
 
-abbrev converted : Conv → StageState → Made → TypeId → Site → (Made → BodyPlan) → BodyPlan
+abbrev pub converted : Conv → StageState → Made → TypeId → Site → (Made → BodyPlan) → BodyPlan
 converted c w m to site go =
     if takes_type w m to then (if is_same c then by_conv c w m to site go else make m.source m.at to (te.Constant constants.Nil) go)
     else by_conv c w m to site go
@@ -65,7 +65,7 @@ fit m to at site go =
     reading (λ w.
     if same_type m.of to then as_value m site (go m)
     else (if points_in (form_in w to) m.of
-    then (if is_place_form m.form then make m.source at to (te.Address m.id) go else refuse NotPlace m.at site)
+    then (if m.is_place then make m.source at to (te.Address m.id) go else refuse NotPlace m.at site)
     else (if points_in (form_in w m.of) to
     then make m.source at to (te.Dereference m.id) (λ r. as_value r site (go r))
     else convert Implicit m to site go)))

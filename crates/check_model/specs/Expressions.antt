@@ -39,62 +39,64 @@ use Rattle.exotype.specs.declared.property.Property.TheVariants.{Method}
 use Rattle.exotype.specs.declared.property.Known.{Known}
 use Rattle.exotype.specs.declared.property.Known.TheVariants as known
 use Rattle.check_model.specs.declared.end.PartEnd.TheVariants as ends
-use Rattle.check_model.specs.Typing.{TypingState, Made, form_in, is_place_form, struct_of, bytes_in, expression_at, variable_at}
+use Rattle.check_model.specs.declared.made.Made.{Made}
+use Rattle.check_model.specs.declared.rule.Mode.TheVariants.{Implicit}
+use Rattle.check_model.specs.Typing.{TypingState, made_at, form_in, struct_of, bytes_in, expression_at, variable_at}
 use Rattle.check_model.specs.Structs.{metamethod, method_at}
-use Rattle.check_model.specs.Plans.{BodyPlan, reading, writing, asks_lua, give, gives, refuse, on_stated, typing, laid_out, as_value, asking, calling, quoting, becoming, in_place, ready, untyped, quotes_of, leaving}
-use Rattle.check_model.specs.Converting.{Implicit, convert}
+use Rattle.check_model.specs.Plans.{BodyPlan, reading, writing, asks_lua, if_lua_is_asked, give, gives, refuse, on_stated, typing, laid_out, as_value, asking, calling, quoting, becoming, in_place, ready, untyped, quotes_of, leaving}
+use Rattle.check_model.specs.Converting.{convert}
 use Rattle.check_model.specs.Calls.{is_called, call_named, call_term}
 use Rattle.check_model.specs.Operators.{binary_plan, unary_plan}
 
 -- ---- variables and globals
 
-abbrev variable : Option TypeId → SymId → Place → TermId → Site → BodyPlan
+abbrev pub variable : Option TypeId → SymId → Place → TermId → Site → BodyPlan
 variable (Some t) x at source site = gives source at t (te.Variable x)
 variable None x at source site = refuse OutOfScope at site
 
-abbrev global : Option TerraGlobal → Place → TermId → Site → BodyPlan
+abbrev pub global : Option TerraGlobal → Place → TermId → Site → BodyPlan
 global (Some g) at source site = gives source at g.of (te.Global g.address)
 global None at source site = refuse BadOperand at site
 
 -- ---- elements and fields
 
-abbrev indexed : TypeForm → Made → Made → Place → TermId → Site → BodyPlan
+abbrev pub indexed : TypeForm → Made → Made → Place → TermId → Site → BodyPlan
 indexed (forms.Pointer t) a i at source site = laid_out t at site (gives source at t (te.Index a.id i.id))
 indexed (forms.Array t n) a i at source site = laid_out t at site (gives source at t (te.Element a.id i.id))
 indexed _ a i at source site = refuse BadOperand at site
 
-abbrev is_lost_array : TypeForm → Made → Bool
-is_lost_array (forms.Array t n) a = not (is_place_form a.form)
+abbrev pub is_lost_array : TypeForm → Made → Bool
+is_lost_array (forms.Array t n) a = not a.is_place
 is_lost_array _ a = false
 
-abbrev index_has : TypeForm → Bool
+abbrev pub index_has : TypeForm → Bool
 index_has (forms.Pointer t) = true
 index_has (forms.Array t n) = true
 index_has _ = false
 
-abbrev index_plan : StageState → Made → Made → Place → TermId → Site → BodyPlan
+abbrev pub index_plan : StageState → Made → Made → Place → TermId → Site → BodyPlan
 index_plan w a i at source site =
     if is_lost_array (form_in w a.of) a then refuse NotPlace a.at site
     else (if index_has (form_in w a.of) && integer_form (form_in w i.of) then indexed (form_in w a.of) a i at source site
     else refuse BadOperand at site)
 
 -- an entry of a place, of a pointer's target, or of a value
-abbrev entry : StageState → Made → Laid → Place → TermId → Site → BodyPlan
+abbrev pub entry : StageState → Made → Laid → Place → TermId → Site → BodyPlan
 entry w o l at source site =
     if not (struct_form (form_in w o.of)) then gives source at l.of (te.Follow l.offset o.id)
-    else (if is_place_form o.form then gives source at l.of (te.Select l.offset o.id)
+    else (if o.is_place then gives source at l.of (te.Select l.offset o.id)
     else as_value o site (gives source at l.of (te.Operate (operations.Extract l.offset) (o.id ∷ []))))
 
-abbrev missing_entry : Value → Made → TextId → Place → Site → BodyPlan
+abbrev pub missing_entry : Value → Made → TextId → Place → Site → BodyPlan
 missing_entry h o field at site =
     if is_nil h then refuse NoField at site
-    else quoting o (λ q. calling h (values.Text field ∷ q ∷ []) at site (λ v. in_place v at site give))
+    else if_lua_is_asked at site (quoting o (λ q. calling h (values.Text field ∷ q ∷ []) at site (λ v. in_place v at site give)))
 
-abbrev entry_or : StageState → Option Laid → TypeId → Made → TextId → Place → TermId → Site → BodyPlan
+abbrev pub entry_or : StageState → Option Laid → TypeId → Made → TextId → Place → TermId → Site → BodyPlan
 entry_or w (Some l) s o field at source site = entry w o l at source site
 entry_or w None s o field at source site = missing_entry (metamethod w s (codes "__entrymissing")) o field at site
 
-abbrev select_plan : Option TypeId → Made → TextId → Place → TermId → Site → BodyPlan
+abbrev pub select_plan : Option TypeId → Made → TextId → Place → TermId → Site → BodyPlan
 select_plan None o field at source site = refuse NoField at site
 select_plan (Some s) o field at source site =
     laid_out s at site (reading (λ w. entry_or w (entry_named field (entries_of w.store.types s)) s o field at source site))
@@ -102,21 +104,21 @@ select_plan (Some s) o field at source site =
 -- ---- methods
 
 -- keeps what is known of a method
-abbrev keeping : TypeId → TextId → Known → BodyPlan → BodyPlan
+abbrev pub keeping : TypeId → TextId → Known → BodyPlan → BodyPlan
 keeping s name k rest = reading (λ w. writing (record w { kept = with_known w.kept (Method s name) k }) rest)
 
-abbrev asked_method : Value → TypeId → TextId → Place → Site → (Value → BodyPlan) → BodyPlan
+abbrev pub asked_method : Value → TypeId → TextId → Place → Site → (Value → BodyPlan) → BodyPlan
 asked_method h s name at site go =
     asking h (values.TerraType s ∷ values.Text name ∷ []) at
     (λ v. keeping s name (known.Value v) (go v))
     (keeping s name (known.Refused CallbackRaised) (refuse CallbackRaised at site))
 
-abbrev find_method : StageState → Value → TypeId → TextId → Place → Site → (Value → BodyPlan) → BodyPlan
+abbrev pub find_method : StageState → Value → TypeId → TextId → Place → Site → (Value → BodyPlan) → BodyPlan
 find_method w h s name at site go =
     if is_nil h then keeping s name (known.Value (method_at w s name)) (go (method_at w s name)) else asked_method h s name at site go
 
 -- a method is asked for once, and kept
-abbrev by_known : StageState → Known → TypeId → TextId → Place → Site → (Value → BodyPlan) → BodyPlan
+abbrev pub by_known : StageState → Known → TypeId → TextId → Place → Site → (Value → BodyPlan) → BodyPlan
 by_known w (known.Value v) s name at site go = go v
 by_known w (known.Refused kind) s name at site go = refuse kind at site
 by_known w known.Asked s name at site go = refuse Incomplete at site
@@ -124,59 +126,60 @@ by_known w known.Unasked s name at site go =
     keeping s name known.Asked (find_method w (metamethod w s (codes "__getmethod")) s name at site go)
 
 -- where Lua isn't asked, a method is read at each use
-abbrev read_method : StageState → Value → TypeId → TextId → Place → Site → (Value → BodyPlan) → BodyPlan
+abbrev pub read_method : StageState → Value → TypeId → TextId → Place → Site → (Value → BodyPlan) → BodyPlan
 read_method w h s name at site go = if is_nil h then go (method_at w s name) else refuse NotBuilt at site
 
-abbrev the_method : StageState → TypeId → TextId → Place → Site → (Value → BodyPlan) → BodyPlan
+abbrev pub the_method : StageState → TypeId → TextId → Place → Site → (Value → BodyPlan) → BodyPlan
 the_method w s name at site go =
     if asks_lua then by_known w (known_of w.kept (Method s name)) s name at site go
     else read_method w (metamethod w s (codes "__getmethod")) s name at site go
 
-abbrev missing_method : Value → Made → TextId → List TermId → Place → Site → BodyPlan
+abbrev pub missing_method : Value → Made → TextId → List TermId → Place → Site → BodyPlan
 missing_method h o name args at site =
     if is_nil h then refuse NoMethod at site
-    else (if asks_lua then quoting o (λ q. quotes_of (untyped args) site [] (λ qs.
-    calling h (values.Text name ∷ q ∷ qs) at site (λ v. in_place v at site give))) else refuse NotBuilt at site)
+    else if_lua_is_asked at site
+    (quoting o (λ q. quotes_of (untyped args) site [] (λ qs.
+    calling h (values.Text name ∷ q ∷ qs) at site (λ v. in_place v at site give))))
 
-abbrev call_method : Value → TypeId → Made → TextId → List TermId → Place → TermId → Site → BodyPlan
+abbrev pub call_method : Value → TypeId → Made → TextId → List TermId → Place → TermId → Site → BodyPlan
 call_method v s o name args at source site =
     if is_nil v then reading (λ w. missing_method (metamethod w s (codes "__methodmissing")) o name args at site)
     else becoming v at site (λ t. call_term t (ready o ∷ untyped args) at true source site)
 
-abbrev method_plan : StageState → Option TypeId → Made → TextId → List TermId → Place → TermId → Site → BodyPlan
+abbrev pub method_plan : StageState → Option TypeId → Made → TextId → List TermId → Place → TermId → Site → BodyPlan
 method_plan w None o name args at source site = refuse NoMethod at site
 method_plan w (Some s) o name args at source site =
     the_method w s name at site (λ v. call_method v s o name args at source site)
 
 -- ---- constructors
 
--- values in the order of the entries
-abbrev in_order : List Laid → List TermId → Site → List ℕ → List TermId → (List ℕ → List TermId → BodyPlan) → BodyPlan
-in_order [] ts site offsets ids go = go offsets ids
-in_order (l ∷ ls) [] site offsets ids go = go offsets ids
-in_order (l ∷ ls) (t ∷ ts) site offsets ids go =
-    typing t site (λ m. convert Implicit m l.of site (λ r. in_order ls ts site (offsets ++ l.offset ∷ []) (ids ++ r.id ∷ []) go))
+-- the entries that values are for: in order, or by name, where there may be none
+abbrev pub in_order : List Laid → List TermId → List (Option Laid)
+in_order [] ts = []
+in_order (l ∷ ls) [] = []
+in_order (l ∷ ls) (t ∷ ts) = Some l ∷ in_order ls ts
 
-abbrev into : Option Laid → TermId → Place → Site → (ℕ → TermId → BodyPlan) → BodyPlan
-into (Some l) t at site go = typing t site (λ m. convert Implicit m l.of site (λ r. go l.offset r.id))
-into None t at site go = refuse NoField at site
+abbrev pub by_name : List Laid → List TextId → List (Option Laid)
+by_name ls [] = []
+by_name ls (f ∷ fs) = entry_named f ls ∷ by_name ls fs
 
--- values by name
-abbrev by_name : List Laid → List TextId → List TermId → Place → Site → List ℕ → List TermId → (List ℕ → List TermId → BodyPlan) → BodyPlan
-by_name ls [] ts at site offsets ids go = go offsets ids
-by_name ls (f ∷ fs) [] at site offsets ids go = go offsets ids
-by_name ls (f ∷ fs) (t ∷ ts) at site offsets ids go =
-    into (entry_named f ls) t at site (λ offset id. by_name ls fs ts at site (offsets ++ offset ∷ []) (ids ++ id ∷ []) go)
+-- each value is typed and converted to the type of its entry before the next one
+abbrev pub into : List (Option Laid) → List TermId → Place → Site → List ℕ → List TermId → (List ℕ → List TermId → BodyPlan) → BodyPlan
+into [] ts at site offsets ids go = go offsets ids
+into (l ∷ ls) [] at site offsets ids go = go offsets ids
+into (None ∷ ls) (t ∷ ts) at site offsets ids go = refuse NoField at site
+into (Some l ∷ ls) (t ∷ ts) at site offsets ids go =
+    typing t site (λ m. convert Implicit m l.of site (λ r. into ls ts at site (offsets ++ l.offset ∷ []) (ids ++ r.id ∷ []) go))
 
-abbrev constructed : TypeId → Place → TermId → List ℕ → List TermId → BodyPlan
+abbrev pub constructed : TypeId → Place → TermId → List ℕ → List TermId → BodyPlan
 constructed of at source offsets ids = gives source at of (te.Operate (operations.Construct offsets) ids)
 
-abbrev initialised : List Laid → Initialiser → TypeId → Place → TermId → Site → BodyPlan
+abbrev pub initialised : List Laid → Initialiser → TypeId → Place → TermId → Site → BodyPlan
 initialised ls (Positional ts) of at source site =
-    if nat_lt (length ls) (length ts) then refuse WrongCount at site else in_order ls ts site [] [] (constructed of at source)
-initialised ls (Named fs ts) of at source site = by_name ls fs ts at site [] [] (constructed of at source)
+    if nat_lt (length ls) (length ts) then refuse WrongCount at site else into (in_order ls ts) ts at site [] [] (constructed of at source)
+initialised ls (Named fs ts) of at source site = into (by_name ls fs) ts at site [] [] (constructed of at source)
 
-abbrev new_plan : StageState → TypeId → Initialiser → Place → TermId → Site → BodyPlan
+abbrev pub new_plan : StageState → TypeId → Initialiser → Place → TermId → Site → BodyPlan
 new_plan w of values at source site =
     if not (struct_form (form_in w of)) then refuse BadOperand at site
     else laid_out of at site (reading (λ v.
@@ -190,7 +193,7 @@ statements [] site ids go = go ids site.result
 statements (t ∷ ts) site ids go =
     Do (jobs.Statement t site) (λ r. on_stated r (λ id result. statements ts (record site { result = result }) (ids ++ id ∷ []) go))
 
-abbrev let_plan : ℕ → List TermId → TermId → Place → TermId → Site → BodyPlan
+abbrev pub let_plan : ℕ → List TermId → TermId → Place → TermId → Site → BodyPlan
 let_plan n block value at source site =
     statements block (record site { in_loop = false; in_let = true }) [] (λ ids result.
     typing value site (λ m.
@@ -200,24 +203,24 @@ let_plan n block value at source site =
 
 -- A symbol that a typed term uses and doesn't declare itself must be in scope with the same type. These are the symbols that it
 -- has declared so far, the innermost first, and how many of them stood before each scope that is open.
-abbrev is_in : SymId → List SymId → Bool
+abbrev pub is_in : SymId → List SymId → Bool
 is_in x [] = false
 is_in x (y ∷ ys) = if nat_eq x.0 y.0 then true else is_in x ys
 
-abbrev first_mark : List ℕ → ℕ
+abbrev pub first_mark : List ℕ → ℕ
 first_mark [] = 0
 first_mark (n ∷ ns) = n
 
 -- why a use can't stand, and where
-abbrev wrong_use : Option TypeId → TypeId → Place → Option (RefusalKind × Place)
+abbrev pub wrong_use : Option TypeId → TypeId → Place → Option (RefusalKind × Place)
 wrong_use None of at = Some (OutOfScope, at)
 wrong_use (Some t) of at = if same_type t of then None else Some (Mismatch, at)
 
-abbrev first_wrong : Option (RefusalKind × Place) → Option (RefusalKind × Place) → Option (RefusalKind × Place)
+abbrev pub first_wrong : Option (RefusalKind × Place) → Option (RefusalKind × Place) → Option (RefusalKind × Place)
 first_wrong (Some why) others = Some why
 first_wrong None others = others
 
-abbrev wrong_in : TypingState → ℕ → List SymId → List ℕ → List Event → Option (RefusalKind × Place)
+abbrev pub wrong_in : TypingState → ℕ → List SymId → List ℕ → List Event → Option (RefusalKind × Place)
 wrong_in w base own marks [] = None
 wrong_in w base own marks (Opens ∷ es) = wrong_in w base own (length own ∷ marks) es
 wrong_in w base own marks (Closes ∷ es) = wrong_in w base (drop (length own - first_mark marks) own) (drop 1 marks) es
@@ -227,24 +230,24 @@ wrong_in w base own marks (Uses at x of ∷ es) =
     else first_wrong (wrong_use (variable_at w base x) of at) (wrong_in w base own marks es)
 wrong_in w base own marks (_ ∷ es) = wrong_in w base own marks es
 
-abbrev scoped : Option (RefusalKind × Place) → TermId → TermId → Site → BodyPlan
+abbrev pub scoped : Option (RefusalKind × Place) → TermId → TermId → Site → BodyPlan
 scoped (Some why) source made site = refuse why.0 why.1 site
-scoped None source made site = Give (ends.Made made source)
+scoped None source made site = reading (λ w. give (made_at w made source))
 
--- each node of a typed quote is gone through again
-abbrev typed_plan : TypingState → TermId → TermId → Site → BodyPlan
+-- Each node of a typed quote is gone through again. Typed quotes are made for Lua code that is asked.
+abbrev pub typed_plan : TypingState → TermId → TermId → Site → BodyPlan
 typed_plan w source made site =
     Pay ((typed_size w.stage made).nodes - 1)
     (scoped (wrong_in w site.base [] [] (events_of (typed_at (typed_trees w.stage.store.typed) made))) source made site)
 
 -- ---- the plan of each expression
 
-abbrev call_plan : StageState → TermId → List TermId → Place → TermId → Site → BodyPlan
+abbrev pub call_plan : StageState → TermId → List TermId → Place → TermId → Site → BodyPlan
 call_plan w f args at source site =
     if is_called (expression_at w f) then Pay 1 (call_named w (expression_at w f) (untyped args) at false source site)
     else Do (jobs.Callee f (untyped args) at source site) Give
 
-abbrev expression_plan : TypingState → expressions.Expression → Place → TermId → Site → BodyPlan
+abbrev pub expression_plan : TypingState → expressions.Expression → Place → TermId → Site → BodyPlan
 expression_plan w (e.Number bits of) at t site = gives t at of (te.Constant (constants.Number bits))
 expression_plan w (e.Truth b) at t site = gives t at boolean (te.Constant (constants.Truth b))
 expression_plan w e.Nil at t site = gives t at rawstring (te.Constant constants.Nil)
@@ -266,9 +269,9 @@ expression_plan w (e.Select o field) at t site = typing o site (λ m. reading (�
 expression_plan w (e.Index a i) at t site = typing a site (λ x. typing i site (λ y. reading (λ v. index_plan v x y at t site)))
 expression_plan w (e.New of values) at t site = new_plan w.stage of values at t site
 expression_plan w (e.Let block value) at t site = let_plan (length w.variables) block value at t site
-expression_plan w (e.Typed source made) at t site = typed_plan w source made site
+expression_plan w (e.Typed source made) at t site = if_lua_is_asked at site (typed_plan w source made site)
 
-abbrev node_plan : TypingState → Option nodes.Term → TermId → Site → BodyPlan
+abbrev pub node_plan : TypingState → Option nodes.Term → TermId → Site → BodyPlan
 node_plan w (Some (kinds.Expression at x)) t site = expression_plan w x at t site
 node_plan w _ t site = gives t nowhere rawstring (te.Constant constants.Nil)
 

@@ -23,7 +23,8 @@ use Rattle.check_model.specs.declared.question.CheckQuestion.TheVariants as aske
 use Rattle.check_model.specs.declared.end.BodyEnd.{BodyEnd}
 use Rattle.check_model.specs.declared.end.CheckEnd.{CheckEnd}
 use Rattle.check_model.specs.Typing.{TypingState, form_in, is_aggregate_form}
-use Rattle.check_model.specs.Calls.{Is, parameters_of, result_of}
+use Rattle.check_model.specs.declared.known.KnownResult.TheVariants.{Is}
+use Rattle.check_model.specs.Calls.{parameters_of, result_of}
 use Rattle.check_model.specs.Bodies.{BodyGiven, body}
 use Rattle.check_model.specs.Checks.{CheckGiven, check}
 

@@ -10,7 +10,7 @@ use Rattle.terra_types.specs.declared.layout.Entry.{Entry}
 use Rattle.terra_types.specs.declared.layout.Layout.{Layout}
 use Rattle.terra_types.specs.Sizes.{size_of, for_some}
 use Rattle.terra_types.specs.Layouts.{layout_of}
-use Rattle.terra_types.specs.Making.{with_settled}
+use Rattle.terra_types.specs.Making.{is_unsettled, with_settled}
 use Rattle.lua_value.specs.declared.value.Value.{Value}
 use Rattle.lua_value.specs.declared.value.Value.TheVariants as values
 use Rattle.lua_value.specs.Values.{is_nil}
@@ -22,7 +22,7 @@ use Rattle.lua_table.specs.Cells.{first_value}
 use Rattle.terra_term.specs.declared.refusal.RefusalKind.{RefusalKind}
 use Rattle.terra_term.specs.declared.refusal.RefusalKind.TheVariants.{Incomplete, BadEntries, CallbackRaised, NotBuilt}
 use Rattle.terra_term.specs.Held.{with_types}
-use Rattle.exotype.specs.World.{StageState, with_store}
+use Rattle.exotype.specs.World.{StageState, KeptState, with_store}
 use Rattle.exotype.specs.Properties.{known_of, with_known}
 use Rattle.exotype.specs.declared.property.Property.TheVariants.{Entries}
 use Rattle.exotype.specs.declared.property.Known.{Known}
@@ -45,79 +45,91 @@ LayoutPlan = Plan (Unit {0}) StageState LayoutQuestion CheckAnswer LayoutEnd
 -- ---- entries, read raw
 
 -- a text and a type
-abbrev entry_of : Value → Value → Option Entry
+abbrev pub entry_of : Value → Value → Option Entry
 entry_of (values.Text field) (values.TerraType of) = Some (record { field = field; of = of })
 entry_of _ _ = None
 
-abbrev first_of : Option Entry → Option Entry → Option Entry
+abbrev pub first_of : Option Entry → Option Entry → Option Entry
 first_of (Some x) other = Some x
 first_of None other = other
 
-abbrev entry_in : LuaState → Value → Option Entry
+abbrev pub entry_in : LuaState → Value → Option Entry
 entry_in s (values.Table t) =
     first_of (entry_of (value_under s t (found_text s (codes "field"))) (value_under s t (found_text s (codes "type"))))
     (entry_of (value_at (table_at s t) 1) (value_at (table_at s t) 2))
 entry_in s v = None
 
 -- so many entries of a list, from the first on
-abbrev entries_to : LuaState → Pairs → ℕ → Option (List Entry)
+abbrev pub entries_to : LuaState → Pairs → ℕ → Option (List Entry)
 entries_to s pairs zero = Some []
 entries_to s pairs (suc n) =
     for_some (entries_to s pairs n) (λ before. for_some (entry_in s (value_at pairs (suc n))) (λ x. Some (before ++ x ∷ [])))
 
-abbrev entries_from : LuaState → Value → Option (List Entry)
+abbrev pub entries_from : LuaState → Value → Option (List Entry)
 entries_from s (values.Table t) = entries_to s (table_at s t) (border_of (table_at s t))
 entries_from s v = None
 
 -- ---- what is kept
 
-abbrev kept_as : RefusalKind → Known
+abbrev pub kept_as : RefusalKind → Known
 kept_as Incomplete = known.Unasked
 kept_as kind = known.Refused kind
 
 -- what is known of the entries of a struct from then on
-abbrev keeping : TypeId → Known → LayoutPlan → LayoutPlan
+abbrev pub keeping : TypeId → Known → LayoutPlan → LayoutPlan
 keeping t k rest = Read (λ w. Write (record w { kept = with_known w.kept (Entries t) k }) rest)
 
+-- the same where they are being asked for; whoever asked is the one who settles, so else nothing is changed
+abbrev pub settled_as : Known → KeptState → TypeId → Known → KeptState
+settled_as known.Asked kept t k = with_known kept (Entries t) k
+settled_as _ kept t k = kept
+
+abbrev pub settling : TypeId → Known → LayoutPlan → LayoutPlan
+settling t k rest = Read (λ w. Write (record w { kept = settled_as (known_of w.kept (Entries t)) w.kept t k }) rest)
+
 -- a refusal is kept but for Incomplete
-abbrev keep : TypeId → RefusalKind → LayoutPlan
-keep t kind = keeping t (kept_as kind) (Give (ends.Refused kind))
+abbrev pub keep : TypeId → RefusalKind → LayoutPlan
+keep t kind = settling t (kept_as kind) (Give (ends.Refused kind))
 
 -- of entries that were read the value is kept
-abbrev settle : TypeId → Value → Option Layout → LayoutPlan
+abbrev pub settle : TypeId → Value → Option Layout → LayoutPlan
 settle t v None = keep t BadEntries
 settle t v (Some l) =
     Read (λ w.
-    Write (with_store w (with_types w.store (with_settled w.store.types t (Some l)))) (keeping t (known.Value v) (Give ends.Done)))
+    Write (with_store w (with_types w.store (with_settled w.store.types t (Some l)))) (settling t (known.Value v) (Give ends.Done)))
+
+-- a layout is settled once
+abbrev pub unless_settled : StageState → TypeId → Value → Option Layout → LayoutPlan
+unless_settled w t v l = if is_unsettled w.store.types t then settle t v l else settling t (known.Value v) (Give ends.Done)
 
 -- ---- structs
 
-abbrev on_part : CheckAnswer → (RefusalKind → LayoutPlan) → LayoutPlan → LayoutPlan
+abbrev pub on_part : CheckAnswer → (RefusalKind → LayoutPlan) → LayoutPlan → LayoutPlan
 on_part (answers.NoLayout kind) otherwise rest = otherwise kind
 on_part _ otherwise rest = rest
 
 -- the layout of each entry's type comes first
-abbrev parts_of : TypeId → List Entry → Place → LayoutPlan → LayoutPlan
+abbrev pub parts_of : TypeId → List Entry → Place → LayoutPlan → LayoutPlan
 parts_of t [] at rest = rest
 parts_of t (x ∷ xs) at rest = AskFor (LayoutOf x.of at) (λ a. on_part a (keep t) (parts_of t xs at rest))
 
-abbrev with_entries : TypeId → Value → Option (List Entry) → Place → LayoutPlan
+abbrev pub with_entries : TypeId → Value → Option (List Entry) → Place → LayoutPlan
 with_entries t v None at = keep t BadEntries
-with_entries t v (Some xs) at = parts_of t xs at (Read (λ w. settle t v (layout_of w.store.types xs)))
+with_entries t v (Some xs) at = parts_of t xs at (Read (λ w. unless_settled w t v (layout_of w.store.types xs)))
 
-abbrev by_entries : TypeId → Value → Place → LayoutPlan
+abbrev pub by_entries : TypeId → Value → Place → LayoutPlan
 by_entries t v at = Read (λ w. with_entries t v (entries_from w.heap v) at)
 
 abbrev on_values : CheckAnswer → TypeId → Place → LayoutPlan
 on_values (answers.Values vs) t at = by_entries t (first_value vs) at
 on_values _ t at = keep t CallbackRaised
 
-abbrev asked_entries : StageState → Value → TypeId → Place → LayoutPlan
+abbrev pub asked_entries : StageState → Value → TypeId → Place → LayoutPlan
 asked_entries w h t at =
     if is_nil h then by_entries t (entries_at w t) at
     else (if asks_lua then AskFor (CallLua h (values.TerraType t ∷ []) at) (λ a. on_values a t at) else keep t NotBuilt)
 
-abbrev by_known : StageState → Known → TypeId → Place → LayoutPlan
+abbrev pub by_known : StageState → Known → TypeId → Place → LayoutPlan
 by_known w (known.Value v) t at = Give ends.Done
 by_known w (known.Refused kind) t at = Give (ends.Refused kind)
 by_known w known.Asked t at = Give (ends.Refused Incomplete)
@@ -125,11 +137,11 @@ by_known w known.Unasked t at = keeping t known.Asked (asked_entries w (metameth
 
 -- ---- each type
 
-abbrev sized : Option ℕ → LayoutPlan
+abbrev pub sized : Option ℕ → LayoutPlan
 sized (Some n) = Give ends.Done
 sized None = Give (ends.Refused BadEntries)
 
-abbrev by_form : StageState → TypeForm → TypeId → Place → LayoutPlan
+abbrev pub by_form : StageState → TypeForm → TypeId → Place → LayoutPlan
 by_form w (forms.Struct number place layout) t at = by_known w (known_of w.kept (Entries t)) t at
 by_form w (forms.Array of n) t at =
     AskFor (LayoutOf of at) (λ a. on_part a (λ kind. Give (ends.Refused kind)) (Read (λ v. sized (size_of v.store.types t))))

@@ -14,4 +14,5 @@ pub mod Converting
 -- What plans are made of, and what they read.
 pub mod Plans
 pub mod Structs
+pub mod Rows
 pub mod Typing

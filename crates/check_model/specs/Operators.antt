@@ -13,7 +13,6 @@ use Rattle.lua_value.specs.Values.{is_nil}
 use Rattle.terra_term.specs.declared.refusal.RefusalKind.TheVariants.{BadOperand, NotPlace}
 use Rattle.terra_term.specs.declared.operators.UnaryOperator.{UnaryOperator}
 use Rattle.terra_term.specs.declared.operators.UnaryOperator.TheVariants as unary
-use Rattle.terra_term.specs.declared.operators.Operation.{Operation}
 use Rattle.terra_term.specs.declared.operators.Operation.TheVariants as operations
 use Rattle.terra_term.specs.declared.operators.Constant.TheVariants as constants
 use Rattle.terra_term.specs.declared.typed.TypedExpression.TheVariants as te
@@ -22,10 +21,14 @@ use Rattle.terra_term.specs.WellTyped.{struct_form}
 use Rattle.check_cast.specs.Conversions.{meet}
 use Rattle.exotype.specs.World.{StageState}
 use Rattle.check_model.specs.declared.site.Site.{Site}
-use Rattle.check_model.specs.Typing.{Made, form_in, is_nil_made, is_place_form, bytes_in}
+use Rattle.check_model.specs.declared.made.Made.{Made}
+use Rattle.check_model.specs.declared.rule.Mode.TheVariants.{Implicit}
+use Rattle.check_model.specs.declared.rule.Rule.{Rule}
+use Rattle.check_model.specs.declared.rule.Rule.TheVariants.{Meets, Compares, Shifts, Tells, Ands, Ors, Addresses, Forward, Back, Differs, Unknown}
+use Rattle.check_model.specs.Typing.{form_in, is_nil_made, bytes_in}
 use Rattle.check_model.specs.Structs.{metamethod, metamethod_of_either}
 use Rattle.check_model.specs.Plans.{BodyPlan, reading, make, gives, refuse, laid_out, pointing, ready}
-use Rattle.check_model.specs.Converting.{Implicit, convert}
+use Rattle.check_model.specs.Converting.{convert}
 use Rattle.check_model.specs.Calls.{call_metamethod}
 
 -- ---- tables
@@ -49,22 +52,7 @@ event_of binary.Greater = codes "__gt"
 event_of binary.GreaterEqual = codes "__ge"
 
 -- how an operator works on operands of two types
-pub data Rule : Type 0 where
-  -- at the meet of two integer types, with a result of that type, or a bool
-  Meets Compares : Rule
-  -- on operands as they are, with the left one's type, or a bool
-  Shifts Tells : Rule
-  -- of two bools, the second evaluated where it is needed
-  Ands Ors : Rule
-  -- on two pointers of one type
-  Addresses : Rule
-  -- a pointer to this is moved
-  Moves : TypeId → Operation → Rule
-  -- two pointers to this are subtracted
-  Differs : TypeId → Rule
-  Unknown : Rule
-
-abbrev on_integers : BinaryOperator → Rule
+abbrev pub on_integers : BinaryOperator → Rule
 on_integers binary.ShiftLeft = Shifts
 on_integers binary.ShiftRight = Shifts
 on_integers binary.Equal = Compares
@@ -75,19 +63,19 @@ on_integers binary.Greater = Compares
 on_integers binary.GreaterEqual = Compares
 on_integers _ = Meets
 
-abbrev on_truths : BinaryOperator → Rule
+abbrev pub on_truths : BinaryOperator → Rule
 on_truths binary.And = Ands
 on_truths binary.Or = Ors
 on_truths binary.Equal = Tells
 on_truths binary.NotEqual = Tells
 on_truths _ = Unknown
 
-abbrev on_pointer : TypeId → BinaryOperator → Rule
-on_pointer t binary.Add = Moves t operations.StepForward
-on_pointer t binary.Subtract = Moves t operations.StepBack
+abbrev pub on_pointer : TypeId → BinaryOperator → Rule
+on_pointer t binary.Add = Forward t
+on_pointer t binary.Subtract = Back t
 on_pointer t _ = Unknown
 
-abbrev on_pointers : TypeId → BinaryOperator → Rule
+abbrev pub on_pointers : TypeId → BinaryOperator → Rule
 on_pointers t binary.Subtract = Differs t
 on_pointers t binary.Equal = Addresses
 on_pointers t binary.NotEqual = Addresses
@@ -106,26 +94,26 @@ rule_of op _ _ = Unknown
 
 -- ---- binary operators
 
-abbrev both : BinaryOperator → TypeId → Made → Made → Place → TermId → BodyPlan
+abbrev pub both : BinaryOperator → TypeId → Made → Made → Place → TermId → BodyPlan
 both op of a b at source = gives source at of (te.Operate (operations.Binary op) (a.id ∷ b.id ∷ []))
 
 -- at a type, to which both operands are converted
-abbrev at_type : TypeId → BinaryOperator → (of : TypeId) → Made → Made → Place → TermId → Site → BodyPlan
+abbrev pub at_type : TypeId → BinaryOperator → (of : TypeId) → Made → Made → Place → TermId → Site → BodyPlan
 at_type m op of a b at source site =
     convert Implicit a m site (λ x. convert Implicit b m site (λ y. both op of x y at source))
 
 -- of two pointers a `nil` takes the other one's type
-abbrev retyped : StageState → Made → Made → (Made → BodyPlan) → BodyPlan
+abbrev pub retyped : StageState → Made → Made → (Made → BodyPlan) → BodyPlan
 retyped w m other go =
     if is_nil_made w m && not (same_type m.of other.of) then make m.source m.at other.of (te.Constant constants.Nil) go else go m
 
-abbrev same_pointers : BinaryOperator → Made → Made → Place → TermId → Site → BodyPlan
+abbrev pub same_pointers : BinaryOperator → Made → Made → Place → TermId → Site → BodyPlan
 same_pointers op a b at source site = if same_type a.of b.of then both op boolean a b at source else refuse BadOperand at site
 
-abbrev meeting : StageState → Made → Made → TypeId
+abbrev pub meeting : StageState → Made → Made → TypeId
 meeting w a b = unwrap_or (meet w.store.types a.of b.of) a.of
 
-abbrev by_rule : Rule → StageState → BinaryOperator → Made → Made → Place → TermId → Site → BodyPlan
+abbrev pub by_rule : Rule → StageState → BinaryOperator → Made → Made → Place → TermId → Site → BodyPlan
 by_rule Meets w op a b at source site = at_type (meeting w a b) op (meeting w a b) a b at source site
 by_rule Compares w op a b at source site = at_type (meeting w a b) op boolean a b at source site
 by_rule Shifts w op a b at source site = both op a.of a b at source
@@ -133,7 +121,9 @@ by_rule Tells w op a b at source site = both op boolean a b at source
 by_rule Ands w op a b at source site = gives source at boolean (te.Both a.id b.id)
 by_rule Ors w op a b at source site = gives source at boolean (te.Either a.id b.id)
 by_rule Addresses w op a b at source site = retyped w a b (λ x. retyped w b x (λ y. same_pointers op x y at source site))
-by_rule (Moves t step) w op a b at source site = laid_out t at site (gives source at a.of (te.Operate step (a.id ∷ b.id ∷ [])))
+by_rule (Forward t) w op a b at source site =
+    laid_out t at site (gives source at a.of (te.Operate operations.StepForward (a.id ∷ b.id ∷ [])))
+by_rule (Back t) w op a b at source site = laid_out t at site (gives source at a.of (te.Operate operations.StepBack (a.id ∷ b.id ∷ [])))
 by_rule (Differs t) w op a b at source site =
     if same_type a.of b.of
     then laid_out t at site (reading (λ v.
@@ -142,7 +132,7 @@ by_rule (Differs t) w op a b at source site =
     else refuse BadOperand at site
 by_rule Unknown w op a b at source site = refuse BadOperand at site
 
-abbrev by_metamethod : Value → Made → Made → Place → TermId → Site → BodyPlan
+abbrev pub by_metamethod : Value → Made → Made → Place → TermId → Site → BodyPlan
 by_metamethod h a b at source site =
     if is_nil h then refuse BadOperand at site else call_metamethod h (ready a ∷ ready b ∷ []) at source site
 
@@ -154,12 +144,12 @@ binary_plan w op a b at source site =
 
 -- ---- unary operators
 
-abbrev by_own : Value → Made → Place → TermId → Site → BodyPlan
+abbrev pub by_own : Value → Made → Place → TermId → Site → BodyPlan
 by_own h m at source site = if is_nil h then refuse BadOperand at site else call_metamethod h (ready m ∷ []) at source site
 
 abbrev pub unary_plan : StageState → UnaryOperator → TypeForm → Made → Place → TermId → Site → BodyPlan
 unary_plan w unary.Address form m at source site =
-    if is_place_form m.form then pointing m.of (λ p. gives source at p (te.Address m.id)) else refuse NotPlace m.at site
+    if m.is_place then pointing m.of (λ p. gives source at p (te.Address m.id)) else refuse NotPlace m.at site
 unary_plan w unary.Dereference (forms.Pointer t) m at source site = gives source at t (te.Dereference m.id)
 unary_plan w unary.Dereference _ m at source site = refuse BadOperand at site
 unary_plan w unary.Negate (forms.Integer i) m at source site = gives source at m.of (te.Operate operations.Negate (m.id ∷ []))

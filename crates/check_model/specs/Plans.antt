@@ -32,7 +32,8 @@ use Rattle.check_model.specs.declared.question.BodyQuestion.{BodyQuestion}
 use Rattle.check_model.specs.declared.question.BodyQuestion.TheVariants.{CallLua, LayoutOf}
 use Rattle.check_model.specs.declared.question.CheckAnswer.{CheckAnswer}
 use Rattle.check_model.specs.declared.question.CheckAnswer.TheVariants as answers
-use Rattle.check_model.specs.Typing.{TypingState, Made, made_at, form_in, is_aggregate_form, bytes_in, cut_to}
+use Rattle.check_model.specs.declared.made.Made.{Made}
+use Rattle.check_model.specs.Typing.{TypingState, made_of, form_in, is_aggregate_form, bytes_in, cut_to}
 
 abbrev pub BodyPlan : Type 0
 BodyPlan = Plan BodyJob TypingState BodyQuestion CheckAnswer PartEnd
@@ -60,28 +61,26 @@ leaving n rest = Read (λ w. Write (cut_to w n) rest)
 -- ---- ends
 
 abbrev pub give : Made → BodyPlan
-give m = Give (ends.Made m.id m.source)
+give m = Give (ends.Made m)
 
 abbrev pub refuse : RefusalKind → Place → Site → BodyPlan
 refuse kind at site = Give (ends.Refused (record { kind = kind; place = at; function = site.function }))
 
--- goes on with an expression and the term from which it was typed, or is refused
-abbrev pub on_made : PartEnd → (TermId → TermId → BodyPlan) → BodyPlan
-on_made (ends.Made id source) go = go id source
-on_made (ends.Stated id result) go = go id id
-on_made (ends.Refused why) go = Give (ends.Refused why)
+-- goes on with an expression; any other end passes by
+abbrev pub on_made : PartEnd → (Made → BodyPlan) → BodyPlan
+on_made (ends.Made m) go = go m
+on_made r go = Give r
 
--- goes on with a statement and the result type behind it, or is refused
+-- goes on with a statement and the result type behind it; any other end passes by
 abbrev pub on_stated : PartEnd → (TermId → Option TypeId → BodyPlan) → BodyPlan
-on_stated (ends.Made id source) go = go id None
 on_stated (ends.Stated id result) go = go id result
-on_stated (ends.Refused why) go = Give (ends.Refused why)
+on_stated r go = Give r
 
 -- ---- nodes
 
 -- types an expression
 abbrev pub typing : TermId → Site → (Made → BodyPlan) → BodyPlan
-typing t site go = Do (jobs.Expression t site) (λ r. on_made r (λ id source. reading (λ w. go (made_at w id source))))
+typing t site go = Do (jobs.Expression t site) (λ r. on_made r go)
 
 -- adds a typed node, and goes on with it
 abbrev pub adding : TypedNode → (TermId → BodyPlan) → BodyPlan
@@ -90,7 +89,7 @@ adding node go = reading (λ w. writing (with_store w (with_typed w.store node))
 -- makes a typed expression of a term
 abbrev pub make : TermId → Place → TypeId → TypedExpression → (Made → BodyPlan) → BodyPlan
 make source at of form go =
-    adding (typed_kinds.Expression at of form) (λ id. go (record { id = id; source = source; at = at; of = of; form = form }))
+    adding (typed_kinds.Expression at of form) (λ id. go (made_of id source at of form))
 
 -- the end of an expression that is this
 abbrev pub gives : TermId → Place → TypeId → TypedExpression → BodyPlan
@@ -133,7 +132,10 @@ as_value m site rest = laid_out m.of m.at site (reading (λ w. if is_wide w m.of
 abbrev pub asks_lua : Bool
 asks_lua = false
 
-abbrev on_values : CheckAnswer → (Value → BodyPlan) → BodyPlan → BodyPlan
+abbrev pub if_lua_is_asked : Place → Site → BodyPlan → BodyPlan
+if_lua_is_asked at site plan = if asks_lua then plan else refuse NotBuilt at site
+
+abbrev pub on_values : CheckAnswer → (Value → BodyPlan) → BodyPlan → BodyPlan
 on_values (answers.Values vs) go otherwise = go (first_value vs)
 on_values _ go otherwise = otherwise
 
@@ -142,14 +144,14 @@ abbrev pub asking : Value → List Value → Place → (Value → BodyPlan) → 
 asking h vs at go otherwise = AskFor (CallLua h vs at) (λ a. on_values a go otherwise)
 
 abbrev pub calling : Value → List Value → Place → Site → (Value → BodyPlan) → BodyPlan
-calling h vs at site go = if asks_lua then asking h vs at go (refuse CallbackRaised at site) else refuse NotBuilt at site
+calling h vs at site go = asking h vs at go (refuse CallbackRaised at site)
 
 -- a typed quote of an expression
 abbrev pub quoting : Made → (Value → BodyPlan) → BodyPlan
 quoting m go =
     reading (λ w. writing (with_store w (with_quote w.store (quotes.Typed m.source m.id))) (go (values.Quote (next_quote w.store))))
 
-abbrev on_became : Became → Place → Site → (TermId → BodyPlan) → BodyPlan
+abbrev pub on_became : Became → Place → Site → (TermId → BodyPlan) → BodyPlan
 on_became (became.Term t) at site go = go t
 on_became (became.Refused fault) at site go = refuse NotConstant at site
 
@@ -166,14 +168,19 @@ in_place v at site go = becoming v at site (λ t. typing t site go)
 -- types an operand, if it isn't yet
 abbrev pub operand : Operand → Site → (Made → BodyPlan) → BodyPlan
 operand (Untyped t) site go = typing t site go
-operand (Typed source id) site go = reading (λ w. go (made_at w id source))
+operand (Typed m) site go = go m
 
 abbrev pub ready : Made → Operand
-ready m = Typed m.source m.id
+ready m = Typed m
 
 abbrev pub untyped : List TermId → List Operand
 untyped [] = []
 untyped (t ∷ ts) = Untyped t ∷ untyped ts
+
+-- types operands in order
+abbrev pub operands : List Operand → Site → BodyPlan → BodyPlan
+operands [] site rest = rest
+operands (o ∷ os) site rest = operand o site (λ m. operands os site rest)
 
 -- types operands in order, each with a typed quote of it
 abbrev pub quotes_of : List Operand → Site → List Value → (List Value → BodyPlan) → BodyPlan

@@ -40,7 +40,9 @@ use Rattle.check_model.specs.declared.question.CheckAnswer.{CheckAnswer}
 use Rattle.check_model.specs.declared.question.CheckAnswer.TheVariants as answers
 use Rattle.check_model.specs.declared.end.BodyEnd.{BodyEnd}
 use Rattle.check_model.specs.Typing.{TypingState, function_at}
-use Rattle.check_model.specs.Calls.{KnownResult, Is, known_result, parameter_types}
+use Rattle.check_model.specs.declared.known.KnownResult.{KnownResult}
+use Rattle.check_model.specs.declared.known.KnownResult.TheVariants.{Is}
+use Rattle.check_model.specs.Calls.{known_result, parameter_types}
 use Rattle.check_model.specs.Keeping.{AllFollow, AllFollowCheck}
 use Rattle.check_model.specs.Checks.{CheckGiven, check, was_reached, mentions_at}
 use Rattle.check_model.specs.declared.job.Reached.{Reached}

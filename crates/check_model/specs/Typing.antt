@@ -24,6 +24,7 @@ use Rattle.terra_term.specs.Planted.{nowhere}
 use Rattle.terra_term.specs.WellTyped.{struct_form}
 use Rattle.check_cast.specs.Conversions.{form_of}
 use Rattle.exotype.specs.World.{StageState}
+use Rattle.check_model.specs.declared.made.Made.{Made}
 
 -- the world of a staging, and the variables that are in scope in the bodies being typed, the innermost last
 pub record TypingState : Type 0 where
@@ -45,10 +46,10 @@ abbrev pub bytes_in : StageState → TypeId → ℕ
 bytes_in w t = unwrap_or (size_of w.store.types t) 0
 
 -- the struct that a type is, or to which it points
-abbrev struct_if : StageState → TypeId → Option TypeId
+abbrev pub struct_if : StageState → TypeId → Option TypeId
 struct_if w t = if struct_form (form_in w t) then Some t else None
 
-abbrev struct_behind : StageState → TypeId → TypeForm → Option TypeId
+abbrev pub struct_behind : StageState → TypeId → TypeForm → Option TypeId
 struct_behind w t (forms.Pointer u) = struct_if w u
 struct_behind w t form = struct_if w t
 
@@ -57,14 +58,14 @@ struct_of w t = struct_behind w t (form_in w t)
 
 -- ---- nodes
 
-abbrev expression_in : Option Term → Expression
+abbrev pub expression_in : Option Term → Expression
 expression_in (Some (kinds.Expression at x)) = x
 expression_in _ = e.Nil
 
 abbrev pub expression_at : StageState → TermId → Expression
 expression_at w t = expression_in (slice_get w.store.terms t.0)
 
-abbrev place_in : Option Term → Place
+abbrev pub place_in : Option Term → Place
 place_in (Some (kinds.Expression at x)) = at
 place_in (Some (kinds.Statement at x)) = at
 place_in _ = nowhere
@@ -72,22 +73,7 @@ place_in _ = nowhere
 abbrev pub place_of : StageState → TermId → Place
 place_of w t = place_in (slice_get w.store.terms t.0)
 
--- A typed expression: its node, the term from which it was typed, its place, its type, and what it is.
-pub record Made : Type 0 where
-  pub id : TermId
-  pub source : TermId
-  pub at : Place
-  pub of : TypeId
-  pub form : TypedExpression
-
-abbrev pub made_in : Option Typed → TermId → TermId → Made
-made_in (Some (typed_kinds.Expression at of form)) id source = record { id = id; source = source; at = at; of = of; form = form }
-made_in _ id source = record { id = id; source = source; at = nowhere; of = rawstring; form = te.Constant constants.Nil }
-
-abbrev pub made_at : StageState → (id source : TermId) → Made
-made_at w id source = made_in (slice_get w.store.typed id.0) id source
-
-abbrev is_nil_term : Option Term → Bool
+abbrev pub is_nil_term : Option Term → Bool
 is_nil_term (Some (kinds.Expression at e.Nil)) = true
 is_nil_term _ = false
 
@@ -106,6 +92,17 @@ is_place_form (te.Element a i) = true
 is_place_form (te.Index p i) = true
 is_place_form _ = false
 
+-- a typed expression by its node and the term from which it was typed
+abbrev pub made_of : (id source : TermId) → Place → TypeId → TypedExpression → Made
+made_of id source at of form = record { id = id; source = source; at = at; of = of; is_place = is_place_form form }
+
+abbrev pub made_in : Option Typed → TermId → TermId → Made
+made_in (Some (typed_kinds.Expression at of form)) id source = made_of id source at of form
+made_in _ id source = made_of id source nowhere rawstring (te.Constant constants.Nil)
+
+abbrev pub made_at : StageState → (id source : TermId) → Made
+made_at w id source = made_in (slice_get w.store.typed id.0) id source
+
 -- ---- functions
 
 abbrev pub function_at : StageState → FnId → Option Function
@@ -113,7 +110,7 @@ function_at w f = slice_get w.store.functions f.0
 
 -- ---- variables
 
-abbrev found_in : SymId → List TypedName → Option TypeId → Option TypeId
+abbrev pub found_in : SymId → List TypedName → Option TypeId → Option TypeId
 found_in x [] found = found
 found_in x (v ∷ vs) found = found_in x vs (if x.0 == v.symbol.0 then Some v.of else found)
 

@@ -1,17 +1,21 @@
 // How typing ends.
 
+use crate::made::Made;
+use crate::question::CheckAnswer;
 use terra_term::{Refusal, RefusalKind};
 use tl_base::{TermId, TypeId};
 
 /// How a part of a body ends.
-#[derive(Clone, Copy, Debug, PartialEq, Eq)]
+#[derive(Debug, Drop)]
 pub enum PartEnd {
-    /// By a typed expression, with the term from which it was typed.
-    Made(TermId, TermId),
+    /// By a typed expression.
+    Made(Made),
     /// By a typed statement, or the function's typed term, with the result type behind it, where that is written or was found.
     Stated(TermId, Option<TypeId>),
     /// By a refusal.
     Refused(Refusal),
+    /// By the answer to a question, for what asked: no plan of a job ends so.
+    Answered(CheckAnswer),
 }
 
 /// How a body ends.

@@ -1,15 +1,19 @@
 // What is asked for, and what pays one unit before it is done.
 
-use crate::site::Site;
-use std::marker::Model;
-use tl_base::{FnId, Place, TermId, TypeId};
+ghost use Rattle.std.specs.Prelude.{◌≡◌, [], ◌∷◌, ◌++◌, length, slice_get, OnOk};
+ghost use Rattle.check_model.specs.Checks.{was_reached};
 
-/// What a call is given: a term that is typed in its turn, or what was typed before, with the term from which it was.
+use crate::made::Made;
+use crate::site::Site;
+use std::alloc::Global;
+use std::marker::Model;
+use tl_base::{FnId, NoMemory, Place, TermId, TypeId};
+
+/// What a call is given: a term that is typed in its turn, or what was typed before.
 #[derive(Clone, Copy, Debug, PartialEq, Eq)]
 pub enum Operand {
     Untyped(TermId),
-    /// The source and the typed term.
-    Typed(TermId, TermId),
+    Typed(Made),
 }
 
 /// What a call is given, in order. Contracts see the list.
@@ -25,6 +29,15 @@ impl Model for OperandList {
     ghost Value = { List Operand };
 
     ghost view = { λ l. l.items.items };
+}
+
+impl OperandList {
+    /// The list that takes over these operands.
+    pub fn from_vec(items: Vec<Operand>) -> OperandList
+        ensures { result ≡ items.items }
+    {
+        OperandList { items }
+    }
 }
 
 /// A node of a body is typed.
@@ -56,6 +69,55 @@ impl Model for ReachedList {
     ghost Value = { List Reached };
 
     ghost view = { λ l. l.items.items };
+}
+
+impl ReachedList {
+    /// No function was reached yet.
+    pub fn new(alloc: Global) -> ReachedList
+        ensures { result ≡ [] }
+    {
+        ReachedList {
+            items: Vec::new(alloc),
+        }
+    }
+
+    /// How many functions were reached.
+    pub fn len(&self) -> u64
+        ensures { result ≡ length self.now }
+    {
+        self.items.len() as u64
+    }
+
+    /// The function at a place.
+    pub fn get(&self, place: u64) -> Option<Reached>
+        ensures { result ≡ slice_get self.now place }
+    {
+        match self.items.get(place as usize) {
+            Some(reached) => Some(*reached),
+            None => None,
+        }
+    }
+
+    /// Whether a function was reached.
+    pub fn was_reached(&self, f: FnId) -> bool
+        ensures { result ≡ was_reached f self.now }
+    {
+        let mut found = false;
+        'reached: for reached in self.items.iter() {
+            if reached.function.0 == f.0 {
+                found = true;
+            }
+        }
+        found
+    }
+
+    /// Puts a function behind the others.
+    pub fn push(&mut self, reached: Reached) -> Result<(), NoMemory>
+        ensures { OnOk result (self.new ≡ self.old ++ reached ∷ []) }
+    {
+        self.items.push(reached)?;
+        Ok(())
+    }
 }
 
 /// A function is taken from the queue of a check: the one at this place, from 0, among all that were reached so far. All later ones
