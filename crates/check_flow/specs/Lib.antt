@@ -1,0 +1,9 @@
+-- How checks and layouts go on, and their languages.
+pub mod CheckFrames
+pub mod LayoutFrames
+-- What their steps do.
+pub mod Steps
+-- What a layout keeps.
+pub mod Keeping
+-- What remains of what is suspended.
+pub mod Rest
