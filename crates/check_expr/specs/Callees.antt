@@ -1,7 +1,10 @@
 -- What is called without being typed.
-use Rattle.std.specs.Prelude.{Bool, List, [], ◌∷◌, Option, Some, None}
+use Rattle.std.specs.Prelude.{Bool, List, [], ◌∷◌, Option, Some, None, if◌then◌else◌}
 use Rattle.tl_base.specs.declared.ids.TermId.{TermId}
 use Rattle.tl_base.specs.declared.place.Place.{Place}
+use Rattle.lua_value.specs.declared.value.Value.{Value}
+use Rattle.lua_value.specs.Values.{is_nil}
+use Rattle.terra_term.specs.declared.refusal.RefusalKind.{RefusalKind}
 use Rattle.terra_term.specs.declared.refusal.RefusalKind.TheVariants.{NotCallable, NotBuilt}
 use Rattle.terra_term.specs.declared.term.Expression.{Expression}
 use Rattle.terra_term.specs.declared.term.Expression.TheVariants as e
@@ -36,3 +39,12 @@ named_plan callees.Value w os at fitting source site = refuse NotCallable at sit
 abbrev pub ready_if : Option Made → List Operand
 ready_if None = []
 ready_if (Some m) = ready m ∷ []
+
+-- what is refused so where there is no metamethod, and else asks Lua
+abbrev pub without_lua : Value → RefusalKind → Place → Site → BodyPlan
+without_lua h kind at site = if is_nil h then refuse kind at site else refuse NotBuilt at site
+
+-- the only operand, where there is one and no more
+abbrev pub only_of : List Operand → Option Operand
+only_of (o ∷ []) = Some o
+only_of _ = None

@@ -48,6 +48,8 @@ use Rattle.check_expr.specs.declared.frame.BodyFrame.{BodyFrame}
 use Rattle.check_expr.specs.declared.frame.BodyFrame.TheVariants as frames
 use Rattle.check_expr.specs.declared.frame.MadeFrame.{MadeFrame}
 use Rattle.check_expr.specs.declared.frame.MadeFrame.TheVariants as of_made
+use Rattle.check_expr.specs.declared.frame.DoingFrame.{DoingFrame}
+use Rattle.check_expr.specs.declared.frame.DoingFrame.TheVariants as of_doing
 use Rattle.check_expr.specs.declared.frame.MeetFrame.{MeetFrame}
 use Rattle.check_expr.specs.declared.frame.Target.{Target}
 use Rattle.check_expr.specs.declared.frame.Target.TheVariants as called
@@ -193,25 +195,27 @@ with_made (of_made.Initialised l f) r = values_from f (f.offsets ++ l.offset ∷
 with_made (of_made.Let count ids n) m =
     as_value m n.site (leaving count (gives n.source n.at m.of (te.Let ids m.id)))
 with_made (of_made.LetValue count ids n) m = leaving count (gives n.source n.at m.of (te.Let ids m.id))
-with_made (of_made.VarValue n f) m =
+-- in a statement
+abbrev pub with_doing : DoingFrame → Made → BodyPlan
+with_doing (of_doing.VarValue n f) m =
     value_for n.of m f.site (λ of r. var_from f (f.typed ++ with_type n of ∷ []) (f.ids ++ r.id ∷ []))
-with_made (of_made.VarReady n of f) r = var_from f (f.typed ++ with_type n of ∷ []) (f.ids ++ r.id ∷ [])
-with_made (of_made.Value f) m = assigned_values f (f.made ++ m ∷ [])
-with_made (of_made.Target f) m = if m.is_place then targets_from f (f.places ++ m ∷ []) else refuse NotPlace m.at f.site
-with_made (of_made.Assigned f) r = assigned_from f (f.ids ++ r.id ∷ [])
-with_made (of_made.If body more at site) m =
+with_doing (of_doing.VarReady n of f) r = var_from f (f.typed ++ with_type n of ∷ []) (f.ids ++ r.id ∷ [])
+with_doing (of_doing.Value f) m = assigned_values f (f.made ++ m ∷ [])
+with_doing (of_doing.Target f) m = if m.is_place then targets_from f (f.places ++ m ∷ []) else refuse NotPlace m.at f.site
+with_doing (of_doing.Assigned f) r = assigned_from f (f.ids ++ r.id ∷ [])
+with_doing (of_doing.If body more at site) m =
     as_condition m site (block body site (λ stats result. else_plan more m stats result at site))
-with_made (of_made.While body at site) m =
+with_doing (of_doing.While body at site) m =
     as_condition m site (block body (in_loop site) (λ stats result. states at (ts.While m.id stats) result))
-with_made (of_made.Repeat count stats result at site) m =
+with_doing (of_doing.Repeat count stats result at site) m =
     as_condition m site (leaving count (states at (ts.Repeat stats m.id) result))
-with_made (of_made.Bound f) m =
+with_doing (of_doing.Bound f) m =
     reading (λ w. if integer_form (form_in w m.of) then bounds_from f (f.made ++ m ∷ []) else refuse BadOperand m.at f.site)
-with_made (of_made.Counted f) r = counted_from f (f.ids ++ r.id ∷ [])
-with_made (of_made.Return at site) m = return_value site.result m at site
-with_made (of_made.Returned of at) r = states at (ts.Return (Some r.id)) (Some of)
-with_made (of_made.Perform at site) m = as_value m site (states at (ts.Perform m.id) site.result)
-with_made (of_made.Performed at site) m = states at (ts.Perform m.id) site.result
+with_doing (of_doing.Counted f) r = counted_from f (f.ids ++ r.id ∷ [])
+with_doing (of_doing.Return at site) m = return_value site.result m at site
+with_doing (of_doing.Returned of at) r = states at (ts.Return (Some r.id)) (Some of)
+with_doing (of_doing.Perform at site) m = as_value m site (states at (ts.Perform m.id) site.result)
+with_doing (of_doing.Performed at site) m = states at (ts.Perform m.id) site.result
 
 -- ---- layouts and results
 
@@ -246,6 +250,7 @@ on_answer r go = Give r
 
 abbrev pub after : BodyFrame → PartEnd → BodyPlan
 after (frames.Made f) r = on_made r (λ m. with_made f m)
+after (frames.Doing f) r = on_made r (λ m. with_doing f m)
 after (frames.Block f) r = on_stated r (λ id result. block_from f result (f.ids ++ id ∷ []))
 after (frames.Laid at site next) r = on_answer r (λ a. on_layout a at site (laid_then next site))
 after (frames.Result g f) r = on_answer r (λ a. on_result a f.node.at f.node.site (λ result. operands_from f f.fitting [] result))

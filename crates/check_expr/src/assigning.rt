@@ -8,7 +8,7 @@ ghost use Rattle.check_expr.specs.Keeping.{KeepsTyping};
 ghost use Rattle.check_expr.specs.Steps.{Goes, Does};
 
 use crate::converting::convert;
-use crate::frame::{AssignedFrame, BodyFrame, MadeFrame, TargetFrame, ValueFrame};
+use crate::frame::{AssignedFrame, BodyFrame, DoingFrame, TargetFrame, ValueFrame};
 use crate::nodes::{refuse, states};
 use check_model::row::{Rest, Row, term_list};
 use crate::step::BodyStep;
@@ -59,7 +59,7 @@ fn values_left(
     match frame.values.take() {
         Some(value) => {
             let site = frame.site;
-            frames.push(BodyFrame::Made(MadeFrame::Value(frame)))?;
+            frames.push(BodyFrame::Doing(DoingFrame::Value(frame)))?;
             Ok(Step::Enter(BodyJob::Expression(value, site)))
         }
         None => {
@@ -114,7 +114,7 @@ fn targets_left(
     match frame.targets.take() {
         Some(target) => {
             let site = frame.site;
-            frames.push(BodyFrame::Made(MadeFrame::Target(frame)))?;
+            frames.push(BodyFrame::Doing(DoingFrame::Target(frame)))?;
             Ok(Step::Enter(BodyJob::Expression(target, site)))
         }
         None => {
@@ -158,7 +158,7 @@ pub fn target(
     made: Made,
 ) -> Result<BodyStep, NoMemory>
     ensures means { IfOk result (λ step. (left : ℕ) →
-        Goes frames.old.items (waiting.with_made (MadeFrame.Target frame) made)
+        Goes frames.old.items (waiting.with_doing (DoingFrame.Target frame) made)
         typing.old left frames.new.items step typing.new left) }
     ensures kept { OnOk result (KeepsTyping typing.old typing.new) }
 {
@@ -189,7 +189,7 @@ fn conversions_left(
             None => assigned(typing, frame),
             Some(place) => {
                 let site = frame.site;
-                frames.push(BodyFrame::Made(MadeFrame::Assigned(frame)))?;
+                frames.push(BodyFrame::Doing(DoingFrame::Assigned(frame)))?;
                 convert(frames, typing, Mode::Implicit, made, place.of, site)
             }
         },

@@ -1,13 +1,14 @@
 // Blocks, and what is done with their statements.
 
 ghost use Rattle.std.specs.Prelude.{◌≡◌, ℕ, [], ◌∷◌, ◌++◌, IfOk, OnOk};
+ghost use Rattle.check_model.specs.Expressions as expressions;
 ghost use Rattle.check_model.specs.Plans as plans;
 ghost use Rattle.check_model.specs.Statements as models;
 ghost use Rattle.check_expr.specs.Frames as waiting;
 ghost use Rattle.check_expr.specs.Keeping.{KeepsTyping};
 ghost use Rattle.check_expr.specs.Steps.{Goes, Does};
 
-use crate::frame::{BlockFrame, BlockThen, BodyFrame, MadeFrame};
+use crate::frame::{BlockFrame, BlockThen, BodyFrame, DoingFrame, MadeFrame};
 use crate::functions::function;
 use crate::nodes::states;
 use check_model::row::{Rest, Row, term_list};
@@ -125,8 +126,8 @@ fn with_statements(
             states(typing, at, form, found)
         }
         BlockThen::Repeat(count, test, at, site) => {
-            let frame = MadeFrame::Repeat(count, ids, found, at, site);
-            frames.push(BodyFrame::Made(frame))?;
+            let frame = DoingFrame::Repeat(count, ids, found, at, site);
+            frames.push(BodyFrame::Doing(frame))?;
             Ok(Step::Enter(BodyJob::Expression(test, site)))
         }
         BlockThen::For(count, name, bounds, at) => {

@@ -1,11 +1,11 @@
 // Calls: of functions, primitives, macros, types and `sizeof`, and of typed values.
 
-ghost use Rattle.std.specs.Prelude.{◌≡◌, ℕ, [], codes, IfOk, OnOk};
+ghost use Rattle.std.specs.Prelude.{◌≡◌, ℕ, List, [], ◌∷◌, ◌++◌, false, IfOk, OnOk};
 ghost use Rattle.check_model.specs.Calls as models;
 ghost use Rattle.check_model.specs.Plans as plans;
-ghost use Rattle.check_model.specs.Typing.{expression_at};
-ghost use Rattle.check_model.specs.Structs as structs;
-ghost use Rattle.check_expr.specs.Callees.{callee_in, named_plan};
+ghost use Rattle.check_model.specs.Converting as converting;
+ghost use Rattle.check_model.specs.Typing.{TypingState, expression_at, function_at};
+ghost use Rattle.check_expr.specs.Callees.{callee_in, named_plan, ready_if, only_of};
 ghost use Rattle.check_expr.specs.Frames.{operands_from, on_answer, called_with};
 ghost use Rattle.check_expr.specs.Keeping.{KeepsTyping};
 ghost use Rattle.check_expr.specs.Steps.{Goes, Does};
@@ -14,7 +14,7 @@ use crate::converting::{convert, fit};
 use crate::frame::{BodyFrame, CallFrame, LaidThen, MadeFrame, Target};
 use crate::known::{parameter_types, result_type};
 use crate::layouts::lay_out;
-use crate::nodes::{gives, refuse};
+use crate::nodes::{gives, refuse, without_lua};
 use crate::reading::{metamethod, place_of};
 use check_model::row::{Rest, Row, term_list};
 use crate::step::{BodyStep, Node};
@@ -356,7 +356,9 @@ fn cast(
 }
 
 /// The only operand, where there is one and no more.
-fn only(operands: Rest<Operand>) -> Option<Operand> {
+fn only(operands: Rest<Operand>) -> Option<Operand>
+    ensures { result ≡ only_of operands }
+{
     let mut operands = operands;
     if operands.len() == 1 { operands.take() } else { None }
 }
@@ -450,11 +452,8 @@ pub fn call_value(typing: &Typing, made: Made, at: Place, site: Site) -> BodySte
     ensures means { (operands : List Operand) (source : TermId) (left : ℕ) →
         Does (models.call_value made operands at source site) typing.now left result typing.now left }
 {
-    if metamethod(&typing.world, made.of, b"__apply").is_nil() {
-        refuse(RefusalKind::NotCallable, at, site)
-    } else {
-        refuse(RefusalKind::NotBuilt, at, site)
-    }
+    let handler = metamethod(&typing.world, made.of, b"__apply");
+    without_lua(handler, RefusalKind::NotCallable, at, site)
 }
 
 /// Operands that are yet to be typed.

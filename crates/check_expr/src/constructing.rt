@@ -1,8 +1,10 @@
 // Constructors.
 
-ghost use Rattle.std.specs.Prelude.{◌≡◌, ℕ, [], ◌∷◌, ◌++◌, IfOk, OnOk};
+ghost use Rattle.std.specs.Prelude.{◌≡◌, ℕ, [], ◌∷◌, ◌++◌, length, slice_get, IfOk, OnOk};
+ghost use Rattle.terra_types.specs.Layouts.{entries_of};
+ghost use Rattle.check_model.specs.Converting as converting;
 ghost use Rattle.check_model.specs.Expressions as models;
-ghost use Rattle.check_expr.specs.Frames.{laid_then, values_from};
+ghost use Rattle.check_expr.specs.Frames.{laid_then, values_from, initials_of};
 ghost use Rattle.check_expr.specs.Keeping.{KeepsTyping};
 ghost use Rattle.check_expr.specs.Steps.{Goes, Does};
 
@@ -18,7 +20,7 @@ use check_model::{BodyJob, Made, Mode, Typing};
 use exotype::World;
 use terra_term::{OffsetList, Operation, RefusalKind, TypedExpression};
 use terra_types::{Laid, TypeForm};
-use tl_base::{NoMemory, Step, TextId, TypeId};
+use tl_base::{NoMemory, Step, TermId, TextId, TypeId};
 
 /// The most bytes of a struct that is a value.
 const WIDEST: u64 = 128;
@@ -66,7 +68,7 @@ pub fn construct(
             if entry_count(&typing.world, of) < values.len() as u64 {
                 return Ok(refuse(RefusalKind::WrongCount, node.at, node.site));
             }
-            entries_in_order(&typing.world, of, values.len() as u64)?
+            entries_in_order(&typing.world, of, values.as_slice())?
         }
         Some(names) => entries_by_name(&typing.world, of, names)?,
     };
@@ -106,12 +108,13 @@ fn entry_at(world: &World, of: TypeId, place: u64) -> Option<Laid>
 fn entries_in_order(
     world: &World,
     of: TypeId,
-    count: u64,
+    values: &[TermId],
 ) -> Result<Rest<Option<Laid>>, NoMemory>
+    ensures { IfOk result (λ entries. entries ≡ models.in_order (entries_of world.now.store.types of) values.now) }
 {
     let mut entries = Row::new(world.store.allocator());
-    'entries: for place in 0..count {
-        if let Some(laid) = entry_at(world, of, place) {
+    'entries: for place in 0..values.len() {
+        if let Some(laid) = entry_at(world, of, place as u64) {
             entries.push(Some(laid))?;
         }
     }
@@ -124,6 +127,7 @@ fn entries_by_name(
     of: TypeId,
     names: Rest<TextId>,
 ) -> Result<Rest<Option<Laid>>, NoMemory>
+    ensures { IfOk result (λ entries. entries ≡ models.by_name (entries_of world.now.store.types of) names) }
 {
     let mut entries = Row::new(world.store.allocator());
     let mut names = names;

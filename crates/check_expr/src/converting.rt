@@ -4,13 +4,13 @@ ghost use Rattle.std.specs.Prelude.{◌≡◌, ℕ, [], ◌∷◌, codes, IfOk, 
 ghost use Rattle.check_model.specs.Converting as models;
 ghost use Rattle.check_model.specs.Plans as plans;
 ghost use Rattle.check_model.specs.Plans.{give};
-ghost use Rattle.check_model.specs.Structs.{metamethod_of_either};
+ghost use Rattle.check_model.specs.Structs as structs;
 ghost use Rattle.check_expr.specs.Keeping.{KeepsTyping};
 ghost use Rattle.check_expr.specs.Steps.{Goes, Does};
 
 use crate::frame::BodyFrame;
 use crate::layouts::as_value;
-use crate::nodes::{gives, make, refuse};
+use crate::nodes::{gives, make, refuse, without_lua};
 use crate::reading::{is_nil, is_pointer, metamethod_of_either, points_to};
 use check_model::row::{Row, term_list};
 use crate::step::BodyStep;
@@ -119,14 +119,11 @@ fn remade(
 /// An expression that is converted by `__cast` alone.
 fn cast(typing: &Typing, made: Made, to: TypeId, site: Site) -> BodyStep
     ensures means { (left : ℕ) →
-        Does (models.cast_to (metamethod_of_either typing.now.stage made.of to (codes "__cast")) made to site give)
+        Does (models.cast_to (structs.metamethod_of_either typing.now.stage made.of to (codes "__cast")) made to site give)
         typing.now left result typing.now left }
 {
-    if metamethod_of_either(&typing.world, made.of, to, b"__cast").is_nil() {
-        refuse(RefusalKind::Mismatch, made.at, site)
-    } else {
-        refuse(RefusalKind::NotBuilt, made.at, site)
-    }
+    let handler = metamethod_of_either(&typing.world, made.of, to, b"__cast");
+    without_lua(handler, RefusalKind::Mismatch, made.at, site)
 }
 
 /// Makes a receiver fit the first parameter: it is passed as it is, by address or by target, or else converted.

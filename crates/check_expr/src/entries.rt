@@ -1,8 +1,12 @@
 // Entries and elements of aggregates.
 
-ghost use Rattle.std.specs.Prelude.{◌≡◌, ℕ, codes, IfOk, OnOk, slice_get};
+ghost use Rattle.std.specs.Prelude.{◌≡◌, ℕ, IfOk, OnOk, if◌then◌else◌};
 ghost use Rattle.check_model.specs.Expressions as models;
+ghost use Rattle.terra_term.specs.WellTyped.{integer_form};
+ghost use Rattle.check_model.specs.Plans as plans;
 ghost use Rattle.check_model.specs.Typing as typings;
+ghost use Rattle.terra_types.specs.Layouts.{entries_of, entry_named};
+ghost use Rattle.check_expr.specs.Forms.{elements_in};
 ghost use Rattle.check_expr.specs.Frames.{laid_then, extracted};
 ghost use Rattle.check_expr.specs.Keeping.{KeepsTyping};
 ghost use Rattle.check_expr.specs.Steps.{Goes, Does};
@@ -10,7 +14,7 @@ ghost use Rattle.check_expr.specs.Steps.{Goes, Does};
 use crate::converting::one;
 use crate::frame::{BodyFrame, LaidThen, MadeFrame};
 use crate::layouts::{as_value, lay_out};
-use crate::nodes::{gives, refuse};
+use crate::nodes::{gives, refuse, without_lua};
 use crate::reading::{is_integer, is_struct, metamethod, struct_of};
 use crate::step::{BodyStep, Node};
 use check_model::{Made, Typing};
@@ -69,11 +73,8 @@ pub fn with_entry(
     match entry_of(&typing.world, of, field) {
         Some(laid) => entry(frames, typing, object, laid, node),
         None => {
-            if metamethod(&typing.world, of, b"__entrymissing").is_nil() {
-                Ok(refuse(RefusalKind::NoField, node.at, node.site))
-            } else {
-                Ok(refuse(RefusalKind::NotBuilt, node.at, node.site))
-            }
+            let handler = metamethod(&typing.world, of, b"__entrymissing");
+            Ok(without_lua(handler, RefusalKind::NoField, node.at, node.site))
         }
     }
 }
@@ -124,15 +125,17 @@ pub fn extract(
 enum Elements {
     Behind(TypeId),
     Within(TypeId),
-    None,
+    Nothing,
 }
 
 /// What a type has elements of: a pointer's target, or an array's elements.
-fn elements(world: &World, of: TypeId) -> Elements {
+fn elements(world: &World, of: TypeId) -> Elements
+    ensures { result ≡ elements_in (typings.form_in world.now of) }
+{
     match world.store.types().form(of) {
         Some(TypeForm::Pointer(to)) => Elements::Behind(*to),
         Some(TypeForm::Array(of, _)) => Elements::Within(*of),
-        _ => Elements::None,
+        _ => Elements::Nothing,
     }
 }
 
@@ -149,21 +152,43 @@ pub fn index(
         typing.old left frames.new.items step typing.new left) }
     ensures kept { OnOk result (KeepsTyping typing.old typing.new) }
 {
-    let by_integer = is_integer(&typing.world, key.of);
     match elements(&typing.world, object.of) {
-        Elements::Within(_) if !object.is_place => {
-            Ok(refuse(RefusalKind::NotPlace, object.at, node.site))
-        }
-        Elements::Within(of) if by_integer => {
+        Elements::Within(of) => {
+            if !object.is_place {
+                return Ok(refuse(RefusalKind::NotPlace, object.at, node.site));
+            }
             let form = TypedExpression::Element(object.id, key.id);
-            let then = LaidThen::Makes(of, form, node);
-            lay_out(frames, typing, of, node.at, node.site, then)
+            indexed(frames, typing, of, form, key, node)
         }
-        Elements::Behind(of) if by_integer => {
+        Elements::Behind(of) => {
             let form = TypedExpression::Index(object.id, key.id);
-            let then = LaidThen::Makes(of, form, node);
-            lay_out(frames, typing, of, node.at, node.site, then)
+            indexed(frames, typing, of, form, key, node)
         }
-        _ => Ok(refuse(RefusalKind::BadOperand, node.at, node.site)),
+        Elements::Nothing => Ok(refuse(RefusalKind::BadOperand, node.at, node.site)),
+    }
+}
+
+/// An element of a type, whose index must be an integer.
+fn indexed(
+    frames: &mut Vec<BodyFrame>,
+    typing: &mut Typing,
+    of: TypeId,
+    form: TypedExpression,
+    key: Made,
+    node: Node,
+) -> Result<BodyStep, NoMemory>
+    ensures means { IfOk result (λ step. (left : ℕ) →
+        Goes frames.old.items
+        (if integer_form (typings.form_in typing.old.stage key.of)
+        then plans.laid_out of node.at node.site (plans.gives node.source node.at of form)
+        else plans.refuse RefusalKind.BadOperand node.at node.site)
+        typing.old left frames.new.items step typing.new left) }
+    ensures kept { OnOk result (KeepsTyping typing.old typing.new) }
+{
+    if is_integer(&typing.world, key.of) {
+        let then = LaidThen::Makes(of, form, node);
+        lay_out(frames, typing, of, node.at, node.site, then)
+    } else {
+        Ok(refuse(RefusalKind::BadOperand, node.at, node.site))
     }
 }

@@ -1,6 +1,8 @@
 // Expressions.
 
-ghost use Rattle.std.specs.Prelude.{◌≡◌, ℕ, [], ◌∷◌, IfOk, OnOk};
+ghost use Rattle.std.specs.Prelude.{◌≡◌, ℕ, slice_get, IfOk, OnOk};
+ghost use Rattle.terra_term.specs.declared.typed.TypedExpression.TheVariants as te;
+ghost use Rattle.check_model.specs.Plans as plans;
 ghost use Rattle.check_model.specs.Expressions as models;
 ghost use Rattle.check_model.specs.Typing.{variable_at};
 ghost use Rattle.check_expr.specs.Frames as waiting;

@@ -14,6 +14,8 @@ use tl_base::{FnId, Place, TermId, TextId, TypeId};
 pub enum BodyFrame {
     /// It goes on with a typed expression.
     Made(MadeFrame),
+    /// The same, in a statement.
+    Doing(DoingFrame),
     /// It goes on with a typed statement of a block.
     Block(BlockFrame),
     /// It goes on with a layout, which a node at this place needs.
@@ -24,7 +26,7 @@ pub enum BodyFrame {
     Function(FnId, u64),
 }
 
-/// What waits for a typed expression.
+/// What waits for a typed expression in an expression.
 #[derive(Debug, Drop)]
 pub enum MadeFrame {
     /// The operand of an operator.
@@ -67,6 +69,11 @@ pub enum MadeFrame {
     Let(u64, Row<TermId>, Node),
     /// The same, as a value.
     LetValue(u64, Row<TermId>, Node),
+}
+
+/// What waits for a typed expression of a statement.
+#[derive(Debug, Drop)]
+pub enum DoingFrame {
     /// The value of a name of a `var`.
     VarValue(VarName, VarFrame),
     /// The same, converted to the name's type, which this is.

@@ -1,10 +1,11 @@
 // Whole functions.
 
-ghost use Rattle.std.specs.Prelude.{◌≡◌, ℕ, [], ◌∷◌, unwrap_or, IfOk, OnOk};
+ghost use Rattle.std.specs.Prelude.{◌≡◌, ℕ, unwrap_or, slice_get, IfOk, OnOk};
+ghost use Rattle.terra_types.specs.Opening.{unit};
 ghost use Rattle.exotype.specs.Terms.{typed_size};
 ghost use Rattle.check_model.specs.Bodies as models;
-ghost use Rattle.check_model.specs.Plans as plans;
 ghost use Rattle.check_expr.specs.Frames as waiting;
+ghost use Rattle.check_expr.specs.Functions.{parts_in, parts_plan};
 ghost use Rattle.check_expr.specs.Keeping.{KeepsTyping};
 ghost use Rattle.check_expr.specs.Steps.{Goes, Does};
 
@@ -31,15 +32,17 @@ const MOST_LEVELS: u16 = 1_000;
 
 /// What stands in the definition of a function.
 #[derive(Debug, Drop)]
-struct Definition {
-    parameters: Rest<Parameter>,
-    named: Row<TypedName>,
-    written: Option<TypeId>,
-    body: Rest<TermId>,
+pub struct Definition {
+    pub parameters: Rest<Parameter>,
+    pub named: Row<TypedName>,
+    pub written: Option<TypeId>,
+    pub body: Rest<TermId>,
 }
 
 /// The definition that a term is.
-fn definition(world: &World, term: TermId) -> Result<Option<Definition>, NoMemory> {
+fn definition(world: &World, term: TermId) -> Result<Option<Definition>, NoMemory>
+    ensures { IfOk result (λ parts. parts ≡ parts_in (slice_get world.now.store.terms term.0)) }
+{
     let alloc = world.store.allocator();
     match world.store.term(term) {
         Some(Term::Function(parameters, written, body)) => {
@@ -113,6 +116,9 @@ fn defined(
     at: Place,
     site: Site,
 ) -> Result<BodyStep, NoMemory>
+    ensures means { IfOk result (λ step.
+        Goes frames.old.items (parts_plan definition at site)
+        typing.old budget.old frames.new.items step typing.new budget.new) }
     ensures kept { OnOk result (KeepsTyping typing.old typing.new) }
 {
     match definition {

@@ -1,6 +1,6 @@
 // Layouts that nodes need, and values.
 
-ghost use Rattle.std.specs.Prelude.{◌≡◌, ℕ, IfOk, OnOk};
+ghost use Rattle.std.specs.Prelude.{◌≡◌, ℕ, List, IfOk, OnOk};
 ghost use Rattle.check_model.specs.Plans as plans;
 ghost use Rattle.check_model.specs.Plans.{give};
 ghost use Rattle.check_expr.specs.Frames.{laid_then, on_answer};

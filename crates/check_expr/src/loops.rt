@@ -3,13 +3,14 @@
 ghost use Rattle.std.specs.Prelude.{◌≡◌, ℕ, [], ◌∷◌, ◌++◌, IfOk, OnOk};
 ghost use Rattle.check_model.specs.Plans as plans;
 ghost use Rattle.check_model.specs.Statements as models;
+ghost use Rattle.check_model.specs.Typing.{TypingState};
 ghost use Rattle.check_expr.specs.Frames as waiting;
 ghost use Rattle.check_expr.specs.Keeping.{KeepsTyping};
 ghost use Rattle.check_expr.specs.Steps.{Goes, Does};
 
 use crate::blocks::block;
 use crate::converting::convert;
-use crate::frame::{BlockThen, BodyFrame, BoundFrame, CountedFrame, MadeFrame};
+use crate::frame::{BlockThen, BodyFrame, BoundFrame, CountedFrame, DoingFrame};
 use crate::nodes::{refuse, states};
 use crate::operators::BOOL;
 use crate::reading::is_integer;
@@ -35,7 +36,9 @@ pub fn in_loop(site: Site) -> Site
 }
 
 /// Why a condition is refused: it is no bool.
-fn no_condition(made: Made, site: Site) -> BodyStep {
+fn no_condition(made: Made, site: Site) -> BodyStep
+    ensures means { (w : TypingState) (left : ℕ) → Does (plans.refuse RefusalKind.Mismatch made.at site) w left result w left }
+{
     refuse(RefusalKind::Mismatch, made.at, site)
 }
 
@@ -50,7 +53,7 @@ pub fn if_block(
     made: Made,
 ) -> Result<BodyStep, NoMemory>
     ensures means { IfOk result (λ step. (left : ℕ) →
-        Goes frames.old.items (waiting.with_made (MadeFrame.If body more at site) made)
+        Goes frames.old.items (waiting.with_doing (DoingFrame.If body more at site) made)
         typing.old left frames.new.items step typing.new left) }
     ensures kept { OnOk result (KeepsTyping typing.old typing.new) }
 {
@@ -71,7 +74,7 @@ pub fn while_block(
     made: Made,
 ) -> Result<BodyStep, NoMemory>
     ensures means { IfOk result (λ step. (left : ℕ) →
-        Goes frames.old.items (waiting.with_made (MadeFrame.While body at site) made)
+        Goes frames.old.items (waiting.with_doing (DoingFrame.While body at site) made)
         typing.old left frames.new.items step typing.new left) }
     ensures kept { OnOk result (KeepsTyping typing.old typing.new) }
 {
@@ -93,7 +96,7 @@ pub fn repeat_end(
     made: Made,
 ) -> Result<BodyStep, NoMemory>
     ensures means { IfOk result (λ step. (left : ℕ) →
-        Does (waiting.with_made (MadeFrame.Repeat count ids found at site) made) typing.old left step typing.new left) }
+        Does (waiting.with_doing (DoingFrame.Repeat count ids found at site) made) typing.old left step typing.new left) }
     ensures kept { OnOk result (KeepsTyping typing.old typing.new) }
 {
     if made.of != BOOL {
@@ -145,7 +148,7 @@ fn bounds_left(
     match frame.bounds.take() {
         Some(bound) => {
             let site = frame.site;
-            frames.push(BodyFrame::Made(MadeFrame::Bound(frame)))?;
+            frames.push(BodyFrame::Doing(DoingFrame::Bound(frame)))?;
             Ok(Step::Enter(BodyJob::Expression(bound, site)))
         }
         None => {
@@ -199,7 +202,7 @@ pub fn bound(
     made: Made,
 ) -> Result<BodyStep, NoMemory>
     ensures means { IfOk result (λ step. (left : ℕ) →
-        Goes frames.old.items (waiting.with_made (MadeFrame.Bound frame) made)
+        Goes frames.old.items (waiting.with_doing (DoingFrame.Bound frame) made)
         typing.old left frames.new.items step typing.new left) }
     ensures kept { OnOk result (KeepsTyping typing.old typing.new) }
 {
@@ -228,7 +231,7 @@ fn conversions_left(
         None => for_block(frames, typing, frame),
         Some(made) => {
             let (of, site) = (frame.of, frame.site);
-            frames.push(BodyFrame::Made(MadeFrame::Counted(frame)))?;
+            frames.push(BodyFrame::Doing(DoingFrame::Counted(frame)))?;
             convert(frames, typing, Mode::Implicit, made, of, site)
         }
     }

@@ -15,7 +15,7 @@ use crate::calls::{
 use crate::constructing::{initial, initialised};
 use crate::entries::{extract, index, select};
 use crate::expressions::{expression, let_end, let_value};
-use crate::frame::{BodyFrame, MadeFrame};
+use crate::frame::{BodyFrame, DoingFrame, MadeFrame};
 use crate::functions::{body, close};
 use crate::layouts::after_layout;
 use crate::loops;
@@ -82,46 +82,47 @@ fn with_made(
         MadeFrame::Initialised(laid, frame) => initialised(frames, typing, laid, frame, made),
         MadeFrame::Let(count, ids, node) => let_value(frames, typing, count, ids, node, made),
         MadeFrame::LetValue(count, ids, node) => let_end(typing, count, ids, node, made),
-        frame => in_statement(frames, typing, budget, frame, made),
     }
 }
 
 /// Goes on with what waited for a typed expression of a statement.
-fn in_statement(
+fn with_doing(
     frames: &mut Vec<BodyFrame>,
     typing: &mut Typing,
     budget: &mut Budget,
-    frame: MadeFrame,
+    frame: DoingFrame,
     made: Made,
 ) -> Result<BodyStep, NoMemory>
+    ensures means { IfOk result (λ step.
+        Goes frames.old.items (waiting.with_doing frame made)
+        typing.old budget.old frames.new.items step typing.new budget.new) }
     ensures kept { OnOk result (KeepsTyping typing.old typing.new) }
 {
     match frame {
-        MadeFrame::VarValue(name, frame) => variables::value(frames, typing, name, frame, made),
-        MadeFrame::VarReady(name, of, frame) => {
+        DoingFrame::VarValue(name, frame) => variables::value(frames, typing, name, frame, made),
+        DoingFrame::VarReady(name, of, frame) => {
             variables::ready(frames, typing, budget, name, of, frame, made)
         }
-        MadeFrame::Value(frame) => assigning::value(frames, typing, frame, made),
-        MadeFrame::Target(frame) => assigning::target(frames, typing, frame, made),
-        MadeFrame::Assigned(frame) => assigning::converted(frames, typing, frame, made),
-        MadeFrame::If(body, more, at, site) => {
+        DoingFrame::Value(frame) => assigning::value(frames, typing, frame, made),
+        DoingFrame::Target(frame) => assigning::target(frames, typing, frame, made),
+        DoingFrame::Assigned(frame) => assigning::converted(frames, typing, frame, made),
+        DoingFrame::If(body, more, at, site) => {
             loops::if_block(frames, typing, body, more, at, site, made)
         }
-        MadeFrame::While(body, at, site) => {
+        DoingFrame::While(body, at, site) => {
             loops::while_block(frames, typing, body, at, site, made)
         }
-        MadeFrame::Repeat(count, ids, found, at, site) => {
+        DoingFrame::Repeat(count, ids, found, at, site) => {
             loops::repeat_end(typing, count, ids, found, at, site, made)
         }
-        MadeFrame::Bound(frame) => loops::bound(frames, typing, frame, made),
-        MadeFrame::Counted(frame) => loops::converted(frames, typing, frame, made),
-        MadeFrame::Return(at, site) => return_value(frames, typing, made, at, site),
-        MadeFrame::Returned(of, at) => returned(typing, of, at, made),
-        MadeFrame::Perform(at, site) => perform(frames, typing, at, site, made),
-        MadeFrame::Performed(at, site) => {
+        DoingFrame::Bound(frame) => loops::bound(frames, typing, frame, made),
+        DoingFrame::Counted(frame) => loops::converted(frames, typing, frame, made),
+        DoingFrame::Return(at, site) => return_value(frames, typing, made, at, site),
+        DoingFrame::Returned(of, at) => returned(typing, of, at, made),
+        DoingFrame::Perform(at, site) => perform(frames, typing, at, site, made),
+        DoingFrame::Performed(at, site) => {
             states(typing, at, TypedStatement::Perform(made.id), site.result)
         }
-        _ => Ok(Step::Return(PartEnd::Made(made))),
     }
 }
 
@@ -140,6 +141,25 @@ fn after_made(
 {
     match end {
         PartEnd::Made(made) => with_made(frames, typing, budget, frame, made),
+        end => Ok(Step::Return(end)),
+    }
+}
+
+/// The same in a statement.
+fn after_doing(
+    frames: &mut Vec<BodyFrame>,
+    typing: &mut Typing,
+    budget: &mut Budget,
+    frame: DoingFrame,
+    end: PartEnd,
+) -> Result<BodyStep, NoMemory>
+    ensures means { IfOk result (λ step.
+        Goes frames.old.items (on_made end (λ m. waiting.with_doing frame m))
+        typing.old budget.old frames.new.items step typing.new budget.new) }
+    ensures kept { OnOk result (KeepsTyping typing.old typing.new) }
+{
+    match end {
+        PartEnd::Made(made) => with_doing(frames, typing, budget, frame, made),
         end => Ok(Step::Return(end)),
     }
 }
@@ -211,6 +231,7 @@ impl Machine for Steps {
     ) -> Result<BodyStep, NoMemory> {
         match frame {
             BodyFrame::Made(frame) => after_made(frames, world, budget, frame, end),
+            BodyFrame::Doing(frame) => after_doing(frames, world, budget, frame, end),
             BodyFrame::Block(frame) => after_statement(frames, world, frame, end),
             BodyFrame::Laid(at, site, then) => {
                 after_layout(frames, world, budget, at, site, then, end)

@@ -1,14 +1,17 @@
 // Method calls.
 
-ghost use Rattle.std.specs.Prelude.{◌≡◌, ℕ, codes, IfOk, OnOk};
+ghost use Rattle.std.specs.Prelude.{◌≡◌, ℕ, List, ◌∷◌, true, codes, IfOk, OnOk};
+ghost use Rattle.check_model.specs.Calls as calls;
 ghost use Rattle.check_model.specs.Expressions as models;
+ghost use Rattle.check_model.specs.Plans as plans;
+ghost use Rattle.check_model.specs.Structs as structs;
 ghost use Rattle.check_model.specs.Typing as typings;
 ghost use Rattle.check_expr.specs.Keeping.{KeepsTyping};
 ghost use Rattle.check_expr.specs.Steps.{Goes, Does};
 
 use crate::calls::{call_term, untyped};
 use crate::frame::BodyFrame;
-use crate::nodes::refuse;
+use crate::nodes::{refuse, without_lua};
 use crate::reading::{metamethod, method, struct_of};
 use check_model::row::Rest;
 use crate::step::{BodyStep, Node};
@@ -56,11 +59,8 @@ fn missing(typing: &Typing, of: TypeId, node: Node) -> BodyStep
         Does (models.missing_method (structs.metamethod typing.now.stage of (codes "__methodmissing")) o name args node.at node.site)
         typing.now left result typing.now left }
 {
-    if metamethod(&typing.world, of, b"__methodmissing").is_nil() {
-        refuse(RefusalKind::NoMethod, node.at, node.site)
-    } else {
-        refuse(RefusalKind::NotBuilt, node.at, node.site)
-    }
+    let handler = metamethod(&typing.world, of, b"__methodmissing");
+    without_lua(handler, RefusalKind::NoMethod, node.at, node.site)
 }
 
 /// Calls the value that is a method.

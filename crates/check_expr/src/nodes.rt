@@ -5,11 +5,13 @@ ghost use Rattle.terra_term.specs.Held.{next_typed};
 ghost use Rattle.terra_term.specs.declared.typed.Typed.TheVariants as typed_kinds;
 ghost use Rattle.check_model.specs.Plans as plans;
 ghost use Rattle.check_model.specs.Typing.{TypingState, is_place_form, made_of};
+ghost use Rattle.check_expr.specs.Callees as callees;
 ghost use Rattle.check_expr.specs.Keeping.{KeepsTyping};
 ghost use Rattle.check_expr.specs.Steps.{Does, with_node};
 
 use crate::step::BodyStep;
 use check_model::{Made, PartEnd, Site, Typing};
+use lua_value::Value;
 use terra_term::{Refusal, RefusalKind, Typed, TypedExpression, TypedStatement};
 use tl_base::{NoMemory, Place, Step, TermId, TypeId};
 
@@ -92,4 +94,15 @@ pub fn refuse(kind: RefusalKind, at: Place, site: Site) -> BodyStep
         place: at,
         function: site.function,
     }))
+}
+
+/// The end where a rule wants a metamethod: this refusal where there is none. Lua isn't asked for it yet.
+pub fn without_lua(handler: Value, kind: RefusalKind, at: Place, site: Site) -> BodyStep
+    ensures means { (w : TypingState) (left : ℕ) → Does (callees.without_lua handler kind at site) w left result w left }
+{
+    if handler.is_nil() {
+        refuse(kind, at, site)
+    } else {
+        refuse(RefusalKind::NotBuilt, at, site)
+    }
 }

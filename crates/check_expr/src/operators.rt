@@ -1,17 +1,23 @@
 // The operators, by the types of their operands.
 
-ghost use Rattle.std.specs.Prelude.{◌≡◌, ℕ, IfOk, OnOk};
+ghost use Rattle.std.specs.Prelude.{◌≡◌, ℕ, [], ◌∷◌, IfOk, OnOk};
+ghost use Rattle.terra_term.specs.declared.typed.TypedExpression.TheVariants as te;
+ghost use Rattle.check_model.specs.Converting as converting;
+ghost use Rattle.check_model.specs.Plans as plans;
 ghost use Rattle.check_model.specs.Operators as models;
 ghost use Rattle.check_model.specs.Typing.{form_in};
 ghost use Rattle.check_expr.specs.Frames.{laid_then, meet_right};
+ghost use Rattle.check_expr.specs.Retyping.{retyped_as, with_retyped};
 ghost use Rattle.check_expr.specs.Keeping.{KeepsTyping};
 ghost use Rattle.check_expr.specs.Steps.{Goes, Does};
 
 use crate::converting::{convert, one, two};
 use crate::frame::{BodyFrame, LaidThen, MadeFrame, MeetFrame};
 use crate::layouts::lay_out;
-use crate::nodes::{gives, make, refuse};
-use crate::reading::{bytes, is_nil, is_struct, metamethod, metamethod_of_either};
+use crate::nodes::{gives, make, refuse, without_lua};
+use crate::reading::{
+    bytes, is_bool, is_integer, is_nil, is_struct, metamethod, metamethod_of_either, target,
+};
 use crate::step::{BodyStep, Node};
 use check_cast::meet;
 use check_model::{Made, Mode, Rule, Typing};
@@ -158,20 +164,10 @@ pub fn binary(
 {
     if is_struct(&typing.world, left.of) || is_struct(&typing.world, right.of) {
         let handler = metamethod_of_either(&typing.world, left.of, right.of, event(op));
-        return Ok(by_metamethod(handler.is_nil(), node));
+        return Ok(without_lua(handler, RefusalKind::BadOperand, node.at, node.site));
     }
     let rule = rule_of(&typing.world, op, left.of, right.of);
     by_rule(frames, typing, rule, op, left, right, node)
-}
-
-/// An operator on a struct: Lua isn't asked for it yet.
-fn by_metamethod(is_nil: bool, node: Node) -> BodyStep
-{
-    if is_nil {
-        refuse(RefusalKind::BadOperand, node.at, node.site)
-    } else {
-        refuse(RefusalKind::NotBuilt, node.at, node.site)
-    }
 }
 
 /// A binary operator that works so.
@@ -360,6 +356,8 @@ fn retyped(
     made: Made,
     other: Made,
 ) -> Result<Made, NoMemory>
+    ensures made { IfOk result (λ m. m ≡ retyped_as is_nil typing.old made other) }
+    ensures ok { OnOk result (typing.new ≡ with_retyped is_nil typing.old made other) }
     ensures kept { OnOk result (KeepsTyping typing.old typing.new) }
 {
     if is_nil && made.of.0 != other.of.0 {
@@ -367,42 +365,6 @@ fn retyped(
         make(typing, made.source, made.at, other.of, form)
     } else {
         Ok(made)
-    }
-}
-
-/// What a unary operator does with an operand of a form of types.
-enum UnaryRule {
-    Operates(Operation),
-    Dereferences(TypeId),
-    Unknown,
-}
-
-/// How a unary operator other than `&` works on an operand of a type.
-fn unary_rule(world: &World, op: UnaryOperator, of: TypeId) -> UnaryRule {
-    match op {
-        UnaryOperator::Negate => match world.store.types().form(of) {
-            Some(TypeForm::Integer(_)) => UnaryRule::Operates(Operation::Negate),
-            _ => UnaryRule::Unknown,
-        },
-        UnaryOperator::Not => match world.store.types().form(of) {
-            Some(TypeForm::Integer(_)) => UnaryRule::Operates(Operation::Not),
-            Some(TypeForm::Bool) => UnaryRule::Operates(Operation::Not),
-            _ => UnaryRule::Unknown,
-        },
-        UnaryOperator::Dereference => match world.store.types().form(of) {
-            Some(TypeForm::Pointer(to)) => UnaryRule::Dereferences(*to),
-            _ => UnaryRule::Unknown,
-        },
-        UnaryOperator::Address => UnaryRule::Unknown,
-    }
-}
-
-/// The event of a unary operator that has one.
-fn unary_event(op: UnaryOperator) -> Option<&'static [u8]> {
-    match op {
-        UnaryOperator::Negate => Some(b"__unm"),
-        UnaryOperator::Not => Some(b"__not"),
-        _ => None,
     }
 }
 
@@ -420,24 +382,55 @@ pub fn unary(
 {
     match op {
         UnaryOperator::Address => address(typing, made, node),
-        _ => match unary_rule(&typing.world, op, made.of) {
-            UnaryRule::Operates(operation) => {
-                let list = one(typing, made.id)?;
-                let form = TypedExpression::Operate(operation, list);
-                gives(typing, node.source, node.at, made.of, form)
+        UnaryOperator::Dereference => dereference(typing, made, node),
+        UnaryOperator::Negate => {
+            if is_integer(&typing.world, made.of) {
+                operated(typing, Operation::Negate, made, node)
+            } else {
+                let handler = metamethod(&typing.world, made.of, b"__unm");
+                Ok(without_lua(handler, RefusalKind::BadOperand, node.at, node.site))
             }
-            UnaryRule::Dereferences(to) => {
-                let form = TypedExpression::Dereference(made.id);
-                gives(typing, node.source, node.at, to, form)
+        }
+        UnaryOperator::Not => {
+            if is_integer(&typing.world, made.of) || is_bool(&typing.world, made.of) {
+                operated(typing, Operation::Not, made, node)
+            } else {
+                let handler = metamethod(&typing.world, made.of, b"__not");
+                Ok(without_lua(handler, RefusalKind::BadOperand, node.at, node.site))
             }
-            UnaryRule::Unknown => match unary_event(op) {
-                Some(event) => {
-                    let handler = metamethod(&typing.world, made.of, event);
-                    Ok(by_metamethod(handler.is_nil(), node))
-                }
-                None => Ok(refuse(RefusalKind::BadOperand, node.at, node.site)),
-            },
-        },
+        }
+    }
+}
+
+/// An operation on one operand, with a result of its type.
+fn operated(
+    typing: &mut Typing,
+    operation: Operation,
+    made: Made,
+    node: Node,
+) -> Result<BodyStep, NoMemory>
+    ensures means { IfOk result (λ step. (units : ℕ) →
+        Does (plans.gives node.source node.at made.of (te.Operate operation (made.id ∷ []))) typing.old units step typing.new units) }
+    ensures kept { OnOk result (KeepsTyping typing.old typing.new) }
+{
+    let list = one(typing, made.id)?;
+    let form = TypedExpression::Operate(operation, list);
+    gives(typing, node.source, node.at, made.of, form)
+}
+
+/// The place to which a pointer points.
+fn dereference(typing: &mut Typing, made: Made, node: Node) -> Result<BodyStep, NoMemory>
+    ensures means { IfOk result (λ step. (units : ℕ) →
+        Does (models.unary_plan typing.old.stage UnaryOperator.Dereference (form_in typing.old.stage made.of) made node.at node.source node.site)
+        typing.old units step typing.new units) }
+    ensures kept { OnOk result (KeepsTyping typing.old typing.new) }
+{
+    match target(&typing.world, made.of) {
+        Some(to) => {
+            let form = TypedExpression::Dereference(made.id);
+            gives(typing, node.source, node.at, to, form)
+        }
+        None => Ok(refuse(RefusalKind::BadOperand, node.at, node.site)),
     }
 }
 

@@ -1,12 +1,11 @@
 // What is read of the world.
 
 ghost use Rattle.std.specs.Prelude.{◌≡◌};
-ghost use Rattle.terra_types.specs.Sizes.{size_of};
 ghost use Rattle.terra_term.specs.WellTyped as tests;
 ghost use Rattle.check_model.specs.Typing as models;
 ghost use Rattle.check_model.specs.Plans.{is_wide};
+ghost use Rattle.check_expr.specs.Forms.{bool_form, target_in};
 ghost use Rattle.check_model.specs.Structs as structs;
-ghost use Rattle.lua_table.specs.Metatables.{value_under, first_handler};
 
 use check_model::Made;
 use exotype::World;
@@ -63,6 +62,26 @@ pub fn is_integer(world: &World, of: TypeId) -> bool
     match world.store.types().form(of) {
         Some(TypeForm::Integer(_)) => true,
         _ => false,
+    }
+}
+
+/// Whether a type is bool.
+pub fn is_bool(world: &World, of: TypeId) -> bool
+    ensures { result ≡ bool_form (models.form_in world.now of) }
+{
+    match world.store.types().form(of) {
+        Some(TypeForm::Bool) => true,
+        _ => false,
+    }
+}
+
+/// What a pointer type points to.
+pub fn target(world: &World, of: TypeId) -> Option<TypeId>
+    ensures { result ≡ target_in (models.form_in world.now of) }
+{
+    match world.store.types().form(of) {
+        Some(TypeForm::Pointer(to)) => Some(*to),
+        _ => None,
     }
 }
 

@@ -1,7 +1,7 @@
 // Statements.
 
-ghost use Rattle.std.specs.Prelude.{◌≡◌, ℕ, [], ◌∷◌, Some, IfOk, OnOk};
-ghost use Rattle.check_model.specs.Plans as plans;
+ghost use Rattle.std.specs.Prelude.{◌≡◌, ℕ, IfOk, OnOk};
+ghost use Rattle.terra_term.specs.declared.term.Statement.TheVariants as doings;
 ghost use Rattle.check_model.specs.Statements as models;
 ghost use Rattle.check_expr.specs.Frames as waiting;
 ghost use Rattle.check_expr.specs.Keeping.{KeepsTyping};
@@ -10,7 +10,7 @@ ghost use Rattle.check_expr.specs.Steps.{Goes, Does};
 use crate::assigning::assign;
 use crate::blocks::block;
 use crate::converting::convert;
-use crate::frame::{BlockThen, BodyFrame, MadeFrame};
+use crate::frame::{BlockThen, BodyFrame, DoingFrame};
 use crate::layouts::as_value;
 use crate::loops::{UNIT, for_loop, in_loop};
 use crate::nodes::{refuse, states};
@@ -67,13 +67,13 @@ pub fn statement(
                     let test = *test;
                     let body = Rest::copy(alloc, body.as_slice())?;
                     let more = copy_if_any(alloc, more)?;
-                    frames.push(BodyFrame::Made(MadeFrame::If(body, more, at, site)))?;
+                    frames.push(BodyFrame::Doing(DoingFrame::If(body, more, at, site)))?;
                     Ok(Step::Enter(BodyJob::Expression(test, site)))
                 }
                 Statement::While(test, body) => {
                     let test = *test;
                     let body = Rest::copy(alloc, body.as_slice())?;
-                    frames.push(BodyFrame::Made(MadeFrame::While(body, at, site)))?;
+                    frames.push(BodyFrame::Doing(DoingFrame::While(body, at, site)))?;
                     Ok(Step::Enter(BodyJob::Expression(test, site)))
                 }
                 Statement::Repeat(body, test) => {
@@ -94,13 +94,12 @@ pub fn statement(
                 }
                 Statement::Break => break_statement(typing, at, site),
                 Statement::Return(values) => {
-                    let count = values.as_slice().len();
-                    let first = first_of(values.as_slice());
-                    return_statement(frames, typing, first, count, at, site)
+                    let values = Rest::copy(alloc, values.as_slice())?;
+                    return_statement(frames, typing, values, at, site)
                 }
                 Statement::Perform(call) => {
                     let call = *call;
-                    frames.push(BodyFrame::Made(MadeFrame::Perform(at, site)))?;
+                    frames.push(BodyFrame::Doing(DoingFrame::Perform(at, site)))?;
                     Ok(Step::Enter(BodyJob::Expression(call, site)))
                 }
             }
@@ -109,20 +108,10 @@ pub fn statement(
     }
 }
 
-/// The first of terms, where there is one.
-fn first_of(terms: &[TermId]) -> Option<TermId>
-    ensures { result ≡ slice_get terms.now 0 }
-{
-    match terms.first() {
-        Some(term) => Some(*term),
-        None => None,
-    }
-}
-
 /// A `break`.
 fn break_statement(typing: &mut Typing, at: Place, site: Site) -> Result<BodyStep, NoMemory>
     ensures means { IfOk result (λ step. (left : ℕ) →
-        Does (models.doing_plan statements.Break at site) typing.old left step typing.new left) }
+        Does (models.doing_plan doings.Break at site) typing.old left step typing.new left) }
     ensures kept { OnOk result (KeepsTyping typing.old typing.new) }
 {
     if site.in_loop {
@@ -132,26 +121,29 @@ fn break_statement(typing: &mut Typing, at: Place, site: Site) -> Result<BodySte
     }
 }
 
-/// A `return` of so many values.
+/// A `return` of these values.
 fn return_statement(
     frames: &mut Vec<BodyFrame>,
     typing: &mut Typing,
-    first: Option<TermId>,
-    count: usize,
+    values: Rest<TermId>,
     at: Place,
     site: Site,
 ) -> Result<BodyStep, NoMemory>
+    ensures means { IfOk result (λ step. (left : ℕ) →
+        Goes frames.old.items (models.return_plan values at site)
+        typing.old left frames.new.items step typing.new left) }
     ensures kept { OnOk result (KeepsTyping typing.old typing.new) }
 {
-    if 1 < count {
+    let mut values = values;
+    if 1 < values.len() {
         return Ok(refuse(RefusalKind::WrongCount, at, site));
     }
     if site.in_let {
         return Ok(refuse(RefusalKind::Misplaced, at, site));
     }
-    match first {
+    match values.take() {
         Some(value) => {
-            frames.push(BodyFrame::Made(MadeFrame::Return(at, site)))?;
+            frames.push(BodyFrame::Doing(DoingFrame::Return(at, site)))?;
             Ok(Step::Enter(BodyJob::Expression(value, site)))
         }
         None => return_nothing(typing, at, site),
@@ -191,11 +183,11 @@ pub fn return_value(
 {
     match site.result {
         None => {
-            frames.push(BodyFrame::Made(MadeFrame::Returned(made.of, at)))?;
+            frames.push(BodyFrame::Doing(DoingFrame::Returned(made.of, at)))?;
             as_value(frames, typing, made, site)
         }
         Some(of) => {
-            frames.push(BodyFrame::Made(MadeFrame::Returned(of, at)))?;
+            frames.push(BodyFrame::Doing(DoingFrame::Returned(of, at)))?;
             convert(frames, typing, Mode::Implicit, made, of, site)
         }
     }
@@ -209,7 +201,7 @@ pub fn returned(
     made: Made,
 ) -> Result<BodyStep, NoMemory>
     ensures means { IfOk result (λ step. (left : ℕ) →
-        Does (waiting.with_made (MadeFrame.Returned of at) made) typing.old left step typing.new left) }
+        Does (waiting.with_doing (DoingFrame.Returned of at) made) typing.old left step typing.new left) }
     ensures kept { OnOk result (KeepsTyping typing.old typing.new) }
 {
     states(typing, at, TypedStatement::Return(Some(made.id)), Some(of))
@@ -224,10 +216,10 @@ pub fn perform(
     made: Made,
 ) -> Result<BodyStep, NoMemory>
     ensures means { IfOk result (λ step. (left : ℕ) →
-        Goes frames.old.items (waiting.with_made (MadeFrame.Perform at site) made)
+        Goes frames.old.items (waiting.with_doing (DoingFrame.Perform at site) made)
         typing.old left frames.new.items step typing.new left) }
     ensures kept { OnOk result (KeepsTyping typing.old typing.new) }
 {
-    frames.push(BodyFrame::Made(MadeFrame::Performed(at, site)))?;
+    frames.push(BodyFrame::Doing(DoingFrame::Performed(at, site)))?;
     as_value(frames, typing, made, site)
 }

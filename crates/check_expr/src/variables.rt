@@ -1,14 +1,14 @@
 // `var`.
 
-ghost use Rattle.std.specs.Prelude.{◌≡◌, ℕ, [], ◌∷◌, ◌++◌, IfOk, OnOk, Option};
-ghost use Rattle.check_model.specs.Plans as plans;
+ghost use Rattle.std.specs.Prelude.{◌≡◌, ℕ, [], ◌∷◌, ◌++◌, IfOk, OnOk};
+ghost use Rattle.terra_types.specs.Layouts as layouts;
 ghost use Rattle.check_model.specs.Statements as models;
 ghost use Rattle.check_expr.specs.Frames as waiting;
 ghost use Rattle.check_expr.specs.Keeping.{KeepsTyping};
 ghost use Rattle.check_expr.specs.Steps.{Goes, Does};
 
 use crate::converting::convert;
-use crate::frame::{BodyFrame, LaidThen, MadeFrame, NamesFrame, VarFrame};
+use crate::frame::{BodyFrame, DoingFrame, LaidThen, NamesFrame, VarFrame};
 use crate::layouts::{as_value, lay_out};
 use crate::nodes::{refuse, states};
 use crate::reading::is_nil;
@@ -83,7 +83,7 @@ fn values_left(
             None => declare(frames, typing, budget, frame),
             Some(value) => {
                 let site = frame.site;
-                frames.push(BodyFrame::Made(MadeFrame::VarValue(name, frame)))?;
+                frames.push(BodyFrame::Doing(DoingFrame::VarValue(name, frame)))?;
                 Ok(Step::Enter(BodyJob::Expression(value, site)))
             }
         },
@@ -108,14 +108,14 @@ pub fn value(
     let site = frame.site;
     match name.of {
         Some(of) => {
-            frames.push(BodyFrame::Made(MadeFrame::VarReady(name, of, frame)))?;
+            frames.push(BodyFrame::Doing(DoingFrame::VarReady(name, of, frame)))?;
             convert(frames, typing, Mode::Implicit, made, of, site)
         }
         None => {
             if is_nil(&typing.world, made) {
                 return Ok(refuse(RefusalKind::Mismatch, made.at, site));
             }
-            frames.push(BodyFrame::Made(MadeFrame::VarReady(name, made.of, frame)))?;
+            frames.push(BodyFrame::Doing(DoingFrame::VarReady(name, made.of, frame)))?;
             as_value(frames, typing, made, site)
         }
     }
@@ -177,7 +177,7 @@ fn declare(
 
 /// Whether a type is a function type.
 pub fn is_function(world: &World, of: TypeId) -> bool
-    ensures { result ≡ is_function world.now.store.types of }
+    ensures { result ≡ layouts.is_function world.now.store.types of }
 {
     match world.store.types().form(of) {
         Some(TypeForm::Function(_, _)) => true,

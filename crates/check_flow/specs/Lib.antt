@@ -7,3 +7,7 @@ pub mod Steps
 pub mod Keeping
 -- What remains of what is suspended.
 pub mod Rest
+-- How types are laid out.
+pub mod Kinds
+-- What is to be gone through for what it mentions.
+pub mod Parts

@@ -1,8 +1,9 @@
 // The steps of a check.
 
-ghost use Rattle.std.specs.Prelude.{◌≡◌, ℕ, IfOk, OnOk};
+ghost use Rattle.std.specs.Prelude.{◌≡◌, ℕ, List, IfOk};
+ghost use Rattle.exotype.specs.World.{StageState};
 ghost use Rattle.check_model.specs.Checks as models;
-ghost use Rattle.check_flow.specs.CheckFrames.{check_rules, after, is_go};
+ghost use Rattle.check_flow.specs.CheckFrames.{check_rules, is_go};
 ghost use Rattle.check_flow.specs.Steps.{ChecksOn};
 
 use crate::check_frame::CheckFrame;

@@ -1,6 +1,9 @@
 // The entries of structs, read raw from Lua's tables.
 
-ghost use Rattle.std.specs.Prelude.{◌≡◌, IfOk, codes};
+ghost use Rattle.std.specs.Prelude.{◌≡◌, IfOk};
+ghost use Rattle.lua_table.specs.Heap.{table_at, found_text};
+ghost use Rattle.lua_table.specs.Metatables.{value_under};
+ghost use Rattle.lua_table.specs.Pairs.{value_at};
 ghost use Rattle.check_model.specs.Layouts as models;
 
 use lua_table::Heap;

@@ -1,10 +1,15 @@
 // The steps of a layout.
 
-ghost use Rattle.std.specs.Prelude.{◌≡◌, ℕ, codes, IfOk, OnOk};
+ghost use Rattle.std.specs.Prelude.{◌≡◌, ℕ, List, codes, IfOk, OnOk};
+ghost use Rattle.terra_types.specs.Layouts.{layout_of};
+ghost use Rattle.terra_types.specs.Sizes.{size_of};
+ghost use Rattle.exotype.specs.Properties.{known_of};
 ghost use Rattle.check_model.specs.Layouts as models;
 ghost use Rattle.check_model.specs.Structs as structs;
-ghost use Rattle.check_flow.specs.LayoutFrames.{layout_rules, after, is_go};
+ghost use Rattle.check_flow.specs.LayoutFrames.{layout_rules, parts_from, is_go};
+ghost use Rattle.check_model.specs.Typing.{form_in};
 ghost use Rattle.check_flow.specs.Keeping.{KeepsLayouts};
+ghost use Rattle.check_flow.specs.Kinds.{kind_in};
 ghost use Rattle.check_flow.specs.Steps.{LaysOn};
 
 use crate::entries::entries_from;
@@ -83,6 +88,8 @@ fn parts_left(
     entries: Vec<Entry>,
     at: Place,
 ) -> Result<LayoutStep, NoMemory>
+    ensures means { IfOk result (λ step. (left : ℕ) →
+        LaysOn frames.old.items (parts_from of value rest entries.items at) world.old left frames.new.items step world.new left) }
     ensures kept { OnOk result (KeepsLayouts world.old world.new) }
 {
     let mut rest = rest;
@@ -183,7 +190,9 @@ enum Kind {
 }
 
 /// How a type is laid out.
-fn kind_of(world: &World, of: TypeId) -> Kind {
+fn kind_of(world: &World, of: TypeId) -> Kind
+    ensures { result ≡ kind_in (form_in world.now of) }
+{
     match world.store.types().form(of) {
         Some(TypeForm::Struct(_, _, _)) => Kind::Struct,
         Some(TypeForm::Array(elements, _)) => Kind::Array(*elements),

@@ -1,28 +1,32 @@
 // The functions that a typed function mentions, in the order of evaluation.
 
-ghost use Rattle.std.specs.Prelude.{◌≡◌, OnOk};
+ghost use Rattle.std.specs.Prelude.{◌≡◌, ℕ, ◌++◌, OnOk};
 ghost use Rattle.check_model.specs.Checks.{with_mentions, mentions_at};
+ghost use Rattle.exotype.specs.World.{StageState};
+ghost use Rattle.check_flow.specs.Parts.{parts_mentions, part_mentions, expression_mentions, all_mentions, form_mentions, doing_mentions, own_mention};
 
 use crate::reaching::reach;
 use check_model::ReachedList;
 use exotype::World;
-use std::alloc::Global;
 use terra_term::{Constant, FunctionState, Operation, Typed, TypedExpression, TypedStatement};
 use tl_base::{FnId, NoMemory, Place, TermId};
 
 /// A node that is to be gone through, among the nodes before a number, and whether it stands as a statement.
 #[derive(Clone, Copy, Debug)]
-struct Part {
-    term: TermId,
-    below: u64,
-    is_statement: bool,
+pub struct Part {
+    pub term: TermId,
+    pub below: u64,
+    pub is_statement: bool,
 }
 
 /// What is to be gone through, the next one last.
 type Parts = Vec<Part>;
 
 /// Puts an expression before what is to be gone through.
-fn expression(parts: &mut Parts, term: TermId, below: u64) -> Result<(), NoMemory> {
+fn expression(parts: &mut Parts, term: TermId, below: u64) -> Result<(), NoMemory>
+    ensures { OnOk result ((w : StageState) →
+        parts_mentions w parts.new.items ≡ expression_mentions w below term ++ parts_mentions w parts.old.items) }
+{
     parts.push(Part {
         term,
         below,
@@ -37,7 +41,10 @@ fn all(
     terms: &[TermId],
     below: u64,
     is_statement: bool,
-) -> Result<(), NoMemory> {
+) -> Result<(), NoMemory>
+    ensures { OnOk result ((w : StageState) →
+        parts_mentions w parts.new.items ≡ all_mentions is_statement w below terms.now ++ parts_mentions w parts.old.items) }
+{
     let count = terms.len();
     'terms: for place in 0..count {
         if let Some(term) = terms.get(count - 1 - place) {
@@ -84,7 +91,11 @@ fn go_through(
     parts: &mut Parts,
     part: Part,
     by: FnId,
-) -> Result<(), NoMemory> {
+) -> Result<(), NoMemory>
+    ensures { OnOk result (
+        with_mentions queue.new by (parts_mentions world.now parts.new.items)
+        ≡ with_mentions queue.old by (part_mentions world.now part ++ parts_mentions world.now parts.old.items)) }
+{
     if part.below <= part.term.0 {
         return Ok(());
     }
@@ -107,7 +118,9 @@ fn mention(
     form: &TypedExpression,
     at: Place,
     by: FnId,
-) -> Result<(), NoMemory> {
+) -> Result<(), NoMemory>
+    ensures { OnOk result (queue.new ≡ with_mentions queue.old by (own_mention at form.now)) }
+{
     match form {
         TypedExpression::Operate(Operation::Call(f), _) => reach(queue, *f, at, by),
         TypedExpression::Constant(Constant::FnValue(f)) => reach(queue, *f, at, by),
@@ -120,7 +133,11 @@ fn parts_of_expression(
     parts: &mut Parts,
     form: &TypedExpression,
     below: u64,
-) -> Result<(), NoMemory> {
+) -> Result<(), NoMemory>
+    ensures { OnOk result ((w : StageState) (at : Place) →
+        own_mention at form.now ++ parts_mentions w parts.new.items
+        ≡ form_mentions w at below form.now ++ parts_mentions w parts.old.items) }
+{
     match form {
         TypedExpression::Constant(_) => Ok(()),
         TypedExpression::Variable(_) => Ok(()),
@@ -148,7 +165,11 @@ fn two(
     first: TermId,
     second: TermId,
     below: u64,
-) -> Result<(), NoMemory> {
+) -> Result<(), NoMemory>
+    ensures { OnOk result ((w : StageState) →
+        parts_mentions w parts.new.items
+        ≡ expression_mentions w below first ++ expression_mentions w below second ++ parts_mentions w parts.old.items) }
+{
     expression(parts, second, below)?;
     expression(parts, first, below)
 }
@@ -158,7 +179,10 @@ fn parts_of_statement(
     parts: &mut Parts,
     doing: &TypedStatement,
     below: u64,
-) -> Result<(), NoMemory> {
+) -> Result<(), NoMemory>
+    ensures { OnOk result ((w : StageState) →
+        parts_mentions w parts.new.items ≡ doing_mentions w below doing.now ++ parts_mentions w parts.old.items) }
+{
     match doing {
         TypedStatement::Var(_, values) => all(parts, values.as_slice(), below, false),
         TypedStatement::Assign(targets, values) => {

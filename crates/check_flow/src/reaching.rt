@@ -1,10 +1,9 @@
 // The queue of a check.
 
-ghost use Rattle.std.specs.Prelude.{◌≡◌, [], ◌∷◌, ◌++◌, OnOk, IfOk};
-ghost use Rattle.check_model.specs.Checks.{was_reached, with_mentions};
+ghost use Rattle.std.specs.Prelude.{◌≡◌, [], ◌∷◌, OnOk};
+ghost use Rattle.check_model.specs.Checks.{with_mentions};
 
 use check_model::{Reached, ReachedList};
-use std::alloc::Global;
 use tl_base::{FnId, NoMemory, Place};
 
 /// Puts a function that another mentions behind the others, unless it was reached before.

@@ -102,13 +102,12 @@ impl ReachedList {
     pub fn was_reached(&self, f: FnId) -> bool
         ensures { result ≡ was_reached f self.now }
     {
-        let mut found = false;
         'reached: for reached in self.items.iter() {
-            if reached.function.0 == f.0 {
-                found = true;
+            if f.0 == reached.function.0 {
+                return true;
             }
         }
-        found
+        false
     }
 
     /// Puts a function behind the others.

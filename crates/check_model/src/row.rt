@@ -121,6 +121,16 @@ impl<T: Copy> Rest<T> {
         }
     }
 
+    /// The items that are left.
+    pub fn as_slice(&self) -> &[T]
+        ensures { result.now ≡ self.now }
+    {
+        match self.items.get(self.next..) {
+            Some(items) => items,
+            None => &[],
+        }
+    }
+
     /// How many items are left.
     pub fn len(&self) -> usize
         ensures { result ≡ length self.now }

@@ -1,8 +1,6 @@
 use Rattle.std.proofs.Common.{◌≡◌, drop}
-use Rattle.std.specs.Prelude.{◌||◌}
 use Rattle.check_model.specs.Checks.{was_reached}
 use Rattle.check_model.proofs.job.ReachedList.was_reached.Given as goal
 
 abbrev pub invariant-reached : goal.invariant-reached
-invariant-reached l =
-    (l.found || was_reached l.f (drop l.reached-index l.self.items)) ≡ was_reached l.fn.f l.fn.self.items
+invariant-reached l = was_reached l.f (drop l.reached-index l.self) ≡ was_reached l.fn.f l.fn.self
