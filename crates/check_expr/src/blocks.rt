@@ -1,6 +1,6 @@
 // Blocks, and what is done with their statements.
 
-ghost use Rattle.std.specs.Prelude.{◌≡◌, ℕ, [], ◌∷◌, ◌++◌, IfOk, OnOk};
+ghost use Rattle.std.specs.Prelude.{◌≡◌, ℕ, [], ◌∷◌, ◌++◌, Some, IfOk, OnOk};
 ghost use Rattle.check_model.specs.Expressions as expressions;
 ghost use Rattle.check_model.specs.Plans as plans;
 ghost use Rattle.check_model.specs.Statements as models;
@@ -173,8 +173,45 @@ fn with_else(
                 result: found,
                 ..site
             };
-            let then = BlockThen::Else(typing.count(), test, ids, at);
-            block(frames, typing, statements, site, then)
+            else_block(frames, typing, test, ids, statements, at, site)
+        }
+    }
+}
+
+/// Types the block behind `else`.
+fn else_block(
+    frames: &mut Vec<BodyFrame>,
+    typing: &mut Typing,
+    test: Made,
+    ids: Row<TermId>,
+    statements: Rest<TermId>,
+    at: Place,
+    site: Site,
+) -> Result<BodyStep, NoMemory>
+    ensures means { IfOk result (λ step. (left : ℕ) →
+        Goes frames.old.items (models.else_plan (Some statements) test ids site.result at site)
+        typing.old left frames.new.items step typing.new left) }
+    ensures kept { OnOk result (KeepsTyping typing.old typing.new) }
+{
+    let count = typing.count();
+    let mut rest = statements;
+    let others = Row::new(typing.world.store.allocator());
+    match rest.take() {
+        Some(statement) => {
+            let frame = BlockFrame {
+                rest,
+                ids: others,
+                then: BlockThen::Else(count, test, ids, at),
+                site,
+            };
+            frames.push(BodyFrame::Block(frame))?;
+            Ok(Step::Enter(BodyJob::Statement(statement, site)))
+        }
+        None => {
+            typing.leave(count);
+            let others = Some(term_list(others)?);
+            let form = TypedStatement::If(test.id, term_list(ids)?, others);
+            states(typing, at, form, site.result)
         }
     }
 }

@@ -45,7 +45,7 @@ pub enum Callee {
 }
 
 /// What a term is as a callee.
-pub fn callee(world: &World, term: TermId) -> Callee
+pub fn callee_of(world: &World, term: TermId) -> Callee
     ensures { result ≡ callee_in (expression_at world.now term) }
 {
     match world.store.term(term) {
@@ -397,7 +397,7 @@ fn call_size(
     match only(operands) {
         None => Ok(refuse(RefusalKind::WrongCount, node.at, node.site)),
         Some(Operand::Typed(made)) => Ok(refuse(RefusalKind::BadOperand, made.at, node.site)),
-        Some(Operand::Untyped(term)) => match callee(&typing.world, term) {
+        Some(Operand::Untyped(term)) => match callee_of(&typing.world, term) {
             Callee::Type(of) => {
                 if !budget.pay(1) {
                     return Ok(Step::Spent);
@@ -429,7 +429,7 @@ pub fn call_term(
         typing.old budget.old frames.new.items step typing.new budget.new) }
     ensures kept { OnOk result (KeepsTyping typing.old typing.new) }
 {
-    match callee(&typing.world, term) {
+    match callee_of(&typing.world, term) {
         Callee::Value => {
             let operands = OperandList::from_vec(operands);
             Ok(Step::Enter(BodyJob::Callee(

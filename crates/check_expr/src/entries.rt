@@ -129,7 +129,7 @@ enum Elements {
 }
 
 /// What a type has elements of: a pointer's target, or an array's elements.
-fn elements(world: &World, of: TypeId) -> Elements
+fn elements_of(world: &World, of: TypeId) -> Elements
     ensures { result ≡ elements_in (typings.form_in world.now of) }
 {
     match world.store.types().form(of) {
@@ -152,7 +152,7 @@ pub fn index(
         typing.old left frames.new.items step typing.new left) }
     ensures kept { OnOk result (KeepsTyping typing.old typing.new) }
 {
-    match elements(&typing.world, object.of) {
+    match elements_of(&typing.world, object.of) {
         Elements::Within(of) => {
             if !object.is_place {
                 return Ok(refuse(RefusalKind::NotPlace, object.at, node.site));

@@ -10,7 +10,7 @@ ghost use Rattle.check_expr.specs.Keeping.{KeepsTyping};
 ghost use Rattle.check_expr.specs.Steps.{Goes, Does};
 
 use crate::blocks::block;
-use crate::calls::{Callee, call_named, callee, untyped};
+use crate::calls::{Callee, call_named, callee_of, untyped};
 use crate::constructing::new_struct;
 use crate::frame::{BlockThen, BodyFrame, Initials, MadeFrame};
 use crate::layouts::as_value;
@@ -218,7 +218,7 @@ fn call(
     ensures kept { OnOk result (KeepsTyping typing.old typing.new) }
 {
     let operands = untyped(typing, None, arguments)?;
-    match callee(&typing.world, f) {
+    match callee_of(&typing.world, f) {
         Callee::Value => {
             let operands = OperandList::from_vec(operands);
             Ok(Step::Enter(BodyJob::Callee(

@@ -40,7 +40,7 @@ pub struct Definition {
 }
 
 /// The definition that a term is.
-fn definition(world: &World, term: TermId) -> Result<Option<Definition>, NoMemory>
+fn definition_of(world: &World, term: TermId) -> Result<Option<Definition>, NoMemory>
     ensures { IfOk result (λ parts. parts ≡ parts_in (slice_get world.now.store.terms term.0)) }
 {
     let alloc = world.store.allocator();
@@ -88,7 +88,7 @@ pub fn body(
         Some(function) => match function.state.term() {
             None => Ok(refuse(RefusalKind::Undefined, function.place, site)),
             Some(term) => {
-                let definition = definition(&typing.world, term)?;
+                let definition = definition_of(&typing.world, term)?;
                 frames.push(BodyFrame::Function(f, base))?;
                 begin(typing, f);
                 defined(frames, typing, budget, definition, function.place, site)
