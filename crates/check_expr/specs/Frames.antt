@@ -195,6 +195,7 @@ with_made (of_made.Initialised l f) r = values_from f (f.offsets ++ l.offset ∷
 with_made (of_made.Let count ids n) m =
     as_value m n.site (leaving count (gives n.source n.at m.of (te.Let ids m.id)))
 with_made (of_made.LetValue count ids n) m = leaving count (gives n.source n.at m.of (te.Let ids m.id))
+
 -- in a statement
 abbrev pub with_doing : DoingFrame → Made → BodyPlan
 with_doing (of_doing.VarValue n f) m =

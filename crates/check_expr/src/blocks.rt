@@ -11,8 +11,8 @@ ghost use Rattle.check_expr.specs.Steps.{Goes, Does};
 use crate::frame::{BlockFrame, BlockThen, BodyFrame, DoingFrame, MadeFrame};
 use crate::functions::function;
 use crate::nodes::states;
-use check_model::row::{Rest, Row, term_list};
 use crate::step::BodyStep;
+use check_model::row::{Rest, Row, term_list};
 use check_model::{BodyJob, Made, PartEnd, Site, Typing};
 use terra_term::{TermList, TypedStatement};
 use tl_base::{NoMemory, Place, Step, TermId, TypeId};
@@ -61,7 +61,10 @@ fn statements_left(
         }
         None => {
             let BlockFrame {
-                ids, then, site, ..
+                ids,
+                then,
+                site,
+                ..
             } = frame;
             with_statements(frames, typing, then, ids, site.result)
         }
@@ -140,9 +143,7 @@ fn with_statements(
             frames.push(BodyFrame::Made(MadeFrame::Let(count, ids, node)))?;
             Ok(Step::Enter(BodyJob::Expression(value, node.site)))
         }
-        BlockThen::Function(names, at, site) => {
-            function(typing, names, found, ids, at, site)
-        }
+        BlockThen::Function(names, at, site) => { function(typing, names, found, ids, at, site) }
     }
 }
 

@@ -16,8 +16,8 @@ use crate::known::{parameter_types, result_type};
 use crate::layouts::lay_out;
 use crate::nodes::{gives, refuse, without_lua};
 use crate::reading::{metamethod, place_of};
-use check_model::row::{Rest, Row, term_list};
 use crate::step::{BodyStep, Node};
+use check_model::row::{Rest, Row, term_list};
 use check_model::{
     BodyJob, BodyQuestion, CheckAnswer, KnownResult, Made, Mode, Operand, OperandList, PartEnd,
     Site, Typing,
@@ -29,7 +29,9 @@ use tl_base::{Budget, FnId, NoMemory, Place, Step, TermId, TypeId};
 
 /// The types that primitives name, which are there from the begin.
 const INT64: TypeId = TypeId(3);
+
 const UINT8: TypeId = TypeId(4);
+
 const UNIT: TypeId = TypeId(9);
 
 /// What is called without being typed.
@@ -256,7 +258,10 @@ fn call(typing: &mut Typing, frame: CallFrame, of: TypeId) -> Result<BodyStep, N
     ensures kept { OnOk result (KeepsTyping typing.old typing.new) }
 {
     let CallFrame {
-        target, ids, node, ..
+        target,
+        ids,
+        node,
+        ..
     } = frame;
     let operation = match target {
         Target::Function(f) => Operation::Call(f),
@@ -360,7 +365,11 @@ fn only(operands: Rest<Operand>) -> Option<Operand>
     ensures { result ≡ only_of operands }
 {
     let mut operands = operands;
-    if operands.len() == 1 { operands.take() } else { None }
+    if operands.len() == 1 {
+        operands.take()
+    } else {
+        None
+    }
 }
 
 /// Converts a typed expression to a type by a cast.
@@ -432,13 +441,7 @@ pub fn call_term(
     match callee_of(&typing.world, term) {
         Callee::Value => {
             let operands = OperandList::from_vec(operands);
-            Ok(Step::Enter(BodyJob::Callee(
-                term,
-                operands,
-                node.at,
-                node.source,
-                node.site,
-            )))
+            Ok(Step::Enter(BodyJob::Callee(term, operands, node.at, node.source, node.site)))
         }
         callee => {
             let operands = Rest::from_vec(operands);
@@ -457,7 +460,11 @@ pub fn call_value(typing: &Typing, made: Made, at: Place, site: Site) -> BodySte
 }
 
 /// Operands that are yet to be typed.
-pub fn untyped(typing: &Typing, first: Option<Made>, terms: Rest<TermId>) -> Result<Vec<Operand>, NoMemory>
+pub fn untyped(
+    typing: &Typing,
+    first: Option<Made>,
+    terms: Rest<TermId>,
+) -> Result<Vec<Operand>, NoMemory>
     ensures { IfOk result (λ operands. operands.items ≡ ready_if first ++ plans.untyped terms) }
 {
     let mut operands = Vec::new(typing.world.store.allocator());

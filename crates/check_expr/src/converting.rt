@@ -12,9 +12,9 @@ use crate::frame::BodyFrame;
 use crate::layouts::as_value;
 use crate::nodes::{gives, make, refuse, without_lua};
 use crate::reading::{is_nil, is_pointer, metamethod_of_either, points_to};
-use check_model::row::{Row, term_list};
 use crate::step::BodyStep;
 use check_cast::{Conv, explicit, implicit};
+use check_model::row::{Row, term_list};
 use check_model::{Made, Mode, Site, Typing};
 use terra_term::{Constant, Operation, RefusalKind, TermList, TypedExpression};
 use tl_base::{NoMemory, Place, TermId, TypeId};
@@ -143,12 +143,24 @@ pub fn fit(
         as_value(frames, typing, made, site)
     } else if points_to(&typing.world, to, made.of) {
         if made.is_place {
-            gives(typing, made.source, at, to, TypedExpression::Address(made.id))
+            gives(
+                typing,
+                made.source,
+                at,
+                to,
+                TypedExpression::Address(made.id),
+            )
         } else {
             Ok(refuse(RefusalKind::NotPlace, made.at, site))
         }
     } else if points_to(&typing.world, made.of, to) {
-        let target = make(typing, made.source, at, to, TypedExpression::Dereference(made.id))?;
+        let target = make(
+            typing,
+            made.source,
+            at,
+            to,
+            TypedExpression::Dereference(made.id),
+        )?;
         as_value(frames, typing, target, site)
     } else {
         convert(frames, typing, Mode::Implicit, made, to, site)

@@ -16,8 +16,8 @@ use crate::frame::{BlockThen, BodyFrame, Initials, MadeFrame};
 use crate::layouts::as_value;
 use crate::nodes::{gives, refuse};
 use crate::operators::BOOL;
-use check_model::row::{Rest, Row, term_list};
 use crate::step::{BodyStep, Node};
+use check_model::row::{Rest, Row, term_list};
 use check_model::{BodyJob, Made, OperandList, Site, Typing};
 use std::alloc::Global;
 use terra_term::{Constant, Expression, Initialiser, RefusalKind, Term, TypedExpression};
@@ -184,11 +184,7 @@ fn variable(typing: &mut Typing, symbol: SymId, node: Node) -> Result<BodyStep, 
 }
 
 /// A global.
-fn global_variable(
-    typing: &mut Typing,
-    global: GlobalId,
-    node: Node,
-) -> Result<BodyStep, NoMemory>
+fn global_variable(typing: &mut Typing, global: GlobalId, node: Node) -> Result<BodyStep, NoMemory>
     ensures means { IfOk result (λ step. (left : ℕ) →
         Does (models.global (slice_get typing.old.stage.store.globals global.0) node.at node.source node.site)
         typing.old left step typing.new left) }
@@ -221,13 +217,7 @@ fn call(
     match callee_of(&typing.world, f) {
         Callee::Value => {
             let operands = OperandList::from_vec(operands);
-            Ok(Step::Enter(BodyJob::Callee(
-                f,
-                operands,
-                node.at,
-                node.source,
-                node.site,
-            )))
+            Ok(Step::Enter(BodyJob::Callee(f, operands, node.at, node.source, node.site)))
         }
         callee => {
             if !budget.pay(1) {

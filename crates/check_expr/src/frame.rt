@@ -1,7 +1,7 @@
 // What waits for the end of what is done above it: a frame for each place at which a plan waits.
 
-use check_model::row::{Rest, Row};
 use crate::step::Node;
+use check_model::row::{Rest, Row};
 use check_model::{Made, Operand, OperandList, Site};
 use lua_value::Primitive;
 use terra_term::{TermList, TypedExpression, TypedName, UnaryOperator, VarName};

@@ -14,9 +14,9 @@ use crate::frame::{BlockThen, BodyFrame, LaidThen, ParametersFrame};
 use crate::layouts::lay_out;
 use crate::loops::UNIT;
 use crate::nodes::refuse;
-use check_model::row::{Rest, Row, term_list};
 use crate::step::BodyStep;
 use crate::variables::is_function;
+use check_model::row::{Rest, Row, term_list};
 use check_model::{PartEnd, Site, Typing};
 use exotype::World;
 use terra_term::{
@@ -123,12 +123,14 @@ fn defined(
 {
     match definition {
         None => Ok(refuse(RefusalKind::Undefined, at, site)),
-        Some(Definition {
-            parameters,
-            named,
-            written,
-            body,
-        }) => {
+        Some(
+            Definition {
+                parameters,
+                named,
+                written,
+                body,
+            },
+        ) => {
             if !budget.pay(1) {
                 return Ok(Step::Spent);
             }
@@ -184,7 +186,13 @@ fn parameters_left(
                 site,
                 ..
             } = frame;
-            block(frames, typing, body, site, BlockThen::Function(named, at, site))
+            block(
+                frames,
+                typing,
+                body,
+                site,
+                BlockThen::Function(named, at, site),
+            )
         }
     }
 }
@@ -251,12 +259,7 @@ pub fn function(
 }
 
 /// Closes a function, however its body ended: it has its typed term or its refusal, and its variables go.
-pub fn close(
-    typing: &mut Typing,
-    f: FnId,
-    base: u64,
-    end: PartEnd,
-) -> BodyStep
+pub fn close(typing: &mut Typing, f: FnId, base: u64, end: PartEnd) -> BodyStep
     ensures means { (left : ℕ) → Does (models.close_function f base end) typing.old left result typing.new left }
     ensures kept { KeepsTyping typing.old typing.new }
 {

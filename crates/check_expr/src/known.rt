@@ -3,8 +3,8 @@
 ghost use Rattle.std.specs.Prelude.{◌≡◌, IfOk, slice_get};
 ghost use Rattle.check_model.specs.Calls as models;
 
-use check_model::row::{Rest, Row};
 use check_model::KnownResult;
+use check_model::row::{Rest, Row};
 use exotype::World;
 use terra_term::{FunctionState, Term, Typed};
 use terra_types::TypeForm;
@@ -102,7 +102,10 @@ pub fn result_type(world: &World, f: FnId) -> KnownResult
         None => KnownResult::NotYet,
         Some(function) => match function.state {
             FunctionState::Undefined => {
-                known_or(declared_result(world, function.declared), KnownResult::NotYet)
+                known_or(
+                    declared_result(world, function.declared),
+                    KnownResult::NotYet,
+                )
             }
             FunctionState::Defined(term) => {
                 known_or(written_result(world, term), KnownResult::NotYet)

@@ -7,34 +7,27 @@ ghost use Rattle.check_expr.specs.Frames.{body_rules, is_go};
 ghost use Rattle.check_expr.specs.Keeping.{KeepsTyping};
 ghost use Rattle.check_expr.specs.Steps.{Goes};
 
-use crate::assigning;
 use crate::blocks::after_statement;
-use crate::calls::{
-    after_result, argument, call_value, cast_made, fitted, macro_operands,
-};
+use crate::calls::{after_result, argument, call_value, cast_made, fitted, macro_operands};
 use crate::constructing::{initial, initialised};
 use crate::entries::{extract, index, select};
 use crate::expressions::{expression, let_end, let_value};
 use crate::frame::{BodyFrame, DoingFrame, MadeFrame};
 use crate::functions::{body, close};
 use crate::layouts::after_layout;
-use crate::loops;
 use crate::methods::call_method;
+use crate::nodes::states;
 use crate::operators::{binary, both, meet_next, unary};
 use crate::statements::{perform, return_value, returned, statement};
 use crate::step::BodyStep;
-use crate::nodes::states;
-use crate::variables;
-use check_model::{
-    BodyEnd, BodyJob, BodyQuestion, CheckAnswer, Made, PartEnd, Typing,
-};
+use crate::{assigning, loops, variables};
+use check_model::{BodyEnd, BodyJob, BodyQuestion, CheckAnswer, Made, PartEnd, Typing};
 use terra_term::TypedStatement;
 use tl_base::{Budget, FnId, Machine, NoMemory, Step, TermId};
 
 /// The steps of the typing of bodies.
 #[derive(Drop)]
-pub(crate) struct Steps {
-}
+pub(crate) struct Steps {}
 
 /// Goes on with what waited for a typed expression of an expression.
 fn with_made(

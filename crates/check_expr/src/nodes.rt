@@ -44,7 +44,10 @@ pub fn make(
     ensures kept { OnOk result (KeepsTyping typing.old typing.new) }
 {
     let is_place = is_place(&form);
-    let id = typing.world.store.new_typed(Typed::Expression(at, of, form))?;
+    let id = typing
+        .world
+        .store
+        .new_typed(Typed::Expression(at, of, form))?;
     Ok(Made {
         id,
         source,

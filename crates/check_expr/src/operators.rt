@@ -188,11 +188,33 @@ fn by_rule(
     match rule {
         Rule::Meets => {
             let meet = meeting(typing, left, right);
-            at_type(frames, typing, MeetFrame { op, meet, of: meet, node }, left, right)
+            at_type(
+                frames,
+                typing,
+                MeetFrame {
+                    op,
+                    meet,
+                    of: meet,
+                    node,
+                },
+                left,
+                right,
+            )
         }
         Rule::Compares => {
             let meet = meeting(typing, left, right);
-            at_type(frames, typing, MeetFrame { op, meet, of: BOOL, node }, left, right)
+            at_type(
+                frames,
+                typing,
+                MeetFrame {
+                    op,
+                    meet,
+                    of: BOOL,
+                    node,
+                },
+                left,
+                right,
+            )
         }
         Rule::Shifts => both(typing, op, left.of, left, right, node),
         Rule::Tells => both(typing, op, BOOL, left, right, node),
@@ -205,7 +227,15 @@ fn by_rule(
             gives(typing, node.source, node.at, BOOL, form)
         }
         Rule::Addresses => addresses(typing, op, left, right, node),
-        Rule::Forward(of) => moved(frames, typing, of, Operation::StepForward, left, right, node),
+        Rule::Forward(of) => moved(
+            frames,
+            typing,
+            of,
+            Operation::StepForward,
+            left,
+            right,
+            node,
+        ),
         Rule::Back(of) => moved(frames, typing, of, Operation::StepBack, left, right, node),
         Rule::Differs(of) => {
             if left.of.0 == right.of.0 {
@@ -244,7 +274,14 @@ fn at_type(
     ensures kept { OnOk result (KeepsTyping typing.old typing.new) }
 {
     frames.push(BodyFrame::Made(MadeFrame::MeetLeft(frame, right)))?;
-    convert(frames, typing, Mode::Implicit, left, frame.meet, frame.node.site)
+    convert(
+        frames,
+        typing,
+        Mode::Implicit,
+        left,
+        frame.meet,
+        frame.node.site,
+    )
 }
 
 /// Converts the right operand, behind the left one.
@@ -262,7 +299,14 @@ pub fn meet_next(
     ensures kept { OnOk result (KeepsTyping typing.old typing.new) }
 {
     frames.push(BodyFrame::Made(MadeFrame::MeetRight(frame, left)))?;
-    convert(frames, typing, Mode::Implicit, right, frame.meet, frame.node.site)
+    convert(
+        frames,
+        typing,
+        Mode::Implicit,
+        right,
+        frame.meet,
+        frame.node.site,
+    )
 }
 
 /// An operator on two operands as they are.
@@ -350,12 +394,7 @@ fn addresses(
 }
 
 /// An operand, where it is `nil` with the type of the other one.
-fn retyped(
-    typing: &mut Typing,
-    is_nil: bool,
-    made: Made,
-    other: Made,
-) -> Result<Made, NoMemory>
+fn retyped(typing: &mut Typing, is_nil: bool, made: Made, other: Made) -> Result<Made, NoMemory>
     ensures made { IfOk result (λ m. m ≡ retyped_as is_nil typing.old made other) }
     ensures ok { OnOk result (typing.new ≡ with_retyped is_nil typing.old made other) }
     ensures kept { OnOk result (KeepsTyping typing.old typing.new) }
@@ -445,5 +484,11 @@ fn address(typing: &mut Typing, made: Made, node: Node) -> Result<BodyStep, NoMe
         return Ok(refuse(RefusalKind::NotPlace, made.at, node.site));
     }
     let of = typing.world.pointer_to(made.of)?;
-    gives(typing, node.source, node.at, of, TypedExpression::Address(made.id))
+    gives(
+        typing,
+        node.source,
+        node.at,
+        of,
+        TypedExpression::Address(made.id),
+    )
 }

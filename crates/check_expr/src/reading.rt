@@ -163,7 +163,11 @@ pub fn metamethod_of_either(world: &World, of: TypeId, other: TypeId, event: &[u
     ensures { result ≡ structs.metamethod_of_either world.now of other event.now }
 {
     let first = metamethod(world, of, event);
-    if first.is_nil() { metamethod(world, other, event) } else { first }
+    if first.is_nil() {
+        metamethod(world, other, event)
+    } else {
+        first
+    }
 }
 
 /// What stands under a name in a struct's methods.

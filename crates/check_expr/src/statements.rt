@@ -14,19 +14,16 @@ use crate::frame::{BlockThen, BodyFrame, DoingFrame};
 use crate::layouts::as_value;
 use crate::loops::{UNIT, for_loop, in_loop};
 use crate::nodes::{refuse, states};
-use check_model::row::Rest;
 use crate::step::BodyStep;
 use crate::variables::var;
+use check_model::row::Rest;
 use check_model::{BodyJob, Made, Mode, Site, Typing};
 use std::alloc::Global;
 use terra_term::{RefusalKind, Statement, Term, TermList, TypedStatement};
 use tl_base::{Budget, NoMemory, Place, Step, TermId, TypeId};
 
 /// A copy of nodes, where there are some.
-fn copy_if_any(
-    alloc: Global,
-    terms: &Option<TermList>,
-) -> Result<Option<Rest<TermId>>, NoMemory>
+fn copy_if_any(alloc: Global, terms: &Option<TermList>) -> Result<Option<Rest<TermId>>, NoMemory>
     ensures { IfOk result (λ copy. copy ≡ terms.now) }
 {
     match terms {
@@ -104,7 +101,12 @@ pub fn statement(
                 }
             }
         }
-        _ => states(typing, Place { line: 0, word: 0 }, TypedStatement::Break, site.result),
+        _ => states(
+            typing,
+            Place { line: 0, word: 0 },
+            TypedStatement::Break,
+            site.result,
+        ),
     }
 }
 

@@ -12,8 +12,8 @@ use crate::frame::{BodyFrame, DoingFrame, LaidThen, NamesFrame, VarFrame};
 use crate::layouts::{as_value, lay_out};
 use crate::nodes::{refuse, states};
 use crate::reading::is_nil;
-use check_model::row::{Rest, Row, term_list};
 use crate::step::BodyStep;
+use check_model::row::{Rest, Row, term_list};
 use check_model::{BodyJob, Made, Mode, Site, Typing};
 use exotype::World;
 use terra_term::{RefusalKind, TypedName, TypedNameList, TypedStatement, VarName};
@@ -233,7 +233,14 @@ fn name_for(
                 symbol: name.symbol,
                 of,
             };
-            lay_out(frames, typing, of, name.place, site, LaidThen::Name(typed, frame))
+            lay_out(
+                frames,
+                typing,
+                of,
+                name.place,
+                site,
+                LaidThen::Name(typed, frame),
+            )
         }
     }
 }

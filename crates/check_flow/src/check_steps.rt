@@ -35,12 +35,7 @@ fn take_next(queue: ReachedList, place: u64) -> CheckStep
 }
 
 /// Goes on behind a function that is typed.
-fn past(
-    world: &World,
-    queue: ReachedList,
-    place: u64,
-    f: FnId,
-) -> Result<CheckStep, NoMemory>
+fn past(world: &World, queue: ReachedList, place: u64, f: FnId) -> Result<CheckStep, NoMemory>
     ensures { IfOk result (λ step. (left : ℕ) → (fs : List CheckFrame) →
         ChecksOn fs (models.past queue place f) world.now left fs step world.now left) }
 {

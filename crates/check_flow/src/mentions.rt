@@ -36,12 +36,7 @@ fn expression(parts: &mut Parts, term: TermId, below: u64) -> Result<(), NoMemor
 }
 
 /// Puts nodes before what is to be gone through.
-fn all(
-    parts: &mut Parts,
-    terms: &[TermId],
-    below: u64,
-    is_statement: bool,
-) -> Result<(), NoMemory>
+fn all(parts: &mut Parts, terms: &[TermId], below: u64, is_statement: bool) -> Result<(), NoMemory>
     ensures { OnOk result ((w : StageState) →
         parts_mentions w parts.new.items ≡ all_mentions is_statement w below terms.now ++ parts_mentions w parts.old.items) }
 {
@@ -59,11 +54,7 @@ fn all(
 }
 
 /// Puts what a function mentions behind the queue.
-pub fn reach_mentions(
-    world: &World,
-    queue: &mut ReachedList,
-    f: FnId,
-) -> Result<(), NoMemory>
+pub fn reach_mentions(world: &World, queue: &mut ReachedList, f: FnId) -> Result<(), NoMemory>
     ensures { OnOk result (queue.new ≡ with_mentions queue.old f (mentions_at world.now f)) }
 {
     let mut parts = Vec::new(world.store.allocator());
@@ -160,12 +151,7 @@ fn parts_of_expression(
 }
 
 /// Puts two expressions before what is to be gone through.
-fn two(
-    parts: &mut Parts,
-    first: TermId,
-    second: TermId,
-    below: u64,
-) -> Result<(), NoMemory>
+fn two(parts: &mut Parts, first: TermId, second: TermId, below: u64) -> Result<(), NoMemory>
     ensures { OnOk result ((w : StageState) →
         parts_mentions w parts.new.items
         ≡ expression_mentions w below first ++ expression_mentions w below second ++ parts_mentions w parts.old.items) }
@@ -175,11 +161,7 @@ fn two(
 }
 
 /// Puts the parts of a statement before what is to be gone through: the first of them is the next.
-fn parts_of_statement(
-    parts: &mut Parts,
-    doing: &TypedStatement,
-    below: u64,
-) -> Result<(), NoMemory>
+fn parts_of_statement(parts: &mut Parts, doing: &TypedStatement, below: u64) -> Result<(), NoMemory>
     ensures { OnOk result ((w : StageState) →
         parts_mentions w parts.new.items ≡ doing_mentions w below doing.now ++ parts_mentions w parts.old.items) }
 {

@@ -7,12 +7,7 @@ use check_model::{Reached, ReachedList};
 use tl_base::{FnId, NoMemory, Place};
 
 /// Puts a function that another mentions behind the others, unless it was reached before.
-pub fn reach(
-    queue: &mut ReachedList,
-    function: FnId,
-    at: Place,
-    by: FnId,
-) -> Result<(), NoMemory>
+pub fn reach(queue: &mut ReachedList, function: FnId, at: Place, by: FnId) -> Result<(), NoMemory>
     ensures { OnOk result (queue.new ≡ with_mentions queue.old by ((at, function) ∷ [])) }
 {
     if queue.was_reached(function) {
