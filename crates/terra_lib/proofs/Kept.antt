@@ -19,12 +19,12 @@ use Rattle.terra_term.specs.Held.{Held, state_of, with_types}
 use Rattle.terra_term.specs.Held as stores
 use Rattle.terra_term.specs.Keeping.{Stays, AllStay}
 use Rattle.terra_term.proofs.Staying.{stays-same}
-use Rattle.exotype.specs.World.{StageState, with_heap, with_store}
+use Rattle.exotype.specs.World.{ExportState, StageState, with_heap, with_store}
 use Rattle.exotype.specs.Types.{with_pointer, with_array, with_function, with_struct, is_type, names_types}
 use Rattle.spec_model.specs.Making.{with_symbol}
 use Rattle.terra_lib.specs.Lists.{appended, all_appended}
 use Rattle.terra_lib.specs.Symbols.{constant, with_constant}
-use Rattle.terra_lib.specs.Keeping.{KeepsWorld}
+use Rattle.terra_lib.specs.Keeping.{KeepsExports, KeepsWorld}
 
 form_stays : (f : TypeForm) → KeepsForm f f
 form_stays (forms.Integer i) = refl
@@ -39,6 +39,9 @@ form_stays (forms.Struct n p (Some l)) = refl
 types_stay : (types : List TypeForm) → KeepsTypes types types
 types_stay types i form at = (form, (at, form_stays form))
 
+pub exports_stay : (e : ExportState) → KeepsExports e e
+exports_stay e = record { list = heaps.front_self e.list; saved = λ h. h }
+
 pub keeps_in_heap : (w : StageState) (heap : LuaState) → KeepsHeap w.heap heap → KeepsWorld w (with_heap w heap)
 keeps_in_heap w heap h = record {
   heap = h;
@@ -48,7 +51,7 @@ keeps_in_heap w heap h = record {
   constants = heaps.front_self w.store.constants;
   structs = heaps.front_self w.kept.structs;
   properties = refl;
-  exports = refl;
+  exports = exports_stay w.exports;
   memory = refl;
 }
 
@@ -67,7 +70,7 @@ keeps_store w s same types symbols constants = record {
   constants = constants;
   structs = heaps.front_self w.kept.structs;
   properties = refl;
-  exports = refl;
+  exports = exports_stay w.exports;
   memory = refl;
 }
 
@@ -114,7 +117,7 @@ keeps_struct w place =
       constants = heaps.front_self w.store.constants;
       structs = heaps.front_more w.kept.structs _;
       properties = refl;
-      exports = refl;
+      exports = exports_stay w.exports;
       memory = refl;
     }
 

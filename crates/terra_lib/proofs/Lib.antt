@@ -1,2 +1,3 @@
 pub mod Lifted
 pub mod Kept
+pub mod Exporting

@@ -17,11 +17,12 @@ use Rattle.exotype.specs.World.{StageState}
 use Rattle.terra_lib.specs.Answers.{Turned, gives, not_built}
 use Rattle.terra_lib.specs.Symbols.{symbol_turned, macro_turned, constant_turned}
 use Rattle.terra_lib.specs.Types.{newstruct_turned, pointer_turned, array_turned, test_turned, isdefined_turned}
+use Rattle.terra_lib.specs.Exports.{saveobj_turned}
 use Rattle.terra_lib.specs.Lists.{newlist_turned, insert_turned, insertall_turned, map_turned, map_back}
 use Rattle.terra_lib.specs.Fields.{field_turned, pointer_type, array_type, function_type}
 
--- What a function gives that tells of types and functions, or that the language itself calls. Those that need a check or a layout, and
--- `saveobj`, aren't built yet. One that is not of Terra's library gives nothing.
+-- What a function gives that tells of types and functions, or that the language itself calls. Those that need a check or a layout aren't
+-- built yet. One that is not of Terra's library gives nothing.
 abbrev pub told : State StageState → LibFn → List Value → Place → Turned
 told s IsDefined vs place = isdefined_turned s vs place
 told s IsIntegral vs place = test_turned s IsIntegral vs place
@@ -36,7 +37,6 @@ told s FunctionType vs place = function_type s (argument vs 0) (argument vs 1) p
 told s Global vs place = not_built s place
 told s SizeOf vs place = not_built s place
 told s OffsetOf vs place = not_built s place
-told s SaveObj vs place = not_built s place
 told s Compile vs place = not_built s place
 told s GetType vs place = not_built s place
 told s f vs place = gives s s.world []
@@ -53,6 +53,7 @@ answered s Map vs place = map_turned s vs place
 answered s NewStruct vs place = newstruct_turned s place
 answered s Pointer vs place = pointer_turned s vs place
 answered s Array vs place = array_turned s vs place
+answered s SaveObj vs place = saveobj_turned s vs place
 answered s f vs place = told s f vs place
 
 -- what a call comes to

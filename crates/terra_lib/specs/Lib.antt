@@ -6,6 +6,8 @@ pub mod Symbols
 pub mod Types
 -- Lists.
 pub mod Lists
+-- Exports.
+pub mod Exports
 -- Fields of Terra values, and types made by operators.
 pub mod Fields
 -- The globals with which a source begins, behind those of Lua.

@@ -7,6 +7,7 @@ ghost use Rattle.terra_lib.specs.Keeping.{KeepsWorld};
 ghost use Rattle.terra_lib.specs.Calls.{called, backed, told};
 
 use crate::answers::{give_nothing, not_built};
+use crate::exports::save_object;
 use crate::fields::{array_type, field, function_type, pointer_type};
 use crate::lists::{insert, insert_all, map, map_back, new_list};
 use crate::symbols::{constant, make_macro, symbol};
@@ -19,7 +20,7 @@ use tl_base::{Budget, NoMemory, Place};
 
 /// Begins a call of a function of Terra's library, which pays for the texts of errors that it raises and for the values that it moves. No
 /// value is moved where the payment is larger than what is left. A function that is not of Terra's library gives no values; one that needs
-/// a check or a layout, and `saveobj`, raise that they aren't built.
+/// a check or a layout raises that it isn't built.
 pub fn call(world: &mut World, call: &LibCall, budget: &mut Budget) -> Result<LibTurn, NoMemory>
     ensures does { IfOk result (λ turn.
         turned turn (state world.new budget.new) ≡ called (state world.old budget.old) call.now) }
@@ -39,6 +40,7 @@ pub fn call(world: &mut World, call: &LibCall, budget: &mut Budget) -> Result<Li
         LibFn::NewStruct => new_struct(world, place),
         LibFn::Pointer => pointer(world, budget, args, place),
         LibFn::Array => array(world, budget, args, place),
+        LibFn::SaveObj => save_object(world, budget, args, place),
         function => tell(world, budget, function, args, place),
     }
 }
@@ -72,7 +74,6 @@ fn tell(
         LibFn::Global => not_built(world, budget, place),
         LibFn::SizeOf => not_built(world, budget, place),
         LibFn::OffsetOf => not_built(world, budget, place),
-        LibFn::SaveObj => not_built(world, budget, place),
         LibFn::Compile => not_built(world, budget, place),
         LibFn::GetType => not_built(world, budget, place),
         _ => Ok(give_nothing(&world.heap)),

@@ -1,9 +1,9 @@
 //! The functions of Terra's library that need no check and no layout: symbols, macros, constants, lists, types, what is asked of types and
-//! functions, the fields of Terra values, and the types that operators make. Those that need a check or a layout, and `saveobj`, raise
-//! that they aren't built.
+//! functions, exports, the fields of Terra values, and the types that operators make. Those that need a check or a layout raise that they
+//! aren't built.
 //!
 //! - `calls`: which function is called, and how one goes on that called a function;
-//! - `symbols`, `types`, `lists`, `fields`: what each one does;
+//! - `symbols`, `types`, `lists`, `exports`, `fields`: what each one does;
 //! - `globals`: the globals of Terra with which a source begins;
 //! - `answers`: what functions answer, and what they pay;
 //! - `laws`: what follows of what calls keep.
@@ -11,6 +11,7 @@
 
 pub mod answers;
 pub mod calls;
+pub mod exports;
 pub mod fields;
 pub mod globals;
 pub mod laws;
@@ -19,5 +20,6 @@ pub mod symbols;
 pub mod types;
 
 pub use calls::{back, call};
+pub use exports::end_of_chunk;
 pub use globals::opening;
 pub use laws::defined_terms_stay;
