@@ -14,29 +14,47 @@ mod words;
 
 use exotype::World;
 use std::alloc::Global;
+use std::io::Write;
 use terra_types::Types;
-use tl_base::NoMemory;
+use tl_base::{NoMemory, Text2};
 use words::word_at;
 
 /// The bytes of memory that a run has.
 const MEMORY: u64 = 1_048_576;
 
 fn main(rt: HostRuntime) -> anyhow::Result<()> {
-    let mut world = opened(rt.alloc())?;
-    answer_rows(&rt, &mut world)
+    let alloc = rt.alloc();
+    let mut rows: Vec<String> = Vec::new(alloc);
+    for line in rt.lines(alloc) {
+        rows.push(line?)?;
+    }
+    let out = answers(alloc, &rows)?;
+    rt.stdout().write_all(out.bytes())?;
+    Ok(())
 }
 
-/// Writes each row of standard input with what came of it.
-fn answer_rows(rt: &HostRuntime, world: &mut World) -> anyhow::Result<()> {
-    let alloc = rt.alloc();
-    for line in rt.lines(alloc) {
-        let line = line?;
-        let row = line.as_str();
-        let words: Vec<&str> = row.split_whitespace().collect(alloc)?;
-        let answer = answer(world, &words)?;
-        println!(rt; "{row} = {answer}")?;
+/// What comes of all rows, in one world after another.
+fn answers(alloc: Global, rows: &[String]) -> Result<Text2, NoMemory> {
+    let mut world = opened(alloc)?;
+    let mut out = Text2::new(alloc);
+    push_answers(&mut world, &mut out, rows)?;
+    Ok(out)
+}
+
+fn push_answers(world: &mut World, out: &mut Text2, rows: &[String]) -> Result<(), NoMemory> {
+    for row in rows {
+        push_answer(world, out, row.as_str())?;
     }
     Ok(())
+}
+
+/// Puts a row behind others, with what comes of it.
+fn push_answer(world: &mut World, out: &mut Text2, row: &str) -> Result<(), NoMemory> {
+    let alloc = world.heap.allocator();
+    let words: Vec<&str> = row.split_whitespace().collect(alloc)?;
+    let answer = answer(world, &words)?;
+    let line = format!(in alloc; "{row} = {answer}\n")?;
+    out.push_bytes(line.as_bytes())
 }
 
 /// The world with which a source begins.
