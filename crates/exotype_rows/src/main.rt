@@ -2,6 +2,8 @@
 //! and writes each row with what came out. `stdin` and `stdout` are written by `bench/exotype_rows`, by its own reading of the rules.
 #![tactic(auto)]
 
+ghost use Rattle.std.specs.Prelude.{◌≤◌, IfSome};
+
 mod becoming;
 mod keeping;
 mod values;
@@ -12,7 +14,7 @@ use std::alloc::Global;
 use std::io::Write;
 use terra_types::Types;
 use tl_base::{NoMemory, Text2};
-use words::{number_at, word_at};
+use words::word_at;
 
 /// The most bytes of memory that a run has.
 const MOST_MEMORY: u64 = 67_108_864;
@@ -23,62 +25,76 @@ fn main(rt: HostRuntime) -> anyhow::Result<()> {
     for line in rt.lines(alloc) {
         rows.push(line?)?;
     }
-    let out = answers(alloc, &rows)?;
+    let mut out = Text2::new(alloc);
+    for place in 0..rows.len() {
+        push_world(alloc, &mut out, &rows[place..])?;
+    }
     rt.stdout().write_all(out.bytes())?;
     Ok(())
 }
 
-/// What comes of all rows, in one world after another.
-fn answers(alloc: Global, rows: &[String]) -> Result<Text2, NoMemory> {
-    let mut world = World::new(alloc, Types::new(alloc)?, MOST_MEMORY);
-    let mut out = Text2::new(alloc);
-    push_answers(&mut world, &mut out, rows)?;
-    Ok(out)
+/// Puts the first row behind others, and those of the world that it begins, with what comes of each; nothing where it begins none.
+fn push_world(alloc: Global, out: &mut Text2, rows: &[String]) -> Result<(), NoMemory> {
+    match memory_of(rows) {
+        Some(memory) => push_world_of(alloc, out, rows, memory),
+        None => Ok(()),
+    }
 }
 
-fn push_answers(world: &mut World, out: &mut Text2, rows: &[String]) -> Result<(), NoMemory> {
-    for row in rows {
-        push_answer(world, out, row.as_str())?;
+/// The bytes of memory of the world that the first row begins.
+fn memory_of(rows: &[String]) -> Option<u64>
+    ensures { IfSome result (λ memory. memory ≤ 67108864) }
+{
+    let memory = rows.first()?.as_str().strip_prefix("memory ")?;
+    let memory = memory.parse::<u64>().unwrap_or(0);
+    if memory < MOST_MEMORY {
+        Some(memory)
+    } else {
+        Some(MOST_MEMORY)
+    }
+}
+
+fn push_world_of(
+    alloc: Global,
+    out: &mut Text2,
+    rows: &[String],
+    memory: u64,
+) -> Result<(), NoMemory>
+    requires { memory ≤ 67108864 }
+{
+    let mut world = World::new(alloc, Types::new(alloc)?, memory);
+    push_rows(&mut world, out, rows)
+}
+
+/// Puts the rows of one world behind others.
+fn push_rows(world: &mut World, out: &mut Text2, rows: &[String]) -> Result<(), NoMemory> {
+    for place in 0..rows.len() {
+        let row = rows[place].as_str();
+        if place > 0 && row.starts_with("memory ") {
+            return Ok(());
+        }
+        push_row(world, out, row)?;
     }
     Ok(())
 }
 
 /// Puts a row behind others, with what comes of it.
-fn push_answer(world: &mut World, out: &mut Text2, row: &str) -> Result<(), NoMemory> {
-    let alloc = world.heap.allocator();
-    let words: Vec<&str> = row.split_whitespace().collect(alloc)?;
+fn push_row(world: &mut World, out: &mut Text2, row: &str) -> Result<(), NoMemory> {
+    let words: Vec<&str> = row.split_whitespace().collect(world.heap.allocator())?;
     let answer = answer(world, &words)?;
-    let line = format!(in alloc; "{row} = {answer}\n")?;
-    out.push_bytes(line.as_bytes())
+    push_line(out, row, answer.as_str())
 }
 
-/// A new world, whose program has so many bytes of memory.
-fn new_world(alloc: Global, words: &[&str]) -> Result<World, NoMemory> {
-    let memory = number_at(words, 1);
-    let memory = if memory < MOST_MEMORY {
-        memory
-    } else {
-        MOST_MEMORY
-    };
-    Ok(World::new(alloc, Types::new(alloc)?, memory))
-}
-
-/// Begins anew.
-fn renew(world: &mut World, words: &[&str]) -> Result<String, NoMemory> {
-    let alloc = world.heap.allocator();
-    *world = new_world(alloc, words)?;
-    Ok(String::from_str(alloc, "done")?)
+fn push_line(out: &mut Text2, row: &str, answer: &str) -> Result<(), NoMemory> {
+    out.push_bytes(row.as_bytes())?;
+    out.push_bytes(b" = ")?;
+    out.push_bytes(answer.as_bytes())?;
+    out.push_bytes(b"\n")
 }
 
 /// What comes of a row.
 fn answer(world: &mut World, words: &[&str]) -> Result<String, NoMemory> {
-    match word_at(words, 0) {
-        "memory" => renew(world, words),
-        word => answer_of(world, word, words),
-    }
-}
-
-fn answer_of(world: &mut World, word: &str, words: &[&str]) -> Result<String, NoMemory> {
+    let word = word_at(words, 0);
     match becoming::row(world, word, words)? {
         Some(answer) => Ok(answer),
         None => answer_of_types(world, word, words),

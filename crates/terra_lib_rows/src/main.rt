@@ -28,46 +28,64 @@ fn main(rt: HostRuntime) -> anyhow::Result<()> {
     for line in rt.lines(alloc) {
         rows.push(line?)?;
     }
-    let out = answers(alloc, &rows)?;
+    let mut out = Text2::new(alloc);
+    for place in 0..rows.len() {
+        push_world(alloc, &mut out, &rows[place..])?;
+    }
     rt.stdout().write_all(out.bytes())?;
     Ok(())
 }
 
-/// What comes of all rows, in one world after another.
-fn answers(alloc: Global, rows: &[String]) -> Result<Text2, NoMemory> {
-    let mut world = opened(alloc)?;
-    let mut out = Text2::new(alloc);
-    push_answers(&mut world, &mut out, rows)?;
-    Ok(out)
+/// Puts the first row behind others, and those of the world that it begins, with what comes of each; nothing where it begins none.
+fn push_world(alloc: Global, out: &mut Text2, rows: &[String]) -> Result<(), NoMemory> {
+    match rows.first() {
+        Some(first) => {
+            if first.as_str() == "world" {
+                push_world_of(alloc, out, rows)
+            } else {
+                Ok(())
+            }
+        }
+        None => Ok(()),
+    }
 }
 
-fn push_answers(world: &mut World, out: &mut Text2, rows: &[String]) -> Result<(), NoMemory> {
-    for row in rows {
-        push_answer(world, out, row.as_str())?;
+fn push_world_of(alloc: Global, out: &mut Text2, rows: &[String]) -> Result<(), NoMemory> {
+    let heap = terra_lib::opening(alloc)?;
+    let types = Types::new(alloc)?;
+    let mut world = World::new(alloc, types, MEMORY);
+    world.heap = heap;
+    push_rows(&mut world, out, rows)
+}
+
+/// Puts the rows of one world behind others.
+fn push_rows(world: &mut World, out: &mut Text2, rows: &[String]) -> Result<(), NoMemory> {
+    for place in 0..rows.len() {
+        let row = rows[place].as_str();
+        if place > 0 && row == "world" {
+            return Ok(());
+        }
+        push_row(world, out, row)?;
     }
     Ok(())
 }
 
 /// Puts a row behind others, with what comes of it.
-fn push_answer(world: &mut World, out: &mut Text2, row: &str) -> Result<(), NoMemory> {
-    let alloc = world.heap.allocator();
-    let words: Vec<&str> = row.split_whitespace().collect(alloc)?;
+fn push_row(world: &mut World, out: &mut Text2, row: &str) -> Result<(), NoMemory> {
+    let words: Vec<&str> = row.split_whitespace().collect(world.heap.allocator())?;
     let answer = answer(world, &words)?;
-    let line = format!(in alloc; "{row} = {answer}\n")?;
-    out.push_bytes(line.as_bytes())
+    push_line(out, row, answer.as_str())
 }
 
-/// The world with which a source begins.
-fn opened(alloc: Global) -> Result<World, NoMemory> {
-    let mut world = World::new(alloc, Types::new(alloc)?, MEMORY);
-    world.heap = terra_lib::opening(alloc)?;
-    Ok(world)
+fn push_line(out: &mut Text2, row: &str, answer: &str) -> Result<(), NoMemory> {
+    out.push_bytes(row.as_bytes())?;
+    out.push_bytes(b" = ")?;
+    out.push_bytes(answer.as_bytes())?;
+    out.push_bytes(b"\n")
 }
 
-/// Begins anew.
-fn renew(world: &mut World) -> Result<String, NoMemory> {
-    let alloc = world.heap.allocator();
-    *world = opened(alloc)?;
+/// A new world is there.
+fn begins(alloc: Global) -> Result<String, NoMemory> {
     Ok(String::from_str(alloc, "done")?)
 }
 
@@ -78,7 +96,7 @@ fn answer(world: &mut World, words: &[&str]) -> Result<String, NoMemory> {
         "set" => tables::put(world, words),
         "metatable" => tables::metatable(world, words),
         "table" => tables::new(world),
-        "world" => renew(world),
+        "world" => begins(world.heap.allocator()),
         _ => answer_of_functions(world, words),
     }
 }
