@@ -1,0 +1,5 @@
+pub mod Keeping
+pub mod Showing
+pub mod Outcomes
+pub mod Writing
+pub mod Terms
