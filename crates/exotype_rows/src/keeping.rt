@@ -13,6 +13,7 @@ use tl_base::{FnId, NoMemory, Place, TableId, Text, TextId, TypeId};
 pub fn row(world: &mut World, word: &str, words: &[&str]) -> Result<Option<String>, NoMemory> {
     let alloc = world.heap.allocator();
     match word {
+        "memory" => some(begins(alloc)),
         "known" => some(known_text(alloc, world.kept.known(property_at(words, 1)))),
         "begin" => some(begun(world, property_at(words, 1))),
         "settle" => some(settled(world, property_at(words, 2), word_at(words, 1))),
@@ -21,6 +22,11 @@ pub fn row(world: &mut World, word: &str, words: &[&str]) -> Result<Option<Strin
         "exports" => some(exports(world)),
         _ => types(world, word, words),
     }
+}
+
+/// A new world is there.
+fn begins(alloc: Global) -> Result<String, NoMemory> {
+    Ok(String::from_str(alloc, "done")?)
 }
 
 fn saved(world: &mut World) -> Result<String, NoMemory> {
@@ -66,19 +72,22 @@ fn begun(world: &mut World, property: Property) -> Result<String, NoMemory> {
 /// Keeps what asking gave, where it was begun.
 fn settled(world: &mut World, property: Property, word: &str) -> Result<String, NoMemory> {
     let alloc = world.heap.allocator();
-    let known = match word {
+    match world.kept.known(property) {
+        Known::Asked => {
+            world.kept.settle(property, known_named(word));
+            Ok(String::from_str(alloc, "settled")?)
+        }
+        _ => Ok(String::from_str(alloc, "no")?),
+    }
+}
+
+fn known_named(word: &str) -> Known {
+    match word {
         "table" => Known::Value(Value::Table(TableId(1))),
         "nil" => Known::Value(Value::Nil),
         "incomplete" => Known::Refused(RefusalKind::Incomplete),
         "bad" => Known::Refused(RefusalKind::BadEntries),
         _ => Known::Unasked,
-    };
-    match world.kept.known(property) {
-        Known::Asked => {
-            world.kept.settle(property, known);
-            Ok(String::from_str(alloc, "settled")?)
-        }
-        _ => Ok(String::from_str(alloc, "no")?),
     }
 }
 

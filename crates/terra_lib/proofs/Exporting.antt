@@ -1,6 +1,9 @@
 -- What the exports of a table's entries keep, and how a walk over the entries goes on.
-use Rattle.std.proofs.Common.{ℕ, zero, suc, ◌+◌, ◌≡◌, Bool, true, false, List, [], ◌∷◌, drop, Option, Some, None, slice_get, if◌then◌else◌}
+use Rattle.std.proofs.Common.{ℕ, zero, suc, ◌+◌, ◌≤◌, ◌≡◌, length, Bool, true, false, List, [], ◌∷◌, drop, Option, Some, None, slice_get, if◌then◌else◌}
 use Rattle.std.proofs.Common.{refl, sym, ◌∙◌, ap, subst, arith}
+use Rattle.std.specs.Prelude.{Result, OnOk}
+use Rattle.std.proofs.lemmas.List.{drop_all}
+use Rattle.std.proofs.lemmas.Result.{on_ok_weaker}
 use Rattle.lua_value.specs.declared.value.Value.{Value}
 use Rattle.lua_table.specs.Pairs.{Pairs}
 use Rattle.lua_table.proofs.Keeping as heaps
@@ -26,6 +29,25 @@ step w at_end ps i =
     let next : suc i ≡ i + 1 = omega arith in
     step_by w at_end ps i
     ∙ ap (λ n. and_then (saved_at w at_end (slice_get ps i)) (λ next. saved next at_end (drop n ps))) next
+
+-- it goes on behind an entry that isn't refused, stops at one that is, and ends behind the last one
+pub goes_on : (w v : StageState) (at_end : Bool) (ps now : Pairs) (i : ℕ) (whole : Saved) → saved w at_end (drop i ps) ≡ whole → now ≡ ps
+    → record { world = v; refused = false } ≡ saved_at w at_end (slice_get now i) → saved v at_end (drop (i + 1) ps) ≡ whole
+goes_on w v at_end ps now i whole at same here =
+    let go : StageState → Saved = λ (next : StageState). saved next at_end (drop (i + 1) ps) in
+    ap (λ (s : Saved). and_then s go) here ∙ ap (λ (qs : Pairs). and_then (saved_at w at_end (slice_get qs i)) go) same
+    ∙ sym (step w at_end ps i) ∙ at
+
+pub stops : (w v : StageState) (at_end : Bool) (ps now : Pairs) (i : ℕ) (whole : Saved) → saved w at_end (drop i ps) ≡ whole → now ≡ ps
+    → record { world = v; refused = true } ≡ saved_at w at_end (slice_get now i) → record { world = v; refused = true } ≡ whole
+stops w v at_end ps now i whole at same here =
+    let go : StageState → Saved = λ (next : StageState). saved next at_end (drop (i + 1) ps) in
+    ap (λ (s : Saved). and_then s go) here ∙ ap (λ (qs : Pairs). and_then (saved_at w at_end (slice_get qs i)) go) same
+    ∙ sym (step w at_end ps i) ∙ at
+
+pub ends : (w : StageState) (at_end : Bool) (ps : Pairs) (i : ℕ) (whole : Saved) → saved w at_end (drop i ps) ≡ whole → length ps ≤ i
+    → saves w ≡ whole
+ends w at_end ps i whole at past = ap (λ (qs : Pairs). saved w at_end qs) (sym (drop_all i ps past)) ∙ at
 
 -- ---- what stays
 
@@ -100,3 +122,13 @@ keeps_marked w new k = keeps_behind w (marked w) new (exporting_marked w) k
 pub keeps_saved : (w new : StageState) (at_end : Bool) (ps : Pairs) → KeepsWorld (saved (marked w) at_end ps).world new → KeepsWorld w new
 keeps_saved w new at_end ps k =
     keeps_marked w new (keeps_behind (marked w) (saved (marked w) at_end ps).world new (exporting_saved (marked w) at_end ps) k)
+
+-- a world that is left after exports, as calls leave it
+pub kept_saved : {T E : Type 0} (r : Result T E) (w v made after new : StageState) (refused at_end : Bool) (ps : Pairs) → v ≡ w
+    → made ≡ marked v → record { world = after; refused = refused } ≡ saved made at_end ps → OnOk r (KeepsWorld after new)
+    → OnOk r (KeepsWorld w new)
+kept_saved r w v made after new refused at_end ps same mark saving kept =
+    let is : after ≡ (saved (marked v) at_end ps).world =
+    ap (λ (s : Saved). s.world) saving ∙ ap (λ (m : StageState). (saved m at_end ps).world) mark in
+    on_ok_weaker r (λ k. subst (λ (x : StageState). KeepsWorld x new) same
+    (keeps_saved v new at_end ps (subst (λ (x : StageState). KeepsWorld x new) is k))) kept

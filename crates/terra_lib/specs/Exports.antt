@@ -50,9 +50,16 @@ abbrev pub result_in : Option Term → Option TypeId
 result_in (Some (terms.Function params result body)) = result
 result_in _ = None
 
+abbrev pub all_scalar : List TypeForm → List Parameter → Bool
+all_scalar types [] = true
+all_scalar types (p ∷ ps) = is_scalar (slice_get types p.of.0) && all_scalar types ps
+
 -- at most eight parameters, all scalar
+abbrev pub are_scalars : List TypeForm → List Parameter → Bool
+are_scalars types ps = nat_le (length ps) 8 && all_scalar types ps
+
 abbrev pub takes_scalars : StageState → List Parameter → Bool
-takes_scalars w ps = nat_le (length ps) 8 && list_all (λ (p : Parameter). is_scalar (form_at w p.of)) ps
+takes_scalars w ps = are_scalars w.store.types ps
 
 abbrev pub is_unit : Option TypeForm → Bool
 is_unit (Some forms.Unit) = true

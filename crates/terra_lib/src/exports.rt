@@ -7,7 +7,7 @@ ghost use Rattle.tl_base.specs.Layer.{state};
 ghost use Rattle.lua_table.specs.Heap.{table_at, text_at};
 ghost use Rattle.terra_lib.specs.Answers.{turned};
 ghost use Rattle.terra_lib.specs.Exports.{saveobj_turned, ended, saved, saved_turned, saved_at, saved_entry, entry_fate, fate_of};
-ghost use Rattle.terra_lib.specs.Exports.{fate_of_function, is_free, is_name, is_used, may_be_exported, takes_scalars, gives_scalar};
+ghost use Rattle.terra_lib.specs.Exports.{fate_of_function, is_free, is_name, is_used, are_scalars, all_scalar, may_be_exported, takes_scalars, gives_scalar};
 ghost use Rattle.terra_lib.specs.Exports.{is_unit, is_text, parameters_in, result_in, term_of_function, with_exported};
 ghost use Rattle.terra_lib.specs.Keeping.{KeepsWorld};
 
@@ -112,12 +112,14 @@ fn end_saving(
 }
 
 /// Exports the entries of a table, up to the first that is refused. Whether one is.
+#[tactic(auto, using(crate::proofs::Exporting::goes_on, crate::proofs::Exporting::stops, crate::proofs::Exporting::ends))]
 fn save_entries(world: &mut World, table: TableId, at_end: bool) -> Result<bool, NoMemory>
     ensures { IfOk result (λ refused.
         record { world = world.new; refused = refused } ≡ saved world.old at_end (table_at world.old.heap table)) }
 {
     for place in 0..world.heap.entry_count(table) {
-        if save_at(world, table, place, at_end)? {
+        let refused = save_at(world, table, place, at_end)?;
+        if refused {
             return Ok(true);
         }
     }
@@ -125,12 +127,7 @@ fn save_entries(world: &mut World, table: TableId, at_end: bool) -> Result<bool,
 }
 
 /// Exports the entry of a table at a place, where it is to be exported. Whether it is refused.
-fn save_at(
-    world: &mut World,
-    table: TableId,
-    place: usize,
-    at_end: bool,
-) -> Result<bool, NoMemory>
+fn save_at(world: &mut World, table: TableId, place: usize, at_end: bool) -> Result<bool, NoMemory>
     ensures saved { IfOk result (λ refused. record { world = world.new; refused = refused }
         ≡ saved_at world.old at_end (slice_get (table_at world.old.heap table) place)) }
     ensures heap { OnOk result (world.new.heap ≡ world.old.heap) }
@@ -179,10 +176,12 @@ fn name_of(world: &World, key: TextId) -> Result<Text, NoMemory>
 fn entry_fate(world: &World, at_end: bool, key: Value, value: Value) -> Fate
     ensures { result ≡ entry_fate world.now at_end key value }
 {
-    if at_end && !may_be_exported(world, value) {
-        return Fate::LeftOut;
+    let may_be = may_be_exported(world, &value);
+    if at_end && !may_be {
+        Fate::LeftOut
+    } else {
+        fate_of(world, at_end, key, value)
     }
-    fate_of(world, at_end, key, value)
 }
 
 /// How an entry fares that isn't left out at the end of the chunk.
@@ -200,11 +199,11 @@ fn fate_of(world: &World, at_end: bool, key: Value, value: Value) -> Fate
 }
 
 /// Whether a value is a function that is defined, and has at most eight parameters, all scalar.
-fn may_be_exported(world: &World, value: Value) -> bool
-    ensures { result ≡ may_be_exported world.now value }
+fn may_be_exported(world: &World, value: &Value) -> bool
+    ensures { result ≡ may_be_exported world.now value.now }
 {
     match value {
-        Value::TerraFunction(f) => !is_undefined(world, f) && takes_scalars(world, f),
+        Value::TerraFunction(f) => !is_undefined(world, *f) && takes_scalars(world, *f),
         _ => false,
     }
 }
@@ -270,7 +269,17 @@ fn takes_scalars(world: &World, f: FnId) -> bool
 fn are_scalars(types: &Types, params: &[Parameter]) -> bool
     ensures { result ≡ are_scalars types.now params.now }
 {
-    params.len() <= MOST_PARAMETERS && params.iter().all(|param| is_scalar(types, param.of))
+    params.len() <= MOST_PARAMETERS && all_scalar(types, params)
+}
+
+/// Whether the types of all these parameters, which are at most eight, are scalar.
+fn all_scalar(types: &Types, params: &[Parameter]) -> bool
+    ensures { result ≡ all_scalar types.now params.now }
+{
+    match params {
+        [] => true,
+        [param, rest @ ..] => is_scalar(types, param.of) && all_scalar(types, rest),
+    }
 }
 
 /// Whether a function has a scalar result, or a unit one. A result that isn't written is found by a check, and there is none yet.

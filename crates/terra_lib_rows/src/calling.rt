@@ -83,7 +83,12 @@ fn answered(
 ) -> Result<LibTurn, NoMemory> {
     let raises = matches!(args.as_slice(), [Value::Boolean(false), ..]);
     if raises {
-        return back(world, next, Back::Raised(Value::Boolean(false), HERE), budget);
+        return back(
+            world,
+            next,
+            Back::Raised(Value::Boolean(false), HERE),
+            budget,
+        );
     }
     back(world, next, Back::Values(args), budget)
 }

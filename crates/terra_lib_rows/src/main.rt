@@ -14,42 +14,78 @@ mod words;
 
 use exotype::World;
 use std::alloc::Global;
+use std::io::Write;
 use terra_types::Types;
-use tl_base::NoMemory;
+use tl_base::{NoMemory, Text2};
 use words::word_at;
 
 /// The bytes of memory that a run has.
 const MEMORY: u64 = 1_048_576;
 
 fn main(rt: HostRuntime) -> anyhow::Result<()> {
-    let mut world = opened(rt.alloc())?;
-    answer_rows(&rt, &mut world)
+    let alloc = rt.alloc();
+    let mut rows: Vec<String> = Vec::new(alloc);
+    for line in rt.lines(alloc) {
+        rows.push(line?)?;
+    }
+    let mut out = Text2::new(alloc);
+    for place in 0..rows.len() {
+        push_world(alloc, &mut out, &rows[place..])?;
+    }
+    rt.stdout().write_all(out.bytes())?;
+    Ok(())
 }
 
-/// Writes each row of standard input with what came of it.
-fn answer_rows(rt: &HostRuntime, world: &mut World) -> anyhow::Result<()> {
-    let alloc = rt.alloc();
-    for line in rt.lines(alloc) {
-        let line = line?;
-        let row = line.as_str();
-        let words: Vec<&str> = row.split_whitespace().collect(alloc)?;
-        let answer = answer(world, &words)?;
-        println!(rt; "{row} = {answer}")?;
+/// Puts the first row behind others, and those of the world that it begins, with what comes of each; nothing where it begins none.
+fn push_world(alloc: Global, out: &mut Text2, rows: &[String]) -> Result<(), NoMemory> {
+    match rows.first() {
+        Some(first) => {
+            if first.as_str() == "world" {
+                push_world_of(alloc, out, rows)
+            } else {
+                Ok(())
+            }
+        }
+        None => Ok(()),
+    }
+}
+
+fn push_world_of(alloc: Global, out: &mut Text2, rows: &[String]) -> Result<(), NoMemory> {
+    let heap = terra_lib::opening(alloc)?;
+    let types = Types::new(alloc)?;
+    let mut world = World::new(alloc, types, MEMORY);
+    world.heap = heap;
+    push_rows(&mut world, out, rows)
+}
+
+/// Puts the rows of one world behind others.
+fn push_rows(world: &mut World, out: &mut Text2, rows: &[String]) -> Result<(), NoMemory> {
+    for place in 0..rows.len() {
+        let row = rows[place].as_str();
+        if place > 0 && row == "world" {
+            return Ok(());
+        }
+        push_row(world, out, row)?;
     }
     Ok(())
 }
 
-/// The world with which a source begins.
-fn opened(alloc: Global) -> Result<World, NoMemory> {
-    let mut world = World::new(alloc, Types::new(alloc)?, MEMORY);
-    world.heap = terra_lib::opening(alloc)?;
-    Ok(world)
+/// Puts a row behind others, with what comes of it.
+fn push_row(world: &mut World, out: &mut Text2, row: &str) -> Result<(), NoMemory> {
+    let words: Vec<&str> = row.split_whitespace().collect(world.heap.allocator())?;
+    let answer = answer(world, &words)?;
+    push_line(out, row, answer.as_str())
 }
 
-/// Begins anew.
-fn renew(world: &mut World) -> Result<String, NoMemory> {
-    let alloc = world.heap.allocator();
-    *world = opened(alloc)?;
+fn push_line(out: &mut Text2, row: &str, answer: &str) -> Result<(), NoMemory> {
+    out.push_bytes(row.as_bytes())?;
+    out.push_bytes(b" = ")?;
+    out.push_bytes(answer.as_bytes())?;
+    out.push_bytes(b"\n")
+}
+
+/// A new world is there.
+fn begins(alloc: Global) -> Result<String, NoMemory> {
     Ok(String::from_str(alloc, "done")?)
 }
 
@@ -60,7 +96,7 @@ fn answer(world: &mut World, words: &[&str]) -> Result<String, NoMemory> {
         "set" => tables::put(world, words),
         "metatable" => tables::metatable(world, words),
         "table" => tables::new(world),
-        "world" => renew(world),
+        "world" => begins(world.heap.allocator()),
         _ => answer_of_functions(world, words),
     }
 }

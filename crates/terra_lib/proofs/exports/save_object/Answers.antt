@@ -1,0 +1,13 @@
+use Rattle.std.proofs.Common.{false, ap}
+use Rattle.lua_table.specs.Heap.{table_at}
+use Rattle.exotype.specs.World.{ExportState}
+use Rattle.exotype.specs.contracts.world.World.{the_view}
+use Rattle.terra_lib.proofs.Exporting.{kept_saved}
+use Rattle.terra_lib.proofs.exports.save_object.Goals as goal
+
+pub returns-clause-kept : goal.returns-clause-kept
+returns-clause-kept c =
+    let v = the_view c.world.inside in
+    kept_saved c.end_saving.result c.args.world.now v (record v { exports = c.save.new.self }) c.save_entries.new.world
+    c.end_saving.new.world c.in_ok-refused.refused false (table_at v.heap c.in-Some.table) c.world.view_is
+    (ap (λ (e : ExportState). record v { exports = e }) c.save.ensures) c.in_ok-refused.ensures c.end_saving.ensures.kept
