@@ -1,8 +1,9 @@
 // What comes of a row.
 
 use crate::rows::Row;
+use stage_text::terms_text;
 use std::alloc::Global;
-use terra_stage::{End, Outcome, stage, terms_text};
+use terra_stage::{End, Outcome, stage};
 use tl_base::{NoMemory, Text2};
 use tl_parse::{SyntaxError, parse};
 

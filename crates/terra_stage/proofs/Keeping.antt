@@ -52,9 +52,14 @@ types_stay : (types : List TypeForm) → KeepsTypes types types
 types_stay types i form at = (form, (at, form_stays form))
 
 types_front : (old new : List TypeForm) → IsFront old new → KeepsTypes old new
-types_front old new front i form at =
-    (form, (ap (λ (l : List TypeForm). slice_get l i) front.1
-    ∙ get-left old front.0 i (slice_get_within old i form at) ∙ at, form_stays form))
+types_front old new front i form at = (
+  form,
+  (
+    ap (λ (l : List TypeForm). slice_get l i) front.1
+        ∙ get-left old front.0 i (slice_get_within old i form at) ∙ at,
+    form_stays form,
+  ),
+)
 
 types_then : (a b c : List TypeForm) → KeepsTypes a b → KeepsTypes b c → KeepsTypes a c
 types_then a b c f g i form at =

@@ -1,5 +1,3 @@
 pub mod Keeping
 pub mod Showing
 pub mod Outcomes
-pub mod Writing
-pub mod Terms

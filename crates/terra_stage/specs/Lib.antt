@@ -1,7 +1,5 @@
 -- The promise: the outcome of a source's staging.
 pub mod Staging
--- The text that `terms` writes of an outcome.
-pub mod Terms
 -- The layers as one stage.
 pub mod Layers
 -- Calls of functions of the library.

@@ -51,12 +51,7 @@ pub fn larger_changes_nothing()
 
 /// Stages a source with so many units, for a program with so many bytes of memory: its chunk is evaluated over the opening globals, and
 /// where it ends without an error and the program exported nothing, the global functions that may be exported are.
-pub fn stage(
-    alloc: Global,
-    tree: &Tree<'_>,
-    units: u64,
-    memory: u64,
-) -> Result<Outcome, NoMemory>
+pub fn stage(alloc: Global, tree: &Tree<'_>, units: u64, memory: u64) -> Result<Outcome, NoMemory>
     requires { memory ≤ 67108864 }
     ensures means { IfOk result (λ it. (n : ℕ)
         × (outcome (items_of tree.now) (finish_of tree.now) n units memory ≡ Some (ending it.end (state it.world it.left)))) }

@@ -1,7 +1,7 @@
 // The text that `terms` writes.
 
 ghost use Rattle.std.specs.Prelude.{◌≡◌, ◌++◌, [], IfOk, OnOk};
-ghost use Rattle.terra_stage.specs.Terms.{export_line, is_exported, term_line, term_lines, terms_text};
+ghost use Rattle.stage_text.specs.Terms.{export_line, is_exported, term_line, term_lines, terms_text};
 
 use std::alloc::Global;
 use terra_term::{Export, Store, term_text};
@@ -41,12 +41,7 @@ fn push_terms(store: &Store, out: &mut Text2, exports: &[Export]) -> Result<(), 
 }
 
 /// Writes the term of a function, but where it was exported before.
-fn push_term(
-    store: &Store,
-    out: &mut Text2,
-    before: &[Export],
-    f: FnId,
-) -> Result<(), NoMemory>
+fn push_term(store: &Store, out: &mut Text2, before: &[Export], f: FnId) -> Result<(), NoMemory>
     ensures { OnOk result (out.new ≡ out.old ++ term_line store.now before.now f) }
 {
     if is_exported(before, f) {

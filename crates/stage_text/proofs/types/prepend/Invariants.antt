@@ -1,5 +1,5 @@
 use Rattle.std.proofs.Common.{◌≡◌, ◌++◌, vec_len}
-use Rattle.terra_stage.proofs.writing.prepend.Given as goal
+use Rattle.stage_text.proofs.types.prepend.Given as goal
 
 abbrev pub invariant-loop-part : goal.invariant-loop-part
 invariant-loop-part l = l.left.items ++ l.work.items ≡ l.fn.parts.items ++ l.initial.work.items

@@ -7,9 +7,9 @@ use Rattle.terra_types.specs.declared.types.TypeForm.{TypeForm}
 use Rattle.terra_types.specs.declared.types.TypeForm.TheVariants as forms
 use Rattle.terra_term.specs.TermText.{type_text, type_texts, type_made, integer_text, made, all_made, behind_commas, between_commas}
 use Rattle.terra_term.proofs.Trees.{type-text-at, get-take, get-past}
-use Rattle.terra_stage.specs.Types.{part_text, text_in, type_parts, listed_types, comma_types}
-use Rattle.terra_stage.specs.declared.writing.Part.{Part}
-use Rattle.terra_stage.specs.declared.writing.Part.TheVariants as parts
+use Rattle.stage_text.specs.Types.{part_text, text_in, type_parts, listed_types, comma_types}
+use Rattle.stage_text.specs.declared.types.Part.{Part}
+use Rattle.stage_text.specs.declared.types.Part.TheVariants as parts
 
 pub text_append : (types : List TypeForm) (ps qs : List Part) → text_in types (ps ++ qs) ≡ text_in types ps ++ text_in types qs
 text_append types [] qs = refl
@@ -68,3 +68,20 @@ pub types_step : (below : ℕ) (front : List Part) (ts : List TypeId) (i : ℕ) 
     → ((front ++ parts.Comma ∷ []) ++ parts.OfType (get_or ts i d) below ∷ []) ++ comma_types below (drop (i + 1) ts)
     ≡ front ++ comma_types below (drop i ts)
 types_step below front ts i d h = rw (add-one, drop-cons ts i d) (simp append_assoc)
+
+-- no parts are written of a type that isn't there
+pub none_text : (types : List TypeForm) (t : TypeId) (work : List Part) → None ≡ slice_get types t.0
+    → text_in types work ≡ type_text types t ++ text_in types work
+none_text types t work there = ap (λ (bs : List ℕ). bs ++ text_in types work) (sym (absent_text types t there))
+
+-- a type in place of which its parts stand
+pub put_step : (types : List TypeForm) (out text part : List ℕ) (new work : List Part)
+    → text_in types new ≡ text ++ text_in types work → text ≡ part
+    → out ++ text_in types new ≡ (out ++ part) ++ text_in types work
+put_step types out text part new work put same =
+    rw (put, same) (sym (append_assoc out part (text_in types work)))
+
+-- and one that isn't among those before a number
+pub past_step : (types : List TypeForm) (out : List ℕ) (part : Part) (work : List Part) → part_text types part ≡ []
+    → out ++ text_in types work ≡ (out ++ part_text types part) ++ text_in types work
+past_step types out part work none = rw (none, append-nil out) refl

@@ -1,6 +1,6 @@
 use Rattle.std.proofs.Common.{◌≡◌, ◌++◌, [], drop, take}
-use Rattle.terra_stage.specs.Terms.{term_lines}
-use Rattle.terra_stage.proofs.terms.push_terms.Given as goal
+use Rattle.stage_text.specs.Terms.{term_lines}
+use Rattle.stage_text.proofs.terms.push_terms.Given as goal
 
 abbrev pub invariant-loop-place : goal.invariant-loop-place
 invariant-loop-place l =

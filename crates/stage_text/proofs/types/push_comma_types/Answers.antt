@@ -1,6 +1,6 @@
 use Rattle.std.proofs.Common.{◌<◌, ◌∙◌, length, arith}
-use Rattle.terra_stage.proofs.Writing.{types_step}
-use Rattle.terra_stage.proofs.writing.push_comma_types.Goals as goal
+use Rattle.stage_text.proofs.Writing.{types_step}
+use Rattle.stage_text.proofs.types.push_comma_types.Goals as goal
 
 pub loop-of-preserved : goal.loop-of-preserved
 loop-of-preserved c =
