@@ -3,7 +3,7 @@ use Rattle.std.proofs.Common.{◌≡◌, ℕ, suc, ◌+◌, ◌<◌, List, [], �
 use Rattle.std.proofs.Math.Seq.{drop-cons, take-suc}
 use Rattle.terra_term.specs.declared.store.Export.{Export}
 use Rattle.terra_term.specs.Held.{Held}
-use Rattle.stage_text.specs.Terms.{export_line, export_lines, term_line, term_lines}
+use Rattle.stage_text.specs.Terms.{term_line, term_lines}
 
 -- a function's line, and those behind it
 pub lines_step : (store : Held) (es : List Export) (i : ℕ) (d : Export) → i < length es
@@ -22,8 +22,3 @@ lines_on store es i d front h =
     rw (lines_step store es i d h)
     (append_assoc front (term_line store (take i es) (get_or es i d).function)
     (term_lines store (take (i + 1) es) (drop (i + 1) es)))
-
--- the line of an export is written
-pub export_on : (es : List Export) (i : ℕ) (d : Export) (front : List ℕ) → i < length es
-    → (front ++ export_line (get_or es i d)) ++ export_lines (drop (i + 1) es) ≡ front ++ export_lines (drop i es)
-export_on es i d front h = rw (add-one, drop-cons es i d) (simp append_assoc)
