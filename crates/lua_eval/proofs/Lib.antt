@@ -16,6 +16,9 @@ pub mod Making
 pub mod Named
 pub mod Numbering
 pub mod Operands
+pub mod Over
 pub mod Targeting
 pub mod Reading
+pub mod Running
+pub mod Taking
 pub mod Turning

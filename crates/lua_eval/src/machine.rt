@@ -24,6 +24,7 @@ use crate::frame::{AllFrame, LuaFrame, OneFrame, TurnFrame, ValueFrame};
 use crate::lists::{list, with_list};
 use crate::loops::{listed, next_turn, turn, with_loop};
 use crate::raise::LuaStep;
+use crate::running::proceed;
 use crate::statements::{block, statement, target, with_statement};
 use crate::tables::{store_values, with_field};
 use crate::values::{append, one, split_values};
@@ -297,21 +298,27 @@ fn after_turn<'a>(
 #[tactic(auto, using(tl_base::proofs::Steps::pushes))]
 /// Goes on with a block, of which a statement ended so.
 fn after_statement<'a>(
+    tree: &'a Tree<'a>,
+    slots: &Slots,
     frames: &mut Vec<LuaFrame<'a>>,
+    heap: &mut Heap,
+    budget: &mut Budget,
     rest: &'a [NodeId],
     scope: Scope,
     before: Values,
     end: End,
 ) -> Result<LuaStep, NoMemory>
-    ensures means { IfOk result (λ step. (items : Items) (s : LuaState) (left : ℕ) →
-        Goes items frames.old.items (on_fell end before Give (λ all. statements rest.now scope all Give)) s left
-        frames.new.items step s left) }
+    requires { ArePaths (items_of tree.now) slots.now }
+    ensures means { IfOk result (λ step.
+        Goes (items_of tree.now) frames.old.items (on_fell end before Give (λ all. statements rest.now scope all Give))
+        heap.old budget.old frames.new.items step heap.new budget.new) }
+    ensures kept { OnOk result (KeepsHeap heap.old heap.new) }
 {
     let mut out = before;
     match end {
         End::Fell(more) => {
             append(&mut out, more.as_slice())?;
-            let step = statements(frames, rest, scope, out)?;
+            let step = proceed(tree, slots, frames, heap, budget, rest, scope, out)?;
             Ok(step)
         }
         End::Broke(more) => {
@@ -324,7 +331,7 @@ fn after_statement<'a>(
         }
         End::Raised(value, place) => Ok(Step::Return(End::Raised(value, place))),
         _ => {
-            let step = statements(frames, rest, scope, out)?;
+            let step = proceed(tree, slots, frames, heap, budget, rest, scope, out)?;
             Ok(step)
         }
     }
@@ -484,7 +491,9 @@ impl<'a> Machine for Steps<'a> {
                 Ok(step)
             }
             Job::Turn(id, scope, kind, out) => {
-                let step = turn(self.tree, frames, heap, id, scope, kind, out)?;
+                let step = turn(
+                    self.tree, self.slots, frames, heap, budget, id, scope, kind, out,
+                )?;
                 Ok(step)
             }
             Job::Callback(closure, args, place) => {
@@ -533,7 +542,9 @@ impl<'a> Machine for Steps<'a> {
                 Ok(step)
             }
             LuaFrame::Block(rest, scope, out) => {
-                let step = after_statement(frames, rest, scope, out, end)?;
+                let step = after_statement(
+                    self.tree, self.slots, frames, heap, budget, rest, scope, out, end,
+                )?;
                 Ok(step)
             }
         }

@@ -7,7 +7,7 @@ returns-in_ok-step-in-Target-clause-means c =
 
 pub returns-in_ok-step-in-Turn-clause-means : goal.returns-in_ok-step-in-Turn-clause-means
 returns-in_ok-step-in-Turn-clause-means c =
-    rw c.in-Turn.is (c.in_ok-step-in-Turn.ensures.means c.args.budget.now)
+    rw c.in-Turn.is c.in_ok-step-in-Turn.ensures.means
 
 pub returns-in_ok-step-in-Read-clause-means : goal.returns-in_ok-step-in-Read-clause-means
 returns-in_ok-step-in-Read-clause-means c =

@@ -1,4 +1,3 @@
-use Rattle.tl_tree.specs.Arena.{items_of}
 use Rattle.lua_table.specs.Heap.{shallower}
 use Rattle.lua_table.proofs.Keeping.{keeps_shallower}
 use Rattle.lua_eval.proofs.Keeping.{kept_as}
@@ -6,7 +5,7 @@ use Rattle.lua_eval.proofs.machine.StepsMachine.go_on.Goals as goal
 
 pub returns-in_ok-step-in-Block-clause-means : goal.returns-in_ok-step-in-Block-clause-means
 returns-in_ok-step-in-Block-clause-means c =
-    rw c.in-Block.is (c.in_ok-step-in-Block.ensures.means (items_of c.args.self.now.tree.now) c.args.heap.now c.args.budget.now)
+    rw c.in-Block.is c.in_ok-step-in-Block.ensures.means
 
 pub returns-in-Library-clause-kept : goal.returns-in-Library-clause-kept
 returns-in-Library-clause-kept c =
