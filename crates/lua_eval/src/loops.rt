@@ -414,10 +414,9 @@ pub fn turn<'a>(
 {
     match tree.node(node) {
         Node::Statement(place, statement) => {
-            let step = turn_of(
+            turn_of(
                 tree, slots, frames, heap, budget, statement, node, *place, scope, turn, out,
-            )?;
-            Ok(step)
+            )
         }
         _ => Ok(Step::Return(End::Fell(out))),
     }
@@ -446,29 +445,25 @@ fn turn_of<'a>(
 {
     match turn {
         Loop::While => {
-            let step = while_turn(
+            while_turn(
                 tree, slots, frames, heap, budget, statement, node, scope, out,
-            )?;
-            Ok(step)
+            )
         }
         Loop::Repeat => {
-            let step = repeat_turn(
+            repeat_turn(
                 tree, slots, frames, heap, budget, statement, node, scope, out,
-            )?;
-            Ok(step)
+            )
         }
         Loop::Counted(at, limit, by) => {
-            let step = numeric_turn(
+            numeric_turn(
                 tree, slots, frames, heap, budget, statement, node, scope, at, limit, by, out,
-            )?;
-            Ok(step)
+            )
         }
         Loop::Listed(env, function, state, control) => {
-            let step = generic_turn(
+            generic_turn(
                 tree, slots, frames, heap, budget, statement, node, place, scope, env, function,
                 state, control, out,
-            )?;
-            Ok(step)
+            )
         }
     }
 }
@@ -501,7 +496,7 @@ fn generic_turn<'a>(
         Statement::GenericFor(names, _, block) => {
             let next = TurnFrame::Listed(names.as_slice(), place, function, state, control);
             frames.push(LuaFrame::Turn(node, scope, next))?;
-            let begun = turn_block(
+            turn_block(
                 tree,
                 slots,
                 frames,
@@ -510,8 +505,7 @@ fn generic_turn<'a>(
                 *block,
                 within(scope, env),
                 out,
-            )?;
-            Ok(begun)
+            )
         }
         _ => Ok(Step::Return(End::Fell(out))),
     }
@@ -540,7 +534,7 @@ fn while_turn<'a>(
         Statement::While(condition, block) => {
             let env = heap.new_env(*block, Some(scope.env))?;
             frames.push(LuaFrame::Turn(node, scope, TurnFrame::While(*condition)))?;
-            let begun = turn_block(
+            turn_block(
                 tree,
                 slots,
                 frames,
@@ -549,8 +543,7 @@ fn while_turn<'a>(
                 *block,
                 within(scope, env),
                 out,
-            )?;
-            Ok(begun)
+            )
         }
         _ => Ok(Step::Return(End::Fell(out))),
     }
@@ -580,8 +573,7 @@ fn repeat_turn<'a>(
             let env = heap.new_env(node, Some(scope.env))?;
             let inner = within(scope, env);
             frames.push(LuaFrame::Turn(node, scope, TurnFrame::Repeat(*condition, inner)))?;
-            let begun = turn_block(tree, slots, frames, heap, budget, *block, inner, out)?;
-            Ok(begun)
+            turn_block(tree, slots, frames, heap, budget, *block, inner, out)
         }
         _ => Ok(Step::Return(End::Fell(out))),
     }
@@ -614,7 +606,7 @@ fn numeric_turn<'a>(
             let env = heap.new_env(node, Some(scope.env))?;
             declare(heap, env, Value::Number(at))?;
             frames.push(LuaFrame::Turn(node, scope, TurnFrame::Counted(at, limit, by)))?;
-            let begun = turn_block(
+            turn_block(
                 tree,
                 slots,
                 frames,
@@ -623,8 +615,7 @@ fn numeric_turn<'a>(
                 *block,
                 within(scope, env),
                 out,
-            )?;
-            Ok(begun)
+            )
         }
         _ => Ok(Step::Return(End::Fell(out))),
     }
@@ -649,6 +640,5 @@ fn turn_block<'a>(
     ensures kept { OnOk result (KeepsHeap heap.old heap.new) }
 {
     let list = block_statements(tree, block);
-    let step = proceed(tree, slots, frames, heap, budget, list, inner, out)?;
-    Ok(step)
+    proceed(tree, slots, frames, heap, budget, list, inner, out)
 }

@@ -318,8 +318,7 @@ fn after_statement<'a>(
     match end {
         End::Fell(more) => {
             append(&mut out, more.as_slice())?;
-            let step = proceed(tree, slots, frames, heap, budget, rest, scope, out)?;
-            Ok(step)
+            proceed(tree, slots, frames, heap, budget, rest, scope, out)
         }
         End::Broke(more) => {
             append(&mut out, more.as_slice())?;
@@ -330,10 +329,7 @@ fn after_statement<'a>(
             Ok(Step::Return(End::Returned(values, out)))
         }
         End::Raised(value, place) => Ok(Step::Return(End::Raised(value, place))),
-        _ => {
-            let step = proceed(tree, slots, frames, heap, budget, rest, scope, out)?;
-            Ok(step)
-        }
+        _ => { proceed(tree, slots, frames, heap, budget, rest, scope, out) }
     }
 }
 
@@ -479,34 +475,25 @@ impl<'a> Machine for Steps<'a> {
     ) -> Result<LuaStep, NoMemory> {
         match job {
             Job::Expression(id, scope) => {
-                let step = node(self.tree, self.slots, frames, heap, budget, id, scope)?;
-                Ok(step)
+                node(self.tree, self.slots, frames, heap, budget, id, scope)
             }
             Job::Statement(id, scope) => {
-                let step = statement(self.tree, self.slots, frames, heap, budget, id, scope)?;
-                Ok(step)
+                statement(self.tree, self.slots, frames, heap, budget, id, scope)
             }
-            Job::Target(id, scope) => {
-                let step = target(self.tree, frames, heap, id, scope)?;
-                Ok(step)
-            }
+            Job::Target(id, scope) => { target(self.tree, frames, heap, id, scope) }
             Job::Turn(id, scope, kind, out) => {
-                let step = turn(
+                turn(
                     self.tree, self.slots, frames, heap, budget, id, scope, kind, out,
-                )?;
-                Ok(step)
+                )
             }
             Job::Callback(closure, args, place) => {
-                let step = call_closure(self.tree, frames, heap, budget, closure, args, place)?;
-                Ok(step)
+                call_closure(self.tree, frames, heap, budget, closure, args, place)
             }
             Job::Read(object, key, place, outer) => {
-                let step = read(frames, heap, budget, object, key, place, outer)?;
-                Ok(step)
+                read(frames, heap, budget, object, key, place, outer)
             }
             Job::Store(object, key, value, place, outer) => {
-                let step = store(frames, heap, budget, object, key, value, place, outer)?;
-                Ok(step)
+                store(frames, heap, budget, object, key, value, place, outer)
             }
         }
     }
@@ -522,12 +509,10 @@ impl<'a> Machine for Steps<'a> {
     ) -> Result<LuaStep, NoMemory> {
         match frame {
             LuaFrame::One(frame) => {
-                let step = after_one(self.tree, self.slots, frames, heap, budget, frame, end)?;
-                Ok(step)
+                after_one(self.tree, self.slots, frames, heap, budget, frame, end)
             }
             LuaFrame::All(frame) => {
-                let step = after_all(self.tree, self.slots, frames, heap, budget, frame, end)?;
-                Ok(step)
+                after_all(self.tree, self.slots, frames, heap, budget, frame, end)
             }
             LuaFrame::Library => {
                 heap.end_call();
@@ -538,14 +523,12 @@ impl<'a> Machine for Steps<'a> {
                 Ok(Step::Return(returned(heap, end)))
             }
             LuaFrame::Turn(node, scope, kind) => {
-                let step = after_turn(self.tree, frames, heap, budget, node, scope, &kind, end)?;
-                Ok(step)
+                after_turn(self.tree, frames, heap, budget, node, scope, &kind, end)
             }
             LuaFrame::Block(rest, scope, out) => {
-                let step = after_statement(
+                after_statement(
                     self.tree, self.slots, frames, heap, budget, rest, scope, out, end,
-                )?;
-                Ok(step)
+                )
             }
         }
     }

@@ -1,6 +1,6 @@
 // Statements that are executed at once: assignments, and what of an `if` is executed so.
 
-ghost use Rattle.std.specs.Prelude.{◌≡◌, ◌≤◌, ◌-◌, ℕ, List, [], true, false, Option, IfSome, IfNone, IfOk, OnOk};
+ghost use Rattle.std.specs.Prelude.{◌≡◌, ◌≤◌, ◌-◌, ℕ, List, [], ◌∷◌, true, false, Option, IfSome, IfNone, IfOk, OnOk};
 ghost use Rattle.tl_tree.specs.Arena.{items_of};
 ghost use Rattle.tl_tree.specs.Code.{Items};
 ghost use Rattle.tl_base.specs.Plan.{Give, Do};
@@ -10,13 +10,13 @@ ghost use Rattle.lua_table.specs.LuaState.{LuaState};
 ghost use Rattle.lua_table.specs.Keeping.{KeepsHeap};
 ghost use Rattle.lua_value.specs.declared.value.Value as value_types;
 ghost use Rattle.lua_model.specs.declared.end.End as ends;
-ghost use Rattle.lua_model.specs.declared.end.End.TheVariants.{Fell};
+ghost use Rattle.lua_model.specs.declared.end.End.TheVariants.{Fell, Returned};
 ghost use Rattle.lua_model.specs.declared.job.Job.TheVariants as jobs;
 ghost use Rattle.lua_model.specs.Plans.{LuaPlan, fell};
 ghost use Rattle.lua_model.specs.Plans as model;
 ghost use Rattle.lua_model.specs.Statements as plans;
 ghost use Rattle.lua_eval.specs.AtOnce.{EndsAtOnce, Becomes};
-ghost use Rattle.lua_eval.specs.Running.{entered_plan, halt_plan};
+ghost use Rattle.lua_eval.specs.Running.{entered_plan, halt_plan, IsReturn, Returns};
 ghost use Rattle.lua_eval.specs.Slots.{ArePaths};
 ghost use Rattle.lua_eval.specs.Steps.{Goes};
 
@@ -27,11 +27,12 @@ use crate::loops::within;
 use crate::quick::{Depth, Quick, spend};
 use crate::raise::LuaStep;
 use crate::statements::arm;
-use crate::storing::assignment_at_once;
-use lua_model::Scope;
+use crate::storing::{assignment_at_once, only};
+use crate::values::one;
+use lua_model::{End, Scope};
 use lua_table::Heap;
-use lua_value::Values;
-use tl_base::{Budget, EnvId, NoMemory, NodeId};
+use lua_value::{Value, Values};
+use tl_base::{Budget, EnvId, NoMemory, NodeId, Step};
 use tl_rename::Slots;
 use tl_tree::{Node, Statement, Tree};
 
@@ -134,7 +135,7 @@ struct Opened {
 }
 
 /// Evaluates the conditions of an `if` at once, up to the first that is true, with so many units.
-fn opened<'a>(
+fn find_block<'a>(
     tree: &'a Tree<'a>,
     slots: &Slots,
     heap: &mut Heap,
@@ -197,7 +198,7 @@ struct Entered<'a> {
 
 /// Executes an `if` at once with so many units, and of its block what is executed so, and pays for it, where that is
 /// possible.
-fn entered<'a>(
+fn enter_arm<'a>(
     tree: &'a Tree<'a>,
     slots: &Slots,
     heap: &mut Heap,
@@ -216,18 +217,18 @@ fn entered<'a>(
     ensures budget { IfOk result (λ r. IfNone r (budget.new ≡ budget.old)) }
     ensures kept { OnOk result (KeepsHeap heap.old heap.new) }
 {
-    match opened(tree, slots, heap, list, otherwise, scope, left) {
+    match find_block(tree, slots, heap, list, otherwise, scope, left) {
         None => Ok(None),
         Some(opened) => {
             spend(budget, opened.left);
-            let entered = entered_block(tree, slots, heap, budget, opened.block, scope)?;
+            let entered = enter_block(tree, slots, heap, budget, opened.block, scope)?;
             Ok(Some(entered))
         }
     }
 }
 
 /// Enters a block, where there is one, and executes of it at once what is executed so.
-fn entered_block<'a>(
+fn enter_block<'a>(
     tree: &'a Tree<'a>,
     slots: &Slots,
     heap: &mut Heap,
@@ -310,7 +311,7 @@ fn chosen_by<'a>(
     match statement {
         Statement::If(list, otherwise) => {
             let list = list.as_slice();
-            let entered = entered(tree, slots, heap, budget, list, *otherwise, scope, left)?;
+            let entered = enter_arm(tree, slots, heap, budget, list, *otherwise, scope, left)?;
             Ok(entered)
         }
         _ => Ok(None),
@@ -370,19 +371,98 @@ fn go_on<'a>(
     out: Values,
 ) -> Result<LuaStep, NoMemory>
     ensures means { IfOk result (λ step. (items : Items) (s : LuaState) (left : ℕ) →
-        Goes items frames.old.items (halt_plan halt scope out Give) s left frames.new.items step s left) }
+        Goes items frames.old.items (halt_plan halt.entry scope out Give) s left frames.new.items step s left) }
 {
     match halt {
-        Halt::At(list) => {
-            let step = statements(frames, list, scope, out)?;
-            Ok(step)
-        }
+        Halt::At(list) => { statements(frames, list, scope, out) }
         Halt::Within(inside, env, behind) => {
             frames.push(LuaFrame::Block(behind, scope, out))?;
             let none = Values::new(heap.allocator());
-            let step = statements(frames, inside, within(scope, env), none)?;
-            Ok(step)
+            statements(frames, inside, within(scope, env), none)
         }
+    }
+}
+
+/// The expression of a `return` that has one.
+fn returned_node(tree: &Tree<'_>, node: NodeId) -> Option<NodeId>
+    ensures { IfSome result (λ value. IsReturn (items_of tree.now) node value) }
+{
+    match tree.node(node) {
+        Node::Statement(_, statement) => returned_in(statement),
+        _ => None,
+    }
+}
+
+/// The expression of a statement that is a `return` with one.
+fn returned_in(statement: &Statement) -> Option<NodeId>
+    ensures { IfSome result (λ value. Returns statement.now value) }
+{
+    match statement {
+        Statement::Return(values) => only(values.as_slice()),
+        _ => None,
+    }
+}
+
+/// Evaluates the one value that a `return` gives at once and pays for it, where the statement is one and that is possible.
+fn returned<'a>(
+    tree: &'a Tree<'a>,
+    slots: &Slots,
+    heap: &mut Heap,
+    budget: &mut Budget,
+    node: NodeId,
+    scope: &Scope,
+) -> Option<Value>
+    requires { ArePaths (items_of tree.now) slots.now }
+    ensures found { IfSome result (λ value.
+        EndsAtOnce (items_of tree.now) (jobs.Statement node scope.now) (Returned (value ∷ []) []) heap.old budget.old
+        heap.old budget.new) }
+    ensures none { IfNone result (budget.new ≡ budget.old) }
+    ensures same { heap.new ≡ heap.old }
+{
+    let units = budget.left();
+    if units == 0 {
+        return None;
+    }
+    match returned_node(tree, node) {
+        Some(value) => match Quick::find(tree, slots, heap, value, scope, units - 1) {
+            Some(found) => {
+                spend(budget, found.left);
+                Some(found.value)
+            }
+            None => None,
+        },
+        None => None,
+    }
+}
+
+/// The value that statements return at once, of which this is left.
+fn ending<'a>(
+    tree: &'a Tree<'a>,
+    slots: &Slots,
+    heap: &mut Heap,
+    budget: &mut Budget,
+    halt: &Halt<'a>,
+    scope: &Scope,
+) -> Option<Value>
+    requires { ArePaths (items_of tree.now) slots.now }
+    ensures found { IfSome result (λ value. (out : List value_types.Value) →
+        Becomes (items_of tree.now) (halt_plan halt.now scope.now out Give) heap.old budget.old
+        (Give (Returned (value ∷ []) out)) heap.old budget.new) }
+    ensures none { IfNone result (budget.new ≡ budget.old) }
+    ensures same { heap.new ≡ heap.old }
+{
+    match halt {
+        Halt::At(list) => match list.split_first() {
+            Some((first, _)) => returned(tree, slots, heap, budget, *first, scope),
+            None => None,
+        },
+        Halt::Within(list, env, _) => match list.split_first() {
+            Some((first, _)) => {
+                let inner = within(*scope, *env);
+                returned(tree, slots, heap, budget, *first, &inner)
+            }
+            None => None,
+        },
     }
 }
 
@@ -404,6 +484,11 @@ pub fn proceed<'a>(
     ensures kept { OnOk result (KeepsHeap heap.old heap.new) }
 {
     let halt = run(tree, slots, heap, budget, list, &scope)?;
-    let step = go_on(frames, heap, halt, scope, out)?;
-    Ok(step)
+    match ending(tree, slots, heap, budget, &halt, &scope) {
+        Some(value) => {
+            let values = one(heap.allocator(), value)?;
+            Ok(Step::Return(End::Returned(values, out)))
+        }
+        None => go_on(frames, heap, halt, scope, out),
+    }
 }

@@ -127,7 +127,7 @@ fn assign_at_once<'a>(
 }
 
 /// The only node of a list.
-fn only(nodes: &[NodeId]) -> Option<NodeId>
+pub fn only(nodes: &[NodeId]) -> Option<NodeId>
     ensures { IfSome result (λ node. nodes.now ≡ node ∷ []) }
 {
     match nodes.split_first() {

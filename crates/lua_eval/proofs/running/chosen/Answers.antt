@@ -3,7 +3,7 @@ use Rattle.tl_tree.specs.Arena.{items_of}
 use Rattle.tl_tree.specs.Item as kept
 use Rattle.tl_tree.specs.Nodes.{item_at}
 use Rattle.lua_eval.proofs.AtOnce.{if-some}
-use Rattle.lua_eval.proofs.Running.{statement_entered}
+use Rattle.lua_eval.proofs.Reached.{statement_entered}
 use Rattle.lua_eval.proofs.running.chosen.Goals as goal
 
 pub returns-in_ok-entered-in-Statement-clause-passes : goal.returns-in_ok-entered-in-Statement-clause-passes

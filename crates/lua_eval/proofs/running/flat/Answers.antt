@@ -6,7 +6,7 @@ use Rattle.tl_tree.specs.Arena.{items_of}
 use Rattle.lua_table.proofs.Keeping.{keeps_itself, keeps_then}
 use Rattle.lua_model.specs.Plans.{statements}
 use Rattle.lua_eval.proofs.Below.{jobs_of}
-use Rattle.lua_eval.proofs.Running.{statement_passes}
+use Rattle.lua_eval.proofs.Reached.{statement_passes}
 use Rattle.lua_eval.proofs.running.flat.Goals as goal
 
 pub flat-begins : goal.flat-begins

@@ -8,7 +8,7 @@ use Rattle.lua_table.proofs.Keeping.{keeps_itself, keeps_then}
 use Rattle.lua_model.specs.declared.end.End.{End}
 use Rattle.lua_model.specs.Plans.{LuaPlan, on_fell, statements}
 use Rattle.lua_eval.proofs.Below.{jobs_of}
-use Rattle.lua_eval.proofs.Running.{entered_whole}
+use Rattle.lua_eval.proofs.Reached.{entered_whole}
 use Rattle.lua_eval.proofs.running.run.Goals as goal
 
 pub blocks-begins : goal.blocks-begins

@@ -17,7 +17,7 @@ use Rattle.lua_table.specs.LuaState.{LuaState}
 use Rattle.lua_table.specs.Heap.{next_env, with_env}
 use Rattle.lua_model.specs.declared.job.Job.TheVariants as jobs
 use Rattle.lua_model.specs.declared.end.End.{End}
-use Rattle.lua_model.specs.declared.end.End.TheVariants.{Fell}
+use Rattle.lua_model.specs.declared.end.End.TheVariants.{Fell, Returned}
 use Rattle.lua_model.specs.declared.question.LuaQuestion.{LuaQuestion}
 use Rattle.lua_model.specs.declared.question.LuaAnswer.{LuaAnswer}
 use Rattle.lua_model.specs.declared.scope.Scope.{Scope}
@@ -80,3 +80,23 @@ entering_passes items n scope inner env ns ms s t u left mid inner_is env_is hea
     ∙ ap (λ (sc : Scope). run (jobs_of items) (statements ns sc [] Give) (state t left) later) (sym inner_is)
     ∙ h later
     ∙ ap (λ (sc : Scope). run (jobs_of items) (statements ms sc [] Give) (state u mid) later) inner_is
+
+-- a statement that returns, with what stands behind it
+pub statement_returns : (items : Items) (n : NodeId) (ns : List NodeId) (scope : Scope) (out vs : List Value) (s t : LuaState) (left mid : ℕ)
+    → EndsAtOnce items (jobs.Statement n scope) (Returned vs []) s left t mid
+    → Becomes items (statements (n ∷ ns) scope out Give) s left (Give (Returned vs out)) t mid
+statement_returns items n ns scope out vs s t left mid h = λ later.
+    ap (λ (o : Run LuaState LuaQuestion LuaAnswer End).
+    then_do o (λ r. run (jobs_of items) (on_fell r out Give (λ all. statements ns scope all Give)))) (h later)
+    ∙ ap (λ (more : List Value). run (jobs_of items) (Give (Returned vs more)) (state t mid) later) (append-nil out)
+
+-- the same in a block inside
+pub inner_returns : (items : Items) (m : NodeId) (ms ns : List NodeId) (inner scope : Scope) (out vs : List Value) (s t : LuaState) (left mid : ℕ)
+    → EndsAtOnce items (jobs.Statement m inner) (Returned vs []) s left t mid
+    → Becomes items (statements (m ∷ ms) inner [] (λ r. on_fell r out Give (λ all. statements ns scope all Give))) s left
+    (Give (Returned vs out)) t mid
+inner_returns items m ms ns inner scope out vs s t left mid h = λ later.
+    let k : End → LuaPlan = λ r. on_fell r out Give (λ all. statements ns scope all Give) in
+    ap (λ (o : Run LuaState LuaQuestion LuaAnswer End).
+    then_do o (λ r. run (jobs_of items) (on_fell r [] k (λ all. statements ms inner all k)))) (h later)
+    ∙ ap (λ (more : List Value). run (jobs_of items) (Give (Returned vs more)) (state t mid) later) (append-nil out)

@@ -2,7 +2,7 @@ use Rattle.std.proofs.Common.{◌≡◌, ◌≤◌}
 use Rattle.tl_tree.specs.Arena.{items_of}
 use Rattle.lua_model.specs.Statements.{arms_plan}
 use Rattle.lua_eval.specs.AtOnce.{Becomes}
-use Rattle.lua_eval.proofs.running.opened.Given as goal
+use Rattle.lua_eval.proofs.running.find_block.Given as goal
 
 abbrev pub invariant-arms : goal.invariant-arms
 invariant-arms l = record {

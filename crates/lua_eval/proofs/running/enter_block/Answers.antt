@@ -1,9 +1,9 @@
 use Rattle.std.proofs.Common.{[], Some, refl}
 use Rattle.tl_base.specs.Plan.{Give}
 use Rattle.tl_tree.specs.Arena.{items_of}
-use Rattle.lua_eval.proofs.Running.{entering_passes}
+use Rattle.lua_eval.proofs.Reached.{entering_passes}
 use Rattle.lua_eval.proofs.Turning.{env_kept_on}
-use Rattle.lua_eval.proofs.running.entered_block.Goals as goal
+use Rattle.lua_eval.proofs.running.enter_block.Goals as goal
 
 pub returns-in_ok-list-in-Some-clause-passes : goal.returns-in_ok-list-in-Some-clause-passes
 returns-in_ok-list-in-Some-clause-passes c =

@@ -11,7 +11,7 @@ use Rattle.lua_eval.proofs.AtOnce.{never_gains}
 use Rattle.lua_eval.proofs.Below.{jobs_of}
 use Rattle.lua_eval.proofs.Choosing.{arm_passes}
 use Rattle.lua_eval.proofs.Listing.{none_is}
-use Rattle.lua_eval.proofs.running.opened.Goals as goal
+use Rattle.lua_eval.proofs.running.find_block.Goals as goal
 
 pub returns-in-None-clause-passes : goal.returns-in-None-clause-passes
 returns-in-None-clause-passes c = λ later.
