@@ -12,8 +12,8 @@ use Rattle.lua_eval.specs.declared.frame.TurnFrame.TheVariants as of_turn
 use Rattle.lua_eval.proofs.Passing.{if-ok}
 use Rattle.lua_eval.proofs.loops.generic_turn.Goals as goal
 
-pub returns-in-GenericFor-clause-means : goal.returns-in-GenericFor-clause-means
-returns-in-GenericFor-clause-means c =
+pub returns-in_ok-push-in-GenericFor-clause-means : goal.returns-in_ok-push-in-GenericFor-clause-means
+returns-in_ok-push-in-GenericFor-clause-means c =
     let a = c.args in
     let items = items_of a.tree.now in
     let block = c.in-GenericFor.block in

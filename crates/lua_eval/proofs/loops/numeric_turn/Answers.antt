@@ -16,8 +16,8 @@ use Rattle.lua_value.specs.declared.value.Value.TheVariants as values
 use Rattle.lua_eval.proofs.Passing.{if-ok, on-ok}
 use Rattle.lua_eval.proofs.loops.numeric_turn.Goals as goal
 
-pub returns-in-NumericFor-clause-means : goal.returns-in-NumericFor-clause-means
-returns-in-NumericFor-clause-means c =
+pub returns-in_ok-push-in-NumericFor-clause-means : goal.returns-in_ok-push-in-NumericFor-clause-means
+returns-in_ok-push-in-NumericFor-clause-means c =
     let a = c.args in
     let items = items_of a.tree.now in
     let block = c.in-NumericFor.block in
@@ -34,8 +34,8 @@ returns-in-NumericFor-clause-means c =
     (frames.Turn a.node a.scope (of_turn.Counted a.at a.limit a.by)) t u left left2 v (statements_at items block)
     c.within.result a.out c.in_ok-push-in-NumericFor.ensures.items it)))
 
-pub returns-in-NumericFor-clause-kept : goal.returns-in-NumericFor-clause-kept
-returns-in-NumericFor-clause-kept c =
+pub returns-in_ok-push-in-NumericFor-clause-kept : goal.returns-in_ok-push-in-NumericFor-clause-kept
+returns-in_ok-push-in-NumericFor-clause-kept c =
     on-ok c.turn_block.result c.turn_block.ensures.kept (λ kept. env_kept_on c.args.heap.now c.new_env.new.self c.turn_block.new.heap c.args.node (Some c.args.scope.env) c.in_ok-env-in-NumericFor.ensures.ok
     (keeps_then c.new_env.new.self c.declare.new.heap c.turn_block.new.heap c.in_ok-declare-in-NumericFor.ensures.kept
     kept))

@@ -10,8 +10,8 @@ use Rattle.lua_eval.specs.declared.frame.TurnFrame.TheVariants as of_turn
 use Rattle.lua_eval.proofs.Passing.{if-ok, on-ok}
 use Rattle.lua_eval.proofs.loops.repeat_turn.Goals as goal
 
-pub returns-in-Repeat-clause-means : goal.returns-in-Repeat-clause-means
-returns-in-Repeat-clause-means c =
+pub returns-in_ok-push-in-Repeat-clause-means : goal.returns-in_ok-push-in-Repeat-clause-means
+returns-in_ok-push-in-Repeat-clause-means c =
     let a = c.args in
     let items = items_of a.tree.now in
     let block = c.in-Repeat.block in
@@ -26,7 +26,7 @@ returns-in-Repeat-clause-means c =
     (frames.Turn a.node a.scope (of_turn.Repeat c.in-Repeat.condition c.within-inner.result)) t u left left2 v (statements_at items block) c.within-inner.result a.out
     c.in_ok-push-in-Repeat.ensures.items it)))
 
-pub returns-in-Repeat-clause-kept : goal.returns-in-Repeat-clause-kept
-returns-in-Repeat-clause-kept c =
+pub returns-in_ok-push-in-Repeat-clause-kept : goal.returns-in_ok-push-in-Repeat-clause-kept
+returns-in_ok-push-in-Repeat-clause-kept c =
     on-ok c.turn_block.result c.turn_block.ensures.kept (λ kept. env_kept_on c.args.heap.now c.new_env.new.self c.turn_block.new.heap c.args.node (Some c.args.scope.env) c.in_ok-env-in-Repeat.ensures.ok
     kept)

@@ -10,8 +10,8 @@ use Rattle.lua_eval.specs.declared.frame.TurnFrame.TheVariants as of_turn
 use Rattle.lua_eval.proofs.Passing.{if-ok, on-ok}
 use Rattle.lua_eval.proofs.loops.while_turn.Goals as goal
 
-pub returns-in-While-clause-means : goal.returns-in-While-clause-means
-returns-in-While-clause-means c =
+pub returns-in_ok-push-in-While-clause-means : goal.returns-in_ok-push-in-While-clause-means
+returns-in_ok-push-in-While-clause-means c =
     let a = c.args in
     let items = items_of a.tree.now in
     let block = c.in-While.block in
@@ -26,7 +26,7 @@ returns-in-While-clause-means c =
     (frames.Turn a.node a.scope (of_turn.While c.in-While.condition)) t u left left2 v (statements_at items block) c.within.result a.out
     c.in_ok-push-in-While.ensures.items it)))
 
-pub returns-in-While-clause-kept : goal.returns-in-While-clause-kept
-returns-in-While-clause-kept c =
+pub returns-in_ok-push-in-While-clause-kept : goal.returns-in_ok-push-in-While-clause-kept
+returns-in_ok-push-in-While-clause-kept c =
     on-ok c.turn_block.result c.turn_block.ensures.kept (λ kept. env_kept_on c.args.heap.now c.new_env.new.self c.turn_block.new.heap c.in-While.block (Some c.args.scope.env) c.in_ok-env-in-While.ensures.ok
     kept)

@@ -9,8 +9,8 @@ use Rattle.lua_eval.proofs.Ending.{no_statement_ended}
 use Rattle.lua_eval.proofs.Passing.{if-ok}
 use Rattle.lua_eval.proofs.machine.after_statement.Goals as goal
 
-pub returns-in-Fell-clause-means : goal.returns-in-Fell-clause-means
-returns-in-Fell-clause-means c =
+pub returns-in_ok-append-in-Fell-clause-means : goal.returns-in_ok-append-in-Fell-clause-means
+returns-in_ok-append-in-Fell-clause-means c =
     let a = c.args in
     let items = items_of a.tree.now in
     let more = c.as_slice.result.now in

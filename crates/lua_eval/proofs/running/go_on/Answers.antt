@@ -13,8 +13,8 @@ returns-in-At c = record {
   means = rw c.in-At.is (if-ok c.statements.result c.statements.ensures.means (λ v it. it));
 }
 
-pub returns-in-Within : goal.returns-in-Within
-returns-in-Within c = record {
+pub returns-in_ok-push-in-Within : goal.returns-in_ok-push-in-Within
+returns-in_ok-push-in-Within c = record {
   means =
       let a = c.args in
       let m = c.in-Within in
