@@ -1,0 +1,5 @@
+pub mod Covering
+pub mod Leaves
+pub mod Sound
+pub mod Values
+pub mod Whole

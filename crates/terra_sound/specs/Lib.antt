@@ -1,0 +1,2 @@
+-- What typing promises of runs. A reader can stop here.
+pub mod Laws
