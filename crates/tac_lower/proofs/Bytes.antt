@@ -131,7 +131,7 @@ declares-bytes : (c : Around) (at : Place) (xs : List TypedName) (vs : List Resu
 declares-bytes c at [] vs k scope u = omega arith
 declares-bytes c at (x ∷ xs) vs k scope u =
     let p = declare c at x (first_of vs) k scope u in
-    let h = declare-bytes c.store.types at x (first_of vs) (home_at c.homes k) scope u in
+    let h = declare-bytes c.types at x (first_of vs) (home_at c.homes k) scope u in
     let l = declares-bytes c at xs (rest vs) (suc k) p.result p.used in omega (arith, h, l)
 
 reached-bytes : (types : List TypeForm) (want : Wanted) (at : Place) (of : TypeId) (r : Result) (u : Used) (m : ℕ) →
@@ -176,7 +176,7 @@ extracted-bytes types of offset (an_offset o) u m s = let z = slack-small the_va
 
 module _ (store : Contents) (entries : List FnId) (homes : List Home) where
   abbrev c : Around
-  c = record { store = store; entries = entries; homes = homes }
+  c = record { types = store.types; entries = entries; homes = homes }
 
   abbrev types : List TypeForm
   types = store.types

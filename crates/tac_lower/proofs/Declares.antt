@@ -240,12 +240,12 @@ module _ (z : Setting) (n : ℕ) (c' : Call) where
   pub declare_all_sim : (a : Around) (names : List TypedName) (scope : Holders) (facts : List Fact) (u : Used) (place : Place)
       (xs : List TypedName) (k : ℕ) (ts : List TypeId) (rs : List Result) (vs : List Value) →
       DeclaresWell z.types z.tac.frame c.homes k xs ts →
-      let b : Around = record { store = record a.store { types = z.types }; entries = a.entries; homes = c.homes } in
+      let b : Around = record { types = z.types; entries = a.entries; homes = c.homes } in
       Sim z n names scope (all_of ts rs vs ∷ facts) u (declare_all b place xs rs k scope u) (meaning.declared_all c place xs vs k)
       (declared_names xs names) (declare_all b place xs rs k scope u).result (λ w. nothing)
   declare_all_sim a names scope facts u place [] k ts rs vs well = known_sim u scope (word 0) (λ k1 s fine knows. tt)
   declare_all_sim a names scope facts u place (x ∷ xs) k ts rs vs well =
-      let b : Around = record { store = record a.store { types = z.types }; entries = a.entries; homes = c.homes } in
+      let b : Around = record { types = z.types; entries = a.entries; homes = c.homes } in
       let h = first-of-well z c.homes k x xs ts well in
       let q = declare b place x (first_of rs) k scope u in
       then_sim (λ scope' u'. declare_all b place xs (rest rs) (suc k) scope' u')
@@ -278,5 +278,5 @@ declares-under a place (x ∷ xs) k rs names scope u =
     let q = declare a place x (first_of rs) k scope u in
     under-then names (x ∷ names) (declared_names xs (x ∷ names)) scope q.result
     (declare_all a place xs (rest rs) (suc k) q.result q.used).result
-    (under-one a.store.types place x (first_of rs) (home_at a.homes k) names scope u)
+    (under-one a.types place x (first_of rs) (home_at a.homes k) names scope u)
     (declares-under a place xs (suc k) (rest rs) (x ∷ names) q.result q.used)

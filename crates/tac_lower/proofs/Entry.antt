@@ -185,7 +185,7 @@ module _ (types : List TypeForm) (t : ℕ) where
           one (inr e) m = m.1 e
 
 parameters-read : (c : Around) (t : ℕ) (at : Place) (xs : List TypedName) (tos : List Destination) (k : ℕ) (scope : Holders) (u : Used) →
-    Matched c.store.types t xs tos → t < u.temps → list_any (goes_to t) tos ≡ true →
+    Matched c.types t xs tos → t < u.temps → list_any (goes_to t) tos ≡ true →
     ReadFirst t (declare_all c at xs (map given tos) k scope u).code
 parameters-read c t at [] [] k scope u m lt h = let bad : false ≡ true = h in absurd (grind (arith, bad))
 parameters-read c t at [] (to ∷ tos) k scope u m lt h = absurd m
@@ -193,7 +193,7 @@ parameters-read c t at (x ∷ xs) [] k scope u m lt h = absurd m
 parameters-read c t at (x ∷ xs) (to ∷ tos) k scope u m lt h =
     let p = declare c at x (Some (given to)) k scope u in
     let q = declare_all c at xs (map given tos) (suc k) p.result p.used in
-    let l = parameter-later c.store.types t at x to (home_at c.homes k) scope u in
+    let l = parameter-later c.types t at x to (home_at c.homes k) scope u in
     by (or_cases (goes_to t to) (list_any (goes_to t) tos) h)
     (λ e. parameters-read c t at xs tos (suc k) p.result p.used m (omega (arith, lt, l)) e)
   where
@@ -204,11 +204,11 @@ parameters-read c t at (x ∷ xs) (to ∷ tos) k scope u m lt h =
     by (inl e) more =
         let p = declare c at x (Some (given to)) k scope u in
         let q = declare_all c at xs (map given tos) (suc k) p.result p.used in
-        first-append t p.code q.code (parameter-reads c.store.types t at x to (home_at c.homes k) scope u e)
+        first-append t p.code q.code (parameter-reads c.types t at x to (home_at c.homes k) scope u e)
     by (inr e) more =
         let p = declare c at x (Some (given to)) k scope u in
         let q = declare_all c at xs (map given tos) (suc k) p.result p.used in
-        parameter-passes c.store.types t at x to (home_at c.homes k) scope u lt q.code (more e)
+        parameter-passes c.types t at x to (home_at c.homes k) scope u lt q.code (more e)
 
 -- exactly the temporaries that parameters go to are live where a function's code is entered
 pub entry-live : (store : Contents) (entries : List FnId) (k : Callable) (t : ℕ) →

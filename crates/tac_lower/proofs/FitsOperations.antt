@@ -154,7 +154,7 @@ module _ (types : List TypeForm) (tac : Tac) where
     store = record st { types = types }
 
     abbrev c : Around
-    c = record { store = store; entries = entries; homes = homes }
+    c = record { types = store.types; entries = entries; homes = homes }
 
     pub small-size : (t : TypeId) → bytes_at types t < 2 ^ 64
     small-size t = let h = sized types are t in omega (arith, h)

@@ -427,7 +427,7 @@ module _ (types : List TypeForm) (tac : Tac) where
     store = record st { types = types }
 
     abbrev c : Around
-    c = record { store = store; entries = entries; homes = homes }
+    c = record { types = store.types; entries = entries; homes = homes }
 
     abbrev At : ℕ → List TypeId → Type 0
     At k ts = Homes types tac.frame homes k ts

@@ -156,7 +156,7 @@ module _ (z : Setting) (m : ℕ) (st : Contents) (k : Callable) where
   c = record { store = store; entries = entries; call = call_here z m st; base = z.base; homes = homes; turns = suc m }
 
   abbrev a : Around
-  a = record { store = store; entries = entries; homes = homes }
+  a = record { types = store.types; entries = entries; homes = homes }
 
   abbrev names1 : List TypedName
   names1 = declared_names k.body.parameters []

@@ -390,7 +390,7 @@ module _ (blocks : List Block) (t : ℕ) where
 
   module _ (c : Around) (at : Place) (of : TypeId) (ts : List TypeId) (rs : List Result) (u : Used) where
     abbrev forms_of : List TypeForm
-    forms_of = c.store.types
+    forms_of = c.types
 
     abbrev Fit : Operation → Type 0
     Fit op = Clean (FreeAll rs) (operation c at of op ts rs u) FreeResult
@@ -512,13 +512,13 @@ module _ (blocks : List Block) (t : ℕ) where
       let p = declare c at x (first_of rs) k scope u in
       let q = declare_all c at xs (rest rs) (suc k) p.result p.used in
       then-clean {R = FreeScope} p q
-      (declare-clean c.store.types at x (first_of rs) (home_at c.homes k) scope u (λ h. first-listed rs h.0) (λ h. h.1))
+      (declare-clean c.types at x (first_of rs) (home_at c.homes k) scope u (λ h. first-listed rs h.0) (λ h. h.1))
       (weak-clean q (declares-clean c at xs (rest rs) (suc k) p.result p.used) (λ h. (rest-free rs h.0.0, h.1)))
 
   pub one-declare-clean : {P : Type 0} (c : Around) (at : Place) (x : TypedName) (r : Result) (k : ℕ) (scope : Holders) (u : Used) →
       (P → FreeResult r) → (P → FreeScope scope) → Clean P (declare c at x (Some r) k scope u) FreeScope
   one-declare-clean c at x r k scope u y s =
-      declare-clean c.store.types at x (Some r) (home_at c.homes k) scope u (λ h. (y h, tt)) s
+      declare-clean c.types at x (Some r) (home_at c.homes k) scope u (λ h. (y h, tt)) s
 
   -- assignments
 

@@ -268,9 +268,9 @@ module _ (blocks : List Block) (t : ℕ) where
       expression-clean want (typed at of (Constant' k)) from scope u =
           idles.known-clean blocks t FreeResult (a_word (Constant (constant c.entries k))) u (λ h. tt)
       expression-clean want (typed at of (Variable x)) from scope u =
-          idles.variable-clean blocks t c.store.types want at of x scope u (λ h. h)
+          idles.variable-clean blocks t c.types want at of x scope u (λ h. h)
       expression-clean want (typed at of (Global g)) from scope u =
-          idles.reached-clean blocks t c.store.types want at of (a_word (Constant g)) u (λ h. tt)
+          idles.reached-clean blocks t c.types want at of (a_word (Constant g)) u (λ h. tt)
       expression-clean want (typed at of (Operate op es)) from scope u =
           let p = pieces c es from scope u in
           let q = operation c at of op (types_of es) p.result p.used in
@@ -291,29 +291,29 @@ module _ (blocks : List Block) (t : ℕ) where
           (expression-clean the_value y (from + in_expression x) scope (with_temp p.used))
       expression-clean want (typed at of (Dereference e)) from scope u =
           let p = piece c the_value e from scope u in
-          let q = reached c.store.types want at of (a_word (word_of p.result)) p.used in
+          let q = reached c.types want at of (a_word (word_of p.result)) p.used in
           idles.then-clean blocks t {R = FreeResult} p q (expression-clean the_value e from scope u)
-          (idles.reached-clean blocks t c.store.types want at of (a_word (word_of p.result)) p.used (λ h. h.1))
+          (idles.reached-clean blocks t c.types want at of (a_word (word_of p.result)) p.used (λ h. h.1))
       expression-clean want (typed at of (Select offset e)) from scope u =
           let p = piece c the_address e from scope u in
           let q = entry offset p.result p.used in
-          let r = reached c.store.types want at of q.result q.used in
+          let r = reached c.types want at of q.result q.used in
           idles.then-clean blocks t {R = FreeResult} p (following q r) (expression-clean the_address e from scope u)
           (idles.then-clean blocks t {R = FreeResult} q r (idles.entry-clean blocks t offset p.result p.used (λ h. h.1))
-          (idles.reached-clean blocks t c.store.types want at of q.result q.used (λ h. h.1)))
+          (idles.reached-clean blocks t c.types want at of q.result q.used (λ h. h.1)))
       expression-clean want (typed at of (Follow offset e)) from scope u =
           let p = piece c the_value e from scope u in
           let q = entry offset (a_word (word_of p.result)) p.used in
-          let r = reached c.store.types want at of q.result q.used in
+          let r = reached c.types want at of q.result q.used in
           idles.then-clean blocks t {R = FreeResult} p (following q r) (expression-clean the_value e from scope u)
           (idles.then-clean blocks t {R = FreeResult} q r (idles.entry-clean blocks t offset (a_word (word_of p.result)) p.used (λ h. h.1))
-          (idles.reached-clean blocks t c.store.types want at of q.result q.used (λ h. h.1)))
+          (idles.reached-clean blocks t c.types want at of q.result q.used (λ h. h.1)))
       expression-clean want (typed at of (Element e i)) from scope u =
           let p = piece c the_address e from scope u in
           let l = located p.result p.used in
           let j = piece c the_value i (from + in_expression e) scope l.used in
-          let m = element (bytes_at c.store.types of) (word_of l.result) (word_of j.result) j.used in
-          let r = reached c.store.types want at of m.result m.used in
+          let m = element (bytes_at c.types of) (word_of l.result) (word_of j.result) j.used in
+          let r = reached c.types want at of m.result m.used in
           idles.then-clean blocks t {R = FreeResult} p (following l (following j (following m r)))
           (expression-clean the_address e from scope u)
           (idles.then-clean blocks t {R = FreeResult} l (following j (following m r))
@@ -321,19 +321,19 @@ module _ (blocks : List Block) (t : ℕ) where
           (idles.then-clean blocks t {R = FreeResult} j (following m r)
           (idles.weak-clean blocks t j (expression-clean the_value i (from + in_expression e) scope l.used) (λ h. h.0.0))
           (idles.then-clean blocks t {R = FreeResult} m r
-          (idles.element-clean blocks t (bytes_at c.store.types of) (word_of l.result) (word_of j.result) j.used (λ h. h.0.1) (λ h. h.1))
-          (idles.reached-clean blocks t c.store.types want at of m.result m.used (λ h. h.1)))))
+          (idles.element-clean blocks t (bytes_at c.types of) (word_of l.result) (word_of j.result) j.used (λ h. h.0.1) (λ h. h.1))
+          (idles.reached-clean blocks t c.types want at of m.result m.used (λ h. h.1)))))
       expression-clean want (typed at of (Index e i)) from scope u =
           let p = piece c the_value e from scope u in
           let j = piece c the_value i (from + in_expression e) scope p.used in
-          let m = element (bytes_at c.store.types of) (word_of p.result) (word_of j.result) j.used in
-          let r = reached c.store.types want at of m.result m.used in
+          let m = element (bytes_at c.types of) (word_of p.result) (word_of j.result) j.used in
+          let r = reached c.types want at of m.result m.used in
           idles.then-clean blocks t {R = FreeResult} p (following j (following m r)) (expression-clean the_value e from scope u)
           (idles.then-clean blocks t {R = FreeResult} j (following m r)
           (idles.weak-clean blocks t j (expression-clean the_value i (from + in_expression e) scope p.used) (λ h. h.0))
           (idles.then-clean blocks t {R = FreeResult} m r
-          (idles.element-clean blocks t (bytes_at c.store.types of) (word_of p.result) (word_of j.result) j.used (λ h. h.0.1) (λ h. h.1))
-          (idles.reached-clean blocks t c.store.types want at of m.result m.used (λ h. h.1))))
+          (idles.element-clean blocks t (bytes_at c.types of) (word_of p.result) (word_of j.result) j.used (λ h. h.0.1) (λ h. h.1))
+          (idles.reached-clean blocks t c.types want at of m.result m.used (λ h. h.1))))
       expression-clean want (typed at of (Address e)) from scope u =
           let p = piece c the_address e from scope u in
           idles.then-clean blocks t {R = FreeResult} p (located p.result p.used) (expression-clean the_address e from scope u)
@@ -380,12 +380,12 @@ module _ (blocks : List Block) (t : ℕ) where
       statement-clean (statement at (Assign places values)) from scope u =
           let p = pieces c values from scope u in
           let q = targets c places (from + in_list values) scope p.used in
-          let r = assigned_all c.store.types places q.result p.result q.used in
+          let r = assigned_all c.types places q.result p.result q.used in
           idles.then-clean blocks t {R = FreeAll} p (following q (taken (λ b. scope) r)) (expressions-clean values from scope u)
           (idles.then-clean blocks t {R = FreeTargets} q (taken (λ b. scope) r)
           (idles.weak-clean blocks t q (targets-clean places (from + in_list values) scope p.used) (λ h. h.0))
           (idles.taken-clean blocks t {R = λ b. Unit {0}} FreeScope (λ b. scope) r
-          (idles.weak-clean blocks t r (idles.assigned-clean blocks t c.store.types places q.result p.result q.used) (λ h. (h.1, h.0.1)))
+          (idles.weak-clean blocks t r (idles.assigned-clean blocks t c.types places q.result p.result q.used) (λ h. (h.1, h.0.1)))
           (λ h b. h.0.0)))
       statement-clean (statement at (If test block)) from scope u =
           let p = piece c the_value test from scope u in
@@ -418,7 +418,7 @@ module _ (blocks : List Block) (t : ℕ) where
           let k0 = from + in_list bounds in
           let p = pieces c bounds from scope u in
           let v = p.used in
-          let k = counting (number_of c.store.types x.of) p.result v.temps in
+          let k = counting (number_of c.types x.of) p.result v.temps in
           let r = runs k (with_temp v) in
           let o = declare c at x (Some (a_word (Temp k.value))) k0 scope r.used in
           let q = all c body (suc k0) o.result o.used in

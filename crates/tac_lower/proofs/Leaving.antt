@@ -23,7 +23,7 @@ one-before types at x (Some v) (in_frame offset) scope u = (_, refl)
 pub declared-before : (c : Around) (at : Place) (x : TypedName) (v : Option Result) (k : ℕ) (scope : Holders) (u : Used)
     → Before scope (declare c at x v k scope u).result
 declared-before c at x v k scope u =
-    let one = one-before c.store.types at x v (home_at c.homes k) scope u in (one.0 ∷ [], one.1)
+    let one = one-before c.types at x v (home_at c.homes k) scope u in (one.0 ∷ [], one.1)
 
 pub before-both : (outer middle all : Holders) → Before outer middle → Before middle all → Before outer all
 before-both outer middle all first second =

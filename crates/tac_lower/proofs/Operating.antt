@@ -46,7 +46,7 @@ module _ (z : Setting) (n : ℕ) (st : Contents) (entries : List FnId) (homes : 
   c = record { store = store; entries = entries; call = call; base = z.base; homes = homes; turns = turns }
 
   abbrev a : Around
-  a = record { store = store; entries = entries; homes = homes }
+  a = record { types = store.types; entries = entries; homes = homes }
 
   -- the code of an operation does what it means
   abbrev pub Does : Operation → Type 0

@@ -92,7 +92,7 @@ module _ (z : Setting) (n : ℕ) (st : Contents) (entries : List FnId) (homes : 
   c = record { store = store; entries = entries; call = call; base = z.base; homes = homes; turns = turns }
 
   abbrev a : Around
-  a = record { store = store; entries = entries; homes = homes }
+  a = record { types = store.types; entries = entries; homes = homes }
 
   -- what lowering needs of a term's types, here
 

@@ -133,7 +133,7 @@ declares-stay c at [] vs k scope u = tt
 declares-stay c at (x ∷ xs) vs k scope u =
     let p = declare c at x (first_of vs) k scope u in
     both p.code (declare_all c at xs (rest vs) (suc k) p.result p.used).code
-    (declare-stays c.store.types at x (first_of vs) (home_at c.homes k) scope u)
+    (declare-stays c.types at x (first_of vs) (home_at c.homes k) scope u)
     (declares-stay c at xs (rest vs) (suc k) p.result p.used)
 
 reached-stays : (types : List TypeForm) (want : Wanted) (at : Place) (of : TypeId) (r : Result) (u : Used) →
@@ -182,13 +182,13 @@ operation-stays c at of operations.Negate ts vs u = tt
 operation-stays c at of operations.Not ts vs u = by (nat_eq of.0 boolean.0)
   where
     by : (b : Bool) → Stays (if b then compute operators.Xor whole_word (word_at vs 0) (Constant 1) u
-        else compute operators.Xor (number_of c.store.types of) (word_at vs 0) (Constant (2 ^ 64 - 1)) u).code
+        else compute operators.Xor (number_of c.types of) (word_at vs 0) (Constant (2 ^ 64 - 1)) u).code
     by true = tt
     by false = tt
 operation-stays c at of (operations.Binary op) ts vs u = by (divides op)
   where
     by : (b : Bool) → Stays (then_piece (if b then doing (tt {0}) (TestDivisor at (word_at vs 1)) u else known (tt {0}) u)
-        (λ t u'. compute op (number_of c.store.types (type_at ts 0)) (word_at vs 0) (word_at vs 1) u')).code
+        (λ t u'. compute op (number_of c.types (type_at ts 0)) (word_at vs 0) (word_at vs 1) u')).code
     by true = tt
     by false = tt
 operation-stays c at of operations.StepForward ts vs u = tt
@@ -197,28 +197,28 @@ operation-stays c at of operations.Difference ts vs u = tt
 operation-stays c at of operations.Convert ts vs u = by (nat_eq of.0 boolean.0)
   where
     by : (b : Bool) → Stays (if b then compute operators.NotEqual whole_word (word_at vs 0) (Constant 0) u
-        else compute operators.Add (number_of c.store.types of) (word_at vs 0) (Constant 0) u).code
+        else compute operators.Add (number_of c.types of) (word_at vs 0) (Constant 0) u).code
     by true = tt
     by false = tt
-operation-stays c at of (operations.Extract offset) ts vs u = extracted-stays c.store.types of offset (result_at vs 0) u
-operation-stays c at of (operations.Call f) ts vs u = by (is_aggregate c.store.types of)
+operation-stays c at of (operations.Extract offset) ts vs u = extracted-stays c.types of offset (result_at vs 0) u
+operation-stays c at of (operations.Call f) ts vs u = by (is_aggregate c.types of)
   where
-    by : (b : Bool) → Stays (then_piece (if b then known (destinations.Area (length u.areas)) (with_area (bytes_at c.store.types of) u)
+    by : (b : Bool) → Stays (then_piece (if b then known (destinations.Area (length u.areas)) (with_area (bytes_at c.types of) u)
         else known (destinations.Temp u.temps) (with_temp u)) (λ to u'. call at f vs to u')).code
     by true = tt
     by false = tt
 operation-stays c at of (operations.Primitive primitives.PutByte) ts vs u = tt
 operation-stays c at of (operations.Primitive primitives.Write) ts vs u = tt
 operation-stays c at of (operations.Primitive primitives.Alloc) ts vs u = tt
-operation-stays c at of operations.CallValue ts vs u = by (is_aggregate c.store.types of)
+operation-stays c at of operations.CallValue ts vs u = by (is_aggregate c.types of)
   where
-    by : (b : Bool) → Stays (then_piece (if b then known (destinations.Area (length u.areas)) (with_area (bytes_at c.store.types of) u)
+    by : (b : Bool) → Stays (then_piece (if b then known (destinations.Area (length u.areas)) (with_area (bytes_at c.types of) u)
         else known (destinations.Temp u.temps) (with_temp u))
-        (λ to u'. call_value at (signature_in (form_at c.store.types (type_at ts 0))) vs to u')).code
+        (λ to u'. call_value at (signature_in (form_at c.types (type_at ts 0))) vs to u')).code
     by true = tt
     by false = tt
 operation-stays c at of (operations.Construct offsets) ts vs u =
-    constructed-stays c.store.types (length u.areas) offsets ts vs (with_area (bytes_at c.store.types of) u)
+    constructed-stays c.types (length u.areas) offsets ts vs (with_area (bytes_at c.types of) u)
 
 -- assignments
 
@@ -277,8 +277,8 @@ module _ (c : Around) (types : List TypeForm) (frame : ℕ) (outside : Within) (
         NeedsOf want names from e →
         Stays (piece c want e from scope u).code
     expression-stays want (typed at of (Constant' k)) from names scope u h = tt
-    expression-stays want (typed at of (Variable x)) from names scope u h = variable-stays c.store.types want at of (holder_of x scope) u
-    expression-stays want (typed at of (Global a)) from names scope u h = reached-stays c.store.types want at of (a_word (Constant a)) u
+    expression-stays want (typed at of (Variable x)) from names scope u h = variable-stays c.types want at of (holder_of x scope) u
+    expression-stays want (typed at of (Global a)) from names scope u h = reached-stays c.types want at of (a_word (Constant a)) u
     expression-stays want (typed at of (Operate op es)) from names scope u h =
         let p = pieces c es from scope u in
         both p.code (operation c at of op (types_of es) p.result p.used).code (expressions-stay es from names scope u h.1)
@@ -305,40 +305,40 @@ module _ (c : Around) (types : List TypeForm) (frame : ℕ) (outside : Within) (
         (expression-stays the_value y (from + in_expression x) names scope v h.2) tt))
     expression-stays want (typed at of (Dereference q)) from names scope u h =
         let p = piece c the_value q from scope u in
-        both p.code (reached c.store.types want at of (a_word (word_of p.result)) p.used).code
+        both p.code (reached c.types want at of (a_word (word_of p.result)) p.used).code
         (expression-stays the_value q from names scope u h)
-        (reached-stays c.store.types want at of (a_word (word_of p.result)) p.used)
+        (reached-stays c.types want at of (a_word (word_of p.result)) p.used)
     expression-stays want (typed at of (Select offset e)) from names scope u h =
         let p = piece c the_address e from scope u in
         let q = entry offset p.result p.used in
-        let r = reached c.store.types want at of q.result q.used in
+        let r = reached c.types want at of q.result q.used in
         both p.code (q.code ++ r.code) (expression-stays the_address e from names scope u h.0)
-        (both q.code r.code (entry-stays offset p.result p.used) (reached-stays c.store.types want at of q.result q.used))
+        (both q.code r.code (entry-stays offset p.result p.used) (reached-stays c.types want at of q.result q.used))
     expression-stays want (typed at of (Follow offset e)) from names scope u h =
         let p = piece c the_value e from scope u in
         let q = entry offset (a_word (word_of p.result)) p.used in
-        let r = reached c.store.types want at of q.result q.used in
+        let r = reached c.types want at of q.result q.used in
         both p.code (q.code ++ r.code) (expression-stays the_value e from names scope u h)
         (both q.code r.code (entry-stays offset (a_word (word_of p.result)) p.used)
-        (reached-stays c.store.types want at of q.result q.used))
+        (reached-stays c.types want at of q.result q.used))
     expression-stays want (typed at of (Element e i)) from names scope u h =
         let p = piece c the_address e from scope u in
         let l = located p.result p.used in
         let j = piece c the_value i (from + in_expression e) scope l.used in
-        let m = element (bytes_at c.store.types of) (word_of l.result) (word_of j.result) j.used in
-        let r = reached c.store.types want at of m.result m.used in
+        let m = element (bytes_at c.types of) (word_of l.result) (word_of j.result) j.used in
+        let r = reached c.types want at of m.result m.used in
         both p.code (l.code ++ (j.code ++ (m.code ++ r.code))) (expression-stays the_address e from names scope u h.0)
         (both l.code (j.code ++ (m.code ++ r.code)) (located-stays p.result p.used)
         (both j.code (m.code ++ r.code) (expression-stays the_value i (from + in_expression e) names scope l.used h.1)
-        (reached-stays c.store.types want at of m.result m.used)))
+        (reached-stays c.types want at of m.result m.used)))
     expression-stays want (typed at of (Index e i)) from names scope u h =
         let p = piece c the_value e from scope u in
         let j = piece c the_value i (from + in_expression e) scope p.used in
-        let m = element (bytes_at c.store.types of) (word_of p.result) (word_of j.result) j.used in
-        let r = reached c.store.types want at of m.result m.used in
+        let m = element (bytes_at c.types of) (word_of p.result) (word_of j.result) j.used in
+        let r = reached c.types want at of m.result m.used in
         both p.code (j.code ++ (m.code ++ r.code)) (expression-stays the_value e from names scope u h.0)
         (both j.code (m.code ++ r.code) (expression-stays the_value i (from + in_expression e) names scope p.used h.1)
-        (reached-stays c.store.types want at of m.result m.used))
+        (reached-stays c.types want at of m.result m.used))
     expression-stays want (typed at of (Address e)) from names scope u h =
         let p = piece c the_address e from scope u in
         both p.code (located p.result p.used).code (expression-stays the_address e from names scope u h.0) (located-stays p.result p.used)
@@ -378,11 +378,11 @@ module _ (c : Around) (types : List TypeForm) (frame : ℕ) (outside : Within) (
     statement-stays (statement at (Assign places values)) from w names scope u outer h =
         let p = pieces c values from scope u in
         let q = targets c places (from + in_list values) scope p.used in
-        both p.code (q.code ++ (assigned_all c.store.types places q.result p.result q.used).code)
+        both p.code (q.code ++ (assigned_all c.types places q.result p.result q.used).code)
         (expressions-stay values from names scope u h.0)
-        (both q.code (assigned_all c.store.types places q.result p.result q.used).code
+        (both q.code (assigned_all c.types places q.result p.result q.used).code
         (targets-stay places (from + in_list values) names scope p.used h.1)
-        (assigned-stays c.store.types places q.result p.result q.used))
+        (assigned-stays c.types places q.result p.result q.used))
     statement-stays (statement at (If test block)) from w names scope u outer h =
         let p = piece c the_value test from scope u in
         let q = all c block (from + in_expression test) scope p.used in
@@ -414,7 +414,7 @@ module _ (c : Around) (types : List TypeForm) (frame : ℕ) (outside : Within) (
         (tt, loop-stays ((p.code ++ q.code) ++ ends (repeats_unless (word_of q.result) (count_ends (p.code ++ q.code))) ∷ []))
     statement-stays (statement at (For x bounds body)) from w names scope u outer h =
         let p = pieces c bounds from scope u in
-        let k = counting (number_of c.store.types x.of) p.result p.used.temps in
+        let k = counting (number_of c.types x.of) p.result p.used.temps in
         let t = runs k (with_temp p.used) in
         let d = declare c at x (Some (a_word (Temp k.value))) (from + in_list bounds) scope t.used in
         let b = all c body (suc (from + in_list bounds)) d.result d.used in

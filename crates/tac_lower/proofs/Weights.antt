@@ -194,7 +194,7 @@ declares-words c at [] vs k scope u = omega arith
 declares-words c at (x ∷ xs) vs k scope u =
     let p = declare c at x (first_of vs) k scope u in
     let h = both p.code (declare_all c at xs (rest vs) (suc k) p.result p.used).code 63 (63 * length xs)
-    (declare-words c.store.types at x (first_of vs) (home_at c.homes k) scope u)
+    (declare-words c.types at x (first_of vs) (home_at c.homes k) scope u)
     (declares-words c at xs (rest vs) (suc k) p.result p.used) in omega (arith, h)
 
 reached-words : (types : List TypeForm) (want : Wanted) (at : Place) (of : TypeId) (r : Result) (u : Used) →
@@ -252,13 +252,13 @@ operation-words c at of operations.Negate ts vs u = omega arith
 operation-words c at of operations.Not ts vs u = by (nat_eq of.0 boolean.0)
   where
     by : (b : Bool) → weigh (if b then compute operators.Xor whole_word (word_at vs 0) (Constant 1) u
-        else compute operators.Xor (number_of c.store.types of) (word_at vs 0) (Constant (2 ^ 64 - 1)) u).code ≤ 98 + 63 * length vs
+        else compute operators.Xor (number_of c.types of) (word_at vs 0) (Constant (2 ^ 64 - 1)) u).code ≤ 98 + 63 * length vs
     by true = omega arith
     by false = omega arith
 operation-words c at of (operations.Binary op) ts vs u = by (divides op)
   where
     by : (b : Bool) → weigh (then_piece (if b then doing (tt {0}) (TestDivisor at (word_at vs 1)) u else known (tt {0}) u)
-        (λ t u'. compute op (number_of c.store.types (type_at ts 0)) (word_at vs 0) (word_at vs 1) u')).code ≤ 98 + 63 * length vs
+        (λ t u'. compute op (number_of c.types (type_at ts 0)) (word_at vs 0) (word_at vs 1) u')).code ≤ 98 + 63 * length vs
     by true = omega arith
     by false = omega arith
 operation-words c at of operations.StepForward ts vs u = omega arith
@@ -267,29 +267,29 @@ operation-words c at of operations.Difference ts vs u = omega arith
 operation-words c at of operations.Convert ts vs u = by (nat_eq of.0 boolean.0)
   where
     by : (b : Bool) → weigh (if b then compute operators.NotEqual whole_word (word_at vs 0) (Constant 0) u
-        else compute operators.Add (number_of c.store.types of) (word_at vs 0) (Constant 0) u).code ≤ 98 + 63 * length vs
+        else compute operators.Add (number_of c.types of) (word_at vs 0) (Constant 0) u).code ≤ 98 + 63 * length vs
     by true = omega arith
     by false = omega arith
 operation-words c at of (operations.Extract offset) ts vs u =
-    let h = extracted-words c.store.types of offset (result_at vs 0) u in omega (arith, h)
-operation-words c at of (operations.Call f) ts vs u = by (is_aggregate c.store.types of)
+    let h = extracted-words c.types of offset (result_at vs 0) u in omega (arith, h)
+operation-words c at of (operations.Call f) ts vs u = by (is_aggregate c.types of)
   where
-    by : (b : Bool) → weigh (then_piece (if b then known (destinations.Area (length u.areas)) (with_area (bytes_at c.store.types of) u)
+    by : (b : Bool) → weigh (then_piece (if b then known (destinations.Area (length u.areas)) (with_area (bytes_at c.types of) u)
         else known (destinations.Temp u.temps) (with_temp u)) (λ to u'. call at f vs to u')).code ≤ 98 + 63 * length vs
     by true = let h = parts-count vs in omega (arith, h)
     by false = let h = parts-count vs in omega (arith, h)
 operation-words c at of (operations.Primitive primitives.PutByte) ts vs u = omega arith
 operation-words c at of (operations.Primitive primitives.Write) ts vs u = omega arith
 operation-words c at of (operations.Primitive primitives.Alloc) ts vs u = omega arith
-operation-words c at of operations.CallValue ts vs u = by (is_aggregate c.store.types of)
+operation-words c at of operations.CallValue ts vs u = by (is_aggregate c.types of)
   where
-    by : (b : Bool) → weigh (then_piece (if b then known (destinations.Area (length u.areas)) (with_area (bytes_at c.store.types of) u)
+    by : (b : Bool) → weigh (then_piece (if b then known (destinations.Area (length u.areas)) (with_area (bytes_at c.types of) u)
         else known (destinations.Temp u.temps) (with_temp u))
-        (λ to u'. call_value at (signature_in (form_at c.store.types (type_at ts 0))) vs to u')).code ≤ 98 + 63 * length vs
+        (λ to u'. call_value at (signature_in (form_at c.types (type_at ts 0))) vs to u')).code ≤ 98 + 63 * length vs
     by true = let h = parts-count (rest vs) in let k = rest-count vs in omega (arith, h, k)
     by false = let h = parts-count (rest vs) in let k = rest-count vs in omega (arith, h, k)
 operation-words c at of (operations.Construct offsets) ts vs u =
-    let h = constructed-words c.store.types (length u.areas) offsets ts vs (with_area (bytes_at c.store.types of) u) in omega (arith, h)
+    let h = constructed-words c.types (length u.areas) offsets ts vs (with_area (bytes_at c.types of) u) in omega (arith, h)
 
 -- assignments
 
@@ -379,9 +379,9 @@ module _ (c : Around) where
         weigh (piece c want e from scope u).code + 63 ≤ 250 * nodes e
     expression-words want (typed at of (Constant' k)) from scope u = omega arith
     expression-words want (typed at of (Variable x)) from scope u =
-        let h = variable-words c.store.types want at of (holder_of x scope) u in omega (arith, h)
+        let h = variable-words c.types want at of (holder_of x scope) u in omega (arith, h)
     expression-words want (typed at of (Global a)) from scope u =
-        let h = reached-words c.store.types want at of (a_word (Constant a)) u in omega (arith, h)
+        let h = reached-words c.types want at of (a_word (Constant a)) u in omega (arith, h)
     expression-words want (typed at of (Operate op es)) from scope u =
         let p = pieces c es from scope u in
         let q = operation c at of op (types_of es) p.result p.used in
@@ -414,49 +414,49 @@ module _ (c : Around) where
         let j = into-words u.temps q.code (word_of q.result) in omega (arith, h, k, i, j, x, y)
     expression-words want (typed at of (Dereference e)) from scope u =
         let p = piece c the_value e from scope u in
-        let r = reached c.store.types want at of (a_word (word_of p.result)) p.used in
+        let r = reached c.types want at of (a_word (word_of p.result)) p.used in
         let x = expression-words the_value e from scope u in
-        let y = reached-words c.store.types want at of (a_word (word_of p.result)) p.used in
+        let y = reached-words c.types want at of (a_word (word_of p.result)) p.used in
         let h = weigh-append p.code r.code in omega (arith, h, x, y)
     expression-words want (typed at of (Select offset e)) from scope u =
         let p = piece c the_address e from scope u in
         let q = entry offset p.result p.used in
-        let r = reached c.store.types want at of q.result q.used in
+        let r = reached c.types want at of q.result q.used in
         let x = expression-words the_address e from scope u in
         let y = entry-words offset p.result p.used in
-        let z = reached-words c.store.types want at of q.result q.used in
+        let z = reached-words c.types want at of q.result q.used in
         let h = weigh-append p.code (q.code ++ r.code) in
         let k = weigh-append q.code r.code in omega (arith, h, k, x, y, z)
     expression-words want (typed at of (Follow offset e)) from scope u =
         let p = piece c the_value e from scope u in
         let q = entry offset (a_word (word_of p.result)) p.used in
-        let r = reached c.store.types want at of q.result q.used in
+        let r = reached c.types want at of q.result q.used in
         let x = expression-words the_value e from scope u in
         let y = entry-words offset (a_word (word_of p.result)) p.used in
-        let z = reached-words c.store.types want at of q.result q.used in
+        let z = reached-words c.types want at of q.result q.used in
         let h = weigh-append p.code (q.code ++ r.code) in
         let k = weigh-append q.code r.code in omega (arith, h, k, x, y, z)
     expression-words want (typed at of (Element e i)) from scope u =
         let p = piece c the_address e from scope u in
         let l = located p.result p.used in
         let j = piece c the_value i (from + in_expression e) scope l.used in
-        let m = element (bytes_at c.store.types of) (word_of l.result) (word_of j.result) j.used in
-        let r = reached c.store.types want at of m.result m.used in
+        let m = element (bytes_at c.types of) (word_of l.result) (word_of j.result) j.used in
+        let r = reached c.types want at of m.result m.used in
         let x = expression-words the_address e from scope u in
         let y = located-words p.result p.used in
         let z = expression-words the_value i (from + in_expression e) scope l.used in
-        let v = reached-words c.store.types want at of m.result m.used in
+        let v = reached-words c.types want at of m.result m.used in
         let h = weigh-append p.code (l.code ++ (j.code ++ (m.code ++ r.code))) in
         let k = weigh-append l.code (j.code ++ (m.code ++ r.code)) in
         let n = weigh-append j.code (m.code ++ r.code) in omega (arith, h, k, n, x, y, z, v)
     expression-words want (typed at of (Index e i)) from scope u =
         let p = piece c the_value e from scope u in
         let j = piece c the_value i (from + in_expression e) scope p.used in
-        let m = element (bytes_at c.store.types of) (word_of p.result) (word_of j.result) j.used in
-        let r = reached c.store.types want at of m.result m.used in
+        let m = element (bytes_at c.types of) (word_of p.result) (word_of j.result) j.used in
+        let r = reached c.types want at of m.result m.used in
         let x = expression-words the_value e from scope u in
         let z = expression-words the_value i (from + in_expression e) scope p.used in
-        let v = reached-words c.store.types want at of m.result m.used in
+        let v = reached-words c.types want at of m.result m.used in
         let h = weigh-append p.code (j.code ++ (m.code ++ r.code)) in
         let n = weigh-append j.code (m.code ++ r.code) in omega (arith, h, n, x, z, v)
     expression-words want (typed at of (Address e)) from scope u =
@@ -508,10 +508,10 @@ module _ (c : Around) where
     statement-words (statement at (Assign places values)) from scope u =
         let p = pieces c values from scope u in
         let q = targets c places (from + in_list values) scope p.used in
-        let r = assigned_all c.store.types places q.result p.result q.used in
+        let r = assigned_all c.types places q.result p.result q.used in
         let x = expressions-words values from scope u in
         let y = targets-words places (from + in_list values) scope p.used in
-        let z = assigned-words c.store.types places q.result p.result q.used in
+        let z = assigned-words c.types places q.result p.result q.used in
         let h = weigh-append p.code (q.code ++ r.code) in
         let k = weigh-append q.code r.code in omega (arith, h, k, x, y, z)
     statement-words (statement at (If test block)) from scope u =
@@ -548,7 +548,7 @@ module _ (c : Around) where
         let l = weigh-append p.code q.code in omega (arith, h, k, l, x, y)
     statement-words (statement at (For x bounds body)) from scope u =
         let p = pieces c bounds from scope u in
-        let number = number_of c.store.types x.of in
+        let number = number_of c.types x.of in
         let k = counting number p.result p.used.temps in
         let t = runs k (with_temp p.used) in
         let d = declare c at x (Some (a_word (Temp k.value))) (from + in_list bounds) scope t.used in
@@ -556,7 +556,7 @@ module _ (c : Around) where
         let inside = (d.code ++ b.code) ++ counted_on k ∷ [] in
         let v = expressions-words bounds from scope u in
         let w = runs-words number p.result p.used.temps (with_temp p.used) in
-        let y = declare-words c.store.types at x (Some (a_word (Temp k.value))) (home_at c.homes (from + in_list bounds)) scope t.used in
+        let y = declare-words c.types at x (Some (a_word (Temp k.value))) (home_at c.homes (from + in_list bounds)) scope t.used in
         let z = block-words body (suc (from + in_list bounds)) d.result d.used in
         let h = weigh-append p.code (does (Copy k.value (word_at p.result 0)) ∷ while_loop t.code (word_of t.result) inside) in
         let i = while-words t.code (word_of t.result) inside in

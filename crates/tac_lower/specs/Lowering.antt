@@ -111,30 +111,30 @@ call_value at sig vs to u = doing (given to) (CallValue to at sig (word_at vs 0)
 -- what an operation gives of operands of these types, which were evaluated
 abbrev pub operation : Around → Place → TypeId → Operation → List TypeId → List Result → Used → Piece Result
 operation c at of operations.Negate ts vs u =
-    compute operators.Subtract (number_of c.store.types of) (Constant 0) (word_at vs 0) u
+    compute operators.Subtract (number_of c.types of) (Constant 0) (word_at vs 0) u
 operation c at of operations.Not ts vs u =
     if nat_eq of.0 boolean.0 then compute operators.Xor whole_word (word_at vs 0) (Constant 1) u
-    else compute operators.Xor (number_of c.store.types of) (word_at vs 0) (Constant (2 ^ 64 - 1)) u
+    else compute operators.Xor (number_of c.types of) (word_at vs 0) (Constant (2 ^ 64 - 1)) u
 operation c at of (operations.Binary op) ts vs u =
-    binary at (number_of c.store.types (type_at ts 0)) op (word_at vs 0) (word_at vs 1) u
+    binary at (number_of c.types (type_at ts 0)) op (word_at vs 0) (word_at vs 1) u
 operation c at of operations.StepForward ts vs u =
-    step (bytes_at c.store.types (target_of c.store.types of)) operators.Add (word_at vs 0) (word_at vs 1) u
+    step (bytes_at c.types (target_of c.types of)) operators.Add (word_at vs 0) (word_at vs 1) u
 operation c at of operations.StepBack ts vs u =
-    step (bytes_at c.store.types (target_of c.store.types of)) operators.Subtract (word_at vs 0) (word_at vs 1) u
+    step (bytes_at c.types (target_of c.types of)) operators.Subtract (word_at vs 0) (word_at vs 1) u
 operation c at of operations.Difference ts vs u =
-    difference (bytes_at c.store.types (target_of c.store.types (type_at ts 0))) (word_at vs 0) (word_at vs 1) u
+    difference (bytes_at c.types (target_of c.types (type_at ts 0))) (word_at vs 0) (word_at vs 1) u
 operation c at of operations.Convert ts vs u =
     if nat_eq of.0 boolean.0 then compute operators.NotEqual whole_word (word_at vs 0) (Constant 0) u
-    else compute operators.Add (number_of c.store.types of) (word_at vs 0) (Constant 0) u
-operation c at of (operations.Extract offset) ts vs u = extracted c.store.types of offset (result_at vs 0) u
+    else compute operators.Add (number_of c.types of) (word_at vs 0) (Constant 0) u
+operation c at of (operations.Extract offset) ts vs u = extracted c.types of offset (result_at vs 0) u
 operation c at of (operations.Call f) ts vs u =
-    then_piece (destination c.store.types of u) (λ to u'. call at f vs to u')
+    then_piece (destination c.types of u) (λ to u'. call at f vs to u')
 operation c at of (operations.Primitive p) ts vs u = primitive at p vs u
 operation c at of operations.CallValue ts vs u =
-    then_piece (destination c.store.types of u)
-    (λ to u'. call_value at (signature_in (form_at c.store.types (type_at ts 0))) vs to u')
+    then_piece (destination c.types of u)
+    (λ to u'. call_value at (signature_in (form_at c.types (type_at ts 0))) vs to u')
 operation c at of (operations.Construct offsets) ts vs u =
-    construct c.store.types (bytes_at c.store.types of) offsets ts vs u
+    construct c.types (bytes_at c.types of) offsets ts vs u
 
 -- `and` and `or`: the first operand goes to a temporary, whose word, or its opposite, is tested before the second
 abbrev pub opposite : Operand → Used → Piece Operand
@@ -249,8 +249,8 @@ choice test a b =
 abbrev mutual
   pub piece : Around → Wanted → Expression → (from : ℕ) → Holders → Used → Piece Result
   piece c want (typed at of (Constant' k)) from scope u = known (a_word (Constant (constant c.entries k))) u
-  piece c want (typed at of (Variable x)) from scope u = variable c.store.types want at of (holder_of x scope) u
-  piece c want (typed at of (Global a)) from scope u = reached c.store.types want at of (a_word (Constant a)) u
+  piece c want (typed at of (Variable x)) from scope u = variable c.types want at of (holder_of x scope) u
+  piece c want (typed at of (Global a)) from scope u = reached c.types want at of (a_word (Constant a)) u
   piece c want (typed at of (Operate op es)) from scope u =
       then_piece (pieces c es from scope u) (λ vs u'. operation c at of op (types_of es) vs u')
   piece c want (typed at of (Both a b)) from scope u =
@@ -260,23 +260,23 @@ abbrev mutual
       short_circuit u.temps (into u.temps (piece c the_value a from scope (with_temp u))) (opposite (Temp u.temps))
       (λ u'. into u.temps (piece c the_value b (from + in_expression a) scope u'))
   piece c want (typed at of (Dereference p)) from scope u =
-      then_piece (piece c the_value p from scope u) (λ v u'. reached c.store.types want at of (a_word (word_of v)) u')
+      then_piece (piece c the_value p from scope u) (λ v u'. reached c.types want at of (a_word (word_of v)) u')
   piece c want (typed at of (Select offset e)) from scope u =
       then_piece (piece c the_address e from scope u) (λ v u'. then_piece (entry offset v u')
-      (λ r u''. reached c.store.types want at of r u''))
+      (λ r u''. reached c.types want at of r u''))
   piece c want (typed at of (Follow offset p)) from scope u =
       then_piece (piece c the_value p from scope u) (λ v u'. then_piece (entry offset (a_word (word_of v)) u')
-      (λ r u''. reached c.store.types want at of r u''))
+      (λ r u''. reached c.types want at of r u''))
   piece c want (typed at of (Element a i)) from scope u =
       then_piece (piece c the_address a from scope u) (λ v u1. then_piece (located v u1) (λ array u2.
       then_piece (piece c the_value i (from + in_expression a) scope u2) (λ n u3.
-      then_piece (element (bytes_at c.store.types of) (word_of array) (word_of n) u3)
-      (λ r u4. reached c.store.types want at of r u4))))
+      then_piece (element (bytes_at c.types of) (word_of array) (word_of n) u3)
+      (λ r u4. reached c.types want at of r u4))))
   piece c want (typed at of (Index p i)) from scope u =
       then_piece (piece c the_value p from scope u) (λ v u1.
       then_piece (piece c the_value i (from + in_expression p) scope u1) (λ n u2.
-      then_piece (element (bytes_at c.store.types of) (word_of v) (word_of n) u2)
-      (λ r u3. reached c.store.types want at of r u3)))
+      then_piece (element (bytes_at c.types of) (word_of v) (word_of n) u2)
+      (λ r u3. reached c.types want at of r u3)))
   piece c want (typed at of (Address e)) from scope u =
       then_piece (piece c the_address e from scope u) (λ v u'. located v u')
   piece c want (typed at of (Decay a)) from scope u =
@@ -302,7 +302,7 @@ abbrev mutual
   one c (statement at (Assign places values)) from scope u =
       then_piece (pieces c values from scope u) (λ vs u1.
       then_piece (targets c places (from + in_list values) scope u1) (λ ps u2.
-      taken (λ b. scope) (assigned_all c.store.types places ps vs u2)))
+      taken (λ b. scope) (assigned_all c.types places ps vs u2)))
   one c (statement at (If test block)) from scope u =
       let v = piece c the_value test from scope u in
       let a = all c block (from + in_expression test) scope v.used in
@@ -322,7 +322,7 @@ abbrev mutual
       record { result = scope; code = repeat_loop r.code (word_of r.result); used = r.used }
   one c (statement at (For x bounds body)) from scope u =
       then_piece (pieces c bounds from scope u) (λ vs u1.
-      let k = counting (number_of c.store.types x.of) vs u1.temps in
+      let k = counting (number_of c.types x.of) vs u1.temps in
       let t = runs k (with_temp u1) in
       let a = then_piece (declare c at x (Some (a_word (Temp k.value))) (from + in_list bounds) scope t.used)
       (λ inner u2. all c body (suc (from + in_list bounds)) inner u2) in
@@ -361,7 +361,7 @@ abbrev pub type_of_name : TypedName → TypeId
 type_of_name x = x.of
 
 abbrev pub around : Contents → List FnId → Callable → Around
-around store entries k = record { store = store; entries = entries; homes = (frame_of store.types k.body).homes }
+around store entries k = record { types = store.types; entries = entries; homes = (frame_of store.types k.body).homes }
 
 -- the code of a function's body, whose parameters went to these
 abbrev pub body_piece : Around → Callable → List Destination → Used → Piece Holders

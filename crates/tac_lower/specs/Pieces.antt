@@ -11,7 +11,6 @@ use Rattle.terra_types.specs.declared.types.Integer.TheVariants.{Int8, Int16, In
 use Rattle.terra_types.specs.declared.types.TypeForm.{TypeForm}
 use Rattle.terra_types.specs.declared.types.TypeForm.TheVariants as forms
 use Rattle.terra_term.specs.declared.lists.TypedName.{TypedName}
-use Rattle.terra_term.specs.Stores.{Contents}
 use Rattle.terra_meaning.specs.Values.{form_at, bytes_at, is_aggregate}
 use Rattle.terra_meaning.specs.Frames.{Home, by_value, in_frame, home_at}
 use Rattle.tac_form.specs.declared.tac.Size.TheVariants.{One, Two, Four, Eight}
@@ -225,10 +224,10 @@ abbrev pub holder_of : SymId → Holders → Option Holder
 holder_of x [] = None
 holder_of x (b ∷ bs) = if nat_eq x.0 b.symbol.0 then Some b.holder else holder_of x bs
 
--- What the code of a function depends on: the store, the functions that stand as values, and the homes of its
--- declarations.
+-- What the code of a function depends on: the types of the store, the functions that stand as values, and the homes of
+-- its declarations.
 pub record Around : Type 0 where
-  pub store : Contents
+  pub types : List TypeForm
   pub entries : List FnId
   pub homes : List Home
 
@@ -247,7 +246,7 @@ declare_at types at x (Some v) (in_frame offset) scope u =
 
 -- the k-th declaration of the function, with its value or without
 abbrev pub declare : Around → Place → TypedName → Option Result → (k : ℕ) → Holders → Used → Piece Holders
-declare c at x v k scope u = declare_at c.store.types at x v (home_at c.homes k) scope u
+declare c at x v k scope u = declare_at c.types at x v (home_at c.homes k) scope u
 
 abbrev pub first_of : List Result → Option Result
 first_of [] = None

@@ -21,7 +21,7 @@ use Rattle.tac_lower.specs.Works.{Made}
 use Rattle.tac_lower.specs.declared.around.Around.{Around}
 
 abbrev pub around_of : Around → forms.Around
-around_of c = record { store = contents_of c.store.now; entries = c.entries.now; homes = map home_of c.homes.now }
+around_of c = record { types = (contents_of c.store.now).types; entries = c.entries.now; homes = map home_of c.homes.now }
 
 -- the pieces of nodes among those before a number, behind the code so far
 
