@@ -1,6 +1,6 @@
 -- What covers the names in scope and isn't stuck, and the ways in which parts of a program are put together. `Leaves` goes through the
 -- parts that have none, and `Sound` through the terms.
-use Rattle.std.proofs.Common.{◌≡◌, ℕ, zero, suc, ◌+◌, Bool, true, false, List, [], ◌∷◌, ◌++◌, length, Option, Some, None, refl, sym, ap, ◌∙◌, subst, absurd, arith, Unit, ⊥}
+use Rattle.std.proofs.Common.{◌≡◌, ℕ, zero, suc, ◌+◌, Bool, true, false, List, [], ◌∷◌, ◌++◌, length, Option, Some, None, refl, sym, ap, ◌∙◌, subst, arith}
 use Rattle.std.specs.Prelude.{nat_eq, if◌then◌else◌}
 use Rattle.std.proofs.lemmas.Bool.{eqb-true, eq-eqb}
 use Rattle.tl_base.specs.declared.ids.SymId.{SymId}
@@ -63,19 +63,20 @@ same-symbol a b e = ap (λ m. record { 0 = m }) (eqb-true a.0 b.0 e)
 
 pub found-some : (x : SymId) (vs : List running.Variable) → has_symbol x (shape vs) ≡ true → (is : Held) × (find x vs ≡ Some is)
 found-some x [] h = absurd (no h)
-found-some x (v ∷ vs) h = by (nat_eq x.0 v.symbol.0) h
+found-some x (v ∷ vs) h = by (nat_eq x.0 v.symbol.0) (λ e. found-some x vs e) h
   where
-    by : (b : Bool) → (if b then true else has_symbol x (shape vs)) ≡ true → (is : Held) × ((if b then Some v.is else find x vs) ≡ Some is)
-    by true e = (v.is, refl)
-    by false e = found-some x vs e
+    by : (b : Bool) → (has_symbol x (shape vs) ≡ true → (is : Held) × (find x vs ≡ Some is)) →
+        (if b then true else has_symbol x (shape vs)) ≡ true → (is : Held) × ((if b then Some v.is else find x vs) ≡ Some is)
+    by true more e = (v.is, refl)
+    by false more e = more e
 
 more-symbols : (x : SymId) (nearer sh : List Shape) → has_symbol x sh ≡ true → has_symbol x (nearer ++ sh) ≡ true
 more-symbols x [] sh h = h
-more-symbols x (y ∷ ys) sh h = by (nat_eq x.0 y.symbol.0)
+more-symbols x (y ∷ ys) sh h = by (nat_eq x.0 y.symbol.0) (more-symbols x ys sh h)
   where
-    by : (b : Bool) → (if b then true else has_symbol x (ys ++ sh)) ≡ true
-    by true = refl
-    by false = more-symbols x ys sh h
+    by : (b : Bool) → has_symbol x (ys ++ sh) ≡ true → (if b then true else has_symbol x (ys ++ sh)) ≡ true
+    by true more = refl
+    by false more = more
 
 pub covers-more : (names : List TypedName) (nearer sh : List Shape) → Covers names sh → Covers names (nearer ++ sh)
 covers-more [] nearer sh h = tt
@@ -91,11 +92,12 @@ covers-new x names new sh is h =
 pub in-covers : (x : SymId) (of : TypeId) (names : List TypedName) (sh : List Shape) → typing.in_scope x of names ≡ true →
     Covers names sh → has_symbol x sh ≡ true
 in-covers x of [] sh e h = absurd (no e)
-in-covers x of (y ∷ ys) sh e h = by (nat_eq x.0 y.symbol.0) refl e
+in-covers x of (y ∷ ys) sh e h = by (nat_eq x.0 y.symbol.0) refl (λ e2. in-covers x of ys sh e2 h.1) e
   where
-    by : (b : Bool) → nat_eq x.0 y.symbol.0 ≡ b → (if b then same of y.of else typing.in_scope x of ys) ≡ true → has_symbol x sh ≡ true
-    by true is e2 = subst (λ (z : SymId). has_symbol z sh ≡ true) (sym (same-symbol x y.symbol is)) h.0
-    by false is e2 = in-covers x of ys sh e2 h.1
+    by : (b : Bool) → nat_eq x.0 y.symbol.0 ≡ b → (typing.in_scope x of ys ≡ true → has_symbol x sh ≡ true) →
+        (if b then same of y.of else typing.in_scope x of ys) ≡ true → has_symbol x sh ≡ true
+    by true is more e2 = subst (λ (z : SymId). has_symbol z sh ≡ true) (sym (same-symbol x y.symbol is)) h.0
+    by false is more e2 = more e2
 
 -- ---- one part after the other
 

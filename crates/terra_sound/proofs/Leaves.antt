@@ -1,5 +1,5 @@
 -- The parts that have none: memory, operations, declarations and assignments.
-use Rattle.std.proofs.Common.{◌≡◌, ℕ, zero, suc, ◌+◌, ◌<◌, Bool, true, false, List, [], ◌∷◌, length, Option, Some, None, refl, sym, ap, ◌∙◌, subst, absurd, arith, Unit}
+use Rattle.std.proofs.Common.{◌≡◌, ℕ, zero, suc, ◌+◌, ◌<◌, Bool, true, false, List, [], ◌∷◌, length, Option, Some, None, refl, sym, ap, ◌∙◌, subst, arith}
 use Rattle.std.specs.Prelude.{◌&&◌, nat_eq, nat_lt, if◌then◌else◌}
 use Rattle.std.proofs.lemmas.Bool.{and_parts, ltb-true}
 use Rattle.tl_base.specs.declared.place.Place.{Place}
@@ -76,6 +76,17 @@ sound-elements : (apart size : ℕ) (s : State) → 0 < size → Sound (in_eleme
 sound-elements apart zero s h = absurd (omega (arith, h))
 sound-elements apart (suc size) s h = tt
 
+-- what a pointer to elements of some bytes points to
+has-bytes : (types : List TypeForm) (f : TypeForm) → typing.pointer_form f ≡ true →
+    nat_lt 0 (bytes_at types (typing.target_in f)) ≡ true → 0 < bytes_at types (target_of (f ∷ []) (record { 0 = 0 }))
+has-bytes types (forms.Pointer t) h e = ltb-true 0 (bytes_at types t) e
+has-bytes types (forms.Integer i) h e = absurd (no h)
+has-bytes types forms.Bool h e = absurd (no h)
+has-bytes types forms.Unit h e = absurd (no h)
+has-bytes types (forms.Array s n) h e = absurd (no h)
+has-bytes types (forms.Function ps r) h e = absurd (no h)
+has-bytes types (forms.Struct n p l) h e = absurd (no h)
+
 no-type : (form : TypeForm) → has_type form None ≡ false
 no-type (forms.Integer i) = refl
 no-type forms.Bool = refl
@@ -119,7 +130,7 @@ sound-operated c h at of operations.Difference ts vs s t =
     let p = five (typing.has_operands 2 ts) (same (typing.first_type ts) (typing.second_type ts))
     (typing.is_pointer c.store (typing.first_type ts)) (typing.is_sized c.store (typing.first_type ts)) (same of int64) t in
     sound-elements _ (bytes_at c.store.types (target_of c.store.types (type_at ts 0))) s
-    (ltb-true 0 (bytes_at c.store.types (target_of c.store.types (type_at ts 0))) p.3)
+    (has-bytes c.store.types (form_at c.store.types (type_at ts 0)) p.2 p.3)
 sound-operated c h at of operations.Convert ts vs s t = tt
 sound-operated c h at of (operations.Extract offset) ts vs s t = tt
 sound-operated c h at of (operations.Call f) ts vs s t = let k = there c f ts of t in h.sound f k.0 vs at s k.1

@@ -1,5 +1,5 @@
 -- What runs give back are values of the result's type: the proof of lowering has it of each call.
-use Rattle.std.proofs.Common.{◌≡◌, ℕ, zero, suc, ◌+◌, ◌<◌, ◌≤◌, List, [], ◌++◌, length, replicate, Some, refl, sym, ap, ◌∙◌, subst, absurd, arith, length-append}
+use Rattle.std.proofs.Common.{◌≡◌, ℕ, zero, suc, ◌+◌, ◌<◌, ◌≤◌, List, [], ◌++◌, length, replicate, Some, refl, sym, ap, ◌∙◌, subst, arith, length-append}
 use Rattle.std.specs.Prelude.{◌-◌, ◌^◌, ◌/◌, option_map}
 use Rattle.std.proofs.lemmas.List.{length-replicate}
 use Rattle.tl_base.specs.declared.place.Place.{Place}

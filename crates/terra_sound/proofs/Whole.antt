@@ -1,5 +1,5 @@
 -- Whole runs aren't stuck, by induction on how deep calls may go.
-use Rattle.std.proofs.Common.{◌≡◌, ◌≢◌, ℕ, zero, suc, ◌+◌, Bool, true, false, List, [], length, Option, Some, None, refl, sym, ap, ◌∙◌, subst, absurd}
+use Rattle.std.proofs.Common.{◌≡◌, ◌≢◌, ℕ, zero, suc, ◌+◌, Bool, true, false, List, [], length, Option, Some, None, refl, sym, ap, ◌∙◌, subst}
 use Rattle.std.specs.Prelude.{◌-◌, nat_eq, nat_le, nat_lt, if◌then◌else◌}
 use Rattle.std.proofs.lemmas.Bool.{and_parts}
 use Rattle.tl_base.specs.declared.place.Place.{Place}
@@ -24,7 +24,7 @@ use Rattle.terra_sound.proofs.Covering.{is_fault, Covers, Sound, Leaves, Acts, s
 use Rattle.terra_sound.proofs.Leaves.{CallsSound, leaves-declared-all}
 use Rattle.terra_sound.proofs.Sound.{sound-block}
 
-is_stuck : Run → Bool
+abbrev pub is_stuck : Run → Bool
 is_stuck (Over Stuck out) = true
 is_stuck _ = false
 
@@ -86,33 +86,35 @@ module _ (store : Contents) (entries : List FnId) (typed : AreTyped store) where
   Applies n = (depth top : ℕ) (f : FnId) (k : Callable) (vs : List Value) (at : Place) (s : State) → callable_of store f ≡ Some k →
       Sound (apply store entries n depth top f vs at s)
 
+  -- a call of a function whose frame ends at an address, below so many callers
+  abbrev call_of : (m depth top : ℕ) → Callable → Call
+  call_of m depth top k = record {
+    store = store;
+    entries = entries;
+    call = below m depth (top - (frame_of store.types k.body).size);
+    base = top - (frame_of store.types k.body).size;
+    homes = (frame_of store.types k.body).homes;
+    turns = suc m;
+  }
+
+  calls-sound : (m : ℕ) → Applies m → (depth top : ℕ) (k : Callable) → CallsSound (call_of m depth top k)
+  calls-sound m more depth top k = record {
+    keep = λ g xs place t. keeps-counted t.left t
+        (λ s1. kept t.variables (apply store entries m (suc depth) (top - (frame_of store.types k.body).size) g xs place s1))
+        (λ u. keeps-kept t (apply store entries m (suc depth) (top - (frame_of store.types k.body).size) g xs place u));
+    sound = λ g j xs place t e. sound-counted t.left t
+        (λ s1. kept t.variables (apply store entries m (suc depth) (top - (frame_of store.types k.body).size) g xs place s1))
+        (λ u. sound-kept t.variables (apply store entries m (suc depth) (top - (frame_of store.types k.body).size) g xs place u)
+        (more (suc depth) (top - (frame_of store.types k.body).size) g j xs place u e));
+  }
+
   sound-entered : (m : ℕ) → Applies m → (depth top : ℕ) (at : Place) (f : FnId) (k : Callable) (vs : List Value) (s : State) →
       callable_of store f ≡ Some k → Sound (entered store entries (below m depth) (suc m) depth top at (Some k) vs s)
   sound-entered m more depth top at f k vs s there =
       sound-if (nat_le most_calls depth) (Ends _) _ refl
-      (sound-if (nat_lt top (heap_limit s.region + (frame_of store.types k.body).size)) (Ends _) (body_run call k vs s) refl
-      (sound-body call calls k (typed f k there) vs s))
-    where
-      abbrev call : Call
-      call = record {
-        store = store;
-        entries = entries;
-        call = below m depth (top - (frame_of store.types k.body).size);
-        base = top - (frame_of store.types k.body).size;
-        homes = (frame_of store.types k.body).homes;
-        turns = suc m;
-      }
-
-      calls : CallsSound call
-      calls = record {
-        keep = λ g xs place t. keeps-counted t.left t
-            (λ s1. kept t.variables (apply store entries m (suc depth) (top - (frame_of store.types k.body).size) g xs place s1))
-            (λ u. keeps-kept t (apply store entries m (suc depth) (top - (frame_of store.types k.body).size) g xs place u));
-        sound = λ g j xs place t e. sound-counted t.left t
-            (λ s1. kept t.variables (apply store entries m (suc depth) (top - (frame_of store.types k.body).size) g xs place s1))
-            (λ u. sound-kept t.variables (apply store entries m (suc depth) (top - (frame_of store.types k.body).size) g xs place u)
-            (more (suc depth) (top - (frame_of store.types k.body).size) g j xs place u e));
-      }
+      (sound-if (nat_lt top (heap_limit s.region + (frame_of store.types k.body).size)) (Ends _)
+      (body_run (call_of m depth top k) k vs s) refl
+      (sound-body (call_of m depth top k) (calls-sound m more depth top k) k (typed f k there) vs s))
 
   pub sound-apply : (n : ℕ) → Applies n
   sound-apply zero depth top f k vs at s there = refl
