@@ -33,6 +33,7 @@ returned _ = word 0
 -- a call that ends as a run that gives back a value gives that value
 gave : (p : Program) (types : List TypeForm) (memory : ℕ) (m : Moved) (of : TypeId) (left : ℕ) (v : Value) (out : List ℕ) (g : Got Value) →
     Sound g → CallOk p types memory [] m of left g → run_of g ≡ Over (Returned v) out → IsValue types of v
+unfolding returned
 gave p types memory m of left v out (Gives w s) sound ok is = subst (IsValue types of) (ap returned is) ok.is_value
 gave p types memory m of left v out (Ends r) sound ok is = absurd (no (sym (ap is_abrupt is) ∙ sound))
 
