@@ -93,15 +93,17 @@ module _ (p q : Program) (In : FnId → Type 0) (closed : IsClosed p In) (has : 
   inside-enter at f (Some code) arguments top callers s h cs =
       inside-if (nat_le most_calls (length callers)) (Stops _) _ tt
       (inside-if (nat_lt top (heap_limit s.region + code.frame)) (Stops _) _ tt
-      (inside-if (accepts_all code code.parameters arguments) (Goes _) (Stops _)
-      (subst In (sym (takes-function code.parameters arguments (record {
-        function = f;
-        block = 0;
-        at = 0;
-        temps = λ t. 0;
-        areas = λ n. [];
-        base = top - code.frame;
-      }))) h, cs) tt))
+      (inside-if (accepts_all code code.parameters arguments) (Goes _) (Stops _) (
+        subst In (sym (takes-function code.parameters arguments (record {
+          function = f;
+          block = 0;
+          at = 0;
+          temps = λ t. 0;
+          areas = λ n. [];
+          base = top - code.frame;
+        }))) h,
+        cs,
+      ) tt))
 
   inside-follow : (e : Edge) (s : State) → Within s → Inside (follow e s)
   inside-follow e s h = by e.counts
@@ -230,13 +232,15 @@ module _ (p q : Program) (In : FnId → Type 0) (closed : IsClosed p In) (has : 
     where
       by : (o : Option Tac) → p.code s.here.function ≡ o → (in_function q (q.code s.here.function) s ≡ in_function p (p.code s.here.function) s)
           × Inside (in_function p (p.code s.here.function) s)
-      by None is =
-          (ap (λ o. in_function q o s) (has.same s.here.function h.0 ∙ is) ∙ sym (ap (λ o. in_function p o s) is),
-          subst (λ o. Inside (in_function p o s)) (sym is) tt)
+      by None is = (
+        ap (λ o. in_function q o s) (has.same s.here.function h.0 ∙ is) ∙ sym (ap (λ o. in_function p o s) is),
+        subst (λ o. Inside (in_function p o s)) (sym is) tt,
+      )
       by (Some code) is =
-          let x = in-block code s is h (slice_get code.blocks s.here.block) refl in
-          (ap (λ o. in_function q o s) (has.same s.here.function h.0 ∙ is) ∙ x.0 ∙ sym (ap (λ o. in_function p o s) is),
-          subst (λ o. Inside (in_function p o s)) (sym is) x.1)
+          let x = in-block code s is h (slice_get code.blocks s.here.block) refl in (
+            ap (λ o. in_function q o s) (has.same s.here.function h.0 ∙ is) ∙ x.0 ∙ sym (ap (λ o. in_function p o s) is),
+            subst (λ o. Inside (in_function p o s)) (sym is) x.1,
+          )
 
   all-steps : (k : ℕ) (m : Moved) → Inside m → steps q k m ≡ steps p k m
   all-steps zero m h = refl
@@ -258,7 +262,8 @@ module _ (p q : Program) (In : FnId → Type 0) (closed : IsClosed p In) (has : 
         base = end_address region;
       } in
       let s : State = record { here = nowhere; callers = []; region = region; left = n; out = [] } in
-      let inside = inside-enter (place_of (p.code f)) f (p.code f) arguments (end_address region) [] s here tt in
-      (run.0,
-      ap (λ o. steps q run.0 (enter (place_of o) f o arguments (end_address region) [] s)) (has.same f here)
-      ∙ all-steps run.0 (begun p statics memory n f arguments) inside ∙ run.1)
+      let inside = inside-enter (place_of (p.code f)) f (p.code f) arguments (end_address region) [] s here tt in (
+        run.0,
+        ap (λ o. steps q run.0 (enter (place_of o) f o arguments (end_address region) [] s)) (has.same f here)
+            ∙ all-steps run.0 (begun p statics memory n f arguments) inside ∙ run.1,
+      )

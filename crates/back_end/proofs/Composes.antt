@@ -24,7 +24,6 @@ front-self a = ([], sym (append-nil a))
 
 module _ (Same : End → Stop → Type 0) (only : (e : End) (s : Stop) → Same e s → s ≢ stops.Unfinished) (source : ℕ → Run)
     (target : ℕ → Ran) (words : ℕ) (follows : (n : ℕ) → Follows Same target words n (source n)) (longer : Extend target) where
-
   ends : (n : ℕ) (e : End) (out : List ℕ) → source n ≡ Over e out → (k : ℕ) × (k ≤ (n + 1) * words) × EndsSo Same e out (target k)
   ends n e out h = subst (Follows Same target words n) h (follows n)
 

@@ -1,5 +1,6 @@
 //! Trial.
 #![tactic(auto)]
+
 ghost use Rattle.std.specs.Prelude.{◌≡◌, true};
 
 /// Trial.

@@ -1,6 +1,6 @@
 -- What covers the names in scope and isn't stuck, and the ways in which parts of a program are put together. `Leaves` goes through the
 -- parts that have none, and `Sound` through the terms.
-use Rattle.std.proofs.Common.{◌≡◌, ℕ, zero, suc, ◌+◌, Bool, true, false, List, [], ◌∷◌, ◌++◌, length, Option, Some, None, refl, sym, ap, ◌∙◌, subst, arith}
+use Rattle.std.proofs.Common.{◌≡◌, ℕ, zero, suc, ◌+◌, Bool, true, false, List, [], ◌∷◌, ◌++◌, Some, refl, sym, ap, subst}
 use Rattle.std.specs.Prelude.{nat_eq, if◌then◌else◌}
 use Rattle.std.proofs.lemmas.Bool.{eqb-true, eq-eqb}
 use Rattle.tl_base.specs.declared.ids.SymId.{SymId}
@@ -12,7 +12,7 @@ use Rattle.terra_words.specs.Runs as ends
 use Rattle.terra_term.specs.declared.lists.TypedName.{TypedName}
 use Rattle.terra_term.specs.WellTyped as typing
 use Rattle.terra_term.specs.WellTyped.{Within, same, in_a_let, in_a_loop}
-use Rattle.terra_meaning.specs.Laws.{Shape, shape_of, shape, Has, Over, Keeps}
+use Rattle.terra_meaning.specs.Laws.{Shape, shape, Has, Keeps}
 use Rattle.terra_meaning.specs.Running as running
 use Rattle.terra_meaning.specs.Running.{Held, State, Got, Gives, Ends, next, counted_from, leaving, scoped, find}
 use Rattle.terra_meaning.specs.Meaning.{Way, goes_on, breaks, gives_back, along, turned, rounds, runs, for_rounds}
@@ -84,10 +84,11 @@ covers-more (y ∷ ys) nearer sh h = (more-symbols y.symbol nearer sh h.0, cover
 
 pub covers-new : (x : TypedName) (names : List TypedName) (new : Shape) (sh : List Shape) → new.symbol ≡ x.symbol → Covers names sh →
     Covers (x ∷ names) (new ∷ sh)
-covers-new x names new sh is h =
-    (subst (λ (z : SymId). (if nat_eq x.symbol.0 z.0 then true else has_symbol x.symbol sh) ≡ true) (sym is)
-    (ap (λ b. if b then true else has_symbol x.symbol sh) (eq-eqb x.symbol.0 x.symbol.0 refl)),
-    covers-more names (new ∷ []) sh h)
+covers-new x names new sh is h = (
+  subst (λ (z : SymId). (if nat_eq x.symbol.0 z.0 then true else has_symbol x.symbol sh) ≡ true) (sym is)
+      (ap (λ b. if b then true else has_symbol x.symbol sh) (eq-eqb x.symbol.0 x.symbol.0 refl)),
+  covers-more names (new ∷ []) sh h,
+)
 
 pub in-covers : (x : SymId) (of : TypeId) (names : List TypedName) (sh : List Shape) → typing.in_scope x of names ≡ true →
     Covers names sh → has_symbol x sh ≡ true

@@ -1,11 +1,11 @@
 -- Typed expressions and statements aren't stuck where each name in scope has a variable.
-use Rattle.std.proofs.Common.{◌≡◌, ℕ, suc, ◌+◌, ◌*◌, Bool, true, false, List, [], ◌∷◌, Some, refl, sym, subst}
-use Rattle.std.specs.Prelude.{◌&&◌, ◌||◌, not, nat_lt, if◌then◌else◌}
+use Rattle.std.proofs.Common.{◌≡◌, ℕ, suc, ◌+◌, ◌*◌, Bool, true, false, List, ◌∷◌, Some, refl, sym, subst}
+use Rattle.std.specs.Prelude.{◌&&◌, ◌||◌, not, if◌then◌else◌}
 use Rattle.std.proofs.lemmas.Bool.{and_parts}
 use Rattle.tl_base.specs.declared.place.Place.{Place}
 use Rattle.tl_base.specs.declared.ids.TypeId.{TypeId}
 use Rattle.terra_words.specs.Words.{moved}
-use Rattle.terra_words.specs.Runs.{Value, word, number, is_true, value_at}
+use Rattle.terra_words.specs.Runs.{word, number, is_true, value_at}
 use Rattle.terra_types.specs.Opening.{boolean, unit}
 use Rattle.terra_term.specs.declared.lists.TypedName.{TypedName}
 use Rattle.terra_term.specs.TypedTerms.{Expression, typed, Constant', Variable, Global, Operate, Both, Either, Dereference, Select, Follow, Element, Index, Address, Decay, Let, Expressions, no_more, then_one, Statement, statement, Var, Assign, If, IfElse, While, Repeat, For, Do, Break, Finish, Return, Perform, Statements, done, and_then, type_of, is_place}
@@ -13,10 +13,10 @@ use Rattle.terra_term.specs.WellTyped as typing
 use Rattle.terra_term.specs.WellTyped.{Within, same, is_typed, are_typed, one_typed, all_typed, types_in, with_names, after_one, after_all, in_a_let, in_a_loop}
 use Rattle.terra_meaning.specs.Values.{bytes_at, width_of}
 use Rattle.terra_meaning.specs.Laws.{shape, Keeps}
-use Rattle.terra_meaning.specs.Running.{State, Got, Gives, next, found, scoped}
-use Rattle.terra_meaning.specs.Meaning.{Call, Way, goes_on, breaks, gives_back, in_expression, in_list, in_statement, in_block, Wanted, the_value, the_address, reached, variable, operated, types_of, declared, declared_all, assigned_all, behind, step_of, along, going, rounds, for_rounds, counted_for, meant, meant_all, done_one, done_all}
-use Rattle.terra_meaning.proofs.Scoping.{adds, adds-next, adds-if, adds-along, adds-declared, keeps-next, keeps-if, keeps-leaving, keeps-reached, keeps-variable, keeps-operated}
-use Rattle.terra_meaning.proofs.Scopes.{keeps-meant, keeps-all, adds-one, adds-block}
+use Rattle.terra_meaning.specs.Running.{State, Gives, next, found, scoped}
+use Rattle.terra_meaning.specs.Meaning.{Call, goes_on, breaks, gives_back, in_expression, in_list, in_statement, in_block, Wanted, the_value, the_address, reached, variable, operated, types_of, declared, declared_all, assigned_all, behind, step_of, along, going, counted_for, meant, meant_all, done_one, done_all}
+use Rattle.terra_meaning.proofs.Scoping.{adds, adds-next, adds-along, adds-declared, keeps-next, keeps-if, keeps-leaving, keeps-reached, keeps-variable, keeps-operated}
+use Rattle.terra_meaning.proofs.Scopes.{keeps-meant, adds-block}
 use Rattle.tac_lower.proofs.Typing.{no, three, four, five, types-are}
 use Rattle.terra_sound.proofs.Covering.{Covers, Sound, Leaves, Acts, found-some, in-covers, leaves-kept, leaves-next, leaves-if, leaves-scoped, acts-next, acts-if, acts-along, acts-scoped, acts-rounds, acts-for, let-next}
 use Rattle.terra_sound.proofs.Leaves.{CallsSound, sound-reached, sound-variable, sound-operated, leaves-declared, leaves-declared-all, leaves-assigned}

@@ -1,9 +1,8 @@
 -- What runs give back are values of the result's type: the proof of lowering has it of each call.
-use Rattle.std.proofs.Common.{◌≡◌, ℕ, zero, suc, ◌+◌, ◌<◌, ◌≤◌, List, [], ◌++◌, length, replicate, Some, refl, sym, ap, ◌∙◌, subst, arith, length-append}
-use Rattle.std.specs.Prelude.{◌-◌, ◌^◌, ◌/◌, option_map}
+use Rattle.std.proofs.Common.{◌≡◌, ℕ, suc, ◌<◌, List, [], length, replicate, refl, sym, ap, ◌∙◌, subst, arith, length-append}
+use Rattle.std.specs.Prelude.{◌-◌, ◌^◌, option_map}
 use Rattle.std.proofs.lemmas.List.{length-replicate}
 use Rattle.tl_base.specs.declared.place.Place.{Place}
-use Rattle.tl_base.specs.declared.ids.FnId.{FnId}
 use Rattle.terra_memory.specs.Region as regions
 use Rattle.terra_memory.specs.Region.{IsMemorySize, end_address, fresh}
 use Rattle.terra_words.specs.Runs.{Value, word, Returned, Run, Over}
@@ -11,10 +10,10 @@ use Rattle.tl_base.specs.declared.ids.TypeId.{TypeId}
 use Rattle.terra_types.specs.declared.types.TypeForm.{TypeForm}
 use Rattle.terra_types.specs.declared.types.TypeForm.TheVariants as forms
 use Rattle.terra_types.specs.Opening.{boolean, unit}
-use Rattle.terra_term.specs.Stores.{Contents, Callable, callable_of, static_bytes}
+use Rattle.terra_term.specs.Stores.{callable_of, static_bytes}
 use Rattle.terra_meaning.specs.Values.{form_at, IsValue}
 use Rattle.terra_meaning.specs.Running.{State, Got, Gives, Ends}
-use Rattle.terra_meaning.specs.Meaning.{apply, run_of, place_in, meaning}
+use Rattle.terra_meaning.specs.Meaning.{apply, run_of, place_in}
 use Rattle.tac_form.specs.Flow.{Program, Activation, Moved}
 use Rattle.tac_form.specs.Flow as flow
 use Rattle.tac_lower.specs.Lowering.{lowered}

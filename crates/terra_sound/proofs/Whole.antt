@@ -1,6 +1,6 @@
 -- Whole runs aren't stuck, by induction on how deep calls may go.
-use Rattle.std.proofs.Common.{◌≡◌, ◌≢◌, ℕ, zero, suc, ◌+◌, Bool, true, false, List, [], length, Option, Some, None, refl, sym, ap, ◌∙◌, subst}
-use Rattle.std.specs.Prelude.{◌-◌, nat_eq, nat_le, nat_lt, if◌then◌else◌}
+use Rattle.std.proofs.Common.{◌≡◌, ℕ, zero, suc, ◌+◌, Bool, true, false, List, [], length, Some, refl, sym, ap, ◌∙◌, subst}
+use Rattle.std.specs.Prelude.{◌-◌, nat_eq, nat_le, nat_lt}
 use Rattle.std.proofs.lemmas.Bool.{and_parts}
 use Rattle.tl_base.specs.declared.place.Place.{Place}
 use Rattle.tl_base.specs.declared.ids.FnId.{FnId}
@@ -13,7 +13,7 @@ use Rattle.terra_term.specs.Stores.{Contents, Callable, callable_of, static_byte
 use Rattle.terra_term.specs.WellTyped as typing
 use Rattle.terra_term.specs.WellTyped.{Within, all_typed, after_all, body_typed, with_names}
 use Rattle.terra_meaning.specs.Frames.{frame_of}
-use Rattle.terra_meaning.specs.Laws.{shape, Has, CallsKeep, Keeps}
+use Rattle.terra_meaning.specs.Laws.{shape, Has}
 use Rattle.terra_meaning.specs.Running as running
 use Rattle.terra_meaning.specs.Running.{State, Got, Gives, Ends, next, counted_from, counted}
 use Rattle.terra_meaning.specs.Meaning.{Call, Calls, Way, goes_on, breaks, gives_back, declared_all, done_all, given_back, body_run, kept, entered, apply, run_of, place_in, meaning}
