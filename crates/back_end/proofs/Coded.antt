@@ -17,8 +17,8 @@ use Rattle.tac_lower.specs.Items.{Item, does, ends, Ending, skips, tests, repeat
 use Rattle.tac_lower.specs.Lowering.{lowered, code_of, unreached, are_narrow, parameter_types}
 use Rattle.back_end.proofs.Naming.{before_rest, before_exit, Names, CallsBlock, items_of, items-name}
 
-module _ (In : FnId → Type 0) where
-  -- an instruction calls no other functions than these, and none that is a value
+module _ (In : FnId → ℕ → Type 0) where
+  -- an instruction calls no other functions than these with so many arguments, and none that is a value
   abbrev pub Named : Instruction → Type 0
   Named i = before_rest In i (Unit {0})
 
@@ -77,7 +77,7 @@ module _ (In : FnId → Type 0) where
       items-blocks is (with_item d (ends e)) x.1 tt
       (blocks-more d.blocks (record { instructions = d.code; exit = exit_of 0 (length d.blocks) e }) blocks (code, x.0))
 
-  -- the code of a function whose term calls no other functions than these, and none that is a value
+  -- the code of a function whose term calls no other functions than these with so many arguments, and none that is a value
   pub lowered-names : (store : Contents) (entries : List FnId) (k : Callable) → CallsBlock In k.body.body →
       AllBlocks (lowered store entries k).blocks
   lowered-names store entries k h = by (are_narrow store.types (parameter_types k))

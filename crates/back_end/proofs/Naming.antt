@@ -1,4 +1,4 @@
--- Lowered code calls no other functions than its term does.
+-- Lowered code calls no other functions than its term does, with as many arguments.
 use Rattle.std.proofs.Common.{◌≡◌, ℕ, suc, ◌+◌, ◌<◌, Bool, true, false, List, [], ◌∷◌, ◌++◌, length, map, Option, Some, None, refl, sym, ap, ◌∙◌, subst, arith}
 use Rattle.std.specs.Prelude.{◌&&◌, ◌||◌, ◌-◌, ◌^◌, nat_eq, nat_le, if◌then◌else◌}
 use Rattle.tl_base.specs.declared.place.Place.{Place}
@@ -28,12 +28,12 @@ use Rattle.tac_form.specs.declared.tac.Spot.{Spot}
 use Rattle.tac_form.specs.declared.tac.Spot.TheVariants as spots
 use Rattle.tac_form.specs.declared.tac.Block.{Block}
 use Rattle.tac_lower.specs.Items.{Item, does, ends, Ending, skips, tests, repeats, repeats_unless, leaves, gives, fails, count_ends, loop_of, exit_of, Draft, empty_draft, with_item, with_items}
-use Rattle.tac_lower.specs.Pieces.{Used, nothing_used, with_temp, with_area, Piece, known, doing, then_piece, taken, Result, a_word, an_area, an_offset, no_word, word_of, part_of, address_of, word_at, result_at, rest, whole_word, number_of, is_bool, given, compute, copied, located, loaded_bit, loaded_area, loaded_word, loaded, stored_part, stored, placed, Holder, in_temp, at_offset, Holders, holder_of, Around, declare_at, declare, declare_all, first_of}
+use Rattle.tac_lower.specs.Pieces.{Used, nothing_used, with_temp, with_area, Piece, known, doing, then_piece, taken, Result, a_word, an_area, an_offset, no_word, word_of, part_of, parts_of, address_of, word_at, result_at, rest, whole_word, number_of, is_bool, given, compute, copied, located, loaded_bit, loaded_area, loaded_word, loaded, stored_part, stored, placed, Holder, in_temp, at_offset, Holders, holder_of, Around, declare_at, declare, declare_all, first_of}
 use Rattle.tac_lower.specs.Lowering.{Counting, is_one, either_way, with_step, body_piece, reached, variable, entry, element, extracted, constructed, call, call_value, signature_in, operation, target_at, aimed, Target, to_temp, to_place, assigned, assigned_all, passed_over, choice, counting, runs, counted_on, while_loop, piece, pieces, targets, one, all, around, ending, received, code_of, unreached, are_narrow, parameter_types, lowered}
 
--- An instruction calls no other functions than these, and none that is a value; and code does so, before other code.
-abbrev pub before_rest : (In : FnId → Type 0) → Instruction → Type 0 → Type 0
-before_rest In (Call to at f arguments) rest = In f × rest
+-- An instruction calls no other functions than these with so many arguments, and none that is a value; and what follows does so too.
+abbrev pub before_rest : (In : FnId → ℕ → Type 0) → Instruction → Type 0 → Type 0
+before_rest In (Call to at f arguments) rest = In f (length arguments) × rest
 before_rest In (CallValue to at sig a arguments) rest = ⊥
 before_rest In _ rest = rest
 
@@ -51,7 +51,7 @@ with-exit leaves X Z f x = f x
 with-exit (gives v) X Z f x = f x
 with-exit (fails kind at) X Z f x = (x.0, f x.1)
 
-module _ (In : FnId → Type 0) where
+module _ (In : FnId → ℕ → Type 0) where
   abbrev pub Names : List Item → Type 0
   Names [] = Unit {0}
   Names (does i ∷ is) = before_rest In i (Names is)
@@ -203,12 +203,16 @@ module _ (In : FnId → Type 0) where
   extracted-names types of offset (a_word o) u = tt
   extracted-names types of offset (an_offset o) u = tt
 
-  abbrev pub OpCalls : Operation → Type 0
-  OpCalls (operations.Call f) = In f
-  OpCalls operations.CallValue = ⊥
-  OpCalls _ = Unit {0}
+  abbrev pub OpCalls : Operation → ℕ → Type 0
+  OpCalls (operations.Call f) n = In f n
+  OpCalls operations.CallValue n = ⊥
+  OpCalls _ n = Unit {0}
 
-  operation-names : (c : Around) (at : Place) (of : TypeId) (op : Operation) (ts : List TypeId) (vs : List Result) (u : Used) → OpCalls op →
+  parts-long : (vs : List Result) → length (parts_of vs) ≡ length vs
+  parts-long [] = refl
+  parts-long (v ∷ vs) = ap suc (parts-long vs)
+
+  operation-names : (c : Around) (at : Place) (of : TypeId) (op : Operation) (ts : List TypeId) (vs : List Result) (u : Used) → OpCalls op (length vs) →
       Names (operation c at of op ts vs u).code
   operation-names c at of operations.Negate ts vs u h = tt
   operation-names c at of operations.Not ts vs u h = by (nat_eq of.0 boolean.0)
@@ -237,8 +241,8 @@ module _ (In : FnId → Type 0) where
     where
       by : (b : Bool) → Names (then_piece (if b then known (destinations.Area (length u.areas)) (with_area (bytes_at c.types of) u)
           else known (destinations.Temp u.temps) (with_temp u)) (λ to u'. call at f vs to u')).code
-      by true = (h, tt)
-      by false = (h, tt)
+      by true = (subst (In f) (sym (parts-long vs)) h, tt)
+      by false = (subst (In f) (sym (parts-long vs)) h, tt)
   operation-names c at of (operations.Primitive primitives.PutByte) ts vs u h = tt
   operation-names c at of (operations.Primitive primitives.Write) ts vs u h = tt
   operation-names c at of (operations.Primitive primitives.Alloc) ts vs u h = tt
@@ -287,7 +291,7 @@ module _ (In : FnId → Type 0) where
     Calls (typed at of (Constant' k)) = Unit {0}
     Calls (typed at of (Variable x)) = Unit {0}
     Calls (typed at of (Global a)) = Unit {0}
-    Calls (typed at of (Operate op es)) = CallsAll es × OpCalls op
+    Calls (typed at of (Operate op es)) = CallsAll es × OpCalls op (length (types_of es))
     Calls (typed at of (Both x y)) = Calls x × Calls y
     Calls (typed at of (Either x y)) = Calls x × Calls y
     Calls (typed at of (Dereference e)) = Calls e
@@ -340,6 +344,12 @@ module _ (In : FnId → Type 0) where
       by true = tt
       by false = step-names k (word_of first.result) first.used
 
+  pieces-long : (c : Around) (es : Expressions) (from : ℕ) (scope : Holders) (u : Used) →
+      length (pieces c es from scope u).result ≡ length (types_of es)
+  pieces-long c no_more from scope u = refl
+  pieces-long c (then_one e es) from scope u =
+      ap suc (pieces-long c es (from + in_expression e) scope (piece c the_value e from scope u).used)
+
   module _ (c : Around) where
     mutual
       expression-names : (want : Wanted) (e : Expression) (from : ℕ) (scope : Holders) (u : Used) →
@@ -351,7 +361,8 @@ module _ (In : FnId → Type 0) where
       expression-names want (typed at of (Operate op es)) from scope u h =
           let p = pieces c es from scope u in
           both p.code (operation c at of op (types_of es) p.result p.used).code (expressions-name es from scope u h.0)
-          (operation-names c at of op (types_of es) p.result p.used h.1)
+          (operation-names c at of op (types_of es) p.result p.used
+          (subst (OpCalls op) (sym (pieces-long c es from scope u)) h.1))
       expression-names want (typed at of (Both x y)) from scope u h =
           let p = piece c the_value x from scope (with_temp u) in
           let q = piece c the_value y (from + in_expression x) scope p.used in

@@ -1,5 +1,5 @@
 -- When the run of an image agrees with what a typed function means: at all counts of the one and all numbers of steps of the other.
-use Rattle.std.specs.Prelude.{◌≡◌, ◌≢◌, ℕ, ◌+◌, ◌*◌, ◌≤◌, ◌^◌, List, length, map, Option, Some}
+use Rattle.std.specs.Prelude.{◌≡◌, ◌≢◌, ℕ, ◌+◌, ◌*◌, ◌≤◌, List, length, map, Option, Some}
 use Rattle.tl_base.specs.declared.ids.FnId.{FnId}
 use Rattle.tl_base.specs.declared.ids.TypeId.{TypeId}
 use Rattle.tl_base.specs.Outside.{IsFront}
@@ -12,10 +12,7 @@ use Rattle.terra_meaning.specs.Meaning.{meaning}
 use Rattle.rv_machine.specs.declared.stops.Stop.{Stop}
 use Rattle.rv_machine.specs.declared.stops.Stop.TheVariants as stops
 use Rattle.rv_machine.specs.Machine.{Ran}
-use Rattle.tl_base.specs.declared.place.Place.{Place}
-
-abbrev pub place_number : Place → ℕ
-place_number at = at.line * 2 ^ 32 + at.word
+use Rattle.rv_select.specs.Shapes.{place_number}
 
 -- A run of the machine ends as one of a function with this result type: its low bits are those of the value, or it failed in the same way
 -- at the same place. So it never ends by a fault of the machine.
@@ -40,3 +37,6 @@ pub record Agree (Same : End → Stop → Type 0) (source : ℕ → Run) (target
   pub shows_no_more : (k : ℕ) → IsFront (target k).output (output_of (source k))
   -- what is written at a count is written after some steps, and these are few
   pub shows_all : (n : ℕ) → IsFront (output_of (source n)) (target ((n + 1) * words)).output
+
+abbrev pub Trial : Type 0
+Trial = Unit {0}

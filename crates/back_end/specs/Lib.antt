@@ -1,2 +1,2 @@
--- When an image agrees with a store.
 pub mod Agrees
+pub mod Plain

@@ -1,11 +1,4 @@
-//! Trial.
+//! From the typed functions of a store to an image.
 #![tactic(auto)]
 
-ghost use Rattle.std.specs.Prelude.{◌≡◌, true};
-
-/// Trial.
-pub fn trial() -> bool
-    ensures { result ≡ true }
-{
-    true
-}
+pub mod law;

@@ -16,7 +16,7 @@ use Rattle.rv_machine.specs.Machine.{State}
 use Rattle.rv_select.specs.Places.{AreBytes, Holds, Keeps, Layout, World, area_offset, frame_bytes, private_word, uses}
 use Rattle.rv_select.specs.Steps.{world_of}
 use Rattle.rv_select.specs.Entering.{kept_offset}
-use Rattle.rv_select.specs.Frames.{Enters, HasWords, IsWordOf, part_value, seen, without_words}
+use Rattle.rv_select.specs.Frames.{Enters, HasWords, IsPartRead, IsWordOf, LiesAt, part_value, seen, without_words}
 use Rattle.rv_select.specs.Waiting.{HasRoom, restored}
 use Rattle.rv_select.proofs.Backs.{part-is}
 use Rattle.rv_select.proofs.Callings.{Begun, JumpedTo}
@@ -102,29 +102,54 @@ pub link-after : (z : Layout) (base bottom placed depth link : ℕ) (m n q : Sta
     Keeps (without_words z) bottom n q → private_word q bottom ≡ link
 link-after z base bottom placed depth link m n q f k = ap number_of (k.outside bottom 8 (omega arith) (inl (omega arith))) ∙ f.link_is
 
--- the parts' words, as the function finds them
+-- the parts' words, as the function finds them, and the areas that they point to
 pub has-words : (y : Layout) (base : ℕ) (s : tac.State) (bottom last top i : ℕ) (ds : List Destination) (ps : List Part) (n : State) →
     length ds ≡ length ps → bottom + (last + 8 * length ds) + 8 * i ≡ top →
     ((k : ℕ) (p : Part) → slice_get ps k ≡ Some p → private_word n (top - 8 * (i + k + 1)) ≡ part_value y base (world_of s) p) →
-    ((k : ℕ) (p : Part) → slice_get ps k ≡ Some p → part_value y base (world_of s) p < 2 ^ 64) → HasWords bottom last ds (values_of s ps) n
-has-words y base s bottom last top i [] [] n same sum words small = tt
-has-words y base s bottom last top i [] (p ∷ ps) n same sum words small = tt
-has-words y base s bottom last top i (d ∷ ds) [] n same sum words small = tt
-has-words y base s bottom last top i (d ∷ ds) (p ∷ ps) n same sum words small =
+    ((k : ℕ) (p : Part) → slice_get ps k ≡ Some p → part_value y base (world_of s) p < 2 ^ 64) →
+    ((j : ℕ) → j < y.areas → LiesAt n (bottom + last) (s.here.areas j) (2 ^ 32 + (base + area_offset y j))) → (Used : ℕ → Type 0) →
+    ((k : ℕ) (p : Part) → slice_get ps k ≡ Some p → IsPartRead y Used p) → HasWords bottom last ds (values_of s ps) n
+has-words y base s bottom last top i [] [] n same sum words small areas Used reads = tt
+has-words y base s bottom last top i [] (p ∷ ps) n same sum words small areas Used reads = tt
+has-words y base s bottom last top i (d ∷ ds) [] n same sum words small areas Used reads = tt
+has-words y base s bottom last top i (d ∷ ds) (p ∷ ps) n same sum words small areas Used reads =
     let first : top - 8 * (i + 0 + 1) ≡ bottom + (last + 8 * length ds) = omega (arith, sum) in (
-      one p (ap (λ a. private_word n a) (sym first) ∙ words 0 p refl) (small 0 p refl),
+      one p (ap (λ a. private_word n a) (sym first) ∙ words 0 p refl) (small 0 p refl) (reads 0 p refl),
       has-words y base s bottom last top (suc i) ds ps n (omega (arith, same)) (omega (arith, sum))
-          (λ k q e. ap (λ a. private_word n (top - 8 * a)) (sums i k) ∙ words (suc k) q e) (λ k q e. small (suc k) q e),
+          (λ k q e. ap (λ a. private_word n (top - 8 * a)) (sums i k) ∙ words (suc k) q e) (λ k q e. small (suc k) q e) areas Used
+          (λ k q e. reads (suc k) q e),
     )
   where
     sums : (i k : ℕ) → suc i + k + 1 ≡ i + suc k + 1
     sums i k = omega arith
 
     one : (p : Part) → private_word n (bottom + (last + 8 * length ds)) ≡ part_value y base (world_of s) p →
-        part_value y base (world_of s) p < 2 ^ 64 →
-        IsWordOf (value_of s p) (private_word n (bottom + (last + 8 * length ds)))
-    one (parts.Word a) e h = (e ∙ part-is y base s a, subst (λ x. x < 2 ^ 64) (part-is y base s a) h)
-    one (parts.Area k) e h = tt
+        part_value y base (world_of s) p < 2 ^ 64 → IsPartRead y Used p →
+        IsWordOf n (bottom + last) (value_of s p) (private_word n (bottom + (last + 8 * length ds)))
+    one (parts.Word a) e h r = (e ∙ part-is y base s a, subst (λ x. x < 2 ^ 64) (part-is y base s a) h)
+    one (parts.Area k) e h r = subst (λ z. LiesAt n (bottom + last) (s.here.areas k) z) (sym e) (areas k r)
+
+-- the areas of a caller, where a function finds them that was called: they lie as they were, above its frame
+pub areas-lie : (y : Layout) (Used : ℕ → Type 0) (w : World) (base bottom last : ℕ) (m n : State) → Holds y Used w base m →
+    ((at k : ℕ) → base ≤ at → take k (drop at n.private) ≡ take k (drop at m.private)) → length n.private ≡ length m.private →
+    bottom + last ≤ base → (j : ℕ) → j < y.areas → LiesAt n (bottom + last) (w.areas j) (2 ^ 32 + (base + area_offset y j))
+areas-lie y Used w base bottom last m n h above long low j there = record {
+  offset = base + area_offset y j;
+  address_is = refl;
+  high = higher (bottom + last) (area_offset y j) low;
+  within = inside (length n.private) (length m.private) (length (w.areas j)) long h.frame.within (h.short j there);
+  bytes_are = above (base + area_offset y j) (length (w.areas j)) (higher base (area_offset y j) (least base)) ∙ h.areas j there;
+  are_bytes = h.area_bytes j there;
+}
+  where
+    least : (a : ℕ) → a ≤ a
+    least a = omega arith
+
+    higher : (a b : ℕ) → a ≤ base → a ≤ base + b
+    higher a b e = omega (arith, e)
+
+    inside : (a b k : ℕ) → a ≡ b → base + frame_bytes y ≤ b → k ≤ 128 → base + area_offset y j + k ≤ a
+    inside a b k e g l = omega (arith, e, g, l, there)
 
 -- below the frame there is room for each call that may be made then
 pub room-next : (most depth base bytes : ℕ) → HasRoom most depth base → depth < 511 → bytes ≤ most → (bytes ≤ base) ×

@@ -2,7 +2,7 @@
 use Rattle.std.proofs.Common.{◌≡◌, ◌≢◌, ℕ, zero, suc, ◌+◌, ◌-◌, ◌*◌, ◌%◌, ◌^◌, ◌<◌, ◌≤◌, Bool, true, false, ◌&&◌, List, [], ◌∷◌, ◌++◌, length, take, drop, Option, Some, None, refl, sym, ap, ◌∙◌, subst, ⊎_elim, inl, inr, arith}
 use Rattle.std.specs.Prelude.{if◌then◌else◌, nat_eq, slice_get, ◌⊎◌}
 use Rattle.std.specs.List.{list_all}
-use Rattle.std.proofs.lemmas.Bool.{cases_eq, eq-eqb, ltb-true}
+use Rattle.std.proofs.lemmas.Bool.{cases_eq, eq-eqb, eqb-true, ltb-true}
 use Rattle.std.proofs.lemmas.List.{length-append}
 use Rattle.tl_base.specs.declared.ids.FnId.{FnId}
 use Rattle.tl_base.specs.declared.place.Place.{Place}
@@ -19,8 +19,8 @@ use Rattle.tac_form.specs.declared.tac.Instruction.TheVariants.{Call}
 use Rattle.tac_form.specs.declared.tac.Block.{Block}
 use Rattle.tac_form.specs.declared.tac.Tac.{Tac}
 use Rattle.tac_form.specs.Flow as tac
-use Rattle.tac_form.specs.Flow.{Activation, Caller, Program, give, given, operand, put, step, value_of}
-use Rattle.tac_form.specs.Fits.{area_there, exit_fits, operand_fits, part_fits}
+use Rattle.tac_form.specs.Flow.{Activation, Caller, Program, area_size, give, given, operand, put, step, value_of}
+use Rattle.tac_form.specs.Fits.{area_fits, area_there, destination_fits, exit_fits, operand_fits, part_fits, place_fits}
 use Rattle.tac_form.specs.Graph.{block_of, destination_write, exit_reads, graph_of, operand_reads, step_of}
 use Rattle.tac_form.specs.Live.{InUse, has}
 use Rattle.terra_words.specs.Runs.{Value, word, bytes}
@@ -32,13 +32,14 @@ use Rattle.rv_machine.specs.Machine.{Ran, State, after_step, run_of, stands, unl
 use Rattle.rv_machine.specs.Machine as machine
 use Rattle.rv_machine.specs.declared.stops.Stop.TheVariants as stops
 use Rattle.rv_operators.specs.Runs.{Stands}
-use Rattle.rv_select.specs.Places.{AreBytes, Holds, Housed, Keeps, Layout, World, frame_bytes, home_of, layout_of, private_word, value_in}
+use Rattle.rv_select.specs.Places.{AreBytes, Holds, Housed, Keeps, Layout, World, area_offset, frame_bytes, home_of, layout_of, private_word, value_in}
 use Rattle.rv_select.specs.Shapes.{put_to, start_of}
 use Rattle.rv_select.specs.Steps.{Comes, with_temp, world_of}
 use Rattle.rv_select.specs.Calls.{blocks_length, call_begun, call_ended, call_jump, head_code, last_address}
-use Rattle.rv_select.specs.Frames.{is_word}
-use Rattle.rv_select.specs.Waiting.{Arrives, Finishes, HasRoom, Image, IsLinked, IsPlaced, StandsIn, Stepped, Waiting, Waits, block_takes_words, entries_of, place_in, restored, takes_word}
+use Rattle.rv_select.specs.Entering.{result_put, result_words, size_in}
+use Rattle.rv_select.specs.Waiting.{Arrives, Finishes, HasRoom, Image, IsLinked, IsPlaced, StandsIn, Stepped, Waiting, Waits, entries_of, place_in, restored}
 use Rattle.rv_select.proofs.Carries.{by-test, nothing-written, operand-read}
+use Rattle.rv_select.proofs.Copies.{copies-there, size-small}
 use Rattle.rv_select.proofs.Finds.{FoundFunction, stands-next}
 use Rattle.rv_select.proofs.Leaves.{exit-in-graph, exit-reads-live}
 use Rattle.rv_select.proofs.Lives.{housed, step-in-graph, write-used}
@@ -47,7 +48,7 @@ use Rattle.rv_select.proofs.Homes.{put-count}
 use Rattle.rv_select.proofs.Passes.{IsPartRead, part_value}
 use Rattle.rv_select.proofs.Receives.{housed-fewer}
 use Rattle.rv_select.proofs.Returns.{BackIn, HeldIn, Resumes, UsedBut, back-holds, goes-back, resumes}
-use Rattle.rv_select.proofs.Stands.{AtExit, AtPlace, at-exit, at-instruction, both-true, exit-within, list-all-get, the-function, within-parts}
+use Rattle.rv_select.proofs.Stands.{AtExit, AtPlace, at-exit, at-instruction, both-true, exit-within, instruction-within, list-all-get, the-function, within-parts}
 use Rattle.rv_select.proofs.Straight.{low-below, low-small}
 use Rattle.rv_select.proofs.Waits.{SameAbove, restored-same, waits-keeps, waits-same, waits-within}
 use Rattle.rv_select.proofs.Ways.{Way, near-same, way-both, way-none}
@@ -80,32 +81,34 @@ link-small : (at n : ℕ) → at + 4 * n + 256 ≤ 2 ^ 30 → at % 4 ≡ 0 → (
 link-small at n h e k l = (omega (arith, e), omega (arith, h, l))
 
 -- The caller's code behind a call.
-record BehindCall (p : Program) (image : Image) (program : List (Option Instr)) (code : Tac) (f : FnId) (b before d at behind : ℕ) : Type 0
-  where
-    stands : Stands program behind (call_ended (layout_of code (image f).homes) code.areas (Temp d))
-    even : behind % 2 ≡ 0
-    small : behind + 256 ≤ 2 ^ 30 + 8
-    next : place_in p image code (image f) b (suc before) ≡ behind + 4 * (2 + length (put_to (home_of (layout_of code (image f).homes) d)))
-    near : behind + 4 * (2 + length (put_to (home_of (layout_of code (image f).homes) d))) + 256 ≤ 2 ^ 30
+record BehindCall (p : Program) (image : Image) (program : List (Option Instr)) (code : Tac) (f : FnId) (b before : ℕ) (to : Destination)
+    (at behind : ℕ) : Type 0 where
+  stands : Stands program behind (call_ended (layout_of code (image f).homes) code.areas to)
+  even : behind % 2 ≡ 0
+  small : behind + 256 ≤ 2 ^ 30 + 8
+  next : place_in p image code (image f) b (suc before) ≡
+      behind + 4 * (2 + length (result_put (layout_of code (image f).homes) code.areas to))
+  near : behind + 4 * (2 + length (result_put (layout_of code (image f).homes) code.areas to)) + 256 ≤ 2 ^ 30
 
-behind-call : (p : Program) (image : Image) (program : List (Option Instr)) (most : ℕ) (code : Tac) (f : FnId) (b before d : ℕ)
-    (block : Block) (place : Place) (callee : FnId) (arguments : List Part) →
+behind-call : (p : Program) (image : Image) (program : List (Option Instr)) (most : ℕ) (code : Tac) (f : FnId) (b before : ℕ)
+    (to : Destination) (block : Block) (place : Place) (callee : FnId) (arguments : List Part) →
     IsPlaced p image program most code (image f) → slice_get code.blocks b ≡ Some block →
-    slice_get block.instructions before ≡ Some (Call (Temp d) place callee arguments) →
-    BehindCall p image program code f b before d (place_in p image code (image f) b before)
+    slice_get block.instructions before ≡ Some (Call to place callee arguments) →
+    BehindCall p image program code f b before to (place_in p image code (image f) b before)
     (place_in p image code (image f) b before + 4 * length (call_begun (layout_of code (image f).homes) place arguments) + 8)
-behind-call p image program most code f b before d block place callee arguments pl e g =
+behind-call p image program most code f b before to block place callee arguments pl e g =
     made (place_in p image code (image f) b before)
-    (at-instruction p image program most code (image f) b before block (Call (Temp d) place callee arguments) pl e g)
+    (at-instruction p image program most code (image f) b before block (Call to place callee arguments) pl e g)
   where
-    made : (at : ℕ) → AtPlace p image program code (image f) b before (Call (Temp d) place callee arguments) at →
-        BehindCall p image program code f b before d at (at + 4 * length (call_begun (layout_of code (image f).homes) place arguments) + 8)
+    made : (at : ℕ) → AtPlace p image program code (image f) b before (Call to place callee arguments) at →
+        BehindCall p image program code f b before to at
+        (at + 4 * length (call_begun (layout_of code (image f).homes) place arguments) + 8)
     made at found =
         let y : Layout = layout_of code (image f).homes in
         let A : List Instr = call_begun y place arguments in
         let J : List Instr = call_jump (at + 4 * length A) (entries_of p image callee) in
-        let E : List Instr = call_ended y code.areas (Temp d) in
-        let P : List Instr = put_to (home_of y d) in
+        let E : List Instr = call_ended y code.areas to in
+        let P : List Instr = result_put y code.areas to in
         let count : length (A ++ (J ++ E)) ≡ length A + (2 + (2 + length P)) = omega (arith, length-append A (J ++ E)) in
         let after-a : Stands program (at + 4 * length A) (J ++ E) = stands-next program at A (J ++ E) (omega (arith, found.near, count))
         found.stands in
@@ -126,49 +129,31 @@ pc-put q n p t e g h = omega arith
 some-same : (d t : ℕ) → Some d ≡ Some t → d ≡ t
 some-same d t e = cc
 
--- the result goes to where the caller takes it, once the machine holds all else
+-- the result is where the caller takes it, and the machine goes on behind the call
 put-result : (p : Program) (image : Image) (program : List (Option Instr)) (most size : ℕ) → IsLinked p image program most →
-    (s : tac.State) (a : Activation) (d v : ℕ) (cs : List Caller) (code : Tac) (up placed k pc : ℕ) (m n : State) →
-    p.code a.function ≡ Some code → Way program k m n → 1 ≤ k → k ≤ 36 →
-    Holds (layout_of code (image a.function).homes) (UsedBut (InUse (graph_of code) a.block a.at) (Temp d))
-    (record { temps = a.temps; areas = a.areas; region = s.region; placed = a.base; depth = length cs }) up n →
-    InUse (graph_of code) a.block a.at d → v < 2 ^ 64 → n.registers 5 ≡ v →
-    Stands program n.pc (put_to (home_of (layout_of code (image a.function).homes) d)) →
-    low (n.pc + 4 * length (put_to (home_of (layout_of code (image a.function).homes) d))) ≡ place_in p image code (image a.function)
-    a.block a.at →
+    (s : tac.State) (a : Activation) (temps : tac.Temps) (areas : tac.Areas) (cs : List Caller) (code : Tac) (up k more target : ℕ)
+    (m n : State) → p.code a.function ≡ Some code → Way program k m n → 1 ≤ k → k ≤ 36 →
+    Comes (layout_of code (image a.function).homes) program (InUse (graph_of code) a.block a.at)
+    (record { temps = temps; areas = areas; region = s.region; placed = a.base; depth = length cs }) up more target [] n →
+    target ≡ place_in p image code (image a.function) a.block a.at →
     a.base + code.frame ≤ end_address s.region → length s.region.bytes ≡ size → HasRoom most (length cs) up →
     Waits p image most size cs (private_word n up) (up + frame_bytes (layout_of code (image a.function).homes)) (a.base + code.frame)
     (restored (layout_of code (image a.function).homes) up n) →
-    Arrives p image program most size 39 [] (record s { here = record a { temps = put a.temps d v }; callers = cs }) m
-put-result p image program most size linked s a d v cs code up placed k pc m n function way some few hold nextd small five there target
-    frame region room waits =
-    let yc : Layout = layout_of code (image a.function).homes in
-    let U : ℕ → Type 0 = InUse (graph_of code) a.block a.at in
-    let wc : World = record { temps = a.temps; areas = a.areas; region = s.region; placed = a.base; depth = length cs } in
-    let h : Housed yc U = housed code (image a.function).homes a.block a.at (linked a.function code function).right in
-    finish
-    (then-put yc (UsedBut U (Temp d)) U wc up d v 0 3 (low (n.pc + 4 * length (put_to (home_of yc d)))) program n n hold
-    (housed-fewer yc U (UsedBut U (Temp d)) (λ t u. u.0) h) h nextd
-    (λ t u. ⊎_elim (λ e. inl e) (λ o. inr (u, λ e. o (sym (some-same d t e)))) (cases_eq t d)) (way-none program n) (near-same n) hold.pc
-    five small (omega arith) there refl)
-  where
-    finish : Comes (layout_of code (image a.function).homes) program (InUse (graph_of code) a.block a.at)
-        (record { temps = put a.temps d v; areas = a.areas; region = s.region; placed = a.base; depth = length cs }) up 3
-        (low (n.pc + 4 * length (put_to (home_of (layout_of code (image a.function).homes) d)))) [] n →
-        Arrives p image program most size 39 [] (record s { here = record a { temps = put a.temps d v }; callers = cs }) m
-    finish c = record {
+    Arrives p image program most size (36 + more) [] (record s { here = record a { temps = temps; areas = areas }; callers = cs }) m
+put-result p image program most size linked s a temps areas cs code up k more target m n function way some few c to-is frame region room
+    waits = record {
       steps = k + c.steps;
       after = c.after;
       base = up;
       some = omega (arith, some);
       few = omega (arith, few, c.few);
-      runs = λ more.
-          let split : k + c.steps + more ≡ k + (c.steps + more) = omega arith in
-          ap (run_of program m) split ∙ (way.runs (c.steps + more) ∙ c.runs more);
+      runs = λ rest.
+          let split : k + c.steps + rest ≡ k + (c.steps + rest) = omega arith in
+          ap (run_of program m) split ∙ (way.runs (c.steps + rest) ∙ c.runs rest);
       stands = record {
         code = code;
         function = function;
-        pc = c.at ∙ target;
+        pc = c.at ∙ to-is;
         holds = c.holds;
         frame = frame;
         region = region;
@@ -237,60 +222,62 @@ behind_of p image most c depth link base placed m W =
     place_in p image W.code (image c.waits.function) c.waits.block W.before
     + 4 * length (call_begun (layout_of W.code (image c.waits.function).homes) W.place W.arguments) + 8
 
+-- What puts a result, which x5 has then, where the caller takes it: behind it the caller's temporaries and areas are these.
+abbrev Puts : List (Option Instr) → Layout → (sizes : List ℕ) → (U : ℕ → Type 0) → Destination → tac.State → Activation →
+    (over depth up v : ℕ) → tac.Temps → tac.Areas → State → Type 0
+Puts program y sizes U to s a over depth up v temps areas n =
+    (t : State) → t.private ≡ n.private → t.registers 5 ≡ v → Stands program t.pc (result_put y sizes to) →
+    Holds y (UsedBut U to) (outer s a over depth) up t →
+    Comes y program U (record { temps = temps; areas = areas; region = s.region; placed = over; depth = depth }) up (result_words to)
+    (low (t.pc + 4 * length (result_put y sizes to))) [] t
+
 -- the result of a call that was made from a caller that waits
 pub to-caller : (p : Program) (image : Image) (program : List (Option Instr)) (most size : ℕ) → IsLinked p image program most →
-    (s : tac.State) (a : Activation) (d v : ℕ) (cs : List Caller)
-    (up over link k : ℕ) (M m n : State) → (W : Waiting p image most (record { waits = a; to = Temp d }) (length cs) link up over M) →
+    (s : tac.State) (a : Activation) (to : Destination) (v : ℕ) (temps : tac.Temps) (areas : tac.Areas) (cs : List Caller)
+    (up over link k : ℕ) (M m n : State) → (W : Waiting p image most (record { waits = a; to = to }) (length cs) link up over M) →
     Waits p image most size cs (private_word M up) (up + frame_bytes (layout_of W.code (image a.function).homes)) (over + W.code.frame)
     (restored (layout_of W.code (image a.function).homes) up M) →
     length s.region.bytes ≡ size → Way program k m n → 1 ≤ k → k ≤ 34 → IsBack s (length cs) up over link v M n →
-    Arrives p image program most size 39 [] (record s { here = record a { temps = put a.temps d v }; callers = cs }) m
-to-caller p image program most size linked s a d v cs up over link k M m n W rest sized way some few b =
-    let q : ℕ = behind_of p image most (record { waits = a; to = Temp d }) (length cs) link up over M W in
-    let bc = behind-call p image program most W.code a.function a.block W.before d W.block W.place W.callee W.arguments
+    Puts program (layout_of W.code (image a.function).homes) W.code.areas (InUse (graph_of W.code) a.block a.at) to s a over (length cs) up
+    v temps areas n →
+    Arrives p image program most size (36 + result_words to) []
+    (record s { here = record a { temps = temps; areas = areas }; callers = cs }) m
+to-caller p image program most size linked s a to v temps areas cs up over link k M m n W rest sized way some few b puts =
+    let q : ℕ = behind_of p image most (record { waits = a; to = to }) (length cs) link up over M W in
+    let bc = behind-call p image program most W.code a.function a.block W.before to W.block W.place W.callee W.arguments
     (linked a.function W.code W.function) W.in_function W.in_block in
     let here : n.pc ≡ q = b.pc ∙ W.returns in
     let shallow : length cs < 2 ^ 63 = omega (arith, W.room.calls) in
-    let r = resumes program (layout_of W.code (image a.function).homes) (UsedBut (InUse (graph_of W.code) a.block a.at) (Temp d))
+    let r = resumes program (layout_of W.code (image a.function).homes) (UsedBut (InUse (graph_of W.code) a.block a.at) to)
     (outer s a over (length cs)) up v
-    (put_to (home_of (layout_of W.code (image a.function).homes) d)) n b.ten b.small b.waiting shallow
-    (subst (λ z. Stands program z (call_ended (layout_of W.code (image a.function).homes) W.code.areas (Temp d))) (sym here) bc.stands) in
-    landed W rest q bc here r
+    (result_put (layout_of W.code (image a.function).homes) W.code.areas to) n b.ten b.small b.waiting shallow
+    (subst (λ z. Stands program z (call_ended (layout_of W.code (image a.function).homes) W.code.areas to)) (sym here) bc.stands) in
+    landed q bc here r
   where
     frame-within : (bs : List ℕ) (over frame : ℕ) → a.base ≡ over → length bs ≡ size → over + frame ≤ 2 ^ 30 + size →
         a.base + frame ≤ 2 ^ 30 + length bs
     frame-within bs over frame e g h = omega (arith, e, g, h)
 
-    next-used : (W : Waiting p image most (record { waits = a; to = Temp d }) (length cs) link up over M) →
-        InUse (graph_of W.code) a.block a.at d
-    next-used W =
-        let g = step-in-graph W.code W.block (Call (Temp d) W.place W.callee W.arguments) a.block W.before W.in_function W.in_block in
-        subst (λ z. InUse (graph_of W.code) a.block z d) (sym W.at)
-        (write-used (graph_of W.code) a.block W.before d (block_of W.block) (step_of (Call (Temp d) W.place W.callee W.arguments)) g.0 g.1
-        (eq-eqb d d refl))
-
-    landed : (W : Waiting p image most (record { waits = a; to = Temp d }) (length cs) link up over M) →
-        Waits p image most size cs (private_word M up) (up + frame_bytes (layout_of W.code (image a.function).homes)) (over + W.code.frame)
-        (restored (layout_of W.code (image a.function).homes) up M) →
-        (q : ℕ) → BehindCall p image program W.code a.function a.block W.before d
+    landed : (q : ℕ) → BehindCall p image program W.code a.function a.block W.before to
         (place_in p image W.code (image a.function) a.block W.before) q → n.pc ≡ q →
-        Resumes program (layout_of W.code (image a.function).homes) (UsedBut (InUse (graph_of W.code) a.block a.at) (Temp d))
-        (outer s a over (length cs)) up v
-        (put_to (home_of (layout_of W.code (image a.function).homes) d)) n →
-        Arrives p image program most size 39 [] (record s { here = record a { temps = put a.temps d v }; callers = cs }) m
-    landed W rest q bc here r =
+        Resumes program (layout_of W.code (image a.function).homes) (UsedBut (InUse (graph_of W.code) a.block a.at) to)
+        (outer s a over (length cs)) up v (result_put (layout_of W.code (image a.function).homes) W.code.areas to) n →
+        Arrives p image program most size (36 + result_words to) []
+        (record s { here = record a { temps = temps; areas = areas }; callers = cs }) m
+    landed q bc here r =
         let yc : Layout = layout_of W.code (image a.function).homes in
         let U : ℕ → Type 0 = InUse (graph_of W.code) a.block a.at in
         let w : World = outer s a over (length cs) in
-        let same : SameAbove up M r.after = after-same program yc (UsedBut U (Temp d)) w up v up (put_to (home_of yc d)) M n b.same r in
+        let R : List Instr = result_put yc W.code.areas to in
+        let same : SameAbove up M r.after = after-same program yc (UsedBut U to) w up v up R M n b.same r in
         let whole = waits-within p image most size cs (private_word M up) (up + frame_bytes yc) (over + W.code.frame) (restored yc up M)
         rest in
         let one : up + frame_bytes yc ≤ length M.private = whole.0 in
         let two : over + W.code.frame ≤ 2 ^ 30 + size = whole.1 in
         let word : private_word r.after up ≡ private_word M up = ap number_of (same.private up 8 (omega arith)) in
-        let held : Holds yc (UsedBut U (Temp d)) w up r.after =
-        back-holds p image program most (length cs) link up over (record { waits = a; to = Temp d }) w M r.after linked W same
-        (after-held program yc (UsedBut U (Temp d)) s a (length cs) up over link v up (put_to (home_of yc d)) M n b r)
+        let held : Holds yc (UsedBut U to) w up r.after =
+        back-holds p image program most (length cs) link up over (record { waits = a; to = to }) w M r.after linked W same
+        (after-held program yc (UsedBut U to) s a (length cs) up over link v up R M n b r)
         (subst (λ z. up + frame_bytes yc ≤ z) (sym same.long) one) (subst (λ z. length z ≤ 603979776) (sym r.private) b.private)
         (subst AreBytes (sym r.private) b.are_bytes)
         (subst (λ z. z < 2 ^ 64) (sym r.pc) (low-word (n.pc + 4 * 2)))
@@ -301,17 +288,77 @@ to-caller p image program most size linked s a d v cs up over link k M m n W res
         (waits-same p image program most size cs (private_word M up) (up + frame_bytes yc) (over + W.code.frame) (restored yc up M)
         (restored yc up r.after) linked
         (restored-same yc up (frame_bytes yc) M r.after same) rest) in
-        let target : low (r.after.pc + 4 * length (put_to (home_of yc d))) ≡ place_in p image W.code (image a.function) a.block a.at =
-        pc-put q (length (put_to (home_of yc d))) r.after.pc (low (r.after.pc + 4 * length (put_to (home_of yc d))))
+        let target : low (r.after.pc + 4 * length R) ≡ place_in p image W.code (image a.function) a.block a.at =
+        pc-put q (length R) r.after.pc (low (r.after.pc + 4 * length R))
         (r.pc ∙ ap (λ z. low (z + 4 * 2)) here) refl bc.near
         ∙ (sym bc.next ∙ ap (λ z. place_in p image W.code (image a.function) a.block z) (sym W.at)) in
-        put-result p image program most size linked s a d v cs W.code up 0 (k + 2) 0 m r.after W.function
+        put-result p image program most size linked s a temps areas cs W.code up (k + 2) (result_words to) (low (r.after.pc + 4 * length R))
+        m r.after W.function
         (way-both program k 2 m n r.after way r.way) (omega (arith, some)) (omega (arith, few))
-        (subst (λ z. Holds yc (UsedBut U (Temp d)) (outer s a z (length cs)) up r.after) (sym W.placed_is) held) (next-used W) b.small
-        r.five r.there target
+        (subst (λ z. Comes yc program U (record { temps = temps; areas = areas; region = s.region; placed = z; depth = length cs }) up
+        (result_words to) (low (r.after.pc + 4 * length R)) [] r.after) (sym W.placed_is) (puts r.after r.private r.five r.there held)) target
         (frame-within s.region.bytes over W.code.frame W.placed_is sized two) sized W.room
         (subst (λ z. Waits p image most size cs (private_word r.after up) (up + frame_bytes yc) (z + W.code.frame)
         (restored yc up r.after)) (sym W.placed_is) waits)
+
+-- a word goes to a temporary
+puts-word : (p : Program) (image : Image) (program : List (Option Instr)) (most : ℕ) → IsLinked p image program most →
+    (s : tac.State) (a : Activation) (d v : ℕ) (depth up over link : ℕ) (M n : State) →
+    (W : Waiting p image most (record { waits = a; to = Temp d }) depth link up over M) → v < 2 ^ 64 →
+    Puts program (layout_of W.code (image a.function).homes) W.code.areas (InUse (graph_of W.code) a.block a.at) (Temp d) s a over depth up
+    v (put a.temps d v) a.areas n
+puts-word p image program most linked s a d v depth up over link M n W small t same five there hold =
+    let yc : Layout = layout_of W.code (image a.function).homes in
+    let U : ℕ → Type 0 = InUse (graph_of W.code) a.block a.at in
+    let h : Housed yc U = housed W.code (image a.function).homes a.block a.at (linked a.function W.code W.function).right in
+    then-put yc (UsedBut U (Temp d)) U (outer s a over depth) up d v 0 3 (low (t.pc + 4 * length (put_to (home_of yc d)))) program t t hold
+    (housed-fewer yc U (UsedBut U (Temp d)) (λ x u. u.0) h) h next-used
+    (λ x u. ⊎_elim (λ e. inl e) (λ o. inr (u, λ e. o (sym (some-same d x e)))) (cases_eq x d)) (way-none program t) (near-same t) hold.pc
+    five small (omega arith) there refl
+  where
+    next-used : InUse (graph_of W.code) a.block a.at d
+    next-used =
+        let g = step-in-graph W.code W.block (Call (Temp d) W.place W.callee W.arguments) a.block W.before W.in_function W.in_block in
+        subst (λ z. InUse (graph_of W.code) a.block z d) (sym W.at)
+        (write-used (graph_of W.code) a.block W.before d (block_of W.block) (step_of (Call (Temp d) W.place W.callee W.arguments)) g.0 g.1
+        (eq-eqb d d refl))
+
+-- Bytes go to an area. They lie where the function had them, below the caller's frame.
+puts-bytes : (p : Program) (image : Image) (program : List (Option Instr)) (most : ℕ) → IsLinked p image program most →
+    (s : tac.State) (a : Activation) (j from : ℕ) (bs : List ℕ) (depth up over link : ℕ) (M n : State) →
+    (W : Waiting p image most (record { waits = a; to = Area j }) depth link up over M) → length bs ≡ area_size W.code j →
+    from + length bs ≤ up → up ≤ length n.private → take (length bs) (drop from n.private) ≡ bs → AreBytes bs →
+    Puts program (layout_of W.code (image a.function).homes) W.code.areas (InUse (graph_of W.code) a.block a.at) (Area j) s a over depth up
+    (2 ^ 32 + from) a.temps (put a.areas j bs) n
+puts-bytes p image program most linked s a j from bs depth up over link M n W count under within reads are t same five there hold =
+    let yc : Layout = layout_of W.code (image a.function).homes in
+    let U : ℕ → Type 0 = InUse (graph_of W.code) a.block a.at in
+    let z : ℕ = size_in W.code.areas j in
+    let h : Housed yc U = housed W.code (image a.function).homes a.block a.at (linked a.function W.code W.function).right in
+    copies-there yc j z from bs (UsedBut U (Area j)) U (outer s a over depth) up program t there fits.0
+    (size-small W.code.areas j fits.1) count five
+    (subst (λ x. from + z ≤ length x) (sym same) (inside from (length bs) z (length n.private) count under within))
+    (inl (below from (length bs) z (area_offset yc j) count under))
+    (ap (λ x. take z (drop from x)) same ∙ (ap (λ x. take x (drop from n.private)) (sym count) ∙ reads)) are hold
+    (housed-fewer yc U (UsedBut U (Area j)) (λ x u. u.0) h) (λ x u. (u, λ e. none-some x e))
+  where
+    none-some : (x : ℕ) → destination_write (Area j) ≡ Some x → ⊥
+    none-some x e = cc
+
+    inside : (f b z l : ℕ) → b ≡ z → f + b ≤ up → up ≤ l → f + z ≤ l
+    inside f b z l e g k = omega (arith, e, g, k)
+
+    below : (f b z o : ℕ) → b ≡ z → f + b ≤ up → f + z ≤ up + o
+    below f b z o e g = omega (arith, e, g)
+
+    fits : (j < length W.code.areas) × (list_all area_fits W.code.areas ≡ true)
+    fits =
+        let wi = within-parts p image program most W.code (image a.function) (linked a.function W.code W.function) in
+        let i = instruction-within W.code a.block W.before W.block (Call (Area j) W.place W.callee W.arguments) wi.blocks W.in_function
+        W.in_block in
+        let one = both-true (destination_fits W.code (Area j) && place_fits W.place) (list_all (part_fits W.code) W.arguments) i in
+        let two = both-true (destination_fits W.code (Area j)) (place_fits W.place) one.0 in
+        (ltb-true j (length W.code.areas) two.0, wi.areas)
 
 -- the value of a part that is a word
 word-part : (y : Layout) (base : ℕ) (s : tac.State) (v : Part) (k : ℕ) → value_of s v ≡ word k → part_value y base (world_of s) v ≡ k
@@ -348,14 +395,14 @@ left-back program y Used s base frame link v depth m h b deep small fits = recor
 
 -- where a waiting caller goes on: an even number of one word
 link-even : (p : Program) (image : Image) (program : List (Option Instr)) (most : ℕ) → IsLinked p image program most →
-    (a : Activation) (d depth link up over : ℕ) (M : State) →
-    Waiting p image most (record { waits = a; to = Temp d }) depth link up over M → (link % 2 ≡ 0) × (link < 2 ^ 64)
-link-even p image program most linked a d depth link up over M W =
-    let bc = behind-call p image program most W.code a.function a.block W.before d W.block W.place W.callee W.arguments
+    (a : Activation) (to : Destination) (depth link up over : ℕ) (M : State) →
+    Waiting p image most (record { waits = a; to = to }) depth link up over M → (link % 2 ≡ 0) × (link < 2 ^ 64)
+link-even p image program most linked a to depth link up over M W =
+    let bc = behind-call p image program most W.code a.function a.block W.before to W.block W.place W.callee W.arguments
     (linked a.function W.code W.function) W.in_function W.in_block in (
       subst (λ z. z % 2 ≡ 0) (sym W.returns) bc.even,
       subst (λ z. z < 2 ^ 64) (sym W.returns)
-          (small-is (behind_of p image most (record { waits = a; to = Temp d }) depth link up over M W) bc.small),
+          (small-is (behind_of p image most (record { waits = a; to = to }) depth link up over M W) bc.small),
     )
   where
     small-is : (n : ℕ) → n + 256 ≤ 2 ^ 30 + 8 → n < 2 ^ 64
@@ -373,37 +420,53 @@ to-one : (p : Program) (image : Image) (program : List (Option Instr)) (most siz
     (base + frame_bytes y + frame_bytes (layout_of W.code (image a.function).homes)) (s.here.base + frame + W.code.frame)
     (restored (layout_of W.code (image a.function).homes) (base + frame_bytes y) (restored y base m)) →
     (link % 2 ≡ 0 → link < 2 ^ 64 → BackIn program y (frame_bytes y) base (s.here.base + frame) link (part_value y base (world_of s) v) m) →
-    Stepped p image program most size 39 s m (given (value_of s v) (Some W.code) (record { waits = a; to = to }) cs s)
+    Stepped p image program most size (36 + result_words to) s m (given (value_of s v) (Some W.code) (record { waits = a; to = to }) cs s)
 to-one p image program most size linked s base m y Used frame h fits sized a (Temp d) cs (parts.Word o) link depth reads W rest back =
-    let e = link-even p image program most linked a d (length cs) link (base + frame_bytes y) (s.here.base + frame) (restored y base m) W in
+    let e = link-even p image program most linked a (Temp d) (length cs) link (base + frame_bytes y) (s.here.base + frame)
+    (restored y base m) W in
     let same : part_value y base (world_of s) (parts.Word o) ≡ operand s o = part-is y base s o in
     let small : operand s o < 2 ^ 64 = subst (λ k. k < 2 ^ 64) same (value-small Used y (world_of s) base m o h reads) in
     let b : BackIn program y (frame_bytes y) base (s.here.base + frame) link (operand s o) m =
     subst (λ k. BackIn program y (frame_bytes y) base (s.here.base + frame) link k m) same (back e.0 e.1) in (
       [],
       nothing-written s.out,
-      to-caller p image program most size linked s a d (operand s o) cs (base + frame_bytes y) (s.here.base + frame) link b.steps
-          (restored y base m) m b.after W rest sized b.way b.some b.few
-          (left-back program y Used s base frame link (operand s o) (length cs) m h b depth small fits),
+      to-caller p image program most size linked s a (Temp d) (operand s o) (put a.temps d (operand s o)) a.areas cs (base + frame_bytes y)
+          (s.here.base + frame) link b.steps (restored y base m) m b.after W rest sized b.way b.some b.few
+          (left-back program y Used s base frame link (operand s o) (length cs) m h b depth small fits)
+          (puts-word p image program most linked s a d (operand s o) (length cs) (base + frame_bytes y) (s.here.base + frame) link
+          (restored y base m) b.after W small),
     )
 to-one p image program most size linked s base m y Used frame h fits sized a (Temp d) cs (parts.Area n) link depth reads W rest back = tt
-to-one p image program most size linked s base m y Used frame h fits sized a (Area k) cs v link depth reads W rest back =
-    let pl : IsPlaced p image program most W.code (image a.function) = linked a.function W.code W.function in
-    let all : list_all block_takes_words W.code.blocks ≡ true =
-    (both-true (list_all is_word W.code.parameters) (list_all block_takes_words W.code.blocks) pl.words).1 in
-    let block : list_all takes_word W.block.instructions ≡ true = list-all-get block_takes_words W.code.blocks a.block W.block all
-    W.in_function in
-    let none : false ≡ true = list-all-get takes_word W.block.instructions W.before (Call (Area k) W.place W.callee W.arguments) block
-    W.in_block in
-    absurd (no-way none)
+to-one p image program most size linked s base m y Used frame h fits sized a (Area j) cs (parts.Word o) link depth reads W rest back = tt
+to-one p image program most size linked s base m y Used frame h fits sized a (Area j) cs (parts.Area n) link depth reads W rest back =
+    by-test (Stepped p image program most size 75 s m) (nat_eq (length (s.here.areas n)) (area_size W.code j)) _ _
+    (λ taken.
+    let e = link-even p image program most linked a (Area j) (length cs) link (base + frame_bytes y) (s.here.base + frame)
+    (restored y base m) W in
+    let b : BackIn program y (frame_bytes y) base (s.here.base + frame) link (2 ^ 32 + (base + area_offset y n)) m = back e.0 e.1 in (
+      [],
+      nothing-written s.out,
+      to-caller p image program most size linked s a (Area j) (2 ^ 32 + (base + area_offset y n)) a.temps (put a.areas j (s.here.areas n)) cs
+          (base + frame_bytes y) (s.here.base + frame) link b.steps (restored y base m) m b.after W rest sized b.way b.some b.few
+          (left-back program y Used s base frame link (2 ^ 32 + (base + area_offset y n)) (length cs) m h b depth
+          (small (length m.private) h.frame.within h.frame.private) fits)
+          (puts-bytes p image program most linked s a j (base + area_offset y n) (s.here.areas n) (length cs) (base + frame_bytes y)
+          (s.here.base + frame) link (restored y base m) b.after W (eqb-true (length (s.here.areas n)) (area_size W.code j) taken)
+          (under (length (s.here.areas n)) (h.short n reads)) (subst (λ z. base + frame_bytes y ≤ length z) (sym b.private) h.frame.within)
+          (ap (λ z. take (length (s.here.areas n)) (drop (base + area_offset y n) z)) b.private ∙ h.areas n reads) (h.area_bytes n reads)),
+    ))
+    (λ no. tt)
   where
-    no-way : false ≡ true → ⊥
-    no-way e = cc
+    small : (l : ℕ) → base + frame_bytes y ≤ l → l ≤ 603979776 → 2 ^ 32 + (base + area_offset y n) < 2 ^ 64
+    small l e g = omega (arith, e, g, reads)
+
+    under : (k : ℕ) → k ≤ 128 → base + area_offset y n + k ≤ base + frame_bytes y
+    under k e = omega (arith, e, reads)
 
 -- how many steps a return takes at most
 abbrev pub return_most : List Caller → ℕ
 return_most [] = 36
-return_most (c ∷ cs) = 39
+return_most (c ∷ cs) = 36 + result_words c.to
 
 -- a function returns
 pub return-steps : (p : Program) (image : Image) (program : List (Option Instr)) (most size : ℕ) → IsLinked p image program most →

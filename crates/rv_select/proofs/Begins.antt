@@ -27,8 +27,8 @@ use Rattle.rv_select.specs.Shapes.{moved, place_number, x4, x8, x11}
 use Rattle.rv_select.specs.Steps.{Ends}
 use Rattle.rv_select.specs.Calls.{blocks_length, head_code, last_address}
 use Rattle.rv_select.specs.Entering.{arguments_stored, begun, entered, kept_offset, most_arguments, received, stored_below, words_offset}
-use Rattle.rv_select.specs.Frames.{BeforeEntering, Enters, HasWords, Received, is_word, seen, without_words}
-use Rattle.rv_select.specs.Waiting.{Arrives, HasRoom, Image, IsLinked, IsPlaced, Stepped, Waits, block_takes_words, entries_of, place_in, restored}
+use Rattle.rv_select.specs.Frames.{BeforeEntering, Enters, HasWords, Received, seen, without_words}
+use Rattle.rv_select.specs.Waiting.{Arrives, HasRoom, Image, IsLinked, IsPlaced, Stepped, Waits, entries_of, place_in, restored}
 use Rattle.rv_select.specs.Whole.{EntriesAreCarried, Starts, before_entry}
 use Rattle.rv_select.proofs.Arrivals.{InFunction, begin-holds, link-after}
 use Rattle.rv_select.proofs.Bytes.{stored-length, stored-word}
@@ -276,10 +276,10 @@ least-same n = omega arith
 room-first : (most base b : ℕ) → 512 * most ≤ base → b ≤ most → (b ≤ base) × (511 * most ≤ base - b)
 room-first most base b h k = (omega (arith, h, k), omega (arith, h, k))
 
-steps-full : (k n q : ℕ) → k ≤ n → k + 36 ≤ n + 36 + 6 * q
+steps-full : (k n q : ℕ) → k ≤ n → k + 36 ≤ n + 36 + q
 steps-full k n q h = omega (arith, h)
 
-steps-in : (k a b n q : ℕ) → k ≤ n → a ≤ 36 → b ≤ 6 * q → k + a + b ≤ n + 36 + 6 * q
+steps-in : (k a b n q : ℕ) → k ≤ n → a ≤ 36 → b ≤ q → k + a + b ≤ n + 36 + q
 steps-in k a b n q h g e = omega (arith, h, g, e)
 
 steps-some : (k a b : ℕ) → 1 ≤ a → 1 ≤ k + a + b
@@ -409,22 +409,22 @@ module _ (p : Program) (image : Image) (program : List (Option Instr)) (most n :
       (a : Activation) (target : ℕ) → a ≡ record (fresh_call f code (before_entry f region n)) { temps = a.temps; areas = a.areas } →
       code.frame ≤ (end_address region) → target ≡ place_in p image code (image f) 0 0 →
       Received program (without_words (layout_of code (image f).homes)) (InUse (graph_of code) 0 0) (seen a region 0)
-      ((length m.private) - (frame_bytes (layout_of code (image f).homes))) (6 * length code.parameters) target en.after →
-      Arrives p image program most (length region.bytes) (length (begun code) + 36 + 6 * length code.parameters) []
+      ((length m.private) - (frame_bytes (layout_of code (image f).homes))) (receiving code.parameters) target en.after →
+      Arrives p image program most (length region.bytes) (length (begun code) + 36 + receiving code.parameters) []
       (record (before_entry f region n) { here = a }) m
   lands-in b en a target is enough to-is rc =
       subst
       (λ c. Received program (without_words (layout_of code (image f).homes)) (InUse (graph_of code) 0 0) (seen c region 0)
-      ((length m.private) - (frame_bytes (layout_of code (image f).homes))) (6 * length code.parameters) target en.after →
-      Arrives p image program most (length region.bytes) (length (begun code) + 36 + 6 * length code.parameters) []
+      ((length m.private) - (frame_bytes (layout_of code (image f).homes))) (receiving code.parameters) target en.after →
+      Arrives p image program most (length region.bytes) (length (begun code) + 36 + receiving code.parameters) []
       (record (before_entry f region n) { here = c }) m)
       (sym is) (made a.temps a.areas) rc
     where
       made : (temps : tac.Temps) (areas : tac.Areas) →
           Received program (without_words (layout_of code (image f).homes)) (InUse (graph_of code) 0 0)
           (seen (record (fresh_call f code (before_entry f region n)) { temps = temps; areas = areas }) region 0)
-          ((length m.private) - (frame_bytes (layout_of code (image f).homes))) (6 * length code.parameters) target en.after →
-          Arrives p image program most (length region.bytes) (length (begun code) + 36 + 6 * length code.parameters) []
+          ((length m.private) - (frame_bytes (layout_of code (image f).homes))) (receiving code.parameters) target en.after →
+          Arrives p image program most (length region.bytes) (length (begun code) + 36 + receiving code.parameters) []
           (record (before_entry f region n)
           { here = record (fresh_call f code (before_entry f region n)) { temps = temps; areas = areas } }) m
       made temps areas r =
@@ -438,7 +438,7 @@ module _ (p : Program) (image : Image) (program : List (Option Instr)) (most n :
             after = r.after;
             base = (length m.private) - (frame_bytes (layout_of code (image f).homes));
             some = steps-some b.steps en.steps r.steps en.some;
-            few = steps-in b.steps en.steps r.steps (length (begun code)) (length code.parameters) b.few en.few r.few;
+            few = steps-in b.steps en.steps r.steps (length (begun code)) (receiving code.parameters) b.few en.few r.few;
             runs = λ more. (way-both program (b.steps + en.steps) r.steps m en.after r.after
                 (way-both program b.steps en.steps m b.after en.after b.way (record { runs = en.runs })) (record { runs = r.runs })).runs
                 more;
@@ -490,7 +490,7 @@ module _ (p : Program) (image : Image) (program : List (Option Instr)) (most n :
       (low (b.after.pc + 4 * length (entered (layout_of code (image f).homes) (frame_bytes (layout_of code (image f).homes)) code.frame)))
       b.after) →
       heap_limit region + code.frame ≤ (end_address region) → accepts_all code code.parameters (map word arguments) ≡ true →
-      Arrives p image program most (length region.bytes) (length (begun code) + 36 + 6 * length code.parameters) []
+      Arrives p image program most (length region.bytes) (length (begun code) + 36 + receiving code.parameters) []
       (record (before_entry f region n)
       { here = takes_all code.parameters (map word arguments) (fresh_call f code (before_entry f region n)) }) m
   goes-in b en fits accepts =
@@ -526,10 +526,8 @@ module _ (p : Program) (image : Image) (program : List (Option Instr)) (most n :
       (words_offset (layout_of code (image f).homes)) (length m.private) 0 code.parameters arguments en.after (sym count)
       (top-is (length m.private) (length (image f).homes) (length code.areas) (length code.parameters) fit.0)
       (λ k y g. passed-word b en k y g) in
-      let only : list_all is_word code.parameters ≡ true =
-      (both-true (list_all is_word code.parameters) (list_all block_takes_words code.blocks) pl.words).0 in
       let rc = parameters-received code (image f).homes program (map word arguments) (fresh_call f code (before_entry f region n)) region 0
-      ((length m.private) - (frame_bytes (layout_of code (image f).homes))) en.after pl.fits pl.right only accepts
+      ((length m.private) - (frame_bytes (layout_of code (image f).homes))) en.after pl.fits pl.right accepts
       (subst (λ q. Stands program q
       (received (layout_of code (image f).homes) code.areas (words_offset (layout_of code (image f).homes)) code.parameters))
       (sym ahead) fn.receives) holds words back in
@@ -545,21 +543,21 @@ module _ (p : Program) (image : Image) (program : List (Option Instr)) (most n :
       (received (layout_of code (image f).homes) code.areas (words_offset (layout_of code (image f).homes)) code.parameters)) near.0 ∙
       (fn.first ∙ sym (first-start (layout_of code (image f).homes) code (image f).at wi.entered)))) rc
 
-  pub entry-step : Stepped p image program most (length region.bytes) (length (begun code) + 36 + 6 * length code.parameters)
+  pub entry-step : Stepped p image program most (length region.bytes) (length (begun code) + 36 + receiving code.parameters)
       (before_entry f region n) m (enter code.place f (Some code) (map word arguments) (end_address region) [] (before_entry f region n))
   entry-step =
       let both = functions-entered program (layout_of code (image f).homes) (frame_bytes (layout_of code (image f).homes)) code.frame
       (length m.private) (end_address region) (length region.bytes) code.place at-entry.after (before at-entry) in
-      by-test (Stepped p image program most (length region.bytes) (length (begun code) + 36 + 6 * length code.parameters)
+      by-test (Stepped p image program most (length region.bytes) (length (begun code) + 36 + receiving code.parameters)
       (before_entry f region n) m) (nat_lt (end_address region) (heap_limit region + code.frame)) _ _
       (λ full. (
         refl,
-        later-ends program StackFull code.place at-entry.steps 36 (length (begun code) + 36 + 6 * length code.parameters) m at-entry.after
+        later-ends program StackFull code.place at-entry.steps 36 (length (begun code) + 36 + receiving code.parameters) m at-entry.after
             at-entry.way (both.0 (ltb-true (end_address region) (heap_limit region + code.frame) full))
-            (steps-full at-entry.steps (length (begun code)) (length code.parameters) at-entry.few),
+            (steps-full at-entry.steps (length (begun code)) (receiving code.parameters) at-entry.few),
       ))
       (λ fits.
-      by-test (Stepped p image program most (length region.bytes) (length (begun code) + 36 + 6 * length code.parameters)
+      by-test (Stepped p image program most (length region.bytes) (length (begun code) + 36 + receiving code.parameters)
       (before_entry f region n) m) (accepts_all code code.parameters (map word arguments)) _ _
       (λ taken. (
         [],

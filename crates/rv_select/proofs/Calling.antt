@@ -33,10 +33,10 @@ use Rattle.rv_select.specs.Places.{AreBytes, Holds, Housed, Keeps, Layout, World
 use Rattle.rv_select.specs.Shapes.{place_number, start_of}
 use Rattle.rv_select.specs.Steps.{Ends, world_of}
 use Rattle.rv_select.specs.Calls.{block_starts, blocks_length, call_begun, call_ended, call_jump, head_code, instruction_code, last_address, starts_from}
-use Rattle.rv_select.specs.Entering.{begun, entered, received, words_offset}
-use Rattle.rv_select.specs.Frames.{BeforeEntering, Enters, IsPartRead, Received, is_word, part_value, seen, without_words}
-use Rattle.rv_select.specs.Waiting.{Arrives, HasRoom, Image, IsLinked, IsPlaced, Placed, StandsIn, Stepped, Waiting, Waits, block_takes_words, entries_of, entry_of, place_in, restored}
-use Rattle.rv_select.proofs.Arrivals.{InFunction, begin-holds, enters-call, has-words, link-after, room-next, same-after}
+use Rattle.rv_select.specs.Entering.{begun, entered, received, receiving, words_offset}
+use Rattle.rv_select.specs.Frames.{BeforeEntering, Enters, IsPartRead, Received, part_value, seen, without_words}
+use Rattle.rv_select.specs.Waiting.{Arrives, HasRoom, Image, IsLinked, IsPlaced, Placed, StandsIn, Stepped, Waiting, Waits, entries_of, entry_of, place_in, restored}
+use Rattle.rv_select.proofs.Arrivals.{InFunction, areas-lie, begin-holds, enters-call, has-words, link-after, room-next, same-after}
 use Rattle.rv_select.proofs.Callings.{Begun, JumpedTo, begins, jumps-to, too-deep}
 use Rattle.rv_select.proofs.Carries.{by-test, has-left, has-right, nothing-written, operand-read, place-small}
 use Rattle.rv_select.proofs.Entrances.{functions-entered, more-ends}
@@ -184,7 +184,7 @@ pub lands : (p : Program) (image : Image) (program : List (Option Instr)) (most 
     slice_get x.code.blocks s.here.block ≡ Some block → slice_get block.instructions s.here.at ≡ Some (Call to place f arguments) →
     (callee : Tac) → p.code f ≡ Some callee →
     (l k target : ℕ) (a : Activation) (n : State) → a ≡ record (fresh_call f callee s) { temps = a.temps; areas = a.areas } →
-    Way program k m n → 1 ≤ k → k + 6 * length callee.parameters ≤ bound →
+    Way program k m n → 1 ≤ k → k + receiving callee.parameters ≤ bound →
     (frame_bytes (layout_of callee (image f).homes)) ≤ base →
     HasRoom most (suc (length s.callers)) (base - (frame_bytes (layout_of callee (image f).homes))) → callee.frame ≤ s.here.base →
     s.here.base ≤ end_address s.region → base ≤ length m.private →
@@ -194,7 +194,7 @@ pub lands : (p : Program) (image : Image) (program : List (Option Instr)) (most 
     (call_begun (layout_of x.code (image s.here.function).homes) place arguments) + 8) m n →
     target ≡ place_in p image callee (image f) 0 0 →
     Received program (without_words (layout_of callee (image f).homes)) (InUse (graph_of callee) 0 0)
-    (seen a s.region (suc (length s.callers))) (base - (frame_bytes (layout_of callee (image f).homes))) (6 * length callee.parameters)
+    (seen a s.region (suc (length s.callers))) (base - (frame_bytes (layout_of callee (image f).homes))) (receiving callee.parameters)
     target n →
     Arrives p image program most size bound [] (entered_state s to l a) m
 unfolding made-waiting
@@ -202,7 +202,7 @@ lands p image program most size bound linked s base m x block to place f argumen
     room enough below within inside to-is rc =
     subst
     (λ b. Received program (without_words (layout_of callee (image f).homes)) (InUse (graph_of callee) 0 0)
-    (seen b s.region (suc (length s.callers))) (base - (frame_bytes (layout_of callee (image f).homes))) (6 * length callee.parameters)
+    (seen b s.region (suc (length s.callers))) (base - (frame_bytes (layout_of callee (image f).homes))) (receiving callee.parameters)
     target n →
     Arrives p image program most size bound [] (entered_state s to l b) m)
     (sym a-is) (made a.temps a.areas) rc
@@ -221,7 +221,7 @@ lands p image program most size bound linked s base m x block to place f argumen
         Received program (without_words (layout_of callee (image f).homes)) (InUse (graph_of callee) 0 0)
         (seen (record (fresh_call f callee s) { temps = temps; areas = areas }) s.region (suc (length s.callers)))
         (base - (frame_bytes (layout_of callee (image f).homes)))
-        (6 * length callee.parameters) target n →
+        (receiving callee.parameters) target n →
         Arrives p image program most size bound [] (entered_state s to l (record (fresh_call f callee s) { temps = temps; areas = areas }))
         m
     made temps areas r =
@@ -319,8 +319,8 @@ stack-less top n frame h = h
 stack-more : (top n frame : ℕ) → 2 ^ 30 + n - n / 4 + frame ≤ top → 2 ^ 30 + n - n / 4 + frame ≤ top
 stack-more top n frame h = h
 
-steps-few : (k n : ℕ) → k ≤ 11 + 11 * n → k + 2 + 36 ≤ 49 + 17 * n
-steps-few k n h = omega (arith, h)
+steps-few : (k n r : ℕ) → k ≤ 11 + 11 * n → k + 2 + 36 ≤ 49 + 11 * n + r
+steps-few k n r h = omega (arith, h)
 
 link-facts : (n : ℕ) → n + 8 + 256 ≤ 2 ^ 30 → (n < 2 ^ 30) × (n ≤ 2 ^ 30)
 link-facts n h = (omega (arith, h), omega (arith, h))
@@ -374,6 +374,10 @@ top-is : (base h a q : ℕ) → 8 * 11 + 8 * h + 128 * a + 8 * q ≤ base →
     base - (8 * 11 + 8 * h + 128 * a + 8 * q) + (8 * 11 + 8 * h + 128 * a + 8 * q) + 8 * 0 ≡ base
 top-is base h a q g = omega (arith, g)
 
+words-under : (base h a q : ℕ) → 8 * 11 + 8 * h + 128 * a + 8 * q ≤ base →
+    base - (8 * 11 + 8 * h + 128 * a + 8 * q) + (8 * 11 + 8 * h + 128 * a) ≤ base
+words-under base h a q g = omega (arith, g)
+
 word-high : (base h a q n k : ℕ) → 8 * 11 + 8 * h + 128 * a + 8 * q ≤ base → n ≡ q → k < n →
     base - (8 * 11 + 8 * h + 128 * a + 8 * q) + 88 ≤ base - 8 * (0 + k + 1)
 word-high base h a q n k g e l = omega (arith, g, e, l)
@@ -381,8 +385,8 @@ word-high base h a q n k g e l = omega (arith, g, e, l)
 some-steps : (a b : ℕ) → 1 ≤ a + 2 + b
 some-steps a b = omega arith
 
-all-few : (a b n q : ℕ) → a ≤ 11 + 11 * n → b ≤ 36 → n ≡ q → a + 2 + b + 6 * q ≤ 49 + 17 * n
-all-few a b n q h g e = omega (arith, h, g, e)
+all-few : (a b n r : ℕ) → a ≤ 11 + 11 * n → b ≤ 36 → a + 2 + b + r ≤ 49 + 11 * n + r
+all-few a b n r h g = omega (arith, h, g)
 
 zero-first : (k : ℕ) → 0 + k + 1 ≡ k + 1
 zero-first k = omega arith
@@ -484,13 +488,13 @@ callee-step : (p : Program) (image : Image) (program : List (Option Instr)) (mos
     (call_jump (place_in p image x.code (image s.here.function) s.here.block s.here.at + 4 * length
     (call_begun (layout_of x.code (image s.here.function).homes) place arguments)) (entries_of p image f) ++ call_ended
     (layout_of x.code (image s.here.function).homes) x.code.areas to) m) →
-    (s.here.base < heap_limit s.region + callee.frame → Ends program StackFull place (49 + 17 * length arguments) m) ×
+    (s.here.base < heap_limit s.region + callee.frame → Ends program StackFull place (49 + 11 * length arguments + receiving callee.parameters) m) ×
     (heap_limit s.region + callee.frame ≤ s.here.base → accepts_all callee callee.parameters (values_of s arguments) ≡ true → (l : ℕ) →
-    Arrives p image program most size (49 + 17 * length arguments) []
+    Arrives p image program most size (49 + 11 * length arguments + receiving callee.parameters) []
     (entered_state s to l (takes_all callee.parameters (values_of s arguments) (fresh_call f callee s))) m)
 callee-step p image program most size linked s base m x block to place f arguments in-f in-b callee e c count shallow b = (
-  λ less. later-ends program StackFull place (b.steps + 2) 36 (49 + 17 * length arguments) m jump.after jumped
-      (entering.0 (stack-less s.here.base (length s.region.bytes) callee.frame less)) (steps-few b.steps (length arguments) b.few),
+  λ less. later-ends program StackFull place (b.steps + 2) 36 (49 + 11 * length arguments + receiving callee.parameters) m jump.after jumped
+      (entering.0 (stack-less s.here.base (length s.region.bytes) callee.frame less)) (steps-few b.steps (length arguments) (receiving callee.parameters) b.few),
   λ fits accepts l. arrived (entering.1 (stack-more s.here.base (length s.region.bytes) callee.frame fits)) fits accepts l,
 )
   where
@@ -587,15 +591,12 @@ callee-step p image program most size linked s base m x block to place f argumen
     entering = functions-entered program (layout_of callee (image f).homes) (frame_bytes (layout_of callee (image f).homes)) callee.frame
         base s.here.base (length s.region.bytes) place jump.after before
 
-    only : list_all is_word callee.parameters ≡ true
-    only = (both-true (list_all is_word callee.parameters) (list_all block_takes_words callee.blocks) plz.words).0
-
     arrived : Enters program (layout_of callee (image f).homes) (base - (frame_bytes (layout_of callee (image f).homes)))
         (s.here.base - callee.frame)
         (low (jump.after.pc + 4 * length
         (entered (layout_of callee (image f).homes) (frame_bytes (layout_of callee (image f).homes)) callee.frame))) jump.after →
         heap_limit s.region + callee.frame ≤ s.here.base → accepts_all callee callee.parameters (values_of s arguments) ≡ true → (l : ℕ) →
-        Arrives p image program most size (49 + 17 * length arguments) []
+        Arrives p image program most size (49 + 11 * length arguments + receiving callee.parameters) []
         (entered_state s to l (takes_all callee.parameters (values_of s arguments) (fresh_call f callee s))) m
     arrived en fits accepts l =
         let inside : InFunction (layout_of callee (image f).homes) base (base - (frame_bytes (layout_of callee (image f).homes)))
@@ -643,22 +644,27 @@ callee-step p image program most size linked s base m x block to place f argumen
         (base - (frame_bytes (layout_of callee (image f).homes))) (words_offset (layout_of callee (image f).homes)) base 0
         callee.parameters arguments en.after (sym count)
         (top-is base (length (image f).homes) (length callee.areas) (length callee.parameters) room.0)
-        (λ k q g. passed-word en k q g (position k q g)) c.small in
+        (λ k q g. passed-word en k q g (position k q g)) c.small
+        (areas-lie (layout_of x.code (image s.here.function).homes) (InUse (graph_of x.code) s.here.block s.here.at) (world_of s) base
+        (base - (frame_bytes (layout_of callee (image f).homes))) (words_offset (layout_of callee (image f).homes)) m en.after x.holds
+        inside.above inside.long
+        (words-under base (length (image f).homes) (length callee.areas) (length callee.parameters) room.0))
+        (InUse (graph_of x.code) s.here.block s.here.at) c.reads in
         let rc = parameters-received callee (image f).homes program (values_of s arguments) (fresh_call f callee s) s.region
-        (suc (length s.callers)) (base - (frame_bytes (layout_of callee (image f).homes))) en.after plz.fits plz.right only accepts
+        (suc (length s.callers)) (base - (frame_bytes (layout_of callee (image f).homes))) en.after plz.fits plz.right accepts
         (subst (λ q. Stands program q
         (received (layout_of callee (image f).homes) callee.areas (words_offset (layout_of callee (image f).homes)) callee.parameters))
         (sym ahead) fn.receives) holds words
         (subst (λ q. base - (frame_bytes (layout_of callee (image f).homes)) + (frame_bytes (layout_of callee (image f).homes)) ≤ q)
         (sym inside.long) within-back) in
-        lands p image program most size (49 + 17 * length arguments) linked s base m x block to place f arguments in-f in-b callee e l
+        lands p image program most size (49 + 11 * length arguments + receiving callee.parameters) linked s base m x block to place f arguments in-f in-b callee e l
         (b.steps + 2 + en.steps)
         (low (en.after.pc + 4 * length
         (received (layout_of callee (image f).homes) callee.areas (words_offset (layout_of callee (image f).homes)) callee.parameters)))
         (takes_all callee.parameters (values_of s arguments) (fresh_call f callee s)) en.after
         (takes-is callee.parameters (values_of s arguments) (fresh_call f callee s))
         (way-both program (b.steps + 2) en.steps m jump.after en.after jumped (record { runs = en.runs })) (some-steps b.steps en.steps)
-        (all-few b.steps en.steps (length arguments) (length callee.parameters) b.few en.few count)
+        (all-few b.steps en.steps (length arguments) (receiving callee.parameters) b.few en.few)
         room.0 room.1 (frame-fits (heap_limit s.region) s.here.base callee.frame fits) x.holds.below top-within inside
         (ap (λ q. low (q + 4 * length
         (received (layout_of callee (image f).homes) callee.areas (words_offset (layout_of callee (image f).homes))
@@ -717,8 +723,13 @@ deep-is n h = omega (arith, h)
 shallow-is : (n : ℕ) → suc n < 512 → n < 511
 shallow-is n h = omega (arith, h)
 
-few-deep : (n : ℕ) → 13 ≤ 49 + 17 * n
-few-deep n = omega arith
+few-deep : (n r : ℕ) → 13 ≤ 49 + 11 * n + r
+few-deep n r = omega arith
+
+-- the most steps in which the parameters of a function are taken
+abbrev pub taking : Option Tac → ℕ
+taking None = 0
+taking (Some code) = receiving code.parameters
 
 -- a call
 pub call-step : (p : Program) (image : Image) (program : List (Option Instr)) (most size : ℕ) → IsLinked p image program most →
@@ -726,7 +737,7 @@ pub call-step : (p : Program) (image : Image) (program : List (Option Instr)) (m
     (x : StandsIn p image program most size s base m) (block : Block) (to : Destination) (place : Place) (f : FnId) (arguments : List Part)
     →
     slice_get x.code.blocks s.here.block ≡ Some block → slice_get block.instructions s.here.at ≡ Some (Call to place f arguments) →
-    Stepped p image program most size (49 + 17 * length arguments) s m (step p s)
+    Stepped p image program most size (49 + 11 * length arguments + taking (p.code f)) s m (step p s)
 call-step p image program most size linked s base m x block to place f arguments in-f in-b =
     let e1 = x.function in
     rw (e1, in-f, in-b) (counts s.left refl)
@@ -744,15 +755,15 @@ call-step p image program most size linked s base m x block to place f arguments
         (count callee e)
 
     with-code : (l : ℕ) (o : Option Tac) → p.code f ≡ o →
-        Stepped p image program most size (49 + 17 * length arguments) s m
+        Stepped p image program most size (49 + 11 * length arguments + taking o) s m
         (enter place f o (values_of s arguments) s.here.base (record { waits = record s.here { at = suc s.here.at }; to = to } ∷ s.callers)
         (record s { left = l }))
     with-code l None e = tt
     with-code l (Some callee) e =
-        by-test (Stepped p image program most size (49 + 17 * length arguments) s m) (nat_le most_calls (suc (length s.callers))) _ _
+        by-test (Stepped p image program most size (49 + 11 * length arguments + receiving callee.parameters) s m) (nat_le most_calls (suc (length s.callers))) _ _
         (λ deep. (
           refl,
-          more-ends program CallDepth place 13 (49 + 17 * length arguments) m (few-deep (length arguments))
+          more-ends program CallDepth place 13 (49 + 11 * length arguments + receiving callee.parameters) m (few-deep (length arguments) (receiving callee.parameters))
               (too-deep program (layout_of x.code (image s.here.function).homes) (InUse (graph_of x.code) s.here.block s.here.at)
               (world_of s) base place arguments
               (call_jump (place_in p image x.code (image s.here.function) s.here.block s.here.at + 4 * length
@@ -770,16 +781,16 @@ call-step p image program most size linked s base m x block to place f arguments
         (call_begun (layout_of x.code (image s.here.function).homes) place arguments)) (entries_of p image f) ++ call_ended
         (layout_of x.code (image s.here.function).homes) x.code.areas to) m x.holds c.homes c.place_small c.code less c.reads
         (room callee e less)) in
-        by-test (Stepped p image program most size (49 + 17 * length arguments) s m)
+        by-test (Stepped p image program most size (49 + 11 * length arguments + receiving callee.parameters) s m)
         (nat_lt s.here.base (heap_limit s.region + callee.frame)) _ _
         (λ full. (refl, both.0 (ltb-true s.here.base (heap_limit s.region + callee.frame) full)))
         (λ fits.
-        by-test (Stepped p image program most size (49 + 17 * length arguments) s m)
+        by-test (Stepped p image program most size (49 + 11 * length arguments + receiving callee.parameters) s m)
         (accepts_all callee callee.parameters (values_of s arguments)) _ _
         (λ taken. ([], nothing-written s.out, both.1 (not-lt s.here.base (heap_limit s.region + callee.frame) fits) taken l)) (λ no. tt)))
 
     counts : (l : ℕ) → s.left ≡ l →
-        Stepped p image program most size (49 + 17 * length arguments) s m
+        Stepped p image program most size (49 + 11 * length arguments + taking (p.code f)) s m
         (tac.counted l s (λ z. enter place f (p.code f) (values_of s arguments) z.here.base
         (record { waits = (tac.ahead z).here; to = to } ∷ z.callers) z))
     counts zero q = (refl, q)

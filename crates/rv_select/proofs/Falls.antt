@@ -23,9 +23,10 @@ use Rattle.tac_form.specs.Flow as tac
 use Rattle.tac_form.specs.Flow.{Activation, Caller, Goes, Program, Stops, accepts, accepts_all, enter, give, given, step, takes, takes_all, value_of, values_of}
 use Rattle.tac_form.specs.Fits.{blocks_count}
 use Rattle.tac_form.specs.Weights.{block_words, code_words, exit_words, words_of}
+use Rattle.rv_select.specs.Entering.{receiving, result_words}
 use Rattle.rv_select.specs.Whole.{AreShort, block_behind, steps_left, waiting_words, words_behind}
 use Rattle.rv_select.proofs.Backs.{return_most}
-use Rattle.rv_select.proofs.Calling.{entered_state, fresh_call, takes-is}
+use Rattle.rv_select.proofs.Calling.{entered_state, fresh_call, takes-is, taking}
 use Rattle.rv_select.proofs.Carries.{by-test}
 use Rattle.rv_select.proofs.Inner.{IsNext, LeavesIf, LeavesTo, Stays, StaysIf}
 
@@ -77,26 +78,27 @@ behind-le code c d h = go (slice_get code.blocks c) refl
         c h in
         subst (λ n. n ≤ sum_by block_words (drop d code.blocks)) first more
 
-each-least : (f : Destination → ℕ) → ((d : Destination) → 6 ≤ f d) → (ds : List Destination) → 6 * length ds ≤ sum_by f ds
+each-least : (f : Destination → ℕ) → ((d : Destination) → 3 + result_words d ≤ f d) → (ds : List Destination) → receiving ds ≤ sum_by f ds
 each-least f h [] = omega arith
-each-least f h (d ∷ ds) = least (sum_by f ds) (sum_by f (d ∷ ds)) (f d) (each-least f h ds) (h d) (sum_by-cons f d ds)
+each-least f h (d ∷ ds) = least (receiving ds) (result_words d) (sum_by f ds) (sum_by f (d ∷ ds)) (f d) (each-least f h ds) (h d)
+    (sum_by-cons f d ds)
   where
-    least : (a c n : ℕ) → 6 * length ds ≤ a → 6 ≤ n → c ≡ n + a → 6 * suc (length ds) ≤ c
-    least a c n g k e = omega (arith, g, k, e)
+    least : (r w a c n : ℕ) → r ≤ a → 3 + w ≤ n → c ≡ n + a → 3 + w + r ≤ c
+    least r w a c n g k e = omega (arith, g, k, e)
 
-taken-least : (f : Destination → ℕ) (ds : List Destination) (other : ℕ) → ((t : ℕ) → 6 ≤ f (Temp t)) → ((n : ℕ) → 6 ≤ f (Area n)) →
-    79 + 6 * length ds + other ≤ 79 + fold (λ a x. a + f x) 0 ds + other
+taken-least : (f : Destination → ℕ) (ds : List Destination) (other : ℕ) → ((t : ℕ) → 6 ≤ f (Temp t)) → ((n : ℕ) → 42 ≤ f (Area n)) →
+    79 + receiving ds + other ≤ 79 + fold (λ a x. a + f x) 0 ds + other
 taken-least f ds other temp area = let h = each-least f least ds in omega (arith, h)
   where
-    least : (d : Destination) → 6 ≤ f d
+    least : (d : Destination) → 3 + result_words d ≤ f d
     least (Temp t) = temp t
     least (Area n) = area n
 
-pub params-least : (code : Tac) → 79 + 6 * length code.parameters + sum_by block_words code.blocks ≤ code_words code
+pub params-least : (code : Tac) → 79 + receiving code.parameters + sum_by block_words code.blocks ≤ code_words code
 params-least code = taken-least _ code.parameters (sum_by block_words code.blocks) (λ t. omega arith) (λ n. omega arith)
 
 pub call-least : (to : Destination) (place : Place) (f : FnId) (arguments : List Part) →
-    25 + 11 * length arguments ≤ words_of (Call to place f arguments)
+    22 + result_words to + 11 * length arguments ≤ words_of (Call to place f arguments)
 call-least (Temp d) place f arguments = omega arith
 call-least (Area n) place f arguments = omega arith
 
@@ -223,10 +225,10 @@ falls-exit p words code block s (Goes t) e f counted short l =
     whole : words_behind (p.code s.here.function) l.edge.block 0 ≤ words
     whole =
         subst (λ o. words_behind o l.edge.block 0 ≤ words) (sym e)
-        (under (words_behind (Some code) l.edge.block 0) (sum_by block_words code.blocks) (length code.parameters) (code_words code)
+        (under (words_behind (Some code) l.edge.block 0) (sum_by block_words code.blocks) (receiving code.parameters) (code_words code)
         (behind-le code l.edge.block 0 (omega arith)) (params-least code) short)
       where
-        under : (a b n c : ℕ) → a ≤ b → 79 + 6 * n + b ≤ c → c ≤ words → a ≤ words
+        under : (a b n c : ℕ) → a ≤ b → 79 + n + b ≤ c → c ≤ words → a ≤ words
         under a b n c h g k = omega (arith, h, g, k)
 
     later : s.here.block < l.edge.block →
@@ -280,26 +282,25 @@ falls-exit p words code block s (Stops r) e f counted short l =
     under x a d h = omega (arith, h)
 
 -- a call, which has a count
-call-falls : (words n q wc wn we wb ws l k : ℕ) → n ≡ q → 25 + 11 * n ≤ wc → ws ≡ wc + wn → we ≤ wb → 79 + 6 * q + wb ≤ words → (w : ℕ) →
+call-falls : (words n q z wc wn we wb ws l k : ℕ) → 22 + z + 11 * n ≤ wc → ws ≡ wc + wn → we ≤ wb → 79 + q + wb ≤ words → (w : ℕ) →
     k ≡ suc l →
-    (49 + 17 * n + (we + 26 + (wn + 31 + w) + l * words) ≤ ws + 26 + w + k * words) × (k ≤ suc l)
-call-falls words n q wc wn we wb ws l k e a b c d w f =
+    (49 + 11 * n + q + (we + 26 + (wn + (28 + z) + w) + l * words) ≤ ws + 26 + w + k * words) × (k ≤ suc l)
+call-falls words n q z wc wn we wb ws l k a b c d w f =
     let split : suc l * words ≡ l * words + words = suc-mul l words in (
-      subst (λ z. 49 + 17 * n + (we + 26 + (wn + 31 + w) + l * words) ≤ ws + 26 + w + z * words) (sym f)
+      subst (λ x. 49 + 11 * n + q + (we + 26 + (wn + (28 + z) + w) + l * words) ≤ ws + 26 + w + x * words) (sym f)
           (enough (l * words) (suc l * words) split),
       omega (arith, f),
     )
   where
-    enough : (y z : ℕ) → z ≡ y + words → 49 + 17 * n + (we + 26 + (wn + 31 + w) + y) ≤ ws + 26 + w + z
-    enough y z r = omega (arith, e, a, b, c, d, r)
+    enough : (y x : ℕ) → x ≡ y + words → 49 + 11 * n + q + (we + 26 + (wn + (28 + z) + w) + y) ≤ ws + 26 + w + x
+    enough y x r = omega (arith, a, b, c, d, r)
 
 pub falls-call : (p : Program) (words : ℕ) → AreShort p words →
     (code : Tac) (block : Block) (to : Destination) (place : Place) (f : FnId) (arguments : List Part) (s : tac.State) →
     p.code s.here.function ≡ Some code →
     slice_get code.blocks s.here.block ≡ Some block → slice_get block.instructions s.here.at ≡ Some (Call to place f arguments) →
-    ((callee : Tac) → p.code f ≡ Some callee → length arguments ≡ length callee.parameters) →
-    FallsIf p words (49 + 17 * length arguments) s (step p s)
-falls-call p words short code block to place f arguments s e in-f in-b passes =
+    FallsIf p words (49 + 11 * length arguments + taking (p.code f)) s (step p s)
+falls-call p words short code block to place f arguments s e in-f in-b =
     rw (e, in-f, in-b) (counts s.left refl)
   where
     here : words_behind (p.code s.here.function) s.here.block s.here.at ≡ words_of (Call to place f arguments) + words_behind
@@ -310,12 +311,12 @@ falls-call p words short code block to place f arguments s e in-f in-b passes =
 
     paid : (l : ℕ) (callee : Tac) → s.left ≡ suc l → p.code f ≡ Some callee → (a : Activation) →
         a ≡ record (fresh_call f callee s) { temps = a.temps; areas = a.areas } →
-        FallsIf p words (49 + 17 * length arguments) s (Goes (entered_state s to l a))
+        FallsIf p words (49 + 11 * length arguments + receiving callee.parameters) s (Goes (entered_state s to l a))
     paid l callee q g a is =
-        subst (λ b. FallsIf p words (49 + 17 * length arguments) s (Goes (entered_state s to l b))) (sym is)
-        (call-falls words (length arguments) (length callee.parameters) (words_of (Call to place f arguments))
+        subst (λ b. FallsIf p words (49 + 11 * length arguments + receiving callee.parameters) s (Goes (entered_state s to l b))) (sym is)
+        (call-falls words (length arguments) (receiving callee.parameters) (result_words to) (words_of (Call to place f arguments))
         (words_behind (p.code s.here.function) s.here.block (suc s.here.at)) (words_behind (p.code f) 0 0)
-        (sum_by block_words callee.blocks) (words_behind (p.code s.here.function) s.here.block s.here.at) l s.left (passes callee g)
+        (sum_by block_words callee.blocks) (words_behind (p.code s.here.function) s.here.block s.here.at) l s.left
         (call-least to place f arguments) here
         (subst (λ o. words_behind o 0 0 ≤ sum_by block_words callee.blocks) (sym g) (behind-le callee 0 0 (omega arith)))
         (under _ _ (params-least callee) (short f callee g)) (waiting_words p s.callers) q)
@@ -323,32 +324,31 @@ falls-call p words short code block to place f arguments s e in-f in-b passes =
         under : (a b : ℕ) → a ≤ b → b ≤ words → a ≤ words
         under a b h k = omega (arith, h, k)
 
-    unpaid : (l : ℕ) → s.left ≡ suc l → (n : ℕ) → length arguments ≡ n → 79 + 6 * n ≤ words →
-        49 + 17 * length arguments ≤ steps_left p words s
-    unpaid l q n g h =
-        subst (λ z. 49 + 17 * length arguments ≤ words_behind (p.code s.here.function) s.here.block s.here.at + 26 + waiting_words p
-        s.callers + z * words) (sym q)
+    unpaid : (l : ℕ) → s.left ≡ suc l → (q : ℕ) → 79 + q ≤ words → 49 + 11 * length arguments + q ≤ steps_left p words s
+    unpaid l e q h =
+        subst (λ z. 49 + 11 * length arguments + q ≤ words_behind (p.code s.here.function) s.here.block s.here.at + 26 + waiting_words p
+        s.callers + z * words) (sym e)
         (enough (words_behind (p.code s.here.function) s.here.block s.here.at) (words_of (Call to place f arguments))
         (words_behind (p.code s.here.function) s.here.block (suc s.here.at)) (waiting_words p s.callers)
-        (l * words) (suc l * words) here (call-least to place f arguments) (suc-mul l words))
+        (l * words) (suc l * words) (result_words to) here (call-least to place f arguments) (suc-mul l words))
       where
-        enough : (ws wc wn w y z : ℕ) → ws ≡ wc + wn → 25 + 11 * length arguments ≤ wc → z ≡ y + words →
-            49 + 17 * length arguments ≤ ws + 26 + w + z
-        enough ws wc wn w y z a b c = omega (arith, a, b, c, g, h)
+        enough : (ws wc wn w y z r : ℕ) → ws ≡ wc + wn → 22 + r + 11 * length arguments ≤ wc → z ≡ y + words →
+            49 + 11 * length arguments + q ≤ ws + 26 + w + z
+        enough ws wc wn w y z r a b c = omega (arith, a, b, c, h)
 
     with-code : (l : ℕ) (o : Option Tac) → s.left ≡ suc l → p.code f ≡ o →
-        FallsIf p words (49 + 17 * length arguments) s
+        FallsIf p words (49 + 11 * length arguments + taking o) s
         (enter place f o (values_of s arguments) s.here.base (record { waits = record s.here { at = suc s.here.at }; to = to } ∷ s.callers)
         (record s { left = l }))
     with-code l None q g = tt
     with-code l (Some callee) q g =
-        let stops : 49 + 17 * length arguments ≤ steps_left p words s = unpaid l q (length callee.parameters) (passes callee g)
+        let stops : 49 + 11 * length arguments + receiving callee.parameters ≤ steps_left p words s = unpaid l q (receiving callee.parameters)
         (under _ _ _ (params-least callee) (short f callee g)) in
-        by-test (FallsIf p words (49 + 17 * length arguments) s) (nat_le most_calls (suc (length s.callers))) _ _ (λ h. stops)
+        by-test (FallsIf p words (49 + 11 * length arguments + receiving callee.parameters) s) (nat_le most_calls (suc (length s.callers))) _ _ (λ h. stops)
         (λ h.
-        by-test (FallsIf p words (49 + 17 * length arguments) s) (nat_lt s.here.base (heap_limit s.region + callee.frame)) _ _ (λ h. stops)
+        by-test (FallsIf p words (49 + 11 * length arguments + receiving callee.parameters) s) (nat_lt s.here.base (heap_limit s.region + callee.frame)) _ _ (λ h. stops)
         (λ h.
-        by-test (FallsIf p words (49 + 17 * length arguments) s) (accepts_all callee callee.parameters (values_of s arguments)) _ _
+        by-test (FallsIf p words (49 + 11 * length arguments + receiving callee.parameters) s) (accepts_all callee callee.parameters (values_of s arguments)) _ _
         (λ h. paid l callee q g (takes_all callee.parameters (values_of s arguments) (fresh_call f callee s))
         (takes-is callee.parameters (values_of s arguments) (fresh_call f callee s)))
         (λ h. tt)))
@@ -357,33 +357,30 @@ falls-call p words short code block to place f arguments s e in-f in-b passes =
         under a b c h k = omega (arith, h, k)
 
     counts : (l : ℕ) → s.left ≡ l →
-        FallsIf p words (49 + 17 * length arguments) s
+        FallsIf p words (49 + 11 * length arguments + taking (p.code f)) s
         (tac.counted l s (λ z. enter place f (p.code f) (values_of s arguments) z.here.base
         (record { waits = (tac.ahead z).here; to = to } ∷ z.callers) z))
     counts zero q = tt
     counts (suc l) q = with-code l (p.code f) q refl
 
+back-sums : (ws wc w r y z : ℕ) → 10 ≤ ws → w ≡ wc + (28 + z) + r → 36 + z + (wc + 26 + r + y) ≤ ws + 26 + w + y
+back-sums ws wc w r y z a b = omega (arith, a, b)
+
 -- a return
 back-falls : (p : Program) (words : ℕ) (s : tac.State) (v : Value) (a : Activation) (d : Destination) (cs : List Caller) →
     10 ≤ words_behind (p.code s.here.function) s.here.block s.here.at →
-    waiting_words p s.callers ≡ words_behind (p.code a.function) a.block a.at + 31 + waiting_words p cs →
-    FallsIf p words 39 s (Goes (record s { here = takes d v a; callers = cs }))
+    waiting_words p s.callers ≡ words_behind (p.code a.function) a.block a.at + (28 + result_words d) + waiting_words p cs →
+    FallsIf p words (36 + result_words d) s (Goes (record s { here = takes d v a; callers = cs }))
 back-falls p words s v a (Temp t) cs h e = (
-  sums (words_behind (p.code s.here.function) s.here.block s.here.at) (words_behind (p.code a.function) a.block a.at)
-      (waiting_words p s.callers) (waiting_words p cs) (s.left * words) h e,
+  back-sums (words_behind (p.code s.here.function) s.here.block s.here.at) (words_behind (p.code a.function) a.block a.at)
+      (waiting_words p s.callers) (waiting_words p cs) (s.left * words) 3 h e,
   omega arith,
 )
-  where
-    sums : (ws wc w r y : ℕ) → 10 ≤ ws → w ≡ wc + 31 + r → 39 + (wc + 26 + r + y) ≤ ws + 26 + w + y
-    sums ws wc w r y a b = omega (arith, a, b)
 back-falls p words s v a (Area n) cs h e = (
-  sums (words_behind (p.code s.here.function) s.here.block s.here.at) (words_behind (p.code a.function) a.block a.at)
-      (waiting_words p s.callers) (waiting_words p cs) (s.left * words) h e,
+  back-sums (words_behind (p.code s.here.function) s.here.block s.here.at) (words_behind (p.code a.function) a.block a.at)
+      (waiting_words p s.callers) (waiting_words p cs) (s.left * words) 39 h e,
   omega arith,
 )
-  where
-    sums : (ws wc w r y : ℕ) → 10 ≤ ws → w ≡ wc + 31 + r → 39 + (wc + 26 + r + y) ≤ ws + 26 + w + y
-    sums ws wc w r y a b = omega (arith, a, b)
 
 pub falls-return : (p : Program) (words : ℕ) (code : Tac) (block : Block) (v : Part) (s : tac.State) → p.code s.here.function ≡ Some code →
     slice_get code.blocks s.here.block ≡ Some block →
@@ -404,10 +401,11 @@ falls-return p words code block v s e in-f in-b is =
     over : (a w y : ℕ) → 10 ≤ a → 36 ≤ a + 26 + w + y
     over a w y h = omega (arith, h)
 
-    taken : (c : Caller) (cs : List Caller) → s.callers ≡ c ∷ cs → (o : Option Tac) → FallsIf p words 39 s (given (value_of s v) o c cs s)
+    taken : (c : Caller) (cs : List Caller) → s.callers ≡ c ∷ cs → (o : Option Tac) →
+        FallsIf p words (36 + result_words c.to) s (given (value_of s v) o c cs s)
     taken c cs q None = tt
     taken c cs q (Some t) =
-        by-test (FallsIf p words 39 s) (accepts t c.to (value_of s v)) _ _
+        by-test (FallsIf p words (36 + result_words c.to) s) (accepts t c.to (value_of s v)) _ _
         (λ h. back-falls p words s (value_of s v) c.waits c.to cs least (ap (waiting_words p) q)) (λ h. tt)
 
     go : (cs : List Caller) → s.callers ≡ cs → FallsIf p words (return_most cs) s (give p (value_of s v) cs s)

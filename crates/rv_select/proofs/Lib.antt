@@ -40,6 +40,7 @@ pub mod Receives
 pub mod Waits
 pub mod Finds
 pub mod Stands
+pub mod Copies
 pub mod Returns
 pub mod Entrances
 pub mod Within
@@ -53,3 +54,4 @@ pub mod Falls
 pub mod Runs
 pub mod Begins
 pub mod Entire
+pub mod Weighed

@@ -1,8 +1,8 @@
 -- Parameters go from their words to where they are taken.
 use Rattle.std.proofs.Common.{◌≡◌, ◌≢◌, ℕ, zero, suc, ◌+◌, ◌-◌, ◌*◌, ◌%◌, ◌^◌, ◌<◌, ◌≤◌, Bool, true, false, ◌&&◌, ◌||◌, List, [], ◌∷◌, ◌++◌, length, take, drop, append_assoc, Option, Some, refl, sym, ap, ◌∙◌, subst, ⊎_elim, inl, inr, arith}
-use Rattle.std.specs.Prelude.{if◌then◌else◌, nat_eq, ◌⊎◌}
+use Rattle.std.specs.Prelude.{if◌then◌else◌, nat_eq, nat_lt, ◌⊎◌}
 use Rattle.std.specs.List.{list_all, list_any}
-use Rattle.std.proofs.lemmas.Bool.{cases_Bool, eq-eqb, eqb-true}
+use Rattle.std.proofs.lemmas.Bool.{cases_Bool, eq-eqb, eqb-true, ltb-true}
 use Rattle.std.proofs.lemmas.List.{append-nil, length-append}
 use Rattle.rv_isa.specs.declared.instr.Instr.{Instr}
 use Rattle.rv_isa.specs.declared.instr.Instr.TheVariants.{Load}
@@ -13,32 +13,32 @@ use Rattle.terra_words.specs.Runs.{Value, word, bytes}
 use Rattle.tac_form.specs.declared.tac.Destination.{Destination}
 use Rattle.tac_form.specs.declared.tac.Destination.TheVariants.{Temp, Area}
 use Rattle.tac_form.specs.declared.tac.Tac.{Tac}
-use Rattle.tac_form.specs.Flow.{Activation, accepts, accepts_all, takes, takes_all}
-use Rattle.tac_form.specs.Fits.{goes_to}
+use Rattle.tac_form.specs.Flow.{Activation, accepts, accepts_all, area_size, takes, takes_all}
+use Rattle.tac_form.specs.Fits.{Fits, area_fits, block_fits, destination_fits, goes_to, place_fits}
 use Rattle.rv_machine.specs.Word.{low}
 use Rattle.rv_machine.specs.Memory.{place_of}
 use Rattle.rv_machine.specs.Machine.{State, GoesOn, at_with, loads, loads_from}
 use Rattle.rv_operators.specs.Codes.{x5}
 use Rattle.rv_operators.specs.Runs.{Stands}
-use Rattle.rv_select.specs.Places.{Holds, Housed, Keeps, Layout, World, frame_bytes, home_of, layout_of, private_word, with_homes}
+use Rattle.rv_select.specs.Places.{Holds, Housed, Keeps, Layout, World, area_offset, frame_bytes, home_of, layout_of, private_word, with_homes}
 use Rattle.rv_select.specs.Shapes.{framed, put_to, to_area}
-use Rattle.rv_select.specs.Steps.{Comes, Follows, with_temp}
-use Rattle.rv_select.specs.Entering.{received, received_one, size_in, words_offset}
-pub use Rattle.rv_select.specs.Frames.{HasWords, IsWordOf, ParametersAreReceived, Received, is_word, seen, without_words}
+use Rattle.rv_select.specs.Steps.{Comes, Follows, behind, with_temp}
+use Rattle.rv_select.specs.Entering.{received, received_one, receiving, size_in, words_offset}
+pub use Rattle.rv_select.specs.Frames.{HasWords, IsWordOf, LiesAt, ParametersAreReceived, Received, seen, without_words}
 use Rattle.reg_alloc.specs.declared.assignment.Home.{Home}
 use Rattle.tac_form.specs.Graph.{graph_of}
 use Rattle.tac_form.specs.Live.{InUse}
+use Rattle.rv_select.proofs.Claims.{with_area}
+use Rattle.rv_select.proofs.Copies.{copies-there, size-small}
 use Rattle.rv_select.proofs.Lives.{housed}
 use Rattle.rv_select.proofs.Bytes.{private-place}
 use Rattle.rv_select.proofs.Frames.{framed-count, framed-loads}
 use Rattle.rv_select.proofs.Homes.{put-count, region-small}
-use Rattle.rv_select.proofs.Moves.{fewer-holds, keeps-both, near-keeps, straight-put}
-use Rattle.rv_select.proofs.Straight.{Loads, loads-five, low-below}
-use Rattle.rv_select.proofs.Ways.{Way, near-same, stands-back, stands-front, way-both, way-none}
-
-both-true : (a b : Bool) → (a && b) ≡ true → (a ≡ true) × (b ≡ true)
-both-true true b e = (refl, e)
-both-true false b e = cc
+use Rattle.rv_select.proofs.Moves.{fewer-holds, keeps-both, near-keeps, scratch-holds, straight-put}
+use Rattle.rv_select.proofs.Stands.{both-true}
+use Rattle.rv_select.proofs.Straight.{Loads, Scratch, behind-both, loads-five, low-below}
+use Rattle.rv_select.proofs.Transports.{later-comes}
+use Rattle.rv_select.proofs.Ways.{Way, near-same, scratch-near, stands-back, stands-front, straight-way, way-both, way-none}
 
 frame-sum : (x base offset size : ℕ) → x ≡ 2 ^ 32 + base → base + offset + 8 ≤ size → size ≤ 603979776 → low (x + offset) ≡ 2 ^ 32 + (base + offset)
 unfolding low
@@ -56,13 +56,32 @@ word-loads base offset m p two room most g =
     ∙ (ap (λ x. loads_from s Ld x5 x) (private-place (length m.region) (length m.private) (base + offset) g room)
     ∙ ap (λ x. GoesOn (at_with s (low (s.pc + 4)) 5 (number_of (take 8 (drop (base + offset) x))))) q))))
 
+-- what a word points to is the same, above a frame that has other words
+word-keeps : (y : Layout) (base last : ℕ) (v : Value) (a : ℕ) (m n : State) → Keeps y base m n → frame_bytes y ≤ last →
+    IsWordOf m (base + last) v a → IsWordOf n (base + last) v a
+word-keeps y base last (word x) a m n k l h = h
+word-keeps y base last (bytes bs) a m n k l h = record {
+  offset = h.offset;
+  address_is = h.address_is;
+  high = h.high;
+  within = subst (λ z. h.offset + length bs ≤ z) (sym k.long) h.within;
+  bytes_are = k.outside h.offset (length bs) (low-of h.offset h.high) (inr (high-of h.offset h.high)) ∙ h.bytes_are;
+  are_bytes = h.are_bytes;
+}
+  where
+    low-of : (s : ℕ) → base + last ≤ s → base ≤ s
+    low-of s e = omega (arith, e)
+
+    high-of : (s : ℕ) → base + last ≤ s → base + frame_bytes y ≤ s
+    high-of s e = omega (arith, e, l)
+
 words-keep : (y : Layout) (base last : ℕ) (ds : List Destination) (vs : List Value) (m n : State) → Keeps y base m n → frame_bytes y ≤ last → HasWords base last ds vs m → HasWords base last ds vs n
 words-keep y base last [] vs m n k l h = tt
 words-keep y base last (d ∷ ds) [] m n k l h = tt
 words-keep y base last (d ∷ ds) (v ∷ vs) m n k l h =
     let same : private_word n (base + (last + 8 * length ds)) ≡ private_word m (base + (last + 8 * length ds)) =
     ap number_of (k.outside (base + (last + 8 * length ds)) 8 (omega arith) (inr (omega (arith, l)))) in
-    (subst (λ z. IsWordOf v z) (sym same) h.0, words-keep y base last ds vs m n k l h.1)
+    (subst (λ z. IsWordOf n (base + last) v z) (sym same) (word-keeps y base last v _ m n k l h.0), words-keep y base last ds vs m n k l h.1)
 
 pub housed-fewer : (y : Layout) (U V : ℕ → Type 0) → ((t : ℕ) → V t → U t) → Housed y U → Housed y V
 housed-fewer y U V f h = record { homes = λ t u. h.homes t (f t u); apart = λ t u a b e. h.apart t u (f t a) (f u b) e }
@@ -99,12 +118,45 @@ or-first : (a b : Bool) → a ≡ true → (a || b) ≡ true
 or-first true b q = refl
 or-first false b q = cc
 
-pub receives : (program : List (Option Instr)) (y : Layout) (code : Tac) (sizes : List ℕ) (U Used Fin : ℕ → Type 0) (base last depth : ℕ) (region : Contents) (ds : List Destination) (vs : List Value) (a : Activation)
-    (rest : List Instr) (m : State) → Stands program m.pc (received y sizes last ds ++ rest) → Holds y Used (seen a region depth) base m → Housed y U → ((t : ℕ) → Used t → U t) →
-    ((t : ℕ) → list_any (goes_to t) ds ≡ true → U t) → ((t : ℕ) → Fin t → (list_any (goes_to t) ds ≡ true) ⊎ Used t) → list_all is_word ds ≡ true → accepts_all code ds vs ≡ true →
+-- A parameter that is an area: its bytes come to the area from where its word points.
+area-taken : (program : List (Option Instr)) (y : Layout) (sizes : List ℕ) (Used : ℕ → Type 0) (w : World) (base last at n : ℕ)
+    (bs : List ℕ) (m : State) →
+    Stands program m.pc (received_one y sizes (Area n) at) → Holds y Used w base m → Housed y Used → n < y.areas →
+    list_all area_fits sizes ≡ true → length bs ≡ size_in sizes n → LiesAt m (base + last) bs (private_word m (base + at)) →
+    frame_bytes y ≤ last → base + at + 8 ≤ length m.private →
+    Comes y program Used (with_area w n bs) base 42 (low (m.pc + 4 * length (received_one y sizes (Area n) at))) [] m
+area-taken program y sizes Used w base last at n bs m there p h area small count lies within room =
+    let A : List Instr = framed (λ r far. Load Ld x5 r far) at in
+    let B : List Instr = to_area y n 0 (size_in sizes n) in
+    let l : Loads 5 A m (private_word m (base + at)) =
+    word-loads base at m p.pc p.frame.pointer room p.frame.private (region-small y Used w base m p) in
+    let s : Scratch A m l.after = loads-five A m (private_word m (base + at)) l in
+    let q : Holds y Used w base l.after = scratch-holds y Used w base A m l.after p h s in
+    let after-a : Stands program l.after.pc B = subst (λ z. Stands program z B) (sym l.behind) (stands-back program m.pc A B p.pc there) in
+    let inside : lies.offset + size_in sizes n ≤ length l.after.private =
+    subst (λ z. lies.offset + size_in sizes n ≤ length z) (sym l.private)
+    (subst (λ z. lies.offset + z ≤ length m.private) count lies.within) in
+    let reads : take (size_in sizes n) (drop lies.offset l.after.private) ≡ bs =
+    ap (λ z. take (size_in sizes n) (drop lies.offset z)) l.private
+    ∙ (ap (λ z. take z (drop lies.offset m.private)) (sym count) ∙ lies.bytes_are) in
+    let c : Comes y program Used (with_area w n bs) base 39 (behind l.after B) [] l.after =
+    copies-there y n (size_in sizes n) lies.offset bs Used Used w base program l.after after-a area (size-small sizes n small) count
+    (l.gives ∙ lies.address_is) inside (inr (beyond lies.offset lies.high)) reads lies.are_bytes q h (λ t u. u) in
+    later-comes y program Used (with_area w n bs) base (length A) 39 42 (low (m.pc + 4 * length (A ++ B))) m l.after
+    (straight-way program A m l.after (stands-front program m.pc A B there) l.straight l.goes) (scratch-near A m l.after s)
+    (omega (arith, framed-count (λ r far. Load Ld x5 r far) at))
+    (subst (λ z. Comes y program Used (with_area w n bs) base 39 z [] l.after) (behind-both A B m.pc l.after.pc (behind l.after B) l.behind refl) c)
+  where
+    beyond : (s : ℕ) → base + last ≤ s → base + area_offset y n + 128 ≤ s
+    beyond s e = omega (arith, e, within, area)
+
+pub receives : (program : List (Option Instr)) (y : Layout) (code : Tac) (U Used Fin : ℕ → Type 0) (base last depth : ℕ) (region : Contents) (ds : List Destination) (vs : List Value) (a : Activation)
+    (rest : List Instr) (m : State) → Stands program m.pc (received y code.areas last ds ++ rest) → Holds y Used (seen a region depth) base m → Housed y U → ((t : ℕ) → Used t → U t) →
+    ((t : ℕ) → list_any (goes_to t) ds ≡ true → U t) → ((t : ℕ) → Fin t → (list_any (goes_to t) ds ≡ true) ⊎ Used t) → y.areas ≡ length code.areas → list_all area_fits code.areas ≡ true →
+    list_all (destination_fits code) ds ≡ true → accepts_all code ds vs ≡ true →
     HasWords base last ds vs m → frame_bytes y ≤ last → base + (last + 8 * length ds) ≤ length m.private →
-    GotAll program y Fin (seen (takes_all ds vs a) region depth) base (6 * length ds) (received y sizes last ds) rest m
-receives program y code sizes U Used Fin base last depth region [] [] a rest m there p h sub goes fin are accepts words within room = record {
+    GotAll program y Fin (seen (takes_all ds vs a) region depth) base (receiving ds) (received y code.areas last ds) rest m
+receives program y code U Used Fin base last depth region [] [] a rest m there p h sub goes fin whole small are accepts words within room = record {
   steps = 0;
   after = m;
   few = omega arith;
@@ -114,15 +166,43 @@ receives program y code sizes U Used Fin base last depth region [] [] a rest m t
   pc = pc-none m.pc p.pc;
   there = there;
 }
-receives program y code sizes U Used Fin base last depth region [] (v ∷ vs) a rest m there p h sub goes fin are accepts words within room = cc
-receives program y code sizes U Used Fin base last depth region (d ∷ ds) [] a rest m there p h sub goes fin are accepts words within room = cc
-receives program y code sizes U Used Fin base last depth region (Area n ∷ ds) (v ∷ vs) a rest m there p h sub goes fin are accepts words within room = cc
-receives program y code sizes U Used Fin base last depth region (Temp d ∷ ds) (bytes bs ∷ vs) a rest m there p h sub goes fin are accepts words within room = cc
-receives program y code sizes U Used Fin base last depth region (Temp d ∷ ds) (word x ∷ vs) a rest m there p h sub goes fin are accepts words within room =
+receives program y code U Used Fin base last depth region [] (v ∷ vs) a rest m there p h sub goes fin whole small are accepts words within room = cc
+receives program y code U Used Fin base last depth region (d ∷ ds) [] a rest m there p h sub goes fin whole small are accepts words within room = cc
+receives program y code U Used Fin base last depth region (Area n ∷ ds) (word x ∷ vs) a rest m there p h sub goes fin whole small are accepts words within room = cc
+receives program y code U Used Fin base last depth region (Area n ∷ ds) (bytes bs ∷ vs) a rest m there p h sub goes fin whole small are accepts words within room =
+    let at : ℕ = last + 8 * length ds in
+    let A : List Instr = received_one y code.areas (Area n) at in
+    let C : List Instr = received y code.areas last ds in
+    let w : World = seen a region depth in
+    let e = both-true (nat_eq (length bs) (area_size code n)) (accepts_all code ds vs) accepts in
+    let f = both-true (destination_fits code (Area n)) (list_all (destination_fits code) ds) are in
+    let all : Stands program m.pc (A ++ (C ++ rest)) = subst (λ z. Stands program m.pc z) (append_assoc A C rest) there in
+    let one : Comes y program Used (with_area w n bs) base 42 (low (m.pc + 4 * length A)) [] m =
+    area-taken program y code.areas Used w base last at n bs m (stands-front program m.pc A (C ++ rest) all) p (housed-fewer y U Used sub h)
+    (subst (λ z. n < z) (sym whole) (ltb-true n (length code.areas) f.0)) small (eqb-true (length bs) (area_size code n) e.0) words.0 within
+    (omega (arith, room)) in
+    let t : State = one.after in
+    let after-t : Stands program t.pc (C ++ rest) = subst (λ q. Stands program q (C ++ rest)) (sym one.at) (stands-back program m.pc A (C ++ rest) p.pc all) in
+    let more : GotAll program y Fin (seen (takes_all ds vs (takes (Area n) (bytes bs) a)) region depth) base (receiving ds) C rest t =
+    receives program y code U Used Fin base last depth region ds vs (takes (Area n) (bytes bs) a) rest t after-t one.holds h sub
+    (λ s g. goes s g) (λ s u. fin s u) whole small f.1 e.1
+    (words-keep y base last ds vs m t one.keeps within words.1) within (subst (λ z. base + (last + 8 * length ds) ≤ z) (sym one.keeps.long) (omega (arith, room))) in
+    record {
+      steps = one.steps + more.steps;
+      after = more.after;
+      few = omega (arith, one.few, more.few);
+      way = way-both program one.steps more.steps m t more.after (record { runs = one.runs }) more.way;
+      holds = more.holds;
+      keeps = keeps-both y base m t more.after one.keeps more.keeps;
+      pc = pc-both m.pc t.pc more.after.pc (length A) (length C) one.at more.pc ∙ ap (λ n. low (m.pc + 4 * n)) (sym (length-append A C));
+      there = more.there;
+    }
+receives program y code U Used Fin base last depth region (Temp d ∷ ds) (bytes bs ∷ vs) a rest m there p h sub goes fin whole small are accepts words within room = cc
+receives program y code U Used Fin base last depth region (Temp d ∷ ds) (word x ∷ vs) a rest m there p h sub goes fin whole small are accepts words within room =
     let at : ℕ = last + 8 * length ds in
     let A : List Instr = framed (λ r far. Load Ld x5 r far) at in
     let B : List Instr = put_to (home_of y d) in
-    let C : List Instr = received y sizes last ds in
+    let C : List Instr = received y code.areas last ds in
     let w : World = seen a region depth in
     let Next : ℕ → Type 0 = λ t. (t ≡ d) ⊎ Used t in
     let in-u : (t : ℕ) → Next t → U t =
@@ -135,9 +215,10 @@ receives program y code sizes U Used Fin base last depth region (Temp d ∷ ds) 
     (loads-five A m (private_word m (base + at)) l) (l.gives ∙ words.0.0) words.0.1 (omega (arith, framed-count (λ r far. Load Ld x5 r far) at)) (stands-front program m.pc (A ++ B) (C ++ rest) all) in
     let t : State = one.after in
     let after-t : Stands program t.pc (C ++ rest) = subst (λ q. Stands program q (C ++ rest)) (sym one.at) (stands-back program m.pc (A ++ B) (C ++ rest) p.pc all) in
-    let more : GotAll program y Fin (seen (takes_all ds vs (takes (Temp d) (word x) a)) region depth) base (6 * length ds) C rest t =
-    receives program y code sizes U Next Fin base last depth region ds vs (takes (Temp d) (word x) a) rest t after-t one.holds h in-u
-    (λ s e. goes s (or-second (nat_eq d s) (list_any (goes_to s) ds) e)) (λ s u. split-any s d ds (Used s) (fin s u)) are accepts
+    let more : GotAll program y Fin (seen (takes_all ds vs (takes (Temp d) (word x) a)) region depth) base (receiving ds) C rest t =
+    receives program y code U Next Fin base last depth region ds vs (takes (Temp d) (word x) a) rest t after-t one.holds h in-u
+    (λ s e. goes s (or-second (nat_eq d s) (list_any (goes_to s) ds) e)) (λ s u. split-any s d ds (Used s) (fin s u)) whole small
+    (both-true (destination_fits code (Temp d)) (list_all (destination_fits code) ds) are).1 accepts
     (words-keep y base last ds vs m t one.keeps within words.1) within (subst (λ z. base + (last + 8 * length ds) ≤ z) (sym one.keeps.long) (omega (arith, room))) in
     record {
       steps = one.steps + more.steps;
@@ -160,29 +241,38 @@ received-same homes a b p q last sizes (Area n ∷ ds) =
     ap (λ z. (framed (λ r far. Load Ld x5 r far) (last + 8 * length ds) ++ to_area (with_homes homes) n 0 (size_in sizes n)) ++ z) (received-same homes a b p q last sizes ds)
 
 pub parameters-received : ParametersAreReceived
-parameters-received code homes program values a region depth base m fits right are accepts there p words room =
+parameters-received code homes program values a region depth base m fits right accepts there p words room =
     let y : Layout = layout_of code homes in
     let z : Layout = without_words y in
     let U : ℕ → Type 0 = InUse (graph_of code) 0 0 in
+    let parts = fits-parts code fits in
     let same : received z code.areas (words_offset y) code.parameters ≡ received y code.areas (words_offset y) code.parameters =
     received-same homes (length code.areas) (length code.areas) 0 (length code.parameters) (words_offset y) code.areas code.parameters in
     let all : Stands program m.pc (received z code.areas (words_offset y) code.parameters ++ []) =
     subst (λ c. Stands program m.pc c) (sym (append-nil (received z code.areas (words_offset y) code.parameters) ∙ same)) there in
     made same
-    (receives program z code code.areas U (λ t. ⊥) U base (words_offset y) depth region code.parameters values a [] m all p
+    (receives program z code U (λ t. ⊥) U base (words_offset y) depth region code.parameters values a [] m all p
     (shorter code homes (housed code homes 0 0 right)) (λ t u. absurd u)
-    (λ t e. inl ((fits.begins t).1 e)) (λ t u. ⊎_elim (λ live. inl ((fits.begins t).0 live)) (λ no. absurd (no-way no)) u) are accepts words (omega arith) (omega (arith, room)))
+    (λ t e. inl ((fits.begins t).1 e)) (λ t u. ⊎_elim (λ live. inl ((fits.begins t).0 live)) (λ no. absurd (no-way no)) u) refl parts.1 parts.0 accepts words (omega arith) (omega (arith, room)))
   where
     no-way : false ≡ true → ⊥
     no-way e = cc
+
+    fits-parts : (code : Tac) → Fits code → (list_all (destination_fits code) code.parameters ≡ true) × (list_all area_fits code.areas ≡ true)
+    fits-parts code h =
+        let a = both-true _ (nat_lt 0 (length code.blocks)) h.within in
+        let b = both-true _ (nat_lt code.frame (2 ^ 63)) a.0 in
+        let c = both-true _ (place_fits code.place) b.0 in
+        let d = both-true _ (list_all area_fits code.areas) c.0 in
+        ((both-true (list_all (block_fits code) code.blocks) (list_all (destination_fits code) code.parameters) d.0).1, d.1)
 
     shorter : (code : Tac) (homes : List (Option Home)) → Housed (layout_of code homes) (InUse (graph_of code) 0 0) → Housed (without_words (layout_of code homes)) (InUse (graph_of code) 0 0)
     shorter code homes h = record { homes = h.homes; apart = h.apart }
 
     made : received (without_words (layout_of code homes)) code.areas (words_offset (layout_of code homes)) code.parameters ≡ received (layout_of code homes) code.areas (words_offset (layout_of code homes)) code.parameters →
-        GotAll program (without_words (layout_of code homes)) (InUse (graph_of code) 0 0) (seen (takes_all code.parameters values a) region depth) base (6 * length code.parameters)
+        GotAll program (without_words (layout_of code homes)) (InUse (graph_of code) 0 0) (seen (takes_all code.parameters values a) region depth) base (receiving code.parameters)
         (received (without_words (layout_of code homes)) code.areas (words_offset (layout_of code homes)) code.parameters) [] m →
-        Received program (without_words (layout_of code homes)) (InUse (graph_of code) 0 0) (seen (takes_all code.parameters values a) region depth) base (6 * length code.parameters)
+        Received program (without_words (layout_of code homes)) (InUse (graph_of code) 0 0) (seen (takes_all code.parameters values a) region depth) base (receiving code.parameters)
         (low (m.pc + 4 * length (received (layout_of code homes) code.areas (words_offset (layout_of code homes)) code.parameters))) m
     made same g = record {
       steps = g.steps;

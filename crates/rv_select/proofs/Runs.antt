@@ -7,7 +7,7 @@ use Rattle.tl_base.specs.declared.ids.FnId.{FnId}
 use Rattle.tl_base.specs.declared.place.Place.{Place}
 use Rattle.rv_isa.specs.declared.instr.Instr.{Instr}
 use Rattle.rv_machine.specs.Machine.{Ran, State, after_output, run_of}
-use Rattle.terra_words.specs.Runs.{Fault, More, Over, Returned, Run, Stuck, Value}
+use Rattle.terra_words.specs.Runs.{End, Fault, More, Over, Returned, Run, Stuck, Value}
 use Rattle.tac_form.specs.declared.tac.Part.{Part}
 use Rattle.tac_form.specs.declared.tac.Destination.{Destination}
 use Rattle.tac_form.specs.declared.tac.Exit.{Exit}
@@ -19,17 +19,58 @@ use Rattle.tac_form.specs.declared.tac.Tac.{Tac}
 use Rattle.tac_form.specs.Flow as tac
 use Rattle.tac_form.specs.Flow.{Goes, Program, Stops, step, steps}
 use Rattle.tac_form.specs.Weights.{exit_words, words_of}
-use Rattle.rv_select.specs.Shapes.{has_exit_shape, has_shape}
+use Rattle.rv_select.specs.Places.{Layout, layout_of}
+use Rattle.rv_select.specs.Shapes.{has_exit_shape, has_shape, start_of}
 use Rattle.rv_select.specs.Steps.{Ends}
-use Rattle.rv_select.specs.Calls.{block_has_code, has_code, has_exit_code}
-use Rattle.rv_select.specs.Waiting.{Arrives, Finishes, Image, IsLinked, IsPlaced, StandsIn, Stepped}
+use Rattle.rv_select.specs.Calls.{block_code, block_has_code, block_starts, has_code, has_exit_code, head_code, instruction_code, starts_from}
+use Rattle.rv_select.specs.Waiting.{Arrives, Finishes, Image, IsLinked, IsPlaced, Placed, StandsIn, Stepped, entries_of, instruction_at, instructions_in, place_in}
 use Rattle.rv_select.specs.Whole.{AreShort, Ended, RunFails, RunGoesOn, RunReturns, RunsAreCarried, StepsAreCarried, steps_left}
 use Rattle.rv_select.proofs.Backs.{return-steps, return_most}
-use Rattle.rv_select.proofs.Calling.{call-step}
+use Rattle.rv_select.proofs.Calling.{call-step, taking}
 use Rattle.rv_select.proofs.Falls.{FallsIf, falls-call, falls-exit, falls-inner, falls-return}
 use Rattle.rv_select.proofs.Inner.{act-stays, leave-to}
 use Rattle.rv_select.proofs.Stands.{both-true, list-all-get}
 use Rattle.rv_select.proofs.Through.{exit-step, inner-step}
+
+-- an instruction stands nowhere below where the first does, nor a block below where the first does
+at-least : (y : Layout) (sizes : List ℕ) (places : FnId → ℕ) (at : ℕ) (is : List Instruction) (k : ℕ) →
+    at ≤ instruction_at y sizes places at is k
+at-least y sizes places at is zero = omega arith
+at-least y sizes places at [] (suc k) = omega arith
+at-least y sizes places at (i ∷ is) (suc k) =
+    more (length (instruction_code y sizes places at i)) _ (at-least y sizes places (at + 4 * length (instruction_code y sizes places at i)) is k)
+  where
+    more : (n z : ℕ) → at + 4 * n ≤ z → at ≤ z
+    more n z h = omega (arith, h)
+
+start-least : (y : Layout) (sizes : List ℕ) (at : ℕ) (bs : List Block) (b : ℕ) (block : Block) → slice_get bs b ≡ Some block →
+    at ≤ start_of (starts_from y sizes at bs) b
+start-least y sizes at [] b block e = cc
+start-least y sizes at (x ∷ bs) zero block e = omega arith
+start-least y sizes at (x ∷ bs) (suc b) block e =
+    more (length (block_code y sizes (λ f. 0) (λ c. 0) 0 0 x)) _
+    (start-least y sizes (at + 4 * length (block_code y sizes (λ f. 0) (λ c. 0) 0 0 x)) bs b block e)
+  where
+    more : (n z : ℕ) → at + 4 * n ≤ z → at ≤ z
+    more n z h = omega (arith, h)
+
+place-high : (p : Program) (image : Image) (code : Tac) (x : Placed) (b k : ℕ) (block : Block) → slice_get code.blocks b ≡ Some block →
+    place_in p image code x b k ≢ 0
+place-high p image code x b k block e z =
+    let y : Layout = layout_of code x.homes in
+    let S : ℕ = start_of (block_starts y code x.at) b in
+    let first : x.at + 4 * length (head_code y code) ≤ S = start-least y code.areas (x.at + 4 * length (head_code y code)) code.blocks b block e in
+    let more : S ≤ place_in p image code x b k =
+    at-least y code.areas (entries_of p image) S (instructions_in (slice_get code.blocks b)) k in
+    let some : 1 ≤ length (head_code y code) = omega arith in
+    none (length (head_code y code)) S (place_in p image code x b k) first more some z
+  where
+    none : (h s n : ℕ) → x.at + 4 * h ≤ s → s ≤ n → 1 ≤ h → n ≡ 0 → ⊥
+    none h s n a c d f = omega (arith, a, c, d, f)
+
+-- a run that is over needs no more counts
+not-more : (e : End) (a b : List ℕ) → Stops (Over e a) ≡ Stops (More b) → ⊥
+not-more e a b q = cc
 
 -- A step is carried out, and takes no more than is taken off what is left.
 pub record Done (p : Program) (image : Image) (program : List (Option Instr)) (most size words : ℕ) (s : tac.State) (m : State)
@@ -37,6 +78,7 @@ pub record Done (p : Program) (image : Image) (program : List (Option Instr)) (m
   pub bound : ℕ
   pub stepped : Stepped p image program most size bound s m moved
   pub falls : AreShort p words → FallsIf p words bound s moved
+  pub there : (out : List ℕ) → moved ≡ Stops (More out) → m.pc ≢ 0
 
 pub a-step : (p : Program) (image : Image) (program : List (Option Instr)) (most size words : ℕ) → IsLinked p image program most →
     (s : tac.State) (base : ℕ) (m : State) →
@@ -47,12 +89,16 @@ a-step p image program most size words linked s base m x = in-block (slice_get x
     pl = linked s.here.function x.code x.function
 
     stuck : slice_get x.code.blocks s.here.block ≡ None → Done p image program most size words s m (step p s)
-    stuck e = let e1 = x.function in rw (e1, e) (record { bound = 0; stepped = tt; falls = λ short. tt })
+    stuck e = let e1 = x.function in rw (e1, e) (record { bound = 0; stepped = tt; falls = λ short. tt; there = λ out q. absurd (not-more _ _ _ q) })
 
     parts : (block : Block) → slice_get x.code.blocks s.here.block ≡ Some block → (list_all has_code block.instructions ≡ true) ×
         (has_exit_code block.exit ≡ true)
     parts block e = both-true (list_all has_code block.instructions) (has_exit_code block.exit)
         (list-all-get block_has_code x.code.blocks s.here.block block pl.has_code e)
+
+    -- code begins above address 0
+    high : (block : Block) → slice_get x.code.blocks s.here.block ≡ Some block → m.pc ≢ 0
+    high block e z = place-high p image x.code (image s.here.function) s.here.block s.here.at block e (sym x.pc ∙ z)
 
     inside : (block : Block) (i : Instruction) → slice_get x.code.blocks s.here.block ≡ Some block →
         slice_get block.instructions s.here.at ≡ Some i → has_shape i ≡ true →
@@ -62,6 +108,7 @@ a-step p image program most size words linked s base m x = in-block (slice_get x
       stepped = inner-step p image program most size linked s base m x block i e g h;
       falls = λ short. falls-inner p words x.code block i s (step p s) x.function e g
           (let e1 = x.function in rw (e1, e, g) (act-stays p i s h));
+      there = λ out q. high block e;
     }
 
     leaving : (block : Block) → slice_get x.code.blocks s.here.block ≡ Some block → slice_get block.instructions s.here.at ≡ None →
@@ -72,6 +119,7 @@ a-step p image program most size words linked s base m x = in-block (slice_get x
       stepped = exit-step p image program most size linked s base m x block e g h;
       falls = λ short. falls-exit p words x.code block s (step p s) x.function e pl.counted (short s.here.function x.code x.function)
           (let e1 = x.function in rw (e1, e, g) (leave-to p block.exit s h));
+      there = λ out q. high block e;
     }
 
     returns : (block : Block) (v : Part) → slice_get x.code.blocks s.here.block ≡ Some block →
@@ -81,16 +129,17 @@ a-step p image program most size words linked s base m x = in-block (slice_get x
       bound = return_most s.callers;
       stepped = return-steps p image program most size linked s base m x block v e g is;
       falls = λ short. falls-return p words x.code block v s x.function e g is;
+      there = λ out q. high block e;
     }
 
     calls : (block : Block) (to : Destination) (place : Place) (f : FnId) (arguments : List Part) →
         slice_get x.code.blocks s.here.block ≡ Some block →
         slice_get block.instructions s.here.at ≡ Some (Call to place f arguments) → Done p image program most size words s m (step p s)
     calls block to place f arguments e g = record {
-      bound = 49 + 17 * length arguments;
+      bound = 49 + 11 * length arguments + taking (p.code f);
       stepped = call-step p image program most size linked s base m x block to place f arguments e g;
-      falls = λ short. falls-call p words short x.code block to place f arguments s x.function e g
-          (λ callee h. pl.passes s.here.block s.here.at block to place f arguments callee e g h);
+      falls = λ short. falls-call p words short x.code block to place f arguments s x.function e g;
+      there = λ out q. high block e;
     }
 
     an-exit : (block : Block) → slice_get x.code.blocks s.here.block ≡ Some block → slice_get block.instructions s.here.at ≡ None →
@@ -205,6 +254,7 @@ then-ended p image program most size words bound top out s t m (More all) e a fa
   record {
     count = a.steps + d.count;
     after = d.after;
+    there = d.there;
     enough = least s.left t.left a.steps d.count counts a.some d.enough;
     few = sum (steps_left p words t) top a.steps d.count falls a.few d.few;
     runs = λ more.
@@ -221,9 +271,9 @@ then-ended p image program most size words bound top out s t m (More all) e a fa
 
 -- the step by which the run is over
 at-end : (p : Program) (image : Image) (program : List (Option Instr)) (most size words bound top : ℕ) (s : tac.State) (m : State)
-    (r : Run) → Stepped p image program most size bound s m (Stops r) →
+    (r : Run) → ((out : List ℕ) → Stops r ≡ Stops (More out) → m.pc ≢ 0) → Stepped p image program most size bound s m (Stops r) →
     FallsTo p words top bound s (Stops r) → Ended program top s m r
-at-end p image program most size words bound top s m (Over (Returned v) out) (e, d) falls = (
+at-end p image program most size words bound top s m (Over (Returned v) out) live (e, d) falls = (
   [],
   sym (append-nil s.out ∙ sym e),
   record {
@@ -237,7 +287,7 @@ at-end p image program most size words bound top s m (Over (Returned v) out) (e,
   where
     under : (a b : ℕ) → a ≤ bound → bound ≤ b → a ≤ b
     under a b h g = omega (arith, h, g)
-at-end p image program most size words bound top s m (Over (Fault kind at) out) (e, d) falls = (
+at-end p image program most size words bound top s m (Over (Fault kind at) out) live (e, d) falls = (
   [],
   sym (append-nil s.out ∙ sym e),
   record {
@@ -250,13 +300,14 @@ at-end p image program most size words bound top s m (Over (Fault kind at) out) 
   where
     under : (a b : ℕ) → a ≤ bound → bound ≤ b → a ≤ b
     under a b h g = omega (arith, h, g)
-at-end p image program most size words bound top s m (Over Stuck out) d falls = tt
-at-end p image program most size words bound top s m (More out) (e, none) falls = (
+at-end p image program most size words bound top s m (Over Stuck out) live d falls = tt
+at-end p image program most size words bound top s m (More out) live (e, none) falls = (
   [],
   sym (append-nil s.out ∙ sym e),
   record {
     count = 0;
     after = m;
+    there = live out refl;
     enough = omega (arith, none);
     few = omega arith;
     runs = λ more. let same : 0 + more ≡ more = omega arith in ap (run_of program m) same ∙ nothing-first (run_of program m more);
@@ -269,19 +320,19 @@ same-run a b e = cc
 pub behind-step : (p : Program) (image : Image) (program : List (Option Instr)) (most size words k bound top : ℕ) (r : Run) (s : tac.State)
     (m : State) →
     ((t : tac.State) (base : ℕ) (n : State) → StandsIn p image program most size t base n → steps p k (Goes t) ≡ Stops r →
-    Ended program (steps_left p words t) t n r) → (moved : tac.Moved) →
+    Ended program (steps_left p words t) t n r) → (moved : tac.Moved) → ((out : List ℕ) → moved ≡ Stops (More out) → m.pc ≢ 0) →
     Stepped p image program most size bound s m moved → FallsTo p words top bound s moved → steps p k moved ≡ Stops r →
     Ended program top s m r
-behind-step p image program most size words k bound top r s m more (Goes t) (out, e, a) falls ends =
+behind-step p image program most size words k bound top r s m more (Goes t) live (out, e, a) falls ends =
     then-ended p image program most size words bound top out s t m r e a falls.0 falls.1 (more t a.base a.after a.stands ends)
-behind-step p image program most size words k bound top r s m more (Stops q) d falls ends =
+behind-step p image program most size words k bound top r s m more (Stops q) live d falls ends =
     let same : q ≡ r = same-run q r (sym (steps-stopped p k q) ∙ ends) in
-    subst (λ z. Ended program top s m z) same (at-end p image program most size words bound top s m q d falls)
+    subst (λ z. Ended program top s m z) same (at-end p image program most size words bound top s m q live d falls)
 
 pub runs-carried : RunsAreCarried
 runs-carried p image program most size words zero r s base m linked short x e = cc
 runs-carried p image program most size words (suc k) r s base m linked short x e =
     let d = a-step p image program most size words linked s base m x in
     behind-step p image program most size words k d.bound (steps_left p words s) r s m
-    (λ t b n y g. runs-carried p image program most size words k r t b n linked short y g) (step p s) d.stepped
+    (λ t b n y g. runs-carried p image program most size words k r t b n linked short y g) (step p s) d.there d.stepped
     (falls-to p words d.bound s (step p s) (d.falls short)) e

@@ -48,7 +48,7 @@ use Rattle.rv_select.proofs.Ways.{Near, Way, scratch-near, stands-back, stands-f
 use Rattle.rv_select.proofs.Words.{drop-bytes, overwritten-bytes, take-bytes}
 
 -- bytes that go to private memory
-transfer-saves : (code : List Instr) (m : State) (at : ℕ) (bs : List ℕ) → Transfer code m (Private at) bs → Saves code m at bs
+pub transfer-saves : (code : List Instr) (m : State) (at : ℕ) (bs : List ℕ) → Transfer code m (Private at) bs → Saves code m at bs
 transfer-saves code m at bs t = record {
   after = t.after;
   goes = t.goes;
@@ -105,22 +105,22 @@ carried-count from to size h =
 pub area-count : (y : Layout) (d : Register) (n offset : ℕ) → length (area_reached y d n offset) ≤ 3
 area-count y d n offset = framed-count (λ r far. RegisterImmediate Addi d r far) (area_offset y n + offset)
 
-area-some : (y : Layout) (d : Register) (n offset : ℕ) → 1 ≤ length (area_reached y d n offset)
+pub area-some : (y : Layout) (d : Register) (n offset : ℕ) → 1 ≤ length (area_reached y d n offset)
 area-some y d n offset = framed-some (λ r far. RegisterImmediate Addi d r far) (area_offset y n + offset)
 
 -- the address of an area's byte goes to a register
-area-address : (y : Layout) (Used : ℕ → Type 0) (w : World) (base n offset : ℕ) (d : Register) (m : State) → d.number ≢ 0 → Holds y Used w base m → n < y.areas → offset ≤ 128 →
+pub area-address : (y : Layout) (Used : ℕ → Type 0) (w : World) (base n offset : ℕ) (d : Register) (m : State) → d.number ≢ 0 → Holds y Used w base m → n < y.areas → offset ≤ 128 →
     Loads d.number (area_reached y d n offset) m (2 ^ 32 + (base + (area_offset y n + offset)))
 area-address y Used w base n offset d m o p there h =
     framed-address d (area_offset y n + offset) base m o p.pc (area-near y base n offset m p.frame there h) p.frame.pointer (omega (arith, p.frame.within, p.frame.private))
 
 -- the bytes of an area, which may go elsewhere
-area-inside : (y : Layout) (Used : ℕ → Type 0) (w : World) (base n offset size : ℕ) (m : State) → Holds y Used w base m → n < y.areas → offset + size ≤ 128 →
+pub area-inside : (y : Layout) (Used : ℕ → Type 0) (w : World) (base n offset size : ℕ) (m : State) → Holds y Used w base m → n < y.areas → offset + size ≤ 128 →
     base + (area_offset y n + offset) + size ≤ length m.private
 area-inside y Used w base n offset size m p there h =
     let all : base + (area_offset y n + (offset + size)) ≤ length m.private = area-room y base n (offset + size) m p.frame there h in omega arith
 
-small-after : (code : List Instr) (m z : State) → z.pc ≡ low (m.pc + 4 * length code) → z.pc < 2 ^ 64
+pub small-after : (code : List Instr) (m z : State) → z.pc ≡ low (m.pc + 4 * length code) → z.pc < 2 ^ 64
 small-after code m z e = subst (λ k. k < 2 ^ 64) (sym e) (low-below (m.pc + 4 * length code))
 
 -- from an area to another
@@ -173,7 +173,7 @@ area-moves y n offset k other size Used Next w base program m stands there from-
     p h f there (omega arith) (omega arith)
 
 -- first a way to a state near
-later-comes : (y : Layout) (program : List (Option Instr)) (Next : ℕ → Type 0) (w : World) (base k weight more target : ℕ) (m n : State) → Way program k m n → Near m n → k + weight ≤ more →
+pub later-comes : (y : Layout) (program : List (Option Instr)) (Next : ℕ → Type 0) (w : World) (base k weight more target : ℕ) (m n : State) → Way program k m n → Near m n → k + weight ≤ more →
     Comes y program Next w base weight target [] n → Comes y program Next w base more target [] m
 later-comes y program Next w base k weight more target m n way near few c = record {
   steps = k + c.steps;

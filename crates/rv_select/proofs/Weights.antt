@@ -50,7 +50,7 @@ store-part y i b = both (taken y x6 b) (i ∷ []) 8 1 (taken-count y x6 b) (omeg
 range-count : (at : Place) → length (range_tested at) ≤ 16
 range-count at = let h : length (failed BadAddress at) ≤ 11 = failed-count BadAddress at in omega arith
 
-to-count : (y : Layout) (n offset size : ℕ) → size ≤ 128 → length (to_area y n offset size) ≤ 39
+pub to-count : (y : Layout) (n offset size : ℕ) → size ≤ 128 → length (to_area y n offset size) ≤ 39
 to-count y n offset size h = both (area_reached y x6 n offset) (all_carried x5 x6 size) 3 36 (area-count y x6 n offset) (carried-count x5 x6 size h)
 
 from-count : (y : Layout) (n offset size : ℕ) → size ≤ 128 → length (from_area y n offset size) ≤ 39

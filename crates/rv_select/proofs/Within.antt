@@ -1,26 +1,37 @@
 -- The code of calls, and that of entering and leaving functions, keeps within its weight.
 use Rattle.std.proofs.Common.{◌≡◌, ℕ, zero, suc, ◌+◌, ◌-◌, ◌*◌, ◌^◌, ◌≤◌, Bool, true, false, List, [], ◌∷◌, ◌++◌, length, refl, sym, ap, ◌∙◌, subst, ⊎_elim, arith}
 use Rattle.std.specs.Prelude.{if◌then◌else◌, nat_le}
+use Rattle.std.specs.List.{list_all}
 use Rattle.std.proofs.lemmas.Bool.{cases_Bool, le-leb, leb-true}
 use Rattle.std.proofs.lemmas.List.{length-append}
 use Rattle.rv_isa.specs.declared.instr.Instr.{Instr}
-use Rattle.rv_isa.specs.declared.instr.Instr.TheVariants.{Jalr, RegisterRegister, Store}
+use Rattle.rv_isa.specs.declared.instr.Instr.TheVariants.{Jalr, Load, RegisterRegister, Store}
+use Rattle.rv_isa.specs.declared.operation.LoadOp.TheVariants.{Ld}
 use Rattle.rv_isa.specs.declared.operation.RegisterOp.TheVariants.{Add, Sub}
 use Rattle.rv_isa.specs.declared.operation.StoreOp.TheVariants.{Sd}
-use Rattle.tac_form.specs.declared.tac.Destination.TheVariants.{Temp}
+use Rattle.tl_base.specs.declared.ids.FnId.{FnId}
+use Rattle.tl_base.specs.declared.place.Place.{Place}
+use Rattle.tac_form.specs.declared.tac.Destination.{Destination}
+use Rattle.tac_form.specs.declared.tac.Destination.TheVariants.{Area, Temp}
+use Rattle.tac_form.specs.declared.tac.Instruction.TheVariants.{Call}
+use Rattle.tac_form.specs.Fits.{area_fits}
+use Rattle.tac_form.specs.Weights.{words_of}
 use Rattle.tac_form.specs.declared.tac.Part.{Part}
 use Rattle.rv_operators.specs.Codes.{x0, x5, x6, zero_immediate}
 use Rattle.rv_select.specs.Numbers.{below_zero, constant, lower_of, register_of, short_constant}
 use Rattle.rv_select.specs.Places.{Layout, home_of}
-use Rattle.rv_select.specs.Shapes.{far_part, fault_call, jump, limit_found, place_number, put_to, x2, x7, x8, x10, x11}
-use Rattle.rv_select.specs.Entering.{arguments_stored, entered, frames_given, frames_taken, stack_tested, x1, most_arguments, put_back, saved, stack_branch, stored_below}
+use Rattle.rv_select.specs.Shapes.{far_part, fault_call, framed, jump, limit_found, place_number, put_to, x2, x7, x8, x10, x11}
+use Rattle.rv_select.specs.Entering.{arguments_stored, entered, frames_given, frames_taken, stack_tested, x1, most_arguments, put_back, received, receiving, result_put, result_words, saved, size_in, stack_branch, stored_below}
 use Rattle.rv_select.specs.Calls.{call_begun, call_ended, called, call_jump, depth_tested, one_more, part_taken, passed}
-use Rattle.rv_select.specs.Frames.{CallsKeepWithin, FramesKeepWithin}
+use Rattle.rv_select.specs.Frames.{CallsKeepWithin, FramesKeepWithin, ParametersKeepWithin}
+use Rattle.rv_select.proofs.Copies.{size-small}
 use Rattle.rv_select.proofs.Enters.{saved-count}
+use Rattle.rv_select.proofs.Frames.{framed-count}
 use Rattle.rv_select.proofs.Homes.{put-count}
 use Rattle.rv_select.proofs.Numbers.{constant-count, short-count}
 use Rattle.rv_select.proofs.Passes.{below-count, part-count}
 use Rattle.rv_select.proofs.Quits.{put-back-count}
+use Rattle.rv_select.proofs.Weights.{to-count}
 
 -- most words of two pieces of code
 both : (a b : List Instr) (n k : ℕ) → length a ≤ n → length b ≤ k → length (a ++ b) ≤ n + k
@@ -80,8 +91,29 @@ frames-within code y bytes at last v =
     let leaves : length (put_back y 10 18 ++ frames_given bytes code.frame) ≤ 10 + 13 = both (put_back y 10 18) (frames_given bytes code.frame) 10 13 backs gives in
     (omega (arith, begins, enters, leaves), both (part_taken y x10 v) (jump (at + 4 * length (part_taken y x10 v)) last) 8 2 (part-count y x10 v) (omega arith))
 
+-- a word goes to its home, and bytes to their area
+result-count : (y : Layout) (sizes : List ℕ) (to : Destination) → list_all area_fits sizes ≡ true →
+    length (result_put y sizes to) ≤ result_words to
+result-count y sizes (Temp d) h = put-count (home_of y d)
+result-count y sizes (Area n) h = to-count y n 0 (size_in sizes n) (size-small sizes n h)
+
+call-weight : (to : Destination) (place : Place) (f : FnId) (arguments : List Part) (n : ℕ) →
+    n ≤ 8 + (5 + (11 * length arguments + 1)) + (2 + (2 + result_words to)) → n ≤ words_of (Call to place f arguments)
+call-weight (Temp d) place f arguments n h = omega (arith, h)
+call-weight (Area k) place f arguments n h = omega (arith, h)
+
+pub parameters-within : ParametersKeepWithin
+parameters-within y sizes last [] h = omega arith
+parameters-within y sizes last (d ∷ ds) h =
+    let A = framed (λ r far. Load Ld x5 r far) (last + 8 * length ds) in
+    let B = result_put y sizes d in
+    let C = received y sizes last ds in
+    let one : length (A ++ B) ≤ 3 + result_words d = both A B 3 (result_words d)
+    (framed-count (λ r far. Load Ld x5 r far) (last + 8 * length ds)) (result-count y sizes d h) in
+    both (A ++ B) C (3 + result_words d) (receiving ds) one (parameters-within y sizes last ds h)
+
 pub calls-within : CallsKeepWithin
-calls-within y sizes places at d place f arguments =
+calls-within y sizes places at to place f arguments small =
     let A = constant x11 (place_number place) in
     let P = passed y 0 arguments in
     let first : length A ≤ 8 = constant-count x11 (place_number place) in
@@ -89,7 +121,8 @@ calls-within y sizes places at d place f arguments =
     let tail : length (P ++ one_more) ≤ 11 * length arguments + 1 = both P one_more (11 * length arguments) 1 parts (omega arith) in
     let deep : length (depth_tested ++ (P ++ one_more)) ≤ 5 + (11 * length arguments + 1) = both depth_tested (P ++ one_more) 5 (11 * length arguments + 1) (omega arith) tail in
     let begins : length (A ++ (depth_tested ++ (P ++ one_more))) ≤ 8 + (5 + (11 * length arguments + 1)) = both A (depth_tested ++ (P ++ one_more)) 8 (5 + (11 * length arguments + 1)) first deep in
-    let put : length (put_to (home_of y d)) ≤ 3 = put-count (home_of y d) in
-    let whole : length (called y sizes places at (Temp d) place f arguments) ≤ 8 + (5 + (11 * length arguments + 1)) + (2 + 5) =
-    both (A ++ (depth_tested ++ (P ++ one_more))) (call_jump (at + 4 * length (call_begun y place arguments)) (places f) ++ call_ended y sizes (Temp d)) (8 + (5 + (11 * length arguments + 1))) (2 + 5) begins (omega (arith, put)) in
-    omega (arith, whole)
+    let put : length (result_put y sizes to) ≤ result_words to = result-count y sizes to small in
+    call-weight to place f arguments (length (called y sizes places at to place f arguments))
+    (both (A ++ (depth_tested ++ (P ++ one_more)))
+    (call_jump (at + 4 * length (call_begun y place arguments)) (places f) ++ call_ended y sizes to)
+    (8 + (5 + (11 * length arguments + 1))) (2 + (2 + result_words to)) begins (omega (arith, put)))

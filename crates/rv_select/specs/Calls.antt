@@ -1,5 +1,5 @@
 -- Calls and returns, and the code of a whole function.
-use Rattle.std.specs.Prelude.{◌≡◌, ℕ, zero, suc, ◌+◌, ◌-◌, ◌*◌, Bool, ◌&&◌, true, false, List, [], ◌∷◌, ◌++◌, length, map, Option}
+use Rattle.std.specs.Prelude.{◌≡◌, ℕ, zero, suc, ◌+◌, ◌-◌, ◌*◌, ◌≤◌, IsTrue, Bool, ◌&&◌, true, false, List, [], ◌∷◌, ◌++◌, length, map, Option}
 use Rattle.std.specs.List.{list_all}
 use Rattle.tl_base.specs.declared.place.Place.{Place}
 use Rattle.tl_base.specs.declared.ids.FnId.{FnId}
@@ -20,6 +20,8 @@ use Rattle.tac_form.specs.declared.tac.Exit.{Exit}
 use Rattle.tac_form.specs.declared.tac.Exit.TheVariants.{Return}
 use Rattle.tac_form.specs.declared.tac.Block.{Block}
 use Rattle.tac_form.specs.declared.tac.Tac.{Tac}
+use Rattle.tac_form.specs.Fits.{area_fits}
+use Rattle.tac_form.specs.Weights.{code_words, private_bytes}
 use Rattle.rv_operators.specs.Codes.{x5}
 use Rattle.rv_select.specs.declared.selected.Code.{Code}
 use Rattle.rv_select.specs.declared.selected.Call.{Call as Site}
@@ -154,6 +156,11 @@ pub record IsSelected (code : Tac) (homes : List (Option Home)) (selected : Code
   pub calls : selected.calls.items ≡ function_calls (layout_of code homes) code
   pub entry : selected.entry ≡ length (begun code)
   pub frame : selected.frame ≡ frame_bytes (layout_of code homes)
+
+-- It takes no more words and bytes than code's weights, where no area has more than 128 bytes and there are no more homes than temporaries.
+pub record KeepsWithin (code : Tac) (homes : List (Option Home)) (selected : Code) : Type 0 where
+  pub words : IsTrue (list_all area_fits code.areas) → length selected.words.items ≤ code_words code
+  pub frame : length homes ≤ code.temps → selected.frame ≤ private_bytes code
 
 -- which code has machine code: all but calls of function values, which the machine of this version has no fault for
 abbrev pub has_code : Instruction → Bool

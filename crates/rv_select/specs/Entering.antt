@@ -80,6 +80,16 @@ abbrev pub result_put : Layout → (sizes : List ℕ) → Destination → List I
 result_put y sizes (Temp t) = put_to (home_of y t)
 result_put y sizes (Area n) = to_area y n 0 (size_in sizes n)
 
+-- the most steps of that: a word takes three, and the bytes of an area as many as a copy of 128 bytes
+abbrev pub result_words : Destination → ℕ
+result_words (Temp t) = 3
+result_words (Area n) = 39
+
+-- the most steps in which parameters are taken, each from its word
+abbrev pub receiving : List Destination → ℕ
+receiving [] = 0
+receiving (d ∷ ds) = 3 + result_words d + receiving ds
+
 -- a parameter from its word, which lies at an offset of the frame: that of an area is an address
 abbrev pub received_one : Layout → (sizes : List ℕ) → Destination → (at : ℕ) → List Instr
 received_one y sizes d at = framed (λ r far. Load Ld x5 r far) at ++ result_put y sizes d

@@ -13,12 +13,11 @@ use Rattle.tac_form.specs.declared.tac.Tac.{Tac}
 use Rattle.terra_memory.specs.Region.{Contents}
 use Rattle.terra_words.specs.Runs.{Value, word, bytes}
 use Rattle.tac_form.specs.declared.tac.Destination.{Destination}
-use Rattle.tac_form.specs.declared.tac.Destination.TheVariants.{Temp, Area}
 use Rattle.tac_form.specs.declared.tac.Exit.TheVariants.{Return}
 use Rattle.tac_form.specs.declared.tac.Instruction.TheVariants.{Call}
 use Rattle.tac_form.specs.Weights.{entered_words, exit_words, words_of}
 use Rattle.tac_form.specs.Flow.{Activation, accepts_all, takes_all}
-use Rattle.tac_form.specs.Fits.{Fits}
+use Rattle.tac_form.specs.Fits.{Fits, area_fits}
 use Rattle.tac_form.specs.Graph.{graph_of}
 use Rattle.tac_form.specs.Live.{InUse}
 use Rattle.tac_form.specs.declared.tac.Part.{Part}
@@ -27,7 +26,7 @@ use Rattle.rv_operators.specs.Runs.{Stands}
 use Rattle.rv_select.specs.Places.{AreBytes, Holds, IsRead, Keeps, Layout, World, area_offset, frame_bytes, layout_of, private_word, uses, value_in}
 use Rattle.rv_select.specs.Shapes.{place_number}
 use Rattle.rv_select.specs.Steps.{Ends}
-use Rattle.rv_select.specs.Entering.{begun, entered, kept_offset, left, received, words_offset}
+use Rattle.rv_select.specs.Entering.{begun, entered, kept_offset, left, received, receiving, words_offset}
 use Rattle.rv_select.specs.Calls.{call_begun, called, returned}
 
 -- what is passed: a word, or the address of an area
@@ -155,20 +154,26 @@ abbrev pub seen : Activation → Contents → (depth : ℕ) → World
 seen a region depth =
     record { temps = a.temps; areas = a.areas; region = region; placed = a.base; depth = depth }
 
--- The parameters' words lie at the end of the frame, the first uppermost, from an offset of the frame on.
-abbrev pub IsWordOf : Value → ℕ → Type 0
-IsWordOf (word x) n = (n ≡ x) × (x < 2 ^ 64)
-IsWordOf (bytes bs) n = Unit {0}
+-- Bytes lie in private memory at an address, which is that of an offset or of one above it.
+pub record LiesAt (m : State) (least : ℕ) (bs : List ℕ) (address : ℕ) : Type 0 where
+  pub offset : ℕ
+  pub address_is : address ≡ 2 ^ 32 + offset
+  pub high : least ≤ offset
+  pub within : offset + length bs ≤ length m.private
+  pub bytes_are : take (length bs) (drop offset m.private) ≡ bs
+  pub are_bytes : AreBytes bs
 
+-- The word by which a value is passed: a word itself, or the address of bytes, which lie from an offset on.
+abbrev pub IsWordOf : State → (least : ℕ) → Value → ℕ → Type 0
+IsWordOf m least (word x) n = (n ≡ x) × (x < 2 ^ 64)
+IsWordOf m least (bytes bs) n = LiesAt m least bs n
+
+-- The parameters' words lie at the end of the frame, the first uppermost, from an offset of the frame on. What they point to lies above
+-- that offset.
 abbrev pub HasWords : (base last : ℕ) → List Destination → List Value → State → Type 0
 HasWords base last (d ∷ ds) (v ∷ vs) m =
-    IsWordOf v (private_word m (base + (last + 8 * length ds))) × HasWords base last ds vs m
+    IsWordOf m (base + last) v (private_word m (base + (last + 8 * length ds))) × HasWords base last ds vs m
 HasWords base last _ _ m = Unit {0}
-
--- a parameter that is a word
-abbrev pub is_word : Destination → Bool
-is_word (Temp t) = true
-is_word (Area n) = false
 
 -- the layout without the parameters' words
 abbrev pub without_words : Layout → Layout
@@ -185,19 +190,19 @@ pub record Received (program : List (Option Instr)) (y : Layout) (Used : ℕ →
   pub holds : Holds y Used w base after
   pub keeps : Keeps y base m after
 
--- Words that are passed go to the homes of the temporaries that take them, in at most six steps each. Then each temporary in use where
--- the function begins stands at its home.
+-- Words that are passed go to the homes of the temporaries that take them, and the bytes that they point to into the areas that take
+-- them. Then each temporary in use where the function begins stands at its home.
 abbrev pub ParametersAreReceived : Type 0
 ParametersAreReceived =
     (code : Tac) (homes : List (Option Home)) (program : List (Option Instr)) (values : List Value) (a : Activation) (region : Contents)
     (depth base : ℕ) (m : State) →
     let y : Layout = layout_of code homes in
-    Fits code → IsRight code homes → IsTrue (list_all is_word code.parameters) → IsTrue (accepts_all code code.parameters values) →
+    Fits code → IsRight code homes → IsTrue (accepts_all code code.parameters values) →
     Stands program m.pc (received y code.areas (words_offset y) code.parameters) →
     Holds (without_words y) (λ t. ⊥) (seen a region depth) base m →
     HasWords base (words_offset y) code.parameters values m → base + frame_bytes y ≤ length m.private →
     Received program (without_words y) (InUse (graph_of code) 0 0) (seen (takes_all code.parameters values a) region depth) base
-    (6 * length code.parameters)
+    (receiving code.parameters)
     (low (m.pc + 4 * length (received y code.areas (words_offset y) code.parameters))) m
 
 -- The code that begins a function as the entry, enters it by a call and leaves it has no more words than its weight, and so has that of a
@@ -208,8 +213,15 @@ FramesKeepWithin =
     (length (begun code) + (length (entered y bytes code.frame) + length (left y bytes code.frame)) ≤ entered_words) ×
     (length (returned y at last v) ≤ exit_words (Return v))
 
--- The code of a call that gives a word has no more words than its weight.
+-- The code of a call has no more words than its weight, where no area has more than 128 bytes.
 abbrev pub CallsKeepWithin : Type 0
 CallsKeepWithin =
-    (y : Layout) (sizes : List ℕ) (places : FnId → ℕ) (at d : ℕ) (place : Place) (f : FnId) (arguments : List Part) →
-    length (called y sizes places at (Temp d) place f arguments) ≤ words_of (Call (Temp d) place f arguments)
+    (y : Layout) (sizes : List ℕ) (places : FnId → ℕ) (at : ℕ) (to : Destination) (place : Place) (f : FnId) (arguments : List Part) →
+    IsTrue (list_all area_fits sizes) →
+    length (called y sizes places at to place f arguments) ≤ words_of (Call to place f arguments)
+
+-- So has the code that takes parameters, each no more than its part.
+abbrev pub ParametersKeepWithin : Type 0
+ParametersKeepWithin =
+    (y : Layout) (sizes : List ℕ) (last : ℕ) (ds : List Destination) → IsTrue (list_all area_fits sizes) →
+    length (received y sizes last ds) ≤ receiving ds

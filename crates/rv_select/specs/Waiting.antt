@@ -28,7 +28,6 @@ use Rattle.rv_operators.specs.Runs.{Stands}
 use Rattle.rv_select.specs.Places.{AreBytes, Holds, Keeps, Layout, area_offset, frame_bytes, home_of, layout_of, private_word, uses, word_at}
 use Rattle.rv_select.specs.Shapes.{start_of}
 use Rattle.rv_select.specs.Steps.{Ends, world_of}
-use Rattle.rv_select.specs.Frames.{is_word}
 use Rattle.rv_select.specs.Entering.{begun, kept_offset}
 use Rattle.rv_select.specs.Calls.{all_has_code, block_starts, call_begun, function_code, instruction_code}
 
@@ -48,17 +47,6 @@ entry_of (Some code) x = x.at + 4 * length (begun code)
 abbrev pub entries_of : Program → Image → FnId → ℕ
 entries_of p image f = entry_of (p.code f) (image f)
 
--- a call takes a word and gives one
-abbrev pub takes_word : Instruction → Bool
-takes_word (Call to at f arguments) = is_word to
-takes_word _ = true
-
-abbrev pub block_takes_words : Block → Bool
-block_takes_words b = list_all takes_word b.instructions
-
-abbrev pub only_words : Tac → Bool
-only_words code = list_all is_word code.parameters && list_all block_takes_words code.blocks
-
 -- as many parts are passed as the function takes
 abbrev pub PassesAll : Program → Tac → Type 0
 PassesAll p code =
@@ -67,14 +55,12 @@ PassesAll p code =
     length arguments ≡ length callee.parameters
 
 -- The code of a function stands in the machine: it is right, and below 2 ^ 30, its frame has at most so many bytes, and its temporaries
--- have
--- right homes.
+-- have right homes.
 pub record IsPlaced (p : Program) (image : Image) (program : List (Option Instr)) (most : ℕ) (code : Tac) (x : Placed) : Type 0 where
   pub fits : Fits code
   pub counted : Counted code
   pub right : IsRight code x.homes
   pub has_code : IsTrue (all_has_code code)
-  pub words : IsTrue (only_words code)
   pub passes : PassesAll p code
   pub aligned : x.at % 4 ≡ 0
   pub near : x.at + 4 * length (function_code (layout_of code x.homes) code (entries_of p image) x.at) + 256 ≤ 2 ^ 30

@@ -1,5 +1,5 @@
 -- Runs of a whole program in the machine, and how many steps they take.
-use Rattle.std.specs.Prelude.{◌≡◌, ℕ, suc, ◌+◌, ◌*◌, ◌^◌, ◌<◌, ◌≤◌, List, [], ◌∷◌, ◌++◌, length, drop, map, sum_by, Option, Some, None, slice_get}
+use Rattle.std.specs.Prelude.{◌≡◌, ◌≢◌, ℕ, suc, ◌+◌, ◌*◌, ◌^◌, ◌<◌, ◌≤◌, List, [], ◌∷◌, ◌++◌, length, drop, map, sum_by, Option, Some, None, slice_get}
 use Rattle.tl_base.specs.declared.ids.FnId.{FnId}
 use Rattle.tl_base.specs.declared.place.Place.{Place}
 use Rattle.rv_isa.specs.declared.instr.Instr.{Instr}
@@ -16,7 +16,7 @@ use Rattle.tac_form.specs.Flow.{Caller, Program, Goes, Stops, TacRun, enter, ste
 use Rattle.tac_form.specs.Weights.{block_words, code_words, exit_words, words_of}
 use Rattle.terra_memory.specs.Region.{Contents, IsLawful, end_address, fresh}
 use Rattle.rv_select.specs.Places.{AreBytes}
-use Rattle.rv_select.specs.Entering.{begun}
+use Rattle.rv_select.specs.Entering.{begun, receiving, result_words}
 use Rattle.rv_select.specs.Shapes.{place_number}
 use Rattle.rv_select.specs.Waiting.{Image, IsLinked, StandsIn, Stepped}
 
@@ -29,10 +29,10 @@ abbrev pub words_behind : Option Tac → (block at : ℕ) → ℕ
 words_behind None b k = 0
 words_behind (Some code) b k = block_behind (slice_get code.blocks b) k + sum_by block_words (drop (suc b) code.blocks)
 
--- A function is left in at most 26 steps, and a call ends in at most five.
+-- A function is left in at most 26 steps, and a call ends in two and those that put its result.
 abbrev pub waiting_words : Program → List Caller → ℕ
 waiting_words p [] = 0
-waiting_words p (c ∷ cs) = words_behind (p.code c.waits.function) c.waits.block c.waits.at + 31 + waiting_words p cs
+waiting_words p (c ∷ cs) = words_behind (p.code c.waits.function) c.waits.block c.waits.at + (28 + result_words c.to) + waiting_words p cs
 
 -- The most steps that the machine takes from a state on, where no function has more than so many words: those of the words behind the
 -- place and behind the calls that wait, and as many again for each count that is left.
@@ -59,10 +59,12 @@ pub record RunFails (program : List (Option Instr)) (most : ℕ) (kind : FaultKi
   pub runs : (more : ℕ) → run_of program m (count + more) ≡ after_output out
       (stands (stops.TerraFault (fault_number kind) (place_number at)) last)
 
--- The machine writes these bytes in at least and at most so many steps, and then goes on from a state.
+-- The machine writes these bytes in at least and at most so many steps, and then goes on from a state, which isn't at address 0: the run
+-- isn't over there.
 pub record RunGoesOn (program : List (Option Instr)) (least most : ℕ) (out : List ℕ) (m : State) : Type 0 where
   pub count : ℕ
   pub after : State
+  pub there : after.pc ≢ 0
   pub enough : least ≤ count
   pub few : count ≤ most
   pub runs : (more : ℕ) → run_of program m (count + more) ≡ after_output out (run_of program after more)
@@ -123,12 +125,11 @@ EntriesAreCarried =
     (region : Contents) (m : State) →
     IsLinked p image program most → p.code f ≡ Some code → Starts (image f).at region arguments m → length arguments ≤ 8 →
     length arguments ≡ length code.parameters → 512 * most ≤ length m.private →
-    Stepped p image program most (length region.bytes) (length (begun code) + 36 + 6 * length code.parameters) (before_entry f region n) m
+    Stepped p image program most (length region.bytes) (length (begun code) + 36 + receiving code.parameters) (before_entry f region n) m
     (enter code.place f (Some code) (map word arguments) (end_address region) [] (before_entry f region n))
 
 -- A whole run of a program, from the machine's start at the count n: it ends as that of three-address code does, with the same output, in
--- at
--- most n + 1 times the words that a function may have. Where three-address code needs more counts than n, the machine has written the same
+-- at most n + 1 times the words that a function may have. Where three-address code needs more counts than n, the machine has written the same
 -- output in at least n steps, and goes on.
 abbrev pub ProgramsAreCarried : Type 0
 ProgramsAreCarried =

@@ -134,7 +134,7 @@ pub(crate) fn push_call_begun(
 }
 
 /// A jump from an address to a function, with the return address in x1.
-pub(crate) fn push_call_jump(code: &mut Vec<u32>, from: u64, to: u64) -> Result<(), NoMemory>
+pub fn push_call_jump(code: &mut Vec<u32>, from: u64, to: u64) -> Result<(), NoMemory>
     requires { from ≤ 2 ^ 32 }
     ensures { OnOk result (code.new.items ≡ code.old.items ++ map word_of (call_jump from to)) }
 {

@@ -1,7 +1,7 @@
 // What the code of instructions promises. Each function does nothing, and its clause is a law.
 
 ghost use Rattle.rv_select.specs.Compared.{ComparesAreCarried, ComparesKeepWithin};
-ghost use Rattle.rv_select.specs.Frames.{CallsAreBegun, CallsKeepWithin, FramesKeepWithin, FunctionsAreEntered, FunctionsAreLeft, ParametersAreReceived};
+ghost use Rattle.rv_select.specs.Frames.{CallsAreBegun, CallsKeepWithin, FramesKeepWithin, FunctionsAreEntered, FunctionsAreLeft, ParametersAreReceived, ParametersKeepWithin};
 ghost use Rattle.rv_select.specs.Waiting.{CallersGoOnWaiting};
 ghost use Rattle.rv_select.specs.Whole.{EntriesAreCarried, ProgramsAreCarried, RunsAreCarried, StepsAreCarried};
 ghost use Rattle.rv_select.specs.Steps.{ExitsAreCarried, ExitsKeepWithin, InstructionsAreCarried, ShapesKeepWithin};
@@ -44,7 +44,7 @@ pub fn functions_are_left()
     ensures { FunctionsAreLeft }
 {}
 
-/// The words that are passed to a function go where it takes them.
+/// The words that are passed to a function go where it takes them, and so do the bytes of areas.
 pub fn parameters_are_received()
     ensures { ParametersAreReceived }
 {}
@@ -54,9 +54,14 @@ pub fn frames_keep_within()
     ensures { FramesKeepWithin }
 {}
 
-/// The code of a call that gives a word has no more words than its weight.
+/// The code of a call has no more words than its weight.
 pub fn calls_keep_within()
     ensures { CallsKeepWithin }
+{}
+
+/// The code that takes parameters has no more words than its weight.
+pub fn parameters_keep_within()
+    ensures { ParametersKeepWithin }
 {}
 
 /// The code of a comparison and the branch on its result carries out both.

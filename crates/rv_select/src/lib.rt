@@ -20,17 +20,16 @@ pub mod selectable;
 pub mod selected;
 pub mod selection;
 
+pub use calls::push_call_jump;
 pub use compared::push_compared;
 pub use exits::push_exit;
 pub use instructions::push_instruction;
 pub use law::{
     calls_are_begun, calls_keep_within, compares_are_carried, compares_keep_within,
     exits_are_carried, exits_keep_within, frames_keep_within, functions_are_entered,
-    functions_are_left, instructions_are_carried, parameters_are_received, shapes_keep_within,
+    functions_are_left, instructions_are_carried, parameters_are_received, parameters_keep_within,
+    shapes_keep_within,
 };
 pub use selectable::all_has_code;
 pub use selected::{Call, Code};
 pub use selection::select;
-
-#[cfg(test)]
-mod tests;

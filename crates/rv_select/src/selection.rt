@@ -3,7 +3,7 @@
 ghost use Rattle.std.specs.Prelude.{◌≡◌, ◌*◌, ◌+◌, ◌^◌, ◌<◌, ◌≤◌, ◌&&◌, [], ◌∷◌, ◌++◌, map, length, IfOk, IsTrue, OnOk};
 ghost use Rattle.std.specs.List.{list_all};
 ghost use Rattle.rv_isa.specs.Table.{word_of};
-ghost use Rattle.rv_select.specs.Calls.{IsSelected, all_has_code, block_code, block_has_code, block_starts, blocks_calls, blocks_code, call_jump, called, exit_code, has_code, has_exit_code, head_code, instruction_calls, instruction_code, instructions_calls, instructions_code, last_address, returned, starts_from};
+ghost use Rattle.rv_select.specs.Calls.{IsSelected, KeepsWithin, all_has_code, block_code, block_has_code, block_starts, blocks_calls, blocks_code, call_jump, called, exit_code, has_code, has_exit_code, head_code, instruction_calls, instruction_code, instructions_calls, instructions_code, last_address, returned, starts_from};
 ghost use Rattle.rv_select.specs.Entering.{begun, entered, received, words_offset};
 ghost use Rattle.rv_select.specs.Places.{frame_bytes, layout_of, with_homes};
 ghost use Rattle.rv_select.specs.Shapes.{jump, start_of};
@@ -311,7 +311,10 @@ fn find_places(alloc: Global, homes: &[Option<Home>], tac: &Tac) -> Result<Place
 /// The machine's code of a function by its three-address code and an assignment. Its temporaries stand where the assignment says.
 pub fn select(alloc: Global, tac: &Tac, assignment: &Assignment) -> Result<Code, NoMemory>
     requires { IsTrue (all_has_code tac.now) }
-    ensures { IfOk result (λ code. IsSelected tac.now assignment.now code) }
+    ensures selected { IfOk result (λ code. IsSelected tac.now assignment.now code) }
+    // By the weights of three-address code: at most 250 words and 136 private bytes a typed node, and 65,536 bytes more, where the code
+    // is sized.
+    ensures within { IfOk result (λ code. KeepsWithin tac.now assignment.now code) }
 {
     let homes = assignment.as_slice();
     let places = find_places(alloc, homes, tac)?;

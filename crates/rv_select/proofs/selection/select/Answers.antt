@@ -2,10 +2,11 @@ use Rattle.std.proofs.Common.{◌∙◌, subst}
 use Rattle.rv_select.specs.Calls.{IsSelected}
 use Rattle.rv_select.specs.Places.{layout_of}
 use Rattle.rv_select.proofs.Bodies.{left-whole, whole-calls, whole-words}
+use Rattle.rv_select.proofs.Weighed.{keeps-within}
 use Rattle.rv_select.proofs.selection.select.Goals as goal
 
-pub returns : goal.returns
-returns c =
+pub returns-clause-selected : goal.returns-clause-selected
+returns-clause-selected c =
     let tac = c.args.tac.now in
     let h = c.as_slice-homes.result.now in
     subst (λ z. IsSelected tac z (record { words = c.push_left.new.code; calls = c.push_body.new.calls; entry = c.in_ok-head.head.entry; frame = c.in_ok-head.head.frame })) c.as_slice-homes.ensures
@@ -18,3 +19,9 @@ returns c =
       entry = c.in_ok-head.ensures.entry;
       frame = c.in_ok-head.ensures.frame;
     })
+
+pub returns-clause-within : goal.returns-clause-within
+returns-clause-within c =
+    keeps-within c.args.tac.now c.args.assignment.now
+    (record { words = c.push_left.new.code; calls = c.push_body.new.calls; entry = c.in_ok-head.head.entry; frame = c.in_ok-head.head.frame })
+    c.requires (returns-clause-selected c)

@@ -1,0 +1,98 @@
+-- An image whose text was linked of the functions that an export reaches agrees with the export's term.
+use Rattle.std.proofs.Common.{◌≡◌, ◌≢◌, ℕ, ◌+◌, ◌*◌, ◌<◌, ◌≤◌, false, true, List, [], ◌∷◌, length, map, Option, Some, None, refl, sym, ap, ◌∙◌, subst, arith}
+use Rattle.std.specs.Prelude.{◌/◌, ◌^◌, option_map}
+use Rattle.tl_base.specs.declared.ids.FnId.{FnId}
+use Rattle.rv_isa.specs.declared.instr.Instr.{Instr}
+use Rattle.elf_image.specs.declared.image.Image.{Image}
+use Rattle.elf_image.specs.Lawful.{IsLawful}
+use Rattle.terra_memory.specs.Region.{IsMemorySize}
+use Rattle.terra_words.specs.Runs.{Value, word, Returned, Stuck, Run, Over}
+use Rattle.terra_types.specs.Opening.{AreTypes}
+use Rattle.terra_term.specs.Stores.{Callable, Contents, callable_of, static_bytes}
+use Rattle.terra_meaning.specs.Values.{AreValues, is_aggregate}
+use Rattle.terra_meaning.specs.Meaning.{meaning}
+use Rattle.tac_form.specs.declared.tac.Tac.{Tac}
+use Rattle.tac_form.specs.Flow.{Program, TacRun}
+use Rattle.tac_lower.specs.Laws.{AreTyped}
+use Rattle.tac_lower.specs.Lowering.{are_narrow, lowered, parameter_types}
+use Rattle.tac_lower.proofs.Keeps.{lowering_keeps_runs}
+use Rattle.terra_sound.proofs.Values.{gives-values}
+use Rattle.terra_sound.proofs.Whole.{never-stuck}
+use Rattle.rv_machine.specs.Machine.{Ran, run_of}
+use Rattle.rv_machine.specs.Program.{IsProgram}
+use Rattle.rv_machine.specs.ImageRun.{image_start}
+use Rattle.rv_select.specs.Whole.{AreShort}
+use Rattle.rv_link.specs.declared.function.Function.{Function}
+use Rattle.rv_link.specs.declared.function.Linked.{Linked}
+use Rattle.rv_link.specs.Linked.{AreSelected, AreSound, IsLinkedText, code_in, image_of, program_of}
+use Rattle.rv_link.specs.Images.{AreWords, EndsLike}
+use Rattle.rv_link.proofs.Starting.{images-carried}
+use Rattle.back_end.specs.Agrees.{Agree, SameEnd}
+use Rattle.back_end.proofs.Closed.{HasSame, IsClosed, same-run}
+use Rattle.back_end.proofs.Composes.{agree}
+use Rattle.back_end.proofs.Extends.{extends}
+use Rattle.back_end.proofs.Following.{follows, only}
+
+-- the code of all functions of a store that can be called
+abbrev pub all_lowered : Contents → Program
+all_lowered store = record { code = λ g. option_map (lowered store []) (callable_of store g); entries = [] }
+
+-- An image whose text was linked of functions that have all that they call, from a typed store.
+pub record IsMade (store : Contents) (functions : List Function) (linked : Linked) (image : Image) (words : ℕ) (In : FnId → Type 0) : Type 0 where
+  pub types : AreTypes store.types
+  pub typed : AreTyped store
+  pub memory : IsMemorySize image.memory
+  pub statics : image.statics ≡ static_bytes store
+  pub half : length (static_bytes store) ≤ image.memory / 2
+  pub selected : AreSelected functions
+  pub sound : AreSound (program_of functions []) functions
+  pub text : IsLinkedText functions linked
+  pub lawful : IsLawful image
+  pub text_is : image.text ≡ linked.words.items
+  pub room : 512 * linked.frame ≤ image.private
+  pub short : AreShort (program_of functions []) words
+  pub closed : IsClosed (all_lowered store) In
+  pub same : HasSame (all_lowered store) (program_of functions []) In
+
+module _ (store : Contents) (functions : List Function) (linked : Linked) (image : Image) (words : ℕ) (In : FnId → Type 0)
+    (made : IsMade store functions linked image words In) (f : FnId) (k : Callable) (there : callable_of store f ≡ Some k) (here : In f)
+    (narrow : are_narrow store.types (parameter_types k) ≡ true) (scalar : is_aggregate store.types k.body.result ≡ false)
+    (program : List (Option Instr)) (decoded : IsProgram image.text program) (arguments : List ℕ) (args : AreWords arguments)
+    (eight : length arguments ≤ 8) (values : AreValues store.types k.body.parameters (map word arguments)) where
+
+  abbrev source : ℕ → Run
+  source n = meaning store [] image.memory n f (map word arguments)
+
+  abbrev target : ℕ → Ran
+  target = run_of program (image_start image (image_of functions f).at arguments)
+
+  code-is : code_in functions f ≡ Some (lowered store [] k)
+  code-is = made.same.same f here ∙ ap (option_map (lowered store [])) there
+
+  none-few : length {A = FnId} [] < 2 ^ 32
+  none-few = omega arith
+
+  ends-like : length arguments ≡ length (lowered store [] k).parameters → (n : ℕ) →
+      EndsLike image (image_of functions f).at arguments n ((n + 1) * words) (source n)
+  ends-like count n =
+      let run = lowering_keeps_runs store (all_lowered store) made.types made.typed none-few (λ g. refl) image.memory n f k
+      (map word arguments) made.memory made.half there narrow values in
+      images-carried functions [] linked image f (lowered store [] k) words n arguments (source n) made.selected made.sound made.text
+      made.lawful made.text_is made.room made.short code-is args eight count
+      (subst (λ bytes. Run_of bytes n) (sym made.statics)
+      (same-run (all_lowered store) (program_of functions []) In made.closed made.same (static_bytes store) image.memory n f
+      (map word arguments) (source n) here run.runs))
+    where
+      Run_of : List ℕ → ℕ → Type 0
+      Run_of bytes m = TacRun (program_of functions []) bytes image.memory m f (map word arguments) (source m)
+
+  pub agrees : length arguments ≡ length (lowered store [] k).parameters →
+      Agree (SameEnd store.types k.body.result) source target words
+  agrees count =
+      agree (SameEnd store.types k.body.result) (only store.types k.body.result) source target words
+      (λ n. follows store.types k.body.result scalar image (image_of functions f).at arguments eight program decoded words n (source n)
+      (λ v out is. gives-values store [] image.memory n f k (map word arguments) v out made.types made.typed none-few made.memory made.half
+      there narrow values is)
+      (λ out is. never-stuck store [] image.memory n f k (map word arguments) out made.typed there is)
+      (ends-like count n))
+      (extends program (image_start image (image_of functions f).at arguments))

@@ -1,0 +1,4 @@
+pub mod Fills
+pub mod Links
+pub mod Pushes
+pub mod Starting

@@ -1,0 +1,77 @@
+-- Runs of an image whose text was linked.
+use Rattle.std.specs.Prelude.{◌≡◌, ℕ, ◌+◌, ◌*◌, ◌^◌, ◌<◌, ◌≤◌, List, [], ◌∷◌, length, map, Option, Some, slice_get}
+use Rattle.tl_base.specs.declared.ids.FnId.{FnId}
+use Rattle.elf_image.specs.declared.image.Image.{Image}
+use Rattle.elf_image.specs.Lawful.{IsLawful}
+use Rattle.rv_machine.specs.declared.stops.Stop.{Stop}
+use Rattle.rv_machine.specs.declared.stops.Stop.TheVariants as stops
+use Rattle.rv_machine.specs.Machine.{State}
+use Rattle.rv_machine.specs.ImageRun.{RvRun, image_start}
+use Rattle.terra_words.specs.Words.{fault_number}
+use Rattle.terra_words.specs.Runs.{Returned, Fault, Stuck, Run, Over, More, word}
+use Rattle.terra_memory.specs.Region.{fresh}
+use Rattle.tac_form.specs.declared.tac.Tac.{Tac}
+use Rattle.tac_form.specs.Flow.{TacRun}
+use Rattle.rv_select.specs.Shapes.{place_number}
+use Rattle.rv_select.specs.Whole.{AreShort, Starts}
+use Rattle.rv_link.specs.declared.function.Function.{Function}
+use Rattle.rv_link.specs.declared.function.Linked.{Linked}
+use Rattle.rv_link.specs.Linked.{AreSelected, AreSound, IsLinkedText, code_in, image_of, program_of}
+
+abbrev pub AreWords : List ℕ → Type 0
+AreWords arguments = (k x : ℕ) → slice_get arguments k ≡ Some x → x < 2 ^ 64
+
+-- A lawful image begins, at an address, as functions that begin as the entry ask for: with its memory as a region that has the statics.
+abbrev pub ImagesStart : Type 0
+ImagesStart =
+    (image : Image) (at : ℕ) (arguments : List ℕ) → IsLawful image → length arguments ≤ 8 → AreWords arguments →
+    Starts at (fresh image.memory image.statics) arguments (image_start image at arguments)
+
+-- The image's run stops so, in that many steps and in all that are more, with this output.
+abbrev pub Halts : Image → (at : ℕ) → (arguments : List ℕ) → (steps : ℕ) → Stop → State → (out : List ℕ) → Type 0
+Halts image at arguments steps stop last out =
+    (more : ℕ) → RvRun image at arguments (steps + more) (record { stop = stop; state = last; output = out })
+
+pub record ImageReturns (image : Image) (at : ℕ) (arguments : List ℕ) (most : ℕ) (out : List ℕ) (result : ℕ → Type 0) : Type 0 where
+  pub steps : ℕ
+  pub last : State
+  pub few : steps ≤ most
+  pub gives : result (last.registers 10)
+  pub halts : Halts image at arguments steps (stops.Returned (last.registers 10)) last out
+
+pub record ImageFails (image : Image) (at : ℕ) (arguments : List ℕ) (most kind place : ℕ) (out : List ℕ) : Type 0 where
+  pub steps : ℕ
+  pub last : State
+  pub few : steps ≤ most
+  pub halts : Halts image at arguments steps (stops.TerraFault kind place) last out
+
+-- The image's run isn't over after at least and at most so many steps, and has written this.
+pub record ImageGoesOn (image : Image) (at : ℕ) (arguments : List ℕ) (least most : ℕ) (out : List ℕ) : Type 0 where
+  pub steps : ℕ
+  pub stands : State
+  pub enough : least ≤ steps
+  pub few : steps ≤ most
+  pub runs : RvRun image at arguments steps (record { stop = stops.Unfinished; state = stands; output = out })
+
+-- The image's run ends as one of three-address code does that had a count, with the same output, in at most so many steps; where that
+-- needs more counts, it has written the same output in at least as many steps as the count, and isn't over. Of code that is stuck nothing
+-- is promised.
+abbrev pub EndsLike : Image → (at : ℕ) → (arguments : List ℕ) → (n most : ℕ) → Run → Type 0
+EndsLike image at arguments n most (Over (Returned v) out) =
+    ImageReturns image at arguments most out (λ r. (x : ℕ) → v ≡ word x → r ≡ x)
+EndsLike image at arguments n most (Over (Fault kind place) out) =
+    ImageFails image at arguments most (fault_number kind) (place_number place) out
+EndsLike image at arguments n most (Over Stuck out) = Unit {0}
+EndsLike image at arguments n most (More out) = ImageGoesOn image at arguments n most out
+
+-- Linked functions in a lawful image: a run of the image, from where one of them begins as the entry, ends as that of its three-address code
+-- does at each count n, in at most n + 1 times the words that a function may have.
+abbrev pub ImagesAreCarried : Type 0
+ImagesAreCarried =
+    (functions : List Function) (values : List FnId) (linked : Linked) (image : Image) (f : FnId) (code : Tac) (words n : ℕ)
+    (arguments : List ℕ) (r : Run) →
+    AreSelected functions → AreSound (program_of functions values) functions → IsLinkedText functions linked → IsLawful image →
+    image.text ≡ linked.words.items → 512 * linked.frame ≤ image.private → AreShort (program_of functions values) words →
+    code_in functions f ≡ Some code → AreWords arguments → length arguments ≤ 8 → length arguments ≡ length code.parameters →
+    TacRun (program_of functions values) image.statics image.memory n f (map word arguments) r →
+    EndsLike image (image_of functions f).at arguments n ((n + 1) * words) r

@@ -1,0 +1,20 @@
+// What linked texts promise. Each function does nothing, and its clause is a law.
+
+ghost use Rattle.rv_link.specs.Images.{ImagesAreCarried, ImagesStart};
+ghost use Rattle.rv_link.specs.Linked.{LinkedTextsAreLinked};
+
+/// In a text that `link` gives, of functions that machine code may be made of, each function stands where calls look for it, so runs of
+/// the program are carried out by the machine.
+pub fn linked_texts_are_linked()
+    ensures { LinkedTextsAreLinked }
+{}
+
+/// A lawful image begins, at an address, as the code of a function that begins as the entry asks for.
+pub fn images_start()
+    ensures { ImagesStart }
+{}
+
+/// A run of an image that has a linked text, from where a function begins as the entry, ends as the run of its three-address code does.
+pub fn images_are_carried()
+    ensures { ImagesAreCarried }
+{}

@@ -1,0 +1,15 @@
+//! Functions one behind the other in a text.
+//!
+//! `link` puts the words that selection gives behind one another, and fills in their calls: `specs/Linked.antt` says which words
+//! the text has. The law of `law` says that in such a text the functions stand as runs of a program ask for.
+#![tactic(auto)]
+
+pub mod function;
+pub mod law;
+pub mod linking;
+pub mod ways;
+
+pub use function::{Function, Linked};
+pub use law::{images_are_carried, images_start, linked_texts_are_linked};
+pub use linking::link;
+pub use ways::blocks_there;

@@ -1,0 +1,131 @@
+-- A function's code and its frame keep within their weights.
+use Rattle.std.proofs.Common.{◌≡◌, ℕ, suc, ◌+◌, ◌*◌, ◌≤◌, Bool, true, false, ◌&&◌, List, [], ◌∷◌, ◌++◌, length, sum_by, Option, refl, sym, ap, ◌∙◌, subst, arith}
+use Rattle.std.specs.Prelude.{fold, map}
+use Rattle.std.specs.List.{list_all}
+use Rattle.std.proofs.lemmas.List.{length-append, length-map}
+use Rattle.std.proofs.lemmas.List.Sums.{sum_by-cons}
+use Rattle.tl_base.specs.declared.ids.FnId.{FnId}
+use Rattle.rv_isa.specs.declared.instr.Instr.{Instr}
+use Rattle.rv_isa.specs.Table.{word_of}
+use Rattle.reg_alloc.specs.declared.assignment.Home.{Home}
+use Rattle.tac_form.specs.declared.tac.Operand.TheVariants.{Constant}
+use Rattle.tac_form.specs.declared.tac.Part.TheVariants.{Word}
+use Rattle.tac_form.specs.declared.tac.Exit.{Exit}
+use Rattle.tac_form.specs.declared.tac.Exit.TheVariants.{Branch, Fail, Jump, Return}
+use Rattle.tac_form.specs.declared.tac.Instruction.{Instruction}
+use Rattle.tac_form.specs.declared.tac.Instruction.TheVariants.{Alloc, Call, CallValue, Clear, Compute, Copy, Load, Locate, Move, PutByte, Store, TestDivisor, Write}
+use Rattle.tac_form.specs.declared.tac.Block.{Block}
+use Rattle.tac_form.specs.declared.tac.Tac.{Tac}
+use Rattle.tac_form.specs.Fits.{area_fits}
+use Rattle.tac_form.specs.Weights.{block_words, code_words, exit_words, private_bytes, words_of}
+use Rattle.rv_select.specs.declared.selected.Code.{Code}
+use Rattle.rv_select.specs.Places.{Layout, frame_bytes, layout_of}
+use Rattle.rv_select.specs.Shapes.{start_of}
+use Rattle.rv_select.specs.Entering.{begun, entered, left, received, receiving, words_offset}
+use Rattle.rv_select.specs.Calls.{IsSelected, KeepsWithin, all_has_code, block_code, block_has_code, block_starts, blocks_code, body_code, exit_code, function_code, has_code, has_exit_code, head_code, instruction_code, instructions_code, last_address}
+use Rattle.rv_select.proofs.Falls.{params-least}
+use Rattle.rv_select.proofs.Stands.{both-true}
+use Rattle.rv_select.proofs.Weights.{exits-within, within}
+use Rattle.rv_select.proofs.Within.{calls-within, frames-within, parameters-within}
+
+-- most words of two pieces of code
+both : (a b : List Instr) (n k : ℕ) → length a ≤ n → length b ≤ k → length (a ++ b) ≤ n + k
+both a b n k h g = omega (arith, h, g, length-append a b)
+
+instruction-weight : (y : Layout) (sizes : List ℕ) (places : FnId → ℕ) (at : ℕ) (i : Instruction) → list_all area_fits sizes ≡ true →
+    has_code i ≡ true → length (instruction_code y sizes places at i) ≤ words_of i
+instruction-weight y sizes places at (Call to place f arguments) small h = calls-within y sizes places at to place f arguments small
+instruction-weight y sizes places at (CallValue to place sig a arguments) small h = cc
+instruction-weight y sizes places at (Compute d op form a b) small h = within y (Compute d op form a b) h
+instruction-weight y sizes places at (TestDivisor place a) small h = within y (TestDivisor place a) h
+instruction-weight y sizes places at (Copy d a) small h = within y (Copy d a) h
+instruction-weight y sizes places at (Locate d offset) small h = within y (Locate d offset) h
+instruction-weight y sizes places at (Load d form spot) small h = within y (Load d form spot) h
+instruction-weight y sizes places at (Store spot n a) small h = within y (Store spot n a) h
+instruction-weight y sizes places at (Move to from n) small h = within y (Move to from n) h
+instruction-weight y sizes places at (Clear n k) small h = within y (Clear n k) h
+instruction-weight y sizes places at (PutByte a) small h = within y (PutByte a) h
+instruction-weight y sizes places at (Write place a b) small h = within y (Write place a b) h
+instruction-weight y sizes places at (Alloc d a) small h = within y (Alloc d a) h
+
+instructions-weight : (y : Layout) (sizes : List ℕ) (places : FnId → ℕ) (at : ℕ) (is : List Instruction) → list_all area_fits sizes ≡ true →
+    list_all has_code is ≡ true → length (instructions_code y sizes places at is) ≤ sum_by words_of is
+instructions-weight y sizes places at [] small h = omega arith
+instructions-weight y sizes places at (i ∷ is) small h =
+    let e = both-true (has_code i) (list_all has_code is) h in
+    let A = instruction_code y sizes places at i in
+    subst (λ n. length (A ++ instructions_code y sizes places (at + 4 * length A) is) ≤ n) (sym (sum_by-cons words_of i is))
+    (both A (instructions_code y sizes places (at + 4 * length A) is) (words_of i) (sum_by words_of is)
+    (instruction-weight y sizes places at i small e.0) (instructions-weight y sizes places (at + 4 * length A) is small e.1))
+
+exit-weight : (code : Tac) (y : Layout) (at : ℕ) (starts : ℕ → ℕ) (last : ℕ) (e : Exit) → has_exit_code e ≡ true →
+    length (exit_code y at starts last e) ≤ exit_words e
+exit-weight code y at starts last (Return v) h = (frames-within code y 0 at last v).1
+exit-weight code y at starts last (Jump e) h = (exits-within y (Jump e) at at starts starts h).0
+exit-weight code y at starts last (Branch a e f) h = (exits-within y (Branch a e f) at at starts starts h).0
+exit-weight code y at starts last (Fail kind place) h = (exits-within y (Fail kind place) at at starts starts h).0
+
+block-weight : (code : Tac) (y : Layout) (sizes : List ℕ) (places : FnId → ℕ) (starts : ℕ → ℕ) (last at : ℕ) (b : Block) →
+    list_all area_fits sizes ≡ true → block_has_code b ≡ true → length (block_code y sizes places starts last at b) ≤ block_words b
+block-weight code y sizes places starts last at b small h =
+    let e = both-true (list_all has_code b.instructions) (has_exit_code b.exit) h in
+    let A = instructions_code y sizes places at b.instructions in
+    both A (exit_code y (at + 4 * length A) starts last b.exit) (sum_by words_of b.instructions) (exit_words b.exit)
+    (instructions-weight y sizes places at b.instructions small e.0) (exit-weight code y (at + 4 * length A) starts last b.exit e.1)
+
+blocks-weight : (code : Tac) (y : Layout) (sizes : List ℕ) (places : FnId → ℕ) (starts : ℕ → ℕ) (last at : ℕ) (bs : List Block) →
+    list_all area_fits sizes ≡ true → list_all block_has_code bs ≡ true →
+    length (blocks_code y sizes places starts last at bs) ≤ sum_by block_words bs
+blocks-weight code y sizes places starts last at [] small h = omega arith
+blocks-weight code y sizes places starts last at (b ∷ bs) small h =
+    let e = both-true (block_has_code b) (list_all block_has_code bs) h in
+    let A = block_code y sizes places starts last at b in
+    subst (λ n. length (A ++ blocks_code y sizes places starts last (at + 4 * length A) bs) ≤ n) (sym (sum_by-cons block_words b bs))
+    (both A (blocks_code y sizes places starts last (at + 4 * length A) bs) (block_words b) (sum_by block_words bs)
+    (block-weight code y sizes places starts last at b small e.0)
+    (blocks-weight code y sizes places starts last (at + 4 * length A) bs small e.1))
+
+-- a function's code
+function-weight : (y : Layout) (code : Tac) (places : FnId → ℕ) (at : ℕ) → all_has_code code ≡ true →
+    list_all area_fits code.areas ≡ true → length (function_code y code places at) ≤ code_words code
+function-weight y code places at h small =
+    let B = begun code in
+    let E = entered y (frame_bytes y) code.frame in
+    let R = received y code.areas (words_offset y) code.parameters in
+    let L = left y (frame_bytes y) code.frame in
+    let D = body_code y code places at in
+    sums (length B) (length E) (length L) (length R) (length D) (length (B ++ (E ++ R))) (length (E ++ R))
+    (length (D ++ L)) (length (function_code y code places at)) (receiving code.parameters) (sum_by block_words code.blocks) (code_words code)
+    (frames-within code y (frame_bytes y) 0 0 (Word (Constant 0))).0
+    (parameters-within y code.areas (words_offset y) code.parameters small)
+    (blocks-weight code y code.areas places (start_of (block_starts y code at)) (last_address y code at) (at + 4 * length (head_code y code))
+    code.blocks small h)
+    (length-append B (E ++ R)) (length-append E R) (length-append D L) (length-append (B ++ (E ++ R)) (D ++ L)) (params-least code)
+  where
+    sums : (b e l r d ber er dl n q w c : ℕ) → b + (e + l) ≤ 79 → r ≤ q → d ≤ w → ber ≡ b + er → er ≡ e + r → dl ≡ d + l → n ≡ ber + dl →
+        79 + q + w ≤ c → n ≤ c
+    sums b e l r d ber er dl n q w c one two three f1 f2 f3 f4 all = omega (arith, one, two, three, f1, f2, f3, f4, all)
+
+-- a full area for each
+areas-count : (f : ℕ → ℕ) → ((n : ℕ) → f n ≡ 128) → (xs : List ℕ) → sum_by f xs ≡ 128 * length xs
+areas-count f h [] = refl
+areas-count f h (x ∷ xs) = next (sum_by f xs) (sum_by f (x ∷ xs)) (f x) (areas-count f h xs) (h x) (sum_by-cons f x xs)
+  where
+    next : (a c n : ℕ) → a ≡ 128 * length xs → n ≡ 128 → c ≡ n + a → c ≡ 128 * suc (length xs)
+    next a c n e g k = omega (arith, e, g, k)
+
+frame-most : (f : ℕ → ℕ) (xs : List ℕ) (h k q : ℕ) → ((n : ℕ) → f n ≡ 128) → h ≤ k →
+    8 * 11 + 8 * h + 128 * length xs + 8 * q ≤ 8 * 11 + 8 * k + 8 * q + fold (λ a x. a + f x) 0 xs
+frame-most f xs h k q g l = let e = areas-count f g xs in omega (arith, e, l)
+
+frame-weight : (code : Tac) (homes : List (Option Home)) → length homes ≤ code.temps → frame_bytes (layout_of code homes) ≤ private_bytes code
+frame-weight code homes h = frame-most _ code.areas (length homes) code.temps (length code.parameters) (λ n. refl) h
+
+pub keeps-within : (code : Tac) (homes : List (Option Home)) (selected : Code) → all_has_code code ≡ true →
+    IsSelected code homes selected → KeepsWithin code homes selected
+keeps-within code homes selected h s = record {
+  words = λ small. subst (λ n. n ≤ code_words code)
+      (sym (ap length s.words ∙ length-map (function_code (layout_of code homes) code (λ f. 0) 0) word_of))
+      (function-weight (layout_of code homes) code (λ f. 0) 0 h small);
+  frame = λ few. subst (λ n. n ≤ private_bytes code) (sym s.frame) (frame-weight code homes few);
+}
