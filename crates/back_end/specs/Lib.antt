@@ -1,2 +1,6 @@
+-- What compiling gives. A reader can stop here.
+pub mod Compiled
+-- When an image agrees with a function.
 pub mod Agrees
+-- Which terms are compiled as yet: those that call no function that is a value.
 pub mod Plain

@@ -1,3 +1,4 @@
+use Rattle.back_end.specs.Compiled.{IsCompiled}
 use Rattle.back_end.proofs.Following.{only}
 use Rattle.back_end.proofs.Closed.{IsClosed}
 use Rattle.back_end.proofs.Coded.{lowered-names}

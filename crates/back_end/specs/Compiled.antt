@@ -1,0 +1,93 @@
+-- What compiling gives: one lawful image, whose exports are the given ones and agree with their terms.
+use Rattle.std.specs.Prelude.{◌≡◌, ◌≢◌, ℕ, zero, ◌+◌, ◌*◌, ◌/◌, ◌≤◌, Bool, true, false, List, [], ◌∷◌, length, map, Option, Some, None, slice_get, if◌then◌else◌}
+use Rattle.tl_base.specs.declared.ids.FnId.{FnId}
+use Rattle.tl_base.specs.declared.ids.TypeId.{TypeId}
+use Rattle.elf_image.specs.declared.image.Image.{Image}
+use Rattle.elf_image.specs.declared.image.Symbol.{Symbol}
+use Rattle.elf_image.specs.Lawful.{IsLawful}
+use Rattle.terra_words.specs.Runs.{word}
+use Rattle.terra_types.specs.declared.types.TypeForm.{TypeForm}
+use Rattle.terra_types.specs.declared.types.TypeForm.TheVariants as forms
+use Rattle.terra_types.specs.declared.types.Integer.{Integer}
+use Rattle.terra_types.specs.declared.types.Integer.TheVariants.{Int8, Int16, Int32, Int64, Uint8, Uint16, Uint32, Uint64}
+use Rattle.terra_term.specs.declared.store.Export.{Export}
+use Rattle.terra_term.specs.declared.lists.TypedName.{TypedName}
+use Rattle.terra_term.specs.Sizes.{body_size}
+use Rattle.terra_term.specs.Stores.{Callable, Contents, callable_of, static_bytes}
+use Rattle.terra_meaning.specs.Values.{AreValues, form_at}
+use Rattle.terra_meaning.specs.Laws.{Reaches}
+use Rattle.terra_meaning.specs.Meaning.{meaning}
+use Rattle.rv_machine.specs.Machine.{Ran}
+use Rattle.rv_machine.specs.ImageRun.{RvRun}
+use Rattle.back_end.specs.Agrees.{Agree, SameEnd}
+
+-- ---- the functions of an image
+
+-- how many typed nodes functions have
+abbrev pub nodes_of : Option Callable → ℕ
+nodes_of None = 0
+nodes_of (Some k) = (body_size k.body).nodes
+
+abbrev pub nodes_in : Contents → List FnId → ℕ
+nodes_in store [] = 0
+nodes_in store (f ∷ fs) = nodes_of (callable_of store f) + nodes_in store fs
+
+-- Exactly the functions that exports reach, each once.
+pub record AreReached (store : Contents) (exports : List Export) (fs : List FnId) : Type 0 where
+  pub all : (i : ℕ) (e : Export) (f : FnId) → slice_get exports i ≡ Some e → Reaches store [] e.function f →
+      (n : ℕ) × (slice_get fs n ≡ Some f)
+  pub only : (n : ℕ) (f : FnId) → slice_get fs n ≡ Some f →
+      (i : ℕ) × (e : Export) × (slice_get exports i ≡ Some e) × Reaches store [] e.function f
+  pub once : (n m : ℕ) (f : FnId) → slice_get fs n ≡ Some f → slice_get fs m ≡ Some f → n ≡ m
+
+-- ---- the symbols of exports
+
+-- the type codes of images: int8 to int64, uint8 to uint64, bool, pointers; and 0 for unit
+abbrev pub integer_code : Integer → ℕ
+integer_code Int8 = 1
+integer_code Int16 = 2
+integer_code Int32 = 3
+integer_code Int64 = 4
+integer_code Uint8 = 5
+integer_code Uint16 = 6
+integer_code Uint32 = 7
+integer_code Uint64 = 8
+
+abbrev pub type_code : TypeForm → ℕ
+type_code (forms.Integer i) = integer_code i
+type_code forms.Bool = 9
+type_code (forms.Pointer t) = 10
+type_code _ = 0
+
+abbrev pub codes_of : List TypeForm → List TypedName → List ℕ
+codes_of types [] = []
+codes_of types (x ∷ xs) = type_code (form_at types x.of) ∷ codes_of types xs
+
+-- A symbol stands for an export: it has its name and the type codes of its function, and from its address the image runs as the function
+-- means, for all arguments that are words of the parameters' types.
+pub record IsExported (store : Contents) (image : Image) (most : ℕ) (e : Export) (s : Symbol) : Type 0 where
+  pub name : s.name ≡ e.name
+  pub function : Callable
+  pub is : callable_of store e.function ≡ Some function
+  pub params : s.params ≡ codes_of store.types function.body.parameters
+  pub result : s.result ≡ type_code (form_at store.types function.body.result)
+  pub agrees : (arguments : List ℕ) (target : ℕ → Ran) →
+      AreValues store.types function.body.parameters (map word arguments) →
+      ((k : ℕ) → RvRun image s.address arguments k (target k)) →
+      Agree (SameEnd store.types function.body.result) (λ n. meaning store [] image.memory n e.function (map word arguments)) target most
+
+abbrev pub AreExported : Contents → Image → (most : ℕ) → List Export → List Symbol → Type 0
+AreExported store image most [] [] = Unit {0}
+AreExported store image most (e ∷ es) (s ∷ ss) = IsExported store image most e s × AreExported store image most es ss
+AreExported store image most _ _ = ⊥
+
+-- What is compiled: an image of at most 250 instructions for each typed node of the functions that the exports reach, with exactly these
+-- exports in their order. Runs take at most so many steps for each count, and for the begin.
+pub record IsCompiled (store : Contents) (memory : ℕ) (exports : List Export) (image : Image) : Type 0 where
+  pub lawful : IsLawful image
+  pub memory_is : image.memory ≡ memory
+  pub statics : image.statics ≡ static_bytes store
+  pub functions : List FnId
+  pub reached : AreReached store exports functions
+  pub short : length image.text ≤ 250 * nodes_in store functions
+  pub exported : AreExported store image (250 * nodes_in store functions) exports image.exports
