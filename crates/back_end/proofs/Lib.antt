@@ -1,5 +1,6 @@
 pub mod Closed
 pub mod Coded
+pub mod Compiles
 pub mod Composes
 pub mod Extends
 pub mod Following

@@ -44,10 +44,14 @@ words-both a b rest = ap (λ z. z ++ rest) (map-append word_of a b) ∙ append_a
 words-length : (a : List Instr) → length (words a) ≡ length a
 words-length a = length-map a word_of
 
+zero-first : (n : ℕ) → 0 + n ≡ n
+zero-first n = omega arith
+
 -- what lies behind a list
 drop-behind : (a b : List ℕ) (n : ℕ) → drop (length a + n) (a ++ b) ≡ drop n b
-drop-behind [] b n = refl
-drop-behind (x ∷ a) b n = drop-behind a b n
+drop-behind [] b n = ap (λ k. drop k b) (zero-first n)
+drop-behind (x ∷ a) b n =
+    let same : suc (length a) + n ≡ suc (length a + n) = omega arith in ap (λ k. drop k (x ∷ (a ++ b))) same ∙ drop-behind a b n
 
 take-none : (xs : List ℕ) → take 0 xs ≡ []
 take-none [] = refl
@@ -169,17 +173,6 @@ fill-instruction places others agree base y sizes from end cs i =
           calls = in-less (from + length S) from end cs (least from (length S)) g;
         }
 
-    called : (to : Destination) (place : Place) (f : FnId) (arguments : List Part) → i ≡ Call to place f arguments →
-        AreIn (from + length (instruction_code y sizes (λ f. 0) (4 * from) i)) end cs →
-        Filled places base y sizes from end cs (instruction_code y sizes (λ f. 0) (4 * from) i)
-        (instruction_code y sizes others (base + 4 * from) i) (instruction_calls y from i)
-    called to place f arguments e =
-        subst
-        (λ k. AreIn (from + length (instruction_code y sizes (λ f. 0) (4 * from) k)) end cs →
-        Filled places base y sizes from end cs (instruction_code y sizes (λ f. 0) (4 * from) k)
-        (instruction_code y sizes others (base + 4 * from) k) (instruction_calls y from k))
-        (sym e) (made (call_begun y place arguments) (call_ended y sizes to) f)
-
     made : (A E : List Instr) (f : FnId) → AreIn (from + length (A ++ (call_jump (4 * from + 4 * length A) 0 ++ E))) end cs →
         Filled places base y sizes from end cs (A ++ (call_jump (4 * from + 4 * length A) 0 ++ E))
         (A ++ (call_jump (base + 4 * from + 4 * length A) (others f) ++ E)) (record { at = from + length A; callee = f } ∷ [])
@@ -187,7 +180,7 @@ fill-instruction places others agree base y sizes from end cs i =
         let J : List Instr = call_jump (4 * from + 4 * length A) 0 in
         let K : List Instr = call_jump (base + 4 * from + 4 * length A) (others f) in
         let c : Site = record { at = from + length A; callee = f } in
-        let long : length (A ++ (J ++ E)) ≡ length A + (2 + length E) = length-append A (J ++ E) in
+        let long : length (A ++ (J ++ E)) ≡ length A + (2 + length E) = omega (arith, length-append A (J ++ E)) in
         let behind : AreIn (from + length A + 2) end cs =
         in-less (from + length (A ++ (J ++ E))) (from + length A + 2) end cs (omega (arith, long)) h in
         let last : AreIn (from + length A + 2 + length (words E)) end cs =
@@ -207,6 +200,17 @@ fill-instruction places others agree base y sizes from end cs i =
               ∙ ap (λ z. words A ++ z) (words-both K E (filled places base (from + length (A ++ (J ++ E))) cs ws))))))));
           calls = (omega arith, behind);
         }
+
+    called : (to : Destination) (place : Place) (f : FnId) (arguments : List Part) → i ≡ Call to place f arguments →
+        AreIn (from + length (instruction_code y sizes (λ f. 0) (4 * from) i)) end cs →
+        Filled places base y sizes from end cs (instruction_code y sizes (λ f. 0) (4 * from) i)
+        (instruction_code y sizes others (base + 4 * from) i) (instruction_calls y from i)
+    called to place f arguments e =
+        subst
+        (λ k. AreIn (from + length (instruction_code y sizes (λ f. 0) (4 * from) k)) end cs →
+        Filled places base y sizes from end cs (instruction_code y sizes (λ f. 0) (4 * from) k)
+        (instruction_code y sizes others (base + 4 * from) k) (instruction_calls y from k))
+        (sym e) (made (call_begun y place arguments) (call_ended y sizes to) f)
 
 -- Instructions.
 fill-instructions : (places others : FnId → ℕ) (agree : (f : FnId) → places f ≡ others f) (base : ℕ) (y : Layout) (sizes : List ℕ) (from end : ℕ) (cs : List Site) (is : List Instruction) →
@@ -233,9 +237,9 @@ fill-instructions places others agree base y sizes from end cs (i ∷ is) h =
     subst (λ z. AreIn z end cs) (sym sum) (subst (λ z. AreIn (from + length z) end cs) whole h) in
     let rest = fill-instructions places others agree base y sizes n end cs is h2 in
     let mine : List Site = instruction_calls y from i in
-    let others : List Site = instructions_calls y sizes n is in
-    let all : instructions_calls y sizes from (i ∷ is) ≡ mine ++ others = ap (λ z. mine ++ instructions_calls y sizes (from + z) is) same in
-    let one = fill-instruction places others agree base y sizes from end (others ++ cs) i rest.calls in
+    let behind : List Site = instructions_calls y sizes n is in
+    let all : instructions_calls y sizes from (i ∷ is) ≡ mine ++ behind = ap (λ z. mine ++ instructions_calls y sizes (from + z) is) same in
+    let one = fill-instruction places others agree base y sizes from end (behind ++ cs) i rest.calls in
     let target : base + 4 * from + 4 * length P ≡ base + 4 * n = omega (arith, long) in
     let Q : List Instr = instructions_code y sizes others (base + 4 * n) is in
     let placed : instructions_code y sizes others (base + 4 * from) (i ∷ is) ≡ P ++ Q =
@@ -246,13 +250,13 @@ fill-instructions places others agree base y sizes from end cs (i ∷ is) h =
     (subst (λ z. Filled places base y sizes from end cs (A ++ B) (P ++ Q) z) (sym all)
     (record {
       fills = λ ws.
-          ap (λ z. filled places base from z (words (A ++ B) ++ ws)) (append_assoc mine others cs)
-          ∙ (ap (filled places base from (mine ++ (others ++ cs))) (words-both A B ws)
+          ap (λ z. filled places base from z (words (A ++ B) ++ ws)) (append_assoc mine behind cs)
+          ∙ (ap (filled places base from (mine ++ (behind ++ cs))) (words-both A B ws)
           ∙ (one.fills (words B ++ ws)
           ∙ (ap (λ z. words P ++ z) (rest.fills ws)
           ∙ (sym (words-both P Q (filled places base (n + length B) cs ws))
           ∙ ap (λ z. words (P ++ Q) ++ filled places base z cs ws) sum))));
-      calls = subst (AreIn from end) (sym (append_assoc mine others cs)) one.calls;
+      calls = subst (AreIn from end) (sym (append_assoc mine behind cs)) one.calls;
     })))
 
 -- a jump is as it was where both its ends are moved
@@ -367,9 +371,9 @@ fill-blocks code places others agree base y sizes from end last starts moved cs 
     let rest = fill-blocks code places others agree base y sizes n end last starts moved cs ks same both.1
     (subst (λ z. base + 4 * z + 64 ≤ 2 ^ 32) (sym sum) near2) h2 in
     let mine : List Site = instructions_calls y sizes from k.instructions in
-    let others : List Site = blocks_calls y sizes n ks in
-    let all : blocks_calls y sizes from (k ∷ ks) ≡ mine ++ others = ap (λ z. mine ++ blocks_calls y sizes (from + z) ks) less in
-    let one = fill-block code places others agree base y sizes from end last starts moved (others ++ cs) k same both.0
+    let behind : List Site = blocks_calls y sizes n ks in
+    let all : blocks_calls y sizes from (k ∷ ks) ≡ mine ++ behind = ap (λ z. mine ++ blocks_calls y sizes (from + z) ks) less in
+    let one = fill-block code places others agree base y sizes from end last starts moved (behind ++ cs) k same both.0
     (omega (arith, near2, count)) rest.calls in
     let target : base + 4 * from + 4 * length P ≡ base + 4 * n = omega (arith, long) in
     let Q : List Instr = blocks_code y sizes others moved (base + last) (base + 4 * n) ks in
@@ -381,13 +385,13 @@ fill-blocks code places others agree base y sizes from end last starts moved cs 
     (subst (λ z. Filled places base y sizes from end cs (A ++ B) (P ++ Q) z) (sym all)
     (record {
       fills = λ ws.
-          ap (λ z. filled places base from z (words (A ++ B) ++ ws)) (append_assoc mine others cs)
-          ∙ (ap (filled places base from (mine ++ (others ++ cs))) (words-both A B ws)
+          ap (λ z. filled places base from z (words (A ++ B) ++ ws)) (append_assoc mine behind cs)
+          ∙ (ap (filled places base from (mine ++ (behind ++ cs))) (words-both A B ws)
           ∙ (one.fills (words B ++ ws)
           ∙ (ap (λ z. words P ++ z) (rest.fills ws)
           ∙ (sym (words-both P Q (filled places base (n + length B) cs ws))
           ∙ ap (λ z. words (P ++ Q) ++ filled places base z cs ws) sum))));
-      calls = subst (AreIn from end) (sym (append_assoc mine others cs)) one.calls;
+      calls = subst (AreIn from end) (sym (append_assoc mine behind cs)) one.calls;
     })))
 
 -- where blocks begin, once a function is moved
@@ -416,29 +420,36 @@ fill-function places others agree base y code fits near =
     let last : ℕ = last_address y code 0 in
     let B : List Instr = blocks_code y code.areas (λ f. 0) starts last (4 * from) code.blocks in
     let Q : List Instr = blocks_code y code.areas others moved (base + last) (base + 4 * from) code.blocks in
+    let here : body_code y code (λ f. 0) 0 ≡ B =
+    ap (λ n. blocks_code y code.areas (λ f. 0) starts last n code.blocks) (zero-first (4 * from)) in
     let end : ℕ = length (H ++ (B ++ L)) in
+    let near-all : base + 4 * end + 64 ≤ 2 ^ 32 = subst (λ z. base + 4 * length (H ++ (z ++ L)) + 64 ≤ 2 ^ 32) here near in
     let count : end ≡ from + (length B + length L) =
     length-append H (B ++ L) ∙ ap (λ n. from + n) (length-append B L) in
     let all = fill-blocks code places others agree base y code.areas from end last starts moved [] code.blocks
-    (λ j h. moves j h) fits (omega (arith, near, count)) (omega (arith, count)) in
+    (λ j h. moves j h) fits (omega (arith, near-all, count)) (omega (arith, count)) in
     let last-is : base + last ≡ last_address y code base = omega arith in
     let body : Q ≡ body_code y code others base =
     ap (λ z. blocks_code y code.areas others moved z (base + 4 * from) code.blocks) last-is in
     let mine : List Site = blocks_calls y code.areas from code.blocks in
+    let first : 0 + length (words H) ≡ from = zero-first (length (words H)) ∙ words-length H in
     record {
       fills =
-          ap (λ z. filled places base 0 z (words (H ++ (B ++ L)))) (sym (append-nil mine))
+          ap (λ z. filled places base 0 mine (words (H ++ (z ++ L)))) here
+          ∙ (ap (λ z. filled places base 0 z (words (H ++ (B ++ L)))) (sym (append-nil mine))
           ∙ (ap (filled places base 0 (mine ++ [])) (map-append word_of H (B ++ L) ∙ ap (λ z. words H ++ z) (map-append word_of B L))
           ∙ (filled-none places base 0 end (mine ++ []) (words H) (words B ++ words L)
-          (subst (λ n. AreIn n end (mine ++ [])) (sym (words-length H)) all.calls)
-          ∙ (ap (λ n. words H ++ filled places base n (mine ++ []) (words B ++ words L)) (words-length H)
+          (subst (λ n. AreIn n end (mine ++ [])) (sym first) all.calls)
+          ∙ (ap (λ n. words H ++ filled places base n (mine ++ []) (words B ++ words L)) first
           ∙ (ap (λ z. words H ++ z) (all.fills (words L))
           ∙ (ap (λ z. words H ++ z) (sym (map-append word_of Q L)) ∙ (sym (map-append word_of H (Q ++ L))
-          ∙ ap (λ z. words (H ++ (z ++ L))) body))))));
-      calls = subst (AreIn 0 end) (append-nil mine) (in-less from 0 end (mine ++ []) (omega arith) all.calls);
+          ∙ ap (λ z. words (H ++ (z ++ L))) body)))))));
+      calls = subst (λ z. AreIn 0 (length (H ++ (z ++ L))) mine) (sym here)
+          (subst (AreIn 0 end) (append-nil mine) (in-less from 0 end (mine ++ []) (omega arith) all.calls));
     }
   where
     moves : (j : ℕ) → j < length code.blocks → start_of (block_starts y code base) j ≡ base + start_of (block_starts y code 0) j
     moves j h =
-        let none : 0 + 4 * length (head_code y code) ≡ 4 * length (head_code y code) = refl in
-        starts-moved y code.areas base (4 * length (head_code y code)) code.blocks j h
+        let sum : base + 4 * length (head_code y code) ≡ base + (0 + 4 * length (head_code y code)) = omega arith in
+        ap (λ n. start_of (starts_from y code.areas n code.blocks) j) sum
+        ∙ starts-moved y code.areas base (0 + 4 * length (head_code y code)) code.blocks j h

@@ -48,6 +48,9 @@ selected-length x places at s =
     ap length s.words ∙ (length-map (function_code y x.tac (λ f. 0) 0) word_of
     ∙ (function-length y x.tac (λ f. 0) places 0 at ∙ sym (length-map (function_code y x.tac places at) word_of)))
 
+never : true ≡ false → ⊥
+never e = cc
+
 larger-first : (a b : ℕ) → a ≤ larger a b
 larger-first a b = either (nat_le a b) refl
   where
@@ -60,10 +63,7 @@ larger-second a b = either (nat_le a b) refl
   where
     either : (c : Bool) → nat_le a b ≡ c → b ≤ (if c then b else a)
     either true e = omega arith
-    either false e = ⊎_elim (λ l. omega (arith, l)) (λ r. absurd (no (sym (le-leb a b r) ∙ e))) (cases_lt b a)
-
-    no : true ≡ false → ⊥
-    no e = cc
+    either false e = ⊎_elim (λ l. omega (arith, l)) (λ r. absurd (never (sym (le-leb a b r) ∙ e))) (cases_lt b a)
 
 -- A function among those of a text: its words, what stands before and behind them, and what is known of it.
 record IsAmong (p : Program) (places : FnId → ℕ) (text : List ℕ) (most : ℕ) (code : Tac) (x : Placed) : Type 0 where
@@ -92,7 +92,11 @@ among : (p : Program) (places : FnId → ℕ) (xs : List Function) (f : FnId) (c
     at ≡ text_address + 4 * length before → AreSelected xs → AreSound p xs → code_in xs f ≡ Some code →
     IsAmong p places (before ++ text_from places at xs) (most_frame xs) code (placed_in at xs f)
 among p places [] f code before at e selected sound is = cc
-among p places (x ∷ xs) f code before at e selected sound is = either (nat_eq x.id.0 f.0) refl
+among p places (x ∷ xs) f code before at e selected sound is =
+    either (nat_eq x.id.0 f.0) refl
+    (λ other. among p places xs f code (before ++ W) next
+    (sum (length W) (length (before ++ W)) (length x.code.words.items) (length-append before W)
+    (selected-length x places at selected.0)) selected.1 sound.1 other)
   where
     W : List ℕ
     W = function_words x places at
@@ -106,10 +110,14 @@ among p places (x ∷ xs) f code before at e selected sound is = either (nat_eq 
     same-code : (a b : Tac) → Some a ≡ Some b → a ≡ b
     same-code a b q = cc
 
+    sum : (w n k : ℕ) → n ≡ length before + w → k ≡ w → at + 4 * k ≡ text_address + 4 * n
+    sum w n k g h = omega (arith, e, g, h)
+
     either : (c : Bool) → nat_eq x.id.0 f.0 ≡ c →
+        (code_in xs f ≡ Some code → IsAmong p places ((before ++ W) ++ T) (most_frame xs) code (placed_in next xs f)) →
         IsAmong p places (before ++ (W ++ T)) (larger x.code.frame (most_frame xs)) code
         (placed_in at (x ∷ xs) f)
-    either true q =
+    either true q later =
         let here : placed_in at (x ∷ xs) f ≡ record { homes = x.homes; at = at } =
         ap (λ b. if b then record { homes = x.homes; at = at } else placed_in next xs f) q in
         let mine : x.tac ≡ code = same-code x.tac code (sym (ap (λ b. if b then Some x.tac else code_in xs f) q) ∙ is) in
@@ -123,20 +131,13 @@ among p places (x ∷ xs) f code before at e selected sound is = either (nat_eq 
           sound = (x, (refl, (refl, sound.0)));
           frame = subst (λ n. n ≤ larger x.code.frame (most_frame xs)) selected.0.frame (larger-first x.code.frame (most_frame xs));
         }))
-    either false q =
+    either false q later =
         let there : placed_in at (x ∷ xs) f ≡ placed_in next xs f =
         ap (λ b. if b then record { homes = x.homes; at = at } else placed_in next xs f) q in
         let other : code_in xs f ≡ Some code = sym (ap (λ b. if b then Some x.tac else code_in xs f) q) ∙ is in
-        let count : length (before ++ W) ≡ length before + length W = length-append before W in
-        let long : length x.code.words.items ≡ length W = selected-length x places at selected.0 in
-        let one = among p places xs f code (before ++ W) next (sum (length before) (length W) (length (before ++ W)) (length x.code.words.items)
-        count long) selected.1 sound.1 other in
         subst (λ z. IsAmong p places (before ++ (W ++ T)) (larger x.code.frame (most_frame xs)) code z) (sym there)
         (among-more p places ((before ++ W) ++ T) (before ++ (W ++ T)) (most_frame xs) (larger x.code.frame (most_frame xs)) code
-        (placed_in next xs f) (append_assoc before W T) (larger-second x.code.frame (most_frame xs)) one)
-      where
-        sum : (b w n k : ℕ) → n ≡ b + w → k ≡ w → at + 4 * k ≡ text_address + 4 * n
-        sum b w n k g h = omega (arith, e, g, h)
+        (placed_in next xs f) (append_assoc before W T) (larger-second x.code.frame (most_frame xs)) (later other))
 
 pub texts-linked : LinkedTextsAreLinked
 texts-linked functions values linked program selected sound t decoded f code is =
@@ -193,10 +194,14 @@ texts-linked functions values linked program selected sound t decoded f code is 
 pub entries-are : (functions : List Function) (at : ℕ) (f : FnId) → AreSelected functions →
     entry_among functions (entries_in at functions) f ≡ entry_of (code_in functions f) (placed_in at functions f)
 entries-are [] at f s = refl
-entries-are (x ∷ xs) at f s = either (nat_eq x.id.0 f.0)
+entries-are (x ∷ xs) at f s =
+    either (nat_eq x.id.0 f.0) (entries-are xs (at + 4 * length x.code.words.items) f s.1)
   where
-    either : (c : Bool) → (if c then at + 4 * x.code.entry else entry_among xs (entries_in (at + 4 * length x.code.words.items) xs) f) ≡
+    either : (c : Bool) →
+        entry_among xs (entries_in (at + 4 * length x.code.words.items) xs) f ≡
+        entry_of (code_in xs f) (placed_in (at + 4 * length x.code.words.items) xs f) →
+        (if c then at + 4 * x.code.entry else entry_among xs (entries_in (at + 4 * length x.code.words.items) xs) f) ≡
         entry_of (if c then Some x.tac else code_in xs f)
         (if c then record { homes = x.homes; at = at } else placed_in (at + 4 * length x.code.words.items) xs f)
-    either true = ap (λ n. at + 4 * n) s.0.entry
-    either false = entries-are xs (at + 4 * length x.code.words.items) f s.1
+    either true later = ap (λ n. at + 4 * n) s.0.entry
+    either false later = later

@@ -104,7 +104,7 @@ calls-there x s h near =
     let y : Layout = layout_of x.tac x.homes in
     let long : length x.code.words.items ≡ length (function_code y x.tac (λ f. 0) 0) =
     ap length s.words ∙ length-map (function_code y x.tac (λ f. 0) 0) word_of in
-    let f = filled-words x (λ f. 0) (λ f. 0) (λ f. refl) 0 s h near in
+    let f = filled-words x (λ f. 0) (λ f. 0) (λ f. refl) 0 s h (omega (arith, near)) in
     subst (λ z. AreIn 0 (length x.code.words.items) z) (sym s.calls)
     (subst (λ n. AreIn 0 n (function_calls y x.tac)) (sym long) f.calls)
 
@@ -144,15 +144,6 @@ agreeing functions entries s e f =
 pub larger-both : (a b c : ℕ) → larger (larger a b) c ≡ larger a (larger b c)
 larger-both a b c = either (nat_le a b) refl (nat_le b c) refl
   where
-    either : (p : Bool) → nat_le a b ≡ p → (q : Bool) → nat_le b c ≡ q →
-        larger (if p then b else a) c ≡ larger a (if q then c else b)
-    either true e true g =
-        ap (λ z. if z then c else b) g ∙ sym (ap (λ z. if z then c else a) (le-leb a c (through a b c (leb-true a b e) (leb-true b c g))))
-    either true e false g = ap (λ z. if z then c else b) g ∙ sym (ap (λ z. if z then b else a) e)
-    either false e true g = refl
-    either false e false g =
-        ap (λ z. if z then c else a) (not-le a c (less a b c (more a b e) (more b c g))) ∙ sym (ap (λ z. if z then b else a) e)
-
     through : (a b c : ℕ) → a ≤ b → b ≤ c → a ≤ c
     through a b c h k = omega (arith, h, k)
 
@@ -164,3 +155,12 @@ larger-both a b c = either (nat_le a b) refl (nat_le b c) refl
 
     not-le : (a c : ℕ) → c < a → nat_le a c ≡ false
     not-le a c h = lt-leb a c h
+
+    either : (p : Bool) → nat_le a b ≡ p → (q : Bool) → nat_le b c ≡ q →
+        larger (if p then b else a) c ≡ larger a (if q then c else b)
+    either true e true g =
+        ap (λ z. if z then c else b) g ∙ sym (ap (λ z. if z then c else a) (le-leb a c (through a b c (leb-true a b e) (leb-true b c g))))
+    either true e false g = ap (λ z. if z then c else b) g ∙ sym (ap (λ z. if z then b else a) e)
+    either false e true g = refl
+    either false e false g =
+        ap (λ z. if z then c else a) (not-le a c (less a b c (more a b e) (more b c g))) ∙ sym (ap (λ z. if z then b else a) e)

@@ -79,7 +79,7 @@ images-start image at arguments l few small = record {
   region_is = refl;
   bytes = bytes;
   lawful = record {
-    sized = (sizes.0, (sizes.1, sizes.2));
+    sized = sizes;
     begun = begun (length image.statics);
     limited = limited (length image.statics) (length (region_bytes image)) long sizes.1;
   };
@@ -138,7 +138,7 @@ program-of : (code : List Instr) → IsProgram (map word_of code) (map Some code
 program-of [] = tt
 program-of (i ∷ code) = (refl, program-of code)
 
-code-from : (places : FnId → ℕ) (at : ℕ) → List Function → List Instr
+abbrev code-from : (places : FnId → ℕ) (at : ℕ) → List Function → List Instr
 code-from places at [] = []
 code-from places at (x ∷ xs) =
     function_code (layout_of x.tac x.homes) x.tac places at ++ code-from places (at + 4 * length x.code.words.items) xs

@@ -26,7 +26,7 @@ words_in (x ∷ xs) = length x.code.words.items + words_in xs
 -- where calls enter a function, by the first that has its number
 abbrev pub entries_in : (at : ℕ) → List Function → List ℕ
 entries_in at [] = []
-entries_in at (x ∷ xs) = at + 4 * x.code.entry ∷ entries_in (at + 4 * length x.code.words.items) xs
+entries_in at (x ∷ xs) = (at + 4 * x.code.entry) ∷ entries_in (at + 4 * length x.code.words.items) xs
 
 abbrev pub entry_among : List Function → (entries : List ℕ) → FnId → ℕ
 entry_among (x ∷ xs) (e ∷ es) f = if nat_eq x.id.0 f.0 then e else entry_among xs es f

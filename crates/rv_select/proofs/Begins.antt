@@ -26,7 +26,7 @@ use Rattle.rv_select.specs.Places.{AreBytes, Holds, Keeps, Layout, frame_bytes, 
 use Rattle.rv_select.specs.Shapes.{moved, place_number, x4, x8, x11}
 use Rattle.rv_select.specs.Steps.{Ends}
 use Rattle.rv_select.specs.Calls.{blocks_length, head_code, last_address}
-use Rattle.rv_select.specs.Entering.{arguments_stored, begun, entered, kept_offset, most_arguments, received, stored_below, words_offset}
+use Rattle.rv_select.specs.Entering.{arguments_stored, begun, entered, kept_offset, most_arguments, received, stored_below, words_offset, receiving}
 use Rattle.rv_select.specs.Frames.{BeforeEntering, Enters, HasWords, Received, seen, without_words}
 use Rattle.rv_select.specs.Waiting.{Arrives, HasRoom, Image, IsLinked, IsPlaced, Stepped, Waits, entries_of, place_in, restored}
 use Rattle.rv_select.specs.Whole.{EntriesAreCarried, Starts, before_entry}

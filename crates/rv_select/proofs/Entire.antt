@@ -89,10 +89,10 @@ entry-falls p words n f code values region e short eight =
 -- no code stands at address 0
 entry-high : (program : List (Option Instr)) (at : ℕ) {i : Instr} → fetch program at ≡ Some (Some i) → at ≡ 0 → ⊥
 unfolding fetch
-entry-high program at e z = none (sym (ap (fetch program) z) ∙ e)
+entry-high program at e z = never (sym (ap (fetch program) z) ∙ e)
   where
-    none : {i : Instr} → None ≡ Some (Some i) → ⊥
-    none e = cc
+    never : {i : Instr} → None ≡ Some (Some i) → ⊥
+    never e = cc
 
 pub programs-carried : ProgramsAreCarried
 programs-carried p image program most words memory n statics f code arguments m r linked short e starts eight count room (k, ends) =

@@ -63,10 +63,10 @@ place-high p image code x b k block e z =
     let more : S ≤ place_in p image code x b k =
     at-least y code.areas (entries_of p image) S (instructions_in (slice_get code.blocks b)) k in
     let some : 1 ≤ length (head_code y code) = omega arith in
-    none (length (head_code y code)) S (place_in p image code x b k) first more some z
+    never (length (head_code y code)) S (place_in p image code x b k) first more some z
   where
-    none : (h s n : ℕ) → x.at + 4 * h ≤ s → s ≤ n → 1 ≤ h → n ≡ 0 → ⊥
-    none h s n a c d f = omega (arith, a, c, d, f)
+    never : (h s n : ℕ) → x.at + 4 * h ≤ s → s ≤ n → 1 ≤ h → n ≡ 0 → ⊥
+    never h s n a c d f = omega (arith, a, c, d, f)
 
 -- a run that is over needs no more counts
 not-more : (e : End) (a b : List ℕ) → Stops (Over e a) ≡ Stops (More b) → ⊥

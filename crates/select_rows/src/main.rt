@@ -5,23 +5,26 @@
 //!
 //! A row that begins with `run` is the name of a program of `functions` and its arguments: its functions are selected with the
 //! homes that `assign` gives, and run. What comes of them is worked out by hand.
+//!
+//! A row that begins with `words` is the name of an instruction, and its words are written: addiw x5, x0, 5 and addi x18, x5, 0 of the copy;
+//! ld x5, 88(x2), ld x6, 96(x2), add x5, x5, x6 and sd x5, 88(x2) of the sum.
 #![tactic(auto)]
 
 mod functions;
-mod linking;
 
-ghost use Rattle.std.specs.Prelude.{◌≤◌, length};
+ghost use Rattle.std.specs.Prelude.{◌≤◌, length, IfOk};
+ghost use Rattle.rv_link.specs.Linked.{AreSelected, AreThere};
 
 use elf_image::{Bytes, Image, Symbol, Symbols, Words, is_lawful};
 use functions::program;
-use linking::linked;
 use reg_alloc::{Home, assign};
+use rv_link::{Function, blocks_there, link};
 use rv_machine::{Stop, TEXT, run_image};
 use rv_select::{all_has_code, push_instruction, select};
 use std::alloc::Global;
-use tac_form::{Instruction, Number, Operand, Size};
+use tac_form::{Instruction, Number, Operand, Size, Tac};
 use terra_words::BinaryOperator;
-use tl_base::{MemSink, NoMemory, Place};
+use tl_base::{FnId, MemSink, NoMemory, Place};
 
 /// Makes room for a frame in private memory: addi x2, x2, -256.
 const ENTER: u32 = 0xF001_0113;
@@ -43,10 +46,10 @@ fn main(rt: HostRuntime) -> anyhow::Result<()> {
         let line = line?;
         let row = line.as_str();
         let words: Vec<&str> = row.split_whitespace().collect(alloc)?;
-        let answer = if word_at(&words, 0) == "run" {
-            program_answer(alloc, &words)?
-        } else {
-            answer(alloc, &words)?
+        let answer = match word_at(&words, 0) {
+            "run" => program_answer(alloc, &words)?,
+            "words" => words_answer(alloc, word_at(&words, 1))?,
+            _ => answer(alloc, &words)?,
         };
         println!(rt; "{row} = {answer}")?;
     }
@@ -66,17 +69,43 @@ fn number_at(words: &[&str], place: usize) -> u64 {
     word_at(words, place).parse::<u64>().unwrap_or(0)
 }
 
+/// The words of a copy to a register, or of a sum of slots, as the manual gives them.
+fn words_answer(alloc: Global, name: &str) -> Result<String, NoMemory> {
+    let mut code = Vec::new(alloc);
+    if name == "sum" {
+        let form = Number {
+            signed: false,
+            size: Size::Eight,
+        };
+        let homes = [Some(Home::Slot(0)), Some(Home::Slot(1))];
+        let a = Operand::Temp(0);
+        let b = Operand::Temp(1);
+        let sum = Instruction::Compute(0, BinaryOperator::Add, form, a, b);
+        push_instruction(&mut code, &homes, &sum)?;
+    } else {
+        let copy = Instruction::Copy(0, Operand::Constant(5));
+        push_instruction(&mut code, &[Some(Home::Register(18))], &copy)?;
+    }
+    numbers(alloc, &code)
+}
+
+/// Words as numbers, with spaces between.
+fn numbers(alloc: Global, code: &[u32]) -> Result<String, NoMemory> {
+    let mut text = String::new(alloc);
+    for word in code {
+        let number = format!(in alloc; "{word}")?;
+        if !text.is_empty() {
+            text.push_str(" ")?;
+        }
+        text.push_str(&number)?;
+    }
+    Ok(text)
+}
+
 /// What comes of a program.
 fn program_answer(alloc: Global, words: &[&str]) -> Result<String, NoMemory> {
-    let functions = program(alloc, word_at(words, 1))?;
-    let mut codes = Vec::new(alloc);
-    for function in functions.as_slice() {
-        if all_has_code(function) {
-            let homes = assign(alloc, function)?;
-            codes.push(select(alloc, function, &homes)?)?;
-        }
-    }
-    let text = linked(alloc, &codes)?;
+    let functions = selected(alloc, program(alloc, word_at(words, 1))?)?;
+    let text = link(alloc, &functions)?.words;
     let mut arguments = Vec::new(alloc);
     for place in 2..words.len() {
         arguments.push(number_at(words, place))?;
@@ -85,6 +114,28 @@ fn program_answer(alloc: Global, words: &[&str]) -> Result<String, NoMemory> {
         return Ok(String::from_str(alloc, "more than eight arguments")?);
     }
     shown(alloc, run(alloc, text, &arguments)?)
+}
+
+/// The functions of a program, selected, each with its place as its number.
+fn selected(alloc: Global, program: Vec<Tac>) -> Result<Vec<Function>, NoMemory>
+    ensures selected { IfOk result (λ functions. AreSelected functions.items) }
+    ensures there { IfOk result (λ functions. AreThere functions.items) }
+{
+    let mut functions = Vec::new(alloc);
+    for tac in program {
+        if all_has_code(&tac) && blocks_there(&tac) {
+            let homes = assign(alloc, &tac)?;
+            let code = select(alloc, &tac, &homes)?;
+            let id = FnId(functions.len() as u64);
+            functions.push(Function {
+                id,
+                tac,
+                homes,
+                code,
+            })?;
+        }
+    }
+    Ok(functions)
 }
 
 /// What comes of a row, both ways.

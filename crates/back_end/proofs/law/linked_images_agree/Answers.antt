@@ -1,5 +1,5 @@
 use Rattle.back_end.specs.Compiled.{IsCompiled}
-use Rattle.back_end.proofs.Following.{only}
+use Rattle.back_end.proofs.Compiles.{agrees}
 use Rattle.back_end.proofs.Closed.{IsClosed}
 use Rattle.back_end.proofs.Coded.{lowered-names}
 use Rattle.back_end.proofs.Composes.{agree}
