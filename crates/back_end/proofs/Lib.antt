@@ -4,6 +4,10 @@ pub mod Compiles
 pub mod Composes
 pub mod Extends
 pub mod Following
+pub mod Growing
+pub mod Making
 pub mod Mentioning
 pub mod Naming
 pub mod Passing
+pub mod Sounds
+pub mod Worked

@@ -1,6 +1,6 @@
 -- Typed plain terms pass as many arguments as the functions that they call take.
 use Rattle.std.proofs.Common.{◌≡◌, ℕ, suc, Bool, true, false, List, [], ◌∷◌, length, Option, Some, None, refl, sym, ap, ◌∙◌, subst}
-use Rattle.std.specs.Prelude.{◌&&◌, ◌||◌, not, nat_lt}
+use Rattle.std.specs.Prelude.{◌&&◌, ◌||◌, map, not, nat_le, nat_lt, unwrap_or}
 use Rattle.std.proofs.lemmas.Bool.{and_parts}
 use Rattle.tl_base.specs.declared.ids.TypeId.{TypeId}
 use Rattle.tl_base.specs.declared.ids.FnId.{FnId}
@@ -13,14 +13,18 @@ use Rattle.terra_term.specs.Stores.{Callable, Contents, callable_of}
 use Rattle.terra_term.specs.WellTyped as typing
 use Rattle.terra_term.specs.WellTyped.{Within, same, is_typed, are_typed, one_typed, all_typed, are_same, types_in, types_of_names, after_one, after_all, in_a_let, in_a_loop, body_typed, with_names}
 use Rattle.terra_meaning.specs.Meaning.{types_of}
-use Rattle.tac_lower.proofs.Typing.{no, three, four, five, types-are}
+use Rattle.terra_types.specs.Sizes.{size_of}
+use Rattle.terra_meaning.specs.Values.{bytes_at}
+use Rattle.tac_lower.specs.Lowering.{are_narrow, parameter_types, type_of_name}
+use Rattle.tac_lower.proofs.Typing.{no, three, four, five, same-id, types-are}
 use Rattle.back_end.specs.Plain.{is_plain_operation, is_plain, are_plain, one_plain, all_plain}
 use Rattle.back_end.proofs.Naming.{OpCalls, Calls, CallsAll, CallsOne, CallsBlock}
 
 module _ (store : Contents) where
-  -- a function that can be called has so many parameters
+  -- a function that can be called has so many parameters, and none is wider than values are
   abbrev pub Passes : FnId → ℕ → Type 0
-  Passes f n = (k : Callable) × (callable_of store f ≡ Some k) × (n ≡ length k.body.parameters)
+  Passes f n =
+      (k : Callable) × (callable_of store f ≡ Some k) × (n ≡ length k.body.parameters) × (are_narrow store.types (parameter_types k) ≡ true)
 
   same-long : (a b : List TypeId) → are_same a b ≡ true → length a ≡ length b
   same-long [] [] e = refl
@@ -32,29 +36,58 @@ module _ (store : Contents) where
   names-long [] = refl
   names-long (x ∷ xs) = ap suc (names-long xs)
 
-  passed : (ts : List TypeId) (of : TypeId) (f : FnId) → typing.has_type ts of (callable_of store f) ≡ true → Passes f (length ts)
-  passed ts of f = by (callable_of store f)
+  same-all : (ts : List TypeId) (xs : List TypedName) → are_same ts (types_of_names xs) ≡ true → ts ≡ map type_of_name xs
+  same-all [] [] e = refl
+  same-all (t ∷ ts) (x ∷ xs) e =
+      let p = and_parts (same t x.of) (are_same ts (types_of_names xs)) e in
+      ap (λ a. a ∷ ts) (same-id t x.of p.0) ∙ ap (λ l. x.of ∷ l) (same-all ts xs p.1)
+  same-all [] (x ∷ xs) e = absurd (no e)
+  same-all (t ∷ ts) [] e = absurd (no e)
+
+  usable-narrow : (ts : List TypeId) → typing.all_usable store ts ≡ true → are_narrow store.types ts ≡ true
+  usable-narrow [] h = refl
+  usable-narrow (t ∷ ts) h =
+      let p = and_parts (typing.is_usable store t) (typing.all_usable store ts) h in
+      both (nat_le (bytes_at store.types t) typing.widest) (are_narrow store.types ts) (by (size_of store.types t) p.0) (usable-narrow ts p.1)
     where
-      by : (o : Option Callable) → typing.has_type ts of o ≡ true → (k : Callable) × (o ≡ Some k) × (length ts ≡ length k.body.parameters)
+      by : (o : Option ℕ) → typing.small o ≡ true → nat_le (unwrap_or o 0) typing.widest ≡ true
+      by None e = absurd (no e)
+      by (Some n) e = e
+
+      both : (a b : Bool) → a ≡ true → b ≡ true → a && b ≡ true
+      both true true e f = refl
+      both true false e f = f
+      both false b e f = e
+
+  passed : (ts : List TypeId) (of : TypeId) (f : FnId) → typing.all_usable store ts ≡ true →
+      typing.has_type ts of (callable_of store f) ≡ true → Passes f (length ts)
+  passed ts of f usable = by (callable_of store f)
+    where
+      by : (o : Option Callable) → typing.has_type ts of o ≡ true →
+          (k : Callable) × (o ≡ Some k) × (length ts ≡ length k.body.parameters) × (are_narrow store.types (parameter_types k) ≡ true)
       by (Some k) e =
-          (k, refl, same-long ts (types_of_names k.body.parameters)
-          (and_parts (are_same ts (types_of_names k.body.parameters)) (same of k.body.result) e).0 ∙ names-long k.body.parameters)
+          let all = (and_parts (are_same ts (types_of_names k.body.parameters)) (same of k.body.result) e).0 in (
+            k,
+            refl,
+            same-long ts (types_of_names k.body.parameters) all ∙ names-long k.body.parameters,
+            subst (λ l. are_narrow store.types l ≡ true) (same-all ts k.body.parameters all) (usable-narrow ts usable),
+          )
       by None e = absurd (no e)
 
-  op-passes : (op : Operation) (ts : List TypeId) (of : TypeId) → is_plain_operation op ≡ true →
+  op-passes : (op : Operation) (ts : List TypeId) (of : TypeId) → is_plain_operation op ≡ true → typing.all_usable store ts ≡ true →
       typing.operation_typed store op ts of ≡ true → OpCalls Passes op (length ts)
-  op-passes operations.Negate ts of p t = tt
-  op-passes operations.Not ts of p t = tt
-  op-passes (operations.Binary op) ts of p t = tt
-  op-passes operations.StepForward ts of p t = tt
-  op-passes operations.StepBack ts of p t = tt
-  op-passes operations.Difference ts of p t = tt
-  op-passes operations.Convert ts of p t = tt
-  op-passes (operations.Extract offset) ts of p t = tt
-  op-passes (operations.Call f) ts of p t = passed ts of f t
-  op-passes (operations.Primitive q) ts of p t = tt
-  op-passes operations.CallValue ts of p t = absurd (no p)
-  op-passes (operations.Construct offsets) ts of p t = tt
+  op-passes operations.Negate ts of p u t = tt
+  op-passes operations.Not ts of p u t = tt
+  op-passes (operations.Binary op) ts of p u t = tt
+  op-passes operations.StepForward ts of p u t = tt
+  op-passes operations.StepBack ts of p u t = tt
+  op-passes operations.Difference ts of p u t = tt
+  op-passes operations.Convert ts of p u t = tt
+  op-passes (operations.Extract offset) ts of p u t = tt
+  op-passes (operations.Call f) ts of p u t = passed ts of f u t
+  op-passes (operations.Primitive q) ts of p u t = tt
+  op-passes operations.CallValue ts of p u t = absurd (no p)
+  op-passes (operations.Construct offsets) ts of p u t = tt
 
   mutual
     passes : (w : Within) (names : List TypedName) (e : Expression) → is_plain e ≡ true → is_typed store w names e ≡ true → Calls Passes e
@@ -66,7 +99,7 @@ module _ (store : Contents) where
         let m = four (typing.is_placed at) (are_typed store w names es) (typing.all_usable store (types_in es))
         (typing.operation_typed store op (types_in es) of) t in
         (passes-all w names es q.1 m.1,
-        subst (λ ts. OpCalls Passes op (length ts)) (types-are es) (op-passes op (types_in es) of q.0 m.3))
+        subst (λ ts. OpCalls Passes op (length ts)) (types-are es) (op-passes op (types_in es) of q.0 m.2 m.3))
     passes w names (typed at of (Both a b)) p t =
         let q = and_parts (is_plain a) (is_plain b) p in
         let o = and_parts (typing.is_placed at && is_typed store w names a && is_typed store w names b && same (type_of a) boolean

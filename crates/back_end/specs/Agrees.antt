@@ -37,6 +37,3 @@ pub record Agree (Same : End → Stop → Type 0) (source : ℕ → Run) (target
   pub shows_no_more : (k : ℕ) → IsFront (target k).output (output_of (source k))
   -- what is written at a count is written after some steps, and these are few
   pub shows_all : (n : ℕ) → IsFront (output_of (source n)) (target ((n + 1) * words)).output
-
-abbrev pub Trial : Type 0
-Trial = Unit {0}

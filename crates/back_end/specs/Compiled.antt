@@ -1,5 +1,5 @@
 -- What compiling gives: one lawful image, whose exports are the given ones and agree with their terms.
-use Rattle.std.specs.Prelude.{◌≡◌, ◌≢◌, ℕ, zero, ◌+◌, ◌*◌, ◌/◌, ◌≤◌, Bool, true, false, List, [], ◌∷◌, length, map, Option, Some, None, slice_get, if◌then◌else◌}
+use Rattle.std.specs.Prelude.{◌≡◌, ◌≢◌, ℕ, zero, ◌+◌, ◌*◌, ◌/◌, ◌≤◌, Bool, true, false, ◌&&◌, List, [], ◌∷◌, length, map, Option, Some, None, slice_get, if◌then◌else◌}
 use Rattle.tl_base.specs.declared.ids.FnId.{FnId}
 use Rattle.tl_base.specs.declared.ids.TypeId.{TypeId}
 use Rattle.elf_image.specs.declared.image.Image.{Image}
@@ -17,9 +17,11 @@ use Rattle.terra_term.specs.Stores.{Callable, Contents, callable_of, static_byte
 use Rattle.terra_meaning.specs.Values.{AreValues, form_at}
 use Rattle.terra_meaning.specs.Laws.{Reaches}
 use Rattle.terra_meaning.specs.Meaning.{meaning}
+use Rattle.tac_form.specs.Fits.{place_fits}
 use Rattle.rv_machine.specs.Machine.{Ran}
 use Rattle.rv_machine.specs.ImageRun.{RvRun}
 use Rattle.back_end.specs.Agrees.{Agree, SameEnd}
+use Rattle.back_end.specs.Plain.{all_plain}
 
 -- ---- the functions of an image
 
@@ -32,13 +34,57 @@ abbrev pub nodes_in : Contents → List FnId → ℕ
 nodes_in store [] = 0
 nodes_in store (f ∷ fs) = nodes_of (callable_of store f) + nodes_in store fs
 
--- Exactly the functions that exports reach, each once.
+-- Functions that exports reach, each once.
 pub record AreReached (store : Contents) (exports : List Export) (fs : List FnId) : Type 0 where
-  pub all : (i : ℕ) (e : Export) (f : FnId) → slice_get exports i ≡ Some e → Reaches store [] e.function f →
-      (n : ℕ) × (slice_get fs n ≡ Some f)
   pub only : (n : ℕ) (f : FnId) → slice_get fs n ≡ Some f →
       (i : ℕ) × (e : Export) × (slice_get exports i ≡ Some e) × Reaches store [] e.function f
   pub once : (n m : ℕ) (f : FnId) → slice_get fs n ≡ Some f → slice_get fs m ≡ Some f → n ≡ m
+
+-- ---- what can be compiled
+
+-- the most typed nodes of a body
+abbrev pub most_nodes : ℕ
+most_nodes = 8192
+
+-- A function that can be compiled: it is typed, has a place in a text and no more nodes than a body may have, and calls no function that is
+-- a value.
+pub record IsReady (store : Contents) (f : FnId) : Type 0 where
+  pub term : Callable
+  pub is : callable_of store f ≡ Some term
+  pub place : place_fits term.at ≡ true
+  pub few : (body_size term.body).nodes ≤ most_nodes
+  pub plain : all_plain term.body.body ≡ true
+
+-- so are all that exports reach
+abbrev pub AreReady : Contents → List Export → Type 0
+AreReady store exports =
+    (i : ℕ) (e : Export) (f : FnId) → slice_get exports i ≡ Some e → Reaches store [] e.function f → IsReady store f
+
+-- integers, bools and pointers
+abbrev pub is_scalar : TypeForm → Bool
+is_scalar (forms.Integer i) = true
+is_scalar forms.Bool = true
+is_scalar (forms.Pointer t) = true
+is_scalar _ = false
+
+abbrev pub is_result : TypeForm → Bool
+is_result forms.Unit = true
+is_result form = is_scalar form
+
+abbrev pub all_scalar : List TypeForm → List TypedName → Bool
+all_scalar types [] = true
+all_scalar types (x ∷ xs) = is_scalar (form_at types x.of) && all_scalar types xs
+
+-- A function that can be exported: at most eight parameters, all scalar, and a scalar or unit result.
+pub record IsOutward (store : Contents) (f : FnId) : Type 0 where
+  pub term : Callable
+  pub is : callable_of store f ≡ Some term
+  pub eight : length term.body.parameters ≤ 8
+  pub scalar : all_scalar store.types term.body.parameters ≡ true
+  pub result : is_result (form_at store.types term.body.result) ≡ true
+
+abbrev pub AreExports : Contents → List Export → Type 0
+AreExports store exports = (i : ℕ) (e : Export) → slice_get exports i ≡ Some e → IsOutward store e.function
 
 -- ---- the symbols of exports
 
@@ -81,8 +127,9 @@ AreExported store image most [] [] = Unit {0}
 AreExported store image most (e ∷ es) (s ∷ ss) = IsExported store image most e s × AreExported store image most es ss
 AreExported store image most _ _ = ⊥
 
--- What is compiled: an image of at most 250 instructions for each typed node of the functions that the exports reach, with exactly these
--- exports in their order. Runs take at most so many steps for each count, and for the begin.
+-- What is compiled: an image of at most 250 instructions for each typed node of functions that the exports reach, with exactly these
+-- exports in their order. Runs take at most so many steps for each count, and for the begin; this bound is of the nodes, and not yet of the
+-- image's own instructions, of which there may be fewer.
 pub record IsCompiled (store : Contents) (memory : ℕ) (exports : List Export) (image : Image) : Type 0 where
   pub lawful : IsLawful image
   pub memory_is : image.memory ≡ memory

@@ -4,3 +4,7 @@ pub mod Compiled
 pub mod Agrees
 -- Which terms are compiled as yet: those that call no function that is a value.
 pub mod Plain
+-- Views of the code, which private contracts cite.
+pub mod Symbols
+pub mod Working
+pub mod Worklist

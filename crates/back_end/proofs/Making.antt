@@ -1,0 +1,334 @@
+-- What is compiled of functions that are linked into an image.
+use Rattle.std.proofs.Common.{◌≡◌, ◌≢◌, ℕ, zero, suc, ◌+◌, ◌*◌, ◌<◌, ◌≤◌, Bool, true, false, List, [], ◌∷◌, ◌++◌, length, map, Option, Some, None, refl, sym, ap, ◌∙◌, subst, arith}
+use Rattle.std.specs.Prelude.{◌&&◌, ◌/◌, ◌%◌, ◌^◌, nat_eq, nat_le, if◌then◌else◌, option_map, slice_get}
+use Rattle.std.proofs.lemmas.Bool.{and_parts, eqb-false, le-leb}
+use Rattle.std.proofs.lemmas.List.{length-append}
+use Rattle.tl_base.specs.declared.place.Place.{Place}
+use Rattle.tl_base.specs.declared.ids.FnId.{FnId}
+use Rattle.tl_base.specs.declared.ids.TypeId.{TypeId}
+use Rattle.tl_base.specs.Outside.{IsFront}
+use Rattle.elf_image.specs.declared.image.Image.{Image}
+use Rattle.elf_image.specs.declared.image.Symbol.{Symbol}
+use Rattle.elf_image.specs.Layout.{text_address}
+use Rattle.elf_image.specs.Lawful.{IsLawful}
+use Rattle.terra_memory.specs.Region.{IsMemorySize}
+use Rattle.terra_words.specs.Runs.{Value, word, bytes, End, Run, Over, output_of}
+use Rattle.terra_types.specs.declared.types.TypeForm.{TypeForm}
+use Rattle.terra_types.specs.declared.types.TypeForm.TheVariants as forms
+use Rattle.terra_types.specs.Opening.{AreTypes}
+use Rattle.terra_types.specs.Sizes.{bytes_of}
+use Rattle.terra_types.specs.declared.types.Integer.{Integer}
+use Rattle.terra_types.specs.declared.types.Integer.TheVariants.{Int8, Int16, Int32, Int64, Uint8, Uint16, Uint32, Uint64}
+use Rattle.terra_term.specs.declared.store.Export.{Export}
+use Rattle.terra_term.specs.declared.lists.TypedName.{TypedName}
+use Rattle.terra_term.specs.Sizes.{body_size}
+use Rattle.terra_term.specs.Stores.{Callable, Contents, callable_of, static_bytes}
+use Rattle.terra_meaning.specs.Values.{AreValues, IsValue, bytes_at, form_at, is_aggregate}
+use Rattle.terra_meaning.specs.Meaning.{meaning}
+use Rattle.tac_form.specs.declared.tac.Destination.{Destination}
+use Rattle.tac_form.specs.declared.tac.Part.{Part}
+use Rattle.tac_form.specs.declared.tac.Instruction.TheVariants.{Call}
+use Rattle.tac_form.specs.declared.tac.Block.{Block}
+use Rattle.tac_form.specs.declared.tac.Tac.{Tac}
+use Rattle.tac_form.specs.Weights.{code_words}
+use Rattle.tac_lower.specs.Laws.{AreTyped}
+use Rattle.tac_lower.specs.Lowering.{are_narrow, code_of, lowered, parameter_types, type_of_name, unreached}
+use Rattle.tac_lower.proofs.Keeps.{sizes}
+use Rattle.tac_lower.proofs.Standing.{SizedBy}
+use Rattle.tac_lower.proofs.Words.{value-small}
+use Rattle.rv_machine.specs.declared.stops.Stop.{Stop}
+use Rattle.rv_machine.specs.declared.stops.Stop.TheVariants as stops
+use Rattle.rv_machine.specs.Machine.{Ran, run_of}
+use Rattle.rv_machine.specs.ImageRun.{RvRun, image_start}
+use Rattle.rv_machine.proofs.ImageRuns.{one_run}
+use Rattle.rv_select.specs.Whole.{AreShort}
+use Rattle.rv_link.specs.declared.function.Function.{Function}
+use Rattle.rv_link.specs.declared.function.Linked.{Linked}
+use Rattle.rv_link.specs.Linked.{IsLinkedText, code_in, function_words, image_of, placed_in, places_of, program_of, starts_in, text_from, text_of}
+use Rattle.rv_link.specs.Images.{AreWords}
+use Rattle.rv_link.proofs.Links.{selected-length}
+use Rattle.back_end.specs.Agrees.{Agree, SameEnd}
+use Rattle.back_end.specs.Compiled.{AreExported, AreExports, IsCompiled, IsExported, IsOutward, all_scalar, codes_of, is_result, is_scalar, nodes_in, nodes_of, type_code}
+use Rattle.back_end.specs.Symbols.{parameters_in, result_in, start_among, symbol_of, symbols_of}
+use Rattle.back_end.specs.Working.{AllCallWithin, AreFunctions, AreWhole, CallsWithin, Has, IsFunction, id_of}
+use Rattle.back_end.proofs.Closed.{HasSame, IsClosed}
+use Rattle.back_end.proofs.Compiles.{IsMade, agrees, all_lowered}
+use Rattle.back_end.proofs.Growing.{same-function}
+use Rattle.back_end.proofs.Sounds.{are-selected, are-sound, as-many, both, code-is, parts-within}
+
+-- ---- agreement of runs that are the same at each number of steps
+
+pub agree-same : (Same : End → Stop → Type 0) (source : ℕ → Run) (a b : ℕ → Ran) (words : ℕ) → ((k : ℕ) → a k ≡ b k) →
+    Agree Same source b words → Agree Same source a words
+agree-same Same source a b words same h = record {
+  ends = λ n e out q.
+      let x = h.ends n e out q in
+      (x.0, x.1, subst (λ (r : Ran). Same e r.stop) (sym (same x.0)) x.2.0, ap (λ (r : Ran). r.output) (same x.0) ∙ x.2.1);
+  ends_only = λ k over. ended k over;
+  shows_no_more = λ k. subst (λ (r : Ran). IsFront' r.output k) (sym (same k)) (h.shows_no_more k);
+  shows_all = λ n. subst (λ (r : Ran). IsFront'' n r.output) (sym (same ((n + 1) * words))) (h.shows_all n);
+}
+  where
+    IsFront' : List ℕ → ℕ → Type 0
+    IsFront' o k = IsFront o (output_of (source k))
+
+    IsFront'' : ℕ → List ℕ → Type 0
+    IsFront'' n o = IsFront (output_of (source n)) o
+
+    Ended : ℕ → Ran → Type 0
+    Ended k r = (e : End) × (source k ≡ Over e r.output) × Same e r.stop
+
+    ended : (k : ℕ) → (a k).stop ≢ stops.Unfinished → Ended k (a k)
+    ended k over =
+        subst (Ended k) (sym (same k)) (h.ends_only k (λ q. over (ap (λ (r : Ran). r.stop) (same k) ∙ q)))
+
+-- ---- types of exports
+
+integer-few : (i : Integer) (n : ℕ) → n ≡ bytes_of i → n ≤ 128
+integer-few Int8 n h = omega (arith, h)
+integer-few Int16 n h = omega (arith, h)
+integer-few Int32 n h = omega (arith, h)
+integer-few Int64 n h = omega (arith, h)
+integer-few Uint8 n h = omega (arith, h)
+integer-few Uint16 n h = omega (arith, h)
+integer-few Uint32 n h = omega (arith, h)
+integer-few Uint64 n h = omega (arith, h)
+
+scalar-few : (f : TypeForm) (n : ℕ) → is_scalar f ≡ true → SizedBy f n → n ≤ 128
+scalar-few (forms.Integer i) n h s = integer-few i n s
+scalar-few forms.Bool n h s = omega (arith, s)
+scalar-few (forms.Pointer t) n h s = omega (arith, s)
+scalar-few forms.Unit n h s = absurd (grind (arith, h))
+scalar-few (forms.Function ps r) n h s = absurd (grind (arith, h))
+scalar-few (forms.Array t m) n h s = absurd (grind (arith, h))
+scalar-few (forms.Struct m q l) n h s = absurd (grind (arith, h))
+
+narrow-names : (types : List TypeForm) (xs : List TypedName) → all_scalar types xs ≡ true → are_narrow types (map type_of_name xs) ≡ true
+narrow-names types [] h = refl
+narrow-names types (x ∷ xs) h =
+    let p = and_parts (is_scalar (form_at types x.of)) (all_scalar types xs) h in
+    both (nat_le (bytes_at types x.of) 128) (are_narrow types (map type_of_name xs))
+    (le-leb (bytes_at types x.of) 128 (scalar-few (form_at types x.of) (bytes_at types x.of) p.0 (sizes types x.of)))
+    (narrow-names types xs p.1)
+
+whole-result : (f : TypeForm) → is_result f ≡ true → is_aggregate (f ∷ []) (record { 0 = 0 }) ≡ false
+whole-result (forms.Integer i) h = refl
+whole-result forms.Bool h = refl
+whole-result (forms.Pointer t) h = refl
+whole-result forms.Unit h = refl
+whole-result (forms.Function ps r) h = absurd (grind (arith, h))
+whole-result (forms.Array t m) h = absurd (grind (arith, h))
+whole-result (forms.Struct m q l) h = absurd (grind (arith, h))
+
+-- ---- arguments
+
+values-long : (types : List TypeForm) (xs : List TypedName) (arguments : List ℕ) → AreValues types xs (map word arguments) →
+    length arguments ≡ length xs
+values-long types [] [] h = refl
+values-long types (x ∷ xs) (a ∷ arguments) h = ap suc (values-long types xs arguments h.1)
+values-long types [] (a ∷ arguments) h = absurd h
+values-long types (x ∷ xs) [] h = absurd h
+
+values-words : (types : List TypeForm) (xs : List TypedName) (arguments : List ℕ) → AreValues types xs (map word arguments) →
+    AreWords arguments
+values-words types [] [] h k x e = cc
+values-words types (y ∷ xs) (a ∷ arguments) h zero x e =
+    subst (λ z. z < 2 ^ 64) (one a x e) (value-small types y.of (word a) h.0)
+  where
+    one : (a b : ℕ) → Some a ≡ Some b → a ≡ b
+    one a b q = cc
+values-words types (y ∷ xs) (a ∷ arguments) h (suc k) x e = values-words types xs arguments h.1 k x e
+values-words types [] (a ∷ arguments) h k x e = absurd h
+values-words types (x' ∷ xs) [] h k x e = absurd h
+
+-- ---- functions of a text
+
+starts-are : (xs : List Function) (at : ℕ) (f : FnId) → start_among xs (starts_in at xs) f ≡ (placed_in at xs f).at
+starts-are [] at f = refl
+starts-are (x ∷ xs) at f = by (nat_eq x.id.0 f.0) refl (starts-are xs (at + 4 * length x.code.words.items) f)
+  where
+    next : ℕ
+    next = at + 4 * length x.code.words.items
+
+    by : (b : Bool) → nat_eq x.id.0 f.0 ≡ b → start_among xs (starts_in next xs) f ≡ (placed_in next xs f).at →
+        start_among (x ∷ xs) (starts_in at (x ∷ xs)) f ≡ (placed_in at (x ∷ xs) f).at
+    by true q later =
+        ap (λ b. if b then at else start_among xs (starts_in next xs) f) q
+        ∙ sym (ap (λ b. (if b then record { homes = x.homes; at = at } else placed_in next xs f).at) q)
+    by false q later =
+        ap (λ b. if b then at else start_among xs (starts_in next xs) f) q ∙ later
+        ∙ sym (ap (λ b. (if b then record { homes = x.homes; at = at } else placed_in next xs f).at) q)
+
+same-nodes : (store : Contents) (k : Callable) → (lowered store [] k).nodes ≡ (body_size k.body).nodes
+same-nodes store k = by (are_narrow store.types (parameter_types k))
+  where
+    by : (b : Bool) → (if b then code_of store [] k else unreached k).nodes ≡ (body_size k.body).nodes
+    by true = refl
+    by false = refl
+
+module _ (store : Contents) where
+  -- a function's code has at most 250 words for each of its nodes
+  few-words : (x : Function) → IsFunction store x → code_words x.tac ≤ 250 * nodes_of (callable_of store x.id)
+  few-words x h =
+      subst (λ n. code_words x.tac ≤ 250 * n)
+      (ap (λ (t : Tac). t.nodes) h.tac ∙ same-nodes store h.term ∙ sym (ap nodes_of h.is)) h.good.sized.in_words
+
+  text-short : (places : FnId → ℕ) (at : ℕ) (xs : List Function) → AreFunctions store xs →
+      length (text_from places at xs) ≤ 250 * nodes_in store (map id_of xs)
+  text-short places at [] h = omega arith
+  text-short places at (x ∷ xs) h =
+      sum (length (function_words x places at ++ text_from places next xs)) (length (function_words x places at))
+      (length (text_from places next xs)) (length x.code.words.items) (code_words x.tac) (nodes_of (callable_of store x.id))
+      (nodes_in store (map id_of xs))
+      (length-append (function_words x places at) (text_from places next xs))
+      (selected-length x places at h.0.selected) (h.0.within.words (parts-within x.tac h.0.good.fits.within).1) (few-words x h.0)
+      (text-short places next xs h.1)
+    where
+      next : ℕ
+      next = at + 4 * length x.code.words.items
+
+      sum : (all own rest items words nodes more : ℕ) → all ≡ own + rest → items ≡ own → items ≤ words → words ≤ 250 * nodes →
+          rest ≤ 250 * more → all ≤ 250 * (nodes + more)
+      sum all own rest items words nodes more a b c d e = omega (arith, a, b, c, d, e)
+
+  short : (xs : List Function) (f : FnId) (code : Tac) → AreFunctions store xs → code_in xs f ≡ Some code →
+      code_words code ≤ 250 * nodes_in store (map id_of xs)
+  short [] f code h e = absurd (grind (arith, e))
+  short (x ∷ xs) f code h e = by (nat_eq x.id.0 f.0) refl (λ later. short xs f code h.1 later)
+    where
+      one : (a b : Tac) → Some a ≡ Some b → a ≡ b
+      one a b q = cc
+
+      more : (words nodes rest : ℕ) → words ≤ 250 * rest → words ≤ 250 * (nodes + rest)
+      more words nodes rest a = omega (arith, a)
+
+      first : (words nodes rest : ℕ) → words ≤ 250 * nodes → words ≤ 250 * (nodes + rest)
+      first words nodes rest a = omega (arith, a)
+
+      by : (b : Bool) → nat_eq x.id.0 f.0 ≡ b → (code_in xs f ≡ Some code → code_words code ≤ 250 * nodes_in store (map id_of xs)) →
+          code_words code ≤ 250 * nodes_in store (map id_of (x ∷ xs))
+      by true q later =
+          first (code_words code) (nodes_of (callable_of store x.id)) (nodes_in store (map id_of xs))
+          (subst (λ (t : Tac). code_words t ≤ 250 * nodes_of (callable_of store x.id))
+          (one x.tac code (sym (ap (λ b. if b then Some x.tac else code_in xs f) q) ∙ e)) (few-words x h.0))
+      by false q later =
+          more (code_words code) (nodes_of (callable_of store x.id)) (nodes_in store (map id_of xs))
+          (later (sym (ap (λ b. if b then Some x.tac else code_in xs f) q) ∙ e))
+
+  -- a function that is there has code
+  there : (xs : List Function) (f : FnId) (n : ℕ) → slice_get (map id_of xs) n ≡ Some f → (code : Tac) × (code_in xs f ≡ Some code)
+  there [] f n e = absurd (grind (arith, e))
+  there (x ∷ xs) f zero e =
+      (x.tac, ap (λ b. if b then Some x.tac else code_in xs f) (ap (λ (g : FnId). nat_eq g.0 f.0) (one x.id f e) ∙ eq-eqb f.0))
+    where
+      one : (a b : FnId) → Some a ≡ Some b → a ≡ b
+      one a b q = cc
+
+      eq-eqb : (n : ℕ) → nat_eq n n ≡ true
+      eq-eqb zero = refl
+      eq-eqb (suc n) = eq-eqb n
+  there (x ∷ xs) f (suc n) e = by (nat_eq x.id.0 f.0) refl (there xs f n e)
+    where
+      by : (b : Bool) → nat_eq x.id.0 f.0 ≡ b → (code : Tac) × (code_in xs f ≡ Some code) →
+          (code : Tac) × (code_in (x ∷ xs) f ≡ Some code)
+      by true q later = (x.tac, ap (λ b. if b then Some x.tac else code_in xs f) q)
+      by false q later = (later.0, ap (λ b. if b then Some x.tac else code_in xs f) q ∙ later.1)
+
+  -- what the code of a number calls is within what all call
+  within : (fs : List FnId) (xs : List Function) (f : FnId) (code : Tac) → AllCallWithin fs xs → code_in xs f ≡ Some code →
+      CallsWithin fs code
+  within fs [] f code h e = absurd (grind (arith, e))
+  within fs (x ∷ xs) f code h e = by (nat_eq x.id.0 f.0) refl (λ later. within fs xs f code h.1 later)
+    where
+      one : (a b : Tac) → Some a ≡ Some b → a ≡ b
+      one a b q = cc
+
+      by : (b : Bool) → nat_eq x.id.0 f.0 ≡ b → (code_in xs f ≡ Some code → CallsWithin fs code) → CallsWithin fs code
+      by true q later =
+          subst (CallsWithin fs) (one x.tac code (sym (ap (λ b. if b then Some x.tac else code_in xs f) q) ∙ e)) h.0
+      by false q later = later (sym (ap (λ b. if b then Some x.tac else code_in xs f) q) ∙ e)
+
+module _ (store : Contents) (exports : List Export) (functions : List Function) (linked : Linked) (image : Image)
+    (types : AreTypes store.types) (typed : AreTyped store) (memory : IsMemorySize image.memory)
+    (half : length (static_bytes store) ≤ image.memory / 2) (outward : AreExports store exports) (whole : AreWhole store exports functions)
+    (text : IsLinkedText functions linked) (lawful : IsLawful image) (statics : image.statics ≡ static_bytes store)
+    (text_is : image.text ≡ linked.words.items) (room : 512 * linked.frame ≤ image.private)
+    (symbols : image.exports ≡ symbols_of store functions linked.starts.items exports) where
+  abbrev ids : List FnId
+  ids = map id_of functions
+
+  abbrev most : ℕ
+  most = 250 * nodes_in store ids
+
+  code-of : (f : FnId) → Has ids f → code_in functions f ≡ option_map (lowered store []) (callable_of store f)
+  code-of f h =
+      let t = there store functions f h.0 h.1 in
+      let c = code-is store typed functions f t.0 whole.made t.1 in
+      t.1 ∙ ap Some c.2 ∙ sym (ap (option_map (lowered store [])) c.1)
+
+  made : IsMade store functions linked image most (Has ids)
+  made = record {
+    types = types;
+    typed = typed;
+    memory = memory;
+    statics = statics;
+    half = half;
+    selected = are-selected store functions whole.made;
+    sound = are-sound store typed functions whole.made functions whole.made;
+    text = text;
+    lawful = lawful;
+    text_is = text_is;
+    room = room;
+    short = λ f code e. short store functions f code whole.made e;
+    closed = record {
+      calls = λ f code block b k to at g arguments h e i j.
+          within store ids functions f code whole.calls (code-of f h ∙ e) b k block to at g arguments i j;
+      no_values = refl;
+    };
+    same = record { same = λ f h. code-of f h; no_values = refl };
+  }
+
+  exported : (e : Export) → IsOutward store e.function → Has ids e.function →
+      IsExported store image most e (symbol_of store (start_among functions linked.starts.items e.function) e)
+  exported e out here = record {
+    name = refl;
+    function = out.term;
+    is = out.is;
+    params = ap (λ o. codes_of store.types (parameters_in o)) out.is;
+    result = ap (λ o. type_code (form_at store.types (result_in o))) out.is;
+    agrees = λ arguments target values runs.
+        let first = subst (λ at. RvRun image at arguments 0 (target 0)) start (runs 0) in
+        let narrow = narrow-names store.types out.term.body.parameters out.scalar in
+        agree-same (SameEnd store.types out.term.body.result) (λ n. meaning store [] image.memory n e.function (map word arguments)) target
+        (run_of first.program (image_start image (image_of functions e.function).at arguments)) most
+        (λ k. one_run image (image_of functions e.function).at arguments k (target k)
+        (run_of first.program (image_start image (image_of functions e.function).at arguments) k)
+        (subst (λ at. RvRun image at arguments k (target k)) start (runs k))
+        (record { few = first.few; program = first.program; decoded = first.decoded; runs = refl }))
+        (agrees store functions linked image most (Has ids) made e.function out.term out.is here narrow
+        (whole-result (form_at store.types out.term.body.result) out.result) first.program first.decoded arguments
+        (values-words store.types out.term.body.parameters arguments values) first.few values
+        (values-long store.types out.term.body.parameters arguments values ∙ sym (as-many store typed out.term narrow)));
+  }
+    where
+      start : start_among functions linked.starts.items e.function ≡ (image_of functions e.function).at
+      start = ap (λ s. start_among functions s e.function) text.starts ∙ starts-are functions text_address e.function
+
+  all-exported : (es : List Export) → ((i : ℕ) (e : Export) → slice_get es i ≡ Some e → IsOutward store e.function) →
+      ((i : ℕ) (e : Export) → slice_get es i ≡ Some e → Has ids e.function) →
+      AreExported store image most es (symbols_of store functions linked.starts.items es)
+  all-exported [] o h = tt
+  all-exported (e ∷ es) o h =
+      (exported e (o 0 e refl) (h 0 e refl), all-exported es (λ i x q. o (suc i) x q) (λ i x q. h (suc i) x q))
+
+  pub compiled : IsCompiled store image.memory exports image
+  compiled = record {
+    lawful = lawful;
+    memory_is = refl;
+    statics = statics;
+    functions = ids;
+    reached = whole.reached;
+    short = subst (λ t. length t ≤ most) (sym (text_is ∙ text.words))
+        (text-short store (places_of functions) text_address functions whole.made);
+    exported = subst (AreExported store image most exports) (sym symbols) (all-exported exports outward whole.exported);
+  }

@@ -1,0 +1,199 @@
+-- Machine code can be made of the code of functions that are compiled, and links.
+use Rattle.std.proofs.Common.{◌≡◌, ℕ, zero, suc, ◌+◌, ◌*◌, ◌<◌, ◌≤◌, Bool, true, false, List, [], ◌∷◌, ◌++◌, length, map, Option, Some, None, refl, sym, ap, ◌∙◌, subst, ⊎_elim, arith}
+use Rattle.std.specs.Prelude.{◌&&◌, ◌^◌, nat_eq, nat_le, nat_lt, if◌then◌else◌, slice_get, unwrap_or}
+use Rattle.std.specs.List.{list_all}
+use Rattle.std.proofs.lemmas.Bool.{and_parts, leb-true, le-leb}
+use Rattle.tl_base.specs.declared.place.Place.{Place}
+use Rattle.tl_base.specs.declared.ids.FnId.{FnId}
+use Rattle.terra_types.specs.Opening.{AreTypes}
+use Rattle.terra_term.specs.Stores.{Callable, Contents, callable_of}
+use Rattle.tac_form.specs.declared.tac.Destination.{Destination}
+use Rattle.tac_form.specs.declared.tac.Part.{Part}
+use Rattle.tac_form.specs.declared.tac.Instruction.{Instruction}
+use Rattle.tac_form.specs.declared.tac.Instruction.TheVariants.{Compute, TestDivisor, Copy, Locate, Load, Store, Move, Clear, Call, CallValue, PutByte, Write, Alloc}
+use Rattle.tac_form.specs.declared.tac.Exit.{Exit}
+use Rattle.tac_form.specs.declared.tac.Exit.TheVariants.{Jump, Branch, Return, Fail}
+use Rattle.tac_form.specs.declared.tac.Block.{Block}
+use Rattle.tac_form.specs.declared.tac.Tac.{Tac}
+use Rattle.tac_form.specs.Flow.{Program, area_size}
+use Rattle.tac_form.specs.Fits.{Fits, area_fits, area_there, are_apart, block_fits, destination_fits, edge_fits, exit_fits, instruction_fits, is_within, operand_fits, place_fits, spot_fits}
+use Rattle.tac_form.specs.Weights.{code_words, most_moved}
+use Rattle.tac_lower.specs.Laws.{AreTyped, IsGood}
+use Rattle.tac_lower.specs.Lowering.{are_narrow, code_of, lowered, parameter_types, unreached}
+use Rattle.tac_lower.proofs.Weights.{received-count}
+use Rattle.tac_lower.specs.Pieces.{nothing_used}
+use Rattle.rv_select.specs.Calls.{all_has_code, block_has_code, has_code, has_exit_code}
+use Rattle.rv_select.specs.Waiting.{PassesAll}
+use Rattle.rv_link.specs.declared.function.Function.{Function}
+use Rattle.rv_link.specs.Linked.{AreSelected, AreSound, AreThere, IsSound, block_there, blocks_there, code_in, edge_there, exit_there, program_of}
+use Rattle.back_end.specs.Compiled.{IsReady}
+use Rattle.back_end.specs.Plain.{all_plain}
+use Rattle.back_end.specs.Working.{AreFunctions, IsFunction, id_of}
+use Rattle.back_end.proofs.Coded.{AllBlocks, AllNamed, Exits, Named, block-at, instruction-at, lowered-names}
+use Rattle.back_end.proofs.Growing.{same-function}
+use Rattle.back_end.proofs.Passing.{Passes, body-passes}
+
+pub both : (a b : Bool) → a ≡ true → b ≡ true → (a && b) ≡ true
+both true true e f = refl
+both true false e f = f
+both false b e f = e
+
+small-area : (sizes : List ℕ) (n : ℕ) → list_all area_fits sizes ≡ true → unwrap_or (slice_get sizes n) 0 ≤ most_moved
+small-area [] n h = omega arith
+small-area (s ∷ sizes) zero h = leb-true s most_moved (and_parts (area_fits s) (list_all area_fits sizes) h).0
+small-area (s ∷ sizes) (suc n) h = small-area sizes n (and_parts (area_fits s) (list_all area_fits sizes) h).1
+
+-- the parts of what code keeps within
+pub parts-within : (code : Tac) → is_within code ≡ true → (list_all (block_fits code) code.blocks ≡ true) × (list_all area_fits code.areas ≡ true)
+parts-within code h =
+    let a = and_parts (list_all (block_fits code) code.blocks && list_all (destination_fits code) code.parameters &&
+    list_all area_fits code.areas && place_fits code.place && nat_lt code.frame (2 ^ 63)) (nat_lt 0 (length code.blocks)) h in
+    let b = and_parts (list_all (block_fits code) code.blocks && list_all (destination_fits code) code.parameters &&
+    list_all area_fits code.areas && place_fits code.place) (nat_lt code.frame (2 ^ 63)) a.0 in
+    let c = and_parts (list_all (block_fits code) code.blocks && list_all (destination_fits code) code.parameters &&
+    list_all area_fits code.areas) (place_fits code.place) b.0 in
+    let d = and_parts (list_all (block_fits code) code.blocks && list_all (destination_fits code) code.parameters)
+    (list_all area_fits code.areas) c.0 in
+    ((and_parts (list_all (block_fits code) code.blocks) (list_all (destination_fits code) code.parameters) d.0).0, d.1)
+
+-- ---- each block is there
+
+edges-there : (code : Tac) (e : Exit) → exit_fits code e ≡ true → exit_there code e ≡ true
+edges-there code (Jump e) h = h
+edges-there code (Branch a e f) h =
+    let p = and_parts (operand_fits code a && edge_fits code e) (edge_fits code f) h in
+    both (edge_there code e) (edge_there code f) (and_parts (operand_fits code a) (edge_fits code e) p.0).1 p.1
+edges-there code (Return v) h = refl
+edges-there code (Fail kind at) h = refl
+
+all-there : (code : Tac) (bs : List Block) → list_all (block_fits code) bs ≡ true → list_all (block_there code) bs ≡ true
+all-there code [] h = refl
+all-there code (b ∷ bs) h =
+    let p = and_parts (block_fits code b) (list_all (block_fits code) bs) h in
+    both (block_there code b) (list_all (block_there code) bs)
+    (edges-there code b.exit (and_parts (list_all (instruction_fits code) b.instructions) (exit_fits code b.exit) p.0).1)
+    (all-there code bs p.1)
+
+pub are-there : (store : Contents) (xs : List Function) → AreFunctions store xs → AreThere xs
+are-there store [] h = tt
+are-there store (x ∷ xs) h =
+    (all-there x.tac x.tac.blocks (parts-within x.tac h.0.good.fits.within).0, are-there store xs h.1)
+
+pub are-selected : (store : Contents) (xs : List Function) → AreFunctions store xs → AreSelected xs
+are-selected store [] h = tt
+are-selected store (x ∷ xs) h = (h.0.selected, are-selected store xs h.1)
+
+-- ---- each instruction has code
+
+module _ (In : FnId → ℕ → Type 0) (code : Tac) (small : list_all area_fits code.areas ≡ true) where
+  one-has : (i : Instruction) → Named In i → instruction_fits code i ≡ true → has_code i ≡ true
+  one-has (Compute d op form a b) n h = refl
+  one-has (TestDivisor at a) n h = refl
+  one-has (Copy d a) n h = refl
+  one-has (Locate d offset) n h = refl
+  one-has (Load d form spot) n h = refl
+  one-has (Store spot size a) n h = refl
+  one-has (Move to from size) n h =
+      (and_parts (spot_fits code size to && spot_fits code size from && are_apart to from) (nat_le size most_moved) h).1
+  one-has (Clear n' size) n h =
+      let p = and_parts (area_there code n') (nat_le size (area_size code n')) h in
+      le-leb size most_moved (under size (area_size code n') most_moved (leb-true size (area_size code n') p.1) (small-area code.areas n' small))
+    where
+      under : (a b c : ℕ) → a ≤ b → b ≤ c → a ≤ c
+      under a b c f g = omega (arith, f, g)
+  one-has (Call to at f arguments) n h = refl
+  one-has (CallValue to at sig a arguments) n h = absurd n
+  one-has (PutByte a) n h = refl
+  one-has (Write at a b) n h = refl
+  one-has (Alloc d a) n h = refl
+
+  each-has : (is : List Instruction) → AllNamed In is → list_all (instruction_fits code) is ≡ true → list_all has_code is ≡ true
+  each-has [] n h = refl
+  each-has (i ∷ is) n h =
+      let p = and_parts (instruction_fits code i) (list_all (instruction_fits code) is) h in
+      both (has_code i) (list_all has_code is) (one-has i n.0 p.0) (each-has is n.1 p.1)
+
+  exit-has : (e : Exit) → Exits In e → has_exit_code e ≡ true
+  exit-has (Jump e) n = refl
+  exit-has (Branch a e f) n = refl
+  exit-has (Return v) n = refl
+  exit-has (Fail kind at) n = n
+
+  blocks-have : (bs : List Block) → AllBlocks In bs → list_all (block_fits code) bs ≡ true → list_all block_has_code bs ≡ true
+  blocks-have [] n h = refl
+  blocks-have (b ∷ bs) n h =
+      let p = and_parts (block_fits code b) (list_all (block_fits code) bs) h in
+      let q = and_parts (list_all (instruction_fits code) b.instructions) (exit_fits code b.exit) p.0 in
+      both (block_has_code b) (list_all block_has_code bs)
+      (both (list_all has_code b.instructions) (has_exit_code b.exit) (each-has b.instructions n.0.0 q.0) (exit-has b.exit n.0.1))
+      (blocks-have bs n.1 p.1)
+
+module _ (store : Contents) (typed : AreTyped store) where
+  same-callable : (a b : Callable) → Some a ≡ Some b → a ≡ b
+  same-callable a b q = cc
+
+  -- what the code of a function calls, and with how many arguments
+  named : (f : FnId) (k : Callable) → callable_of store f ≡ Some k → IsReady store f → AllBlocks (Passes store) (lowered store [] k).blocks
+  named f k is r =
+      lowered-names (Passes store) store [] k
+      (body-passes store k (subst (λ (c : Callable). all_plain c.body.body ≡ true) (same-callable r.term k (sym r.is ∙ is)) r.plain)
+      (typed f k is))
+
+  pub has-code : (f : FnId) (k : Callable) → callable_of store f ≡ Some k → IsReady store f → IsGood (lowered store [] k) →
+      all_has_code (lowered store [] k) ≡ true
+  has-code f k is r good =
+      let p = parts-within (lowered store [] k) good.fits.within in
+      blocks-have (Passes store) (lowered store [] k) p.1 (lowered store [] k).blocks (named f k is r) p.0
+
+  -- as many parameters as the term has
+  pub as-many : (k : Callable) → are_narrow store.types (parameter_types k) ≡ true →
+      length (lowered store [] k).parameters ≡ length k.body.parameters
+  as-many k narrow =
+      ap (λ b. length (if b then code_of store [] k else unreached k).parameters) narrow
+      ∙ received-count store.types k.body.parameters nothing_used
+
+  -- the code of a number is that of a function that is there
+  pub code-is : (xs : List Function) (f : FnId) (code : Tac) → AreFunctions store xs → code_in xs f ≡ Some code →
+      (k : Callable) × (callable_of store f ≡ Some k) × (code ≡ lowered store [] k)
+  code-is [] f code h e = absurd (grind (arith, e))
+  code-is (x ∷ xs) f code h e = by (nat_eq x.id.0 f.0) refl (λ later. code-is xs f code h.1 later)
+    where
+      one : (a b : Tac) → Some a ≡ Some b → a ≡ b
+      one a b q = cc
+
+      by : (b : Bool) → nat_eq x.id.0 f.0 ≡ b →
+          (code_in xs f ≡ Some code → (k : Callable) × (callable_of store f ≡ Some k) × (code ≡ lowered store [] k)) →
+          (k : Callable) × (callable_of store f ≡ Some k) × (code ≡ lowered store [] k)
+      by true q later = (
+        h.0.term,
+        subst (λ g. callable_of store g ≡ Some h.0.term) (same-function f x.id q) h.0.is,
+        sym (one x.tac code (sym (ap (λ b. if b then Some x.tac else code_in xs f) q) ∙ e)) ∙ h.0.tac,
+      )
+      by false q later = later (sym (ap (λ b. if b then Some x.tac else code_in xs f) q) ∙ e)
+
+  all-pass : (all : List Function) → AreFunctions store all → (x : Function) → IsFunction store x → PassesAll (program_of all []) x.tac
+  all-pass all are x h b n block to at f arguments callee in_code in_block there =
+      let named' = subst (λ (c : Tac). AllBlocks (Passes store) c.blocks) (sym h.tac) (named x.id h.term h.is h.ready) in
+      let at_block = block-at (Passes store) x.tac.blocks b block named' in_code in
+      let passes = instruction-at (Passes store) block.instructions n (Call to at f arguments) at_block.0 in_block in
+      let c = code-is all f callee are there in
+      let same : passes.0.0 ≡ c.0 = same-callable passes.0.0 c.0 (sym passes.0.1 ∙ c.1) in
+      passes.0.2
+      ∙ sym (as-many passes.0.0 passes.0.3)
+      ∙ ap (λ (k : Callable). length (lowered store [] k).parameters) same
+      ∙ ap (λ (t : Tac). length t.parameters) (sym c.2)
+
+  pub are-sound : (all : List Function) → AreFunctions store all → (xs : List Function) → AreFunctions store xs →
+      AreSound (program_of all []) xs
+  are-sound all are [] h = tt
+  are-sound all are (x ∷ xs) h = (
+    record {
+      fits = h.0.good.fits;
+      counted = h.0.good.counted;
+      right = h.0.right;
+      has_code = subst (λ c. all_has_code c ≡ true) (sym h.0.tac)
+          (has-code x.id h.0.term h.0.is h.0.ready (subst IsGood h.0.tac h.0.good));
+      passes = all-pass all are x h.0;
+    },
+    are-sound all are xs h.1,
+  )

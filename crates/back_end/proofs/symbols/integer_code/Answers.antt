@@ -1,0 +1,2 @@
+use Rattle.back_end.proofs.Worked.{ends}
+use Rattle.back_end.proofs.Sounds.{are-sound}

@@ -1,0 +1,64 @@
+-- What holds while functions are compiled in turn.
+use Rattle.std.specs.Prelude.{◌≡◌, ℕ, ◌≤◌, true, List, [], ◌∷◌, ◌++◌, length, map, Option, Some, slice_get}
+use Rattle.tl_base.specs.declared.place.Place.{Place}
+use Rattle.tl_base.specs.declared.ids.FnId.{FnId}
+use Rattle.reg_alloc.specs.Right.{IsRight}
+use Rattle.terra_term.specs.declared.store.Export.{Export}
+use Rattle.terra_term.specs.Stores.{Callable, Contents, callable_of}
+use Rattle.tac_form.specs.declared.tac.Destination.{Destination}
+use Rattle.tac_form.specs.declared.tac.Part.{Part}
+use Rattle.tac_form.specs.declared.tac.Instruction.TheVariants.{Call}
+use Rattle.tac_form.specs.declared.tac.Block.{Block}
+use Rattle.tac_form.specs.declared.tac.Tac.{Tac}
+use Rattle.tac_lower.specs.Laws.{IsGood}
+use Rattle.tac_lower.specs.Lowering.{lowered}
+use Rattle.rv_select.specs.Calls.{IsSelected, KeepsWithin}
+use Rattle.rv_link.specs.declared.function.Function.{Function}
+use Rattle.back_end.specs.Compiled.{AreReached, IsReady}
+
+abbrev pub id_of : Function → FnId
+id_of x = x.id
+
+abbrev pub Has : List FnId → FnId → Type 0
+Has fs f = (n : ℕ) × (slice_get fs n ≡ Some f)
+
+-- A function that is compiled: its code is that of its typed term, and machine code is selected of it.
+pub record IsFunction (store : Contents) (x : Function) : Type 0 where
+  pub term : Callable
+  pub is : callable_of store x.id ≡ Some term
+  pub ready : IsReady store x.id
+  pub tac : x.tac ≡ lowered store [] term
+  pub good : IsGood x.tac
+  pub right : IsRight x.tac x.homes
+  pub selected : IsSelected x.tac x.homes x.code
+  pub within : KeepsWithin x.tac x.homes x.code
+
+abbrev pub AreFunctions : Contents → List Function → Type 0
+AreFunctions store [] = Unit {0}
+AreFunctions store (x ∷ xs) = IsFunction store x × AreFunctions store xs
+
+-- what code calls is in a list
+abbrev pub CallsWithin : List FnId → Tac → Type 0
+CallsWithin fs code =
+    (b k : ℕ) (block : Block) (to : Destination) (at : Place) (g : FnId) (arguments : List Part) →
+    slice_get code.blocks b ≡ Some block → slice_get block.instructions k ≡ Some (Call to at g arguments) → Has fs g
+
+abbrev pub AllCallWithin : List FnId → List Function → Type 0
+AllCallWithin fs [] = Unit {0}
+AllCallWithin fs (x ∷ xs) = CallsWithin fs x.tac × AllCallWithin fs xs
+
+-- The functions of a list from its begin on are compiled, and all that these call is in the list.
+pub record Working (store : Contents) (exports : List Export) (list : List FnId) (functions : List Function) : Type 0 where
+  pub rest : List FnId
+  pub front : list ≡ map id_of functions ++ rest
+  pub reached : AreReached store exports list
+  pub exported : (i : ℕ) (e : Export) → slice_get exports i ≡ Some e → Has list e.function
+  pub made : AreFunctions store functions
+  pub calls : AllCallWithin list functions
+
+-- All are.
+pub record AreWhole (store : Contents) (exports : List Export) (functions : List Function) : Type 0 where
+  pub reached : AreReached store exports (map id_of functions)
+  pub exported : (i : ℕ) (e : Export) → slice_get exports i ≡ Some e → Has (map id_of functions) e.function
+  pub made : AreFunctions store functions
+  pub calls : AllCallWithin (map id_of functions) functions
