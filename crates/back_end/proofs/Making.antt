@@ -1,7 +1,7 @@
 -- What is compiled of functions that are linked into an image.
 use Rattle.std.proofs.Common.{◌≡◌, ◌≢◌, ℕ, zero, suc, ◌+◌, ◌*◌, ◌<◌, ◌≤◌, Bool, true, false, List, [], ◌∷◌, ◌++◌, length, map, Option, Some, None, refl, sym, ap, ◌∙◌, subst, arith}
 use Rattle.std.specs.Prelude.{◌&&◌, ◌/◌, ◌%◌, ◌^◌, nat_eq, nat_le, if◌then◌else◌, option_map, slice_get}
-use Rattle.std.proofs.lemmas.Bool.{and_parts, eqb-false, le-leb}
+use Rattle.std.proofs.lemmas.Bool.{and_parts, eq-eqb, le-leb}
 use Rattle.std.proofs.lemmas.List.{length-append}
 use Rattle.tl_base.specs.declared.place.Place.{Place}
 use Rattle.tl_base.specs.declared.ids.FnId.{FnId}
@@ -63,7 +63,7 @@ pub agree-same : (Same : End → Stop → Type 0) (source : ℕ → Run) (a b : 
 agree-same Same source a b words same h = record {
   ends = λ n e out q.
       let x = h.ends n e out q in
-      (x.0, x.1, subst (λ (r : Ran). Same e r.stop) (sym (same x.0)) x.2.0, ap (λ (r : Ran). r.output) (same x.0) ∙ x.2.1);
+      (x.0, x.1, (subst (λ (r : Ran). Same e r.stop) (sym (same x.0)) x.2.0, ap (λ (r : Ran). r.output) (same x.0) ∙ x.2.1));
   ends_only = λ k over. ended k over;
   shows_no_more = λ k. subst (λ (r : Ran). IsFront' r.output k) (sym (same k)) (h.shows_no_more k);
   shows_all = λ n. subst (λ (r : Ran). IsFront'' n r.output) (sym (same ((n + 1) * words))) (h.shows_all n);
@@ -219,14 +219,11 @@ module _ (store : Contents) where
   there : (xs : List Function) (f : FnId) (n : ℕ) → slice_get (map id_of xs) n ≡ Some f → (code : Tac) × (code_in xs f ≡ Some code)
   there [] f n e = absurd (grind (arith, e))
   there (x ∷ xs) f zero e =
-      (x.tac, ap (λ b. if b then Some x.tac else code_in xs f) (ap (λ (g : FnId). nat_eq g.0 f.0) (one x.id f e) ∙ eq-eqb f.0))
+      (x.tac, ap (λ b. if b then Some x.tac else code_in xs f) (eq-eqb x.id.0 f.0 (ap (λ (g : FnId). g.0) (one x.id f e))))
     where
       one : (a b : FnId) → Some a ≡ Some b → a ≡ b
       one a b q = cc
 
-      eq-eqb : (n : ℕ) → nat_eq n n ≡ true
-      eq-eqb zero = refl
-      eq-eqb (suc n) = eq-eqb n
   there (x ∷ xs) f (suc n) e = by (nat_eq x.id.0 f.0) refl (there xs f n e)
     where
       by : (b : Bool) → nat_eq x.id.0 f.0 ≡ b → (code : Tac) × (code_in xs f ≡ Some code) →

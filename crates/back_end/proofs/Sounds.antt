@@ -1,11 +1,12 @@
 -- Machine code can be made of the code of functions that are compiled, and links.
 use Rattle.std.proofs.Common.{◌≡◌, ℕ, zero, suc, ◌+◌, ◌*◌, ◌<◌, ◌≤◌, Bool, true, false, List, [], ◌∷◌, ◌++◌, length, map, Option, Some, None, refl, sym, ap, ◌∙◌, subst, ⊎_elim, arith}
-use Rattle.std.specs.Prelude.{◌&&◌, ◌^◌, nat_eq, nat_le, nat_lt, if◌then◌else◌, slice_get, unwrap_or}
+use Rattle.std.specs.Prelude.{◌&&◌, ◌^◌, IfSome, nat_eq, nat_le, nat_lt, if◌then◌else◌, option_map, slice_get, unwrap_or}
 use Rattle.std.specs.List.{list_all}
 use Rattle.std.proofs.lemmas.Bool.{and_parts, leb-true, le-leb}
 use Rattle.tl_base.specs.declared.place.Place.{Place}
 use Rattle.tl_base.specs.declared.ids.FnId.{FnId}
 use Rattle.terra_types.specs.Opening.{AreTypes}
+use Rattle.terra_term.specs.Sizes.{body_size}
 use Rattle.terra_term.specs.Stores.{Callable, Contents, callable_of}
 use Rattle.tac_form.specs.declared.tac.Destination.{Destination}
 use Rattle.tac_form.specs.declared.tac.Part.{Part}
@@ -18,7 +19,7 @@ use Rattle.tac_form.specs.declared.tac.Tac.{Tac}
 use Rattle.tac_form.specs.Flow.{Program, area_size}
 use Rattle.tac_form.specs.Fits.{Fits, area_fits, area_there, are_apart, block_fits, destination_fits, edge_fits, exit_fits, instruction_fits, is_within, operand_fits, place_fits, spot_fits}
 use Rattle.tac_form.specs.Weights.{code_words, most_moved}
-use Rattle.tac_lower.specs.Laws.{AreTyped, IsGood}
+use Rattle.tac_lower.specs.Laws.{AreTyped, GoodWhereTyped, IsGood}
 use Rattle.tac_lower.specs.Lowering.{are_narrow, code_of, lowered, parameter_types, unreached}
 use Rattle.tac_lower.proofs.Weights.{received-count}
 use Rattle.tac_lower.specs.Pieces.{nothing_used}
@@ -197,3 +198,26 @@ module _ (store : Contents) (typed : AreTyped store) where
     },
     are-sound all are xs h.1,
   )
+
+  -- what `lower` gives of a function that can be compiled
+  pub lowered-good : (f : FnId) (r : IsReady store f) (types : AreTypes store.types) (found : Option Tac) (tac : Tac) →
+      found ≡ option_map (lowered store []) (callable_of store f) → IfSome found (λ t. GoodWhereTyped store [] f t) → found ≡ Some tac →
+      (tac ≡ lowered store [] r.term) × IsGood tac
+  lowered-good f r types found tac is good here = (
+    one tac (lowered store [] r.term) (sym here ∙ is ∙ ap (option_map (lowered store [])) r.is),
+    subst (λ o. IfSome o (λ t. GoodWhereTyped store [] f t)) here good r.term r.is types (omega arith) r.place
+        (fewer (body_size r.term.body).nodes r.few) (typed f r.term r.is),
+  )
+    where
+      one : (a b : Tac) → Some a ≡ Some b → a ≡ b
+      one a b q = cc
+
+      fewer : (n : ℕ) → n ≤ 8192 → n ≤ 131072
+      fewer n h = omega (arith, h)
+
+  pub lowered-has-code : (f : FnId) (r : IsReady store f) (types : AreTypes store.types) (found : Option Tac) (tac : Tac) →
+      found ≡ option_map (lowered store []) (callable_of store f) → IfSome found (λ t. GoodWhereTyped store [] f t) → found ≡ Some tac →
+      all_has_code tac ≡ true
+  lowered-has-code f r types found tac is good here =
+      let g = lowered-good f r types found tac is good here in
+      subst (λ t. all_has_code t ≡ true) (sym g.0) (has-code f r.term r.is r (subst IsGood g.0 g.1))

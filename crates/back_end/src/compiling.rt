@@ -36,6 +36,7 @@ pub fn compile(
     requires exports { AreExports (contents_of store.now) exports.now }
     ensures { IfOk result (λ image. IsCompiled (contents_of store.now) limits.memory exports.now image) }
 {
+    store.types().are_types();
     let functions = compile_functions(alloc, store, exports)?;
     let linked = link(alloc, &functions)?;
     let mut symbols = Vec::new(alloc);

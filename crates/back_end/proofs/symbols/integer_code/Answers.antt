@@ -1,2 +1,2 @@
 use Rattle.back_end.proofs.Worked.{ends}
-use Rattle.back_end.proofs.Sounds.{are-sound}
+use Rattle.back_end.proofs.Making.{compiled}
