@@ -21,6 +21,9 @@ const REGION: u64 = 0x4000_0000;
 /// How many frames private memory holds.
 const FRAMES: u64 = 512;
 
+/// The most bytes of a frame: 136 for each of 8,192 typed nodes, and 65,536 more.
+const MOST_FRAME: u64 = 1_179_648;
+
 /// One image of the functions that the exports reach, with exactly these exports in their order, each of which agrees with its term. Where
 /// an image can't be written, since names have too many bytes or are no names of symbols, it finds no memory.
 pub fn compile(
@@ -39,6 +42,9 @@ pub fn compile(
     store.types().are_types();
     let functions = compile_functions(alloc, store, exports)?;
     let linked = link(alloc, &functions)?;
+    if linked.frame > MOST_FRAME {
+        return Err(NoMemory);
+    }
     let mut symbols = Vec::new(alloc);
     push_symbols(
         &mut symbols,
