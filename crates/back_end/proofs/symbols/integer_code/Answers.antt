@@ -1,2 +1,0 @@
-use Rattle.back_end.proofs.Worked.{ends}
-use Rattle.back_end.proofs.Making.{compiled}
