@@ -16,3 +16,5 @@ pub mod Splices
 pub mod Limits
 -- What remains of what is suspended.
 pub mod Rest
+-- What stands in the place of a variable.
+pub mod Variables

@@ -13,6 +13,7 @@ ghost use Rattle.spec_machine.specs.Steps.{Goes};
 use crate::blocks::{entered, statements};
 use crate::code::{block_statements, escaped, place};
 use crate::frame::{BlockThen, ForFrame, SpecFrame, TermFrame, ValueFrame};
+use crate::making::{new_env, new_symbol};
 use crate::names::declare;
 use crate::reached::SpecStep;
 use crate::row::Row;
@@ -139,8 +140,8 @@ fn for_body<'a>(
             )
         }
         None => {
-            let symbol = world.store.new_symbol(None)?;
-            let inner = world.heap.new_env(frame.node, Some(frame.env))?;
+            let symbol = new_symbol(world, None)?;
+            let inner = new_env(world, frame.node, frame.env)?;
             declare(world, inner, Value::Symbol(symbol))?;
             let then = BlockThen::For(symbol, frame.at, bounds, frame.place);
             let none = Row::new(world.heap.allocator());

@@ -8,6 +8,7 @@ ghost use Rattle.spec_model.specs.Making.{quote_at};
 ghost use Rattle.spec_machine.specs.Splices.{statements_in, joined_step};
 ghost use Rattle.spec_machine.specs.Steps.{Comes, Does};
 
+use crate::making::new_term;
 use crate::quotes::terms_size;
 use crate::reached::{Reached, SpecStep};
 use crate::row::{Row, append, term_list};
@@ -34,7 +35,7 @@ fn performed(
         Reached::Value(term) => {
             let statement = Term::Statement(at, Statement::Perform(term));
             let mut terms = terms;
-            terms.push(world.store.new_term(statement)?)?;
+            terms.push(new_term(world, statement)?)?;
             Ok(Reached::Value(terms))
         }
         Reached::Left(step) => Ok(Reached::Left(step)),
