@@ -6,3 +6,4 @@ pub mod Entering
 pub mod Arms
 pub mod Splicing
 pub mod Varying
+pub mod Spliced

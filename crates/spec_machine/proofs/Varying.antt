@@ -84,7 +84,7 @@ pub drawn_gets : (w u t : StageState) (v : Wanted) (x : SymId) (env : EnvId) (na
 drawn_gets w u t v x env names is x_is u_is t_is = λ f go left later.
     ap (λ (o : Option SymId). run f (drawn_one v o env names go) (state w left) later) is
     ∙ ap (λ (y : SymId). run f (go (names ++ record { symbol = y; of = v.of; place = v.place } ∷ []))
-        (state (with_heap (with_symbol w v.of) (declare env (values.Symbol y) (with_symbol w v.of).heap)) left) later) (sym x_is)
+    (state (with_heap (with_symbol w v.of) (declare env (values.Symbol y) (with_symbol w v.of).heap)) left) later) (sym x_is)
     ∙ ap (λ (z : StageState). run f (go (names ++ record { symbol = x; of = v.of; place = v.place } ∷ []))
-        (state (with_heap z (declare env (values.Symbol x) z.heap)) left) later) (sym u_is)
+    (state (with_heap z (declare env (values.Symbol x) z.heap)) left) later) (sym u_is)
     ∙ ap (λ (z : StageState). run f (go (names ++ record { symbol = x; of = v.of; place = v.place } ∷ [])) (state z left) later) (sym t_is)

@@ -194,6 +194,7 @@ pub fn last_arm(
         let behind = single(world.heap.allocator(), made)?;
         made = arm_statement(world, arm, Some(behind))?;
     }
-    let terms = term_list(single(world.heap.allocator(), made)?)?;
+    let row = single(world.heap.allocator(), made)?;
+    let terms = term_list(row)?;
     Ok(Step::Return(End::Joined(terms)))
 }
