@@ -6,7 +6,8 @@ use Rattle.tl_tree.specs.Arena.{items_of}
 use Rattle.tl_tree.specs.Code.{statements_at}
 use Rattle.spec_machine.specs.Frames.{block_plan}
 use Rattle.spec_machine.specs.Kept.{keeps_then}
-use Rattle.spec_machine.proofs.Doing.{moved, mapped}
+use Rattle.spec_machine.proofs.Doing.{moved}
+use Rattle.spec_machine.proofs.Carrying.{carried}
 use Rattle.spec_machine.proofs.Entering.{entering_goes}
 use Rattle.spec_machine.proofs.blocks.entered.Goals as goal
 
@@ -25,14 +26,14 @@ returns-clause-means c =
     let ns = statements_at items a.block in
     let found = c.block_statements.result.now in
     let none = c.new-none.result in
-    mapped _ _ c.statements.result (λ step g.
+    carried _ _ c.statements.result c.statements.ensures.means (λ step g.
     entering_goes items fs fs2 a.owner a.env inner (λ (e : EnvId). block_plan items ns e [] a.then) w v w2 left left2 step
     c.in_ok-inner.ensures.id c.in_ok-inner.ensures.ok
     (moved items fs fs2 (block_plan items ns inner [] a.then) (block_plan items found inner none a.then) v v w2 left left2 step
     (ap (λ (l : List NodeId). block_plan items l inner [] a.then) (sym c.block_statements.ensures)
-    ∙ ap (λ (ts : List TermId). block_plan items found inner ts a.then) (sym c.new-none.ensures)) refl g)) c.statements.ensures.means
+    ∙ ap (λ (ts : List TermId). block_plan items found inner ts a.then) (sym c.new-none.ensures)) refl g))
 
 pub returns-clause-kept : goal.returns-clause-kept
 returns-clause-kept c =
-    mapped _ _ c.statements.result (λ step k.
-    keeps_then c.args.world.now c.new_env.new.world c.statements.new.world c.in_ok-inner.ensures.kept k) c.statements.ensures.kept
+    carried _ _ c.statements.result c.statements.ensures.kept (λ step k.
+    keeps_then c.args.world.now c.new_env.new.world c.statements.new.world c.in_ok-inner.ensures.kept k)

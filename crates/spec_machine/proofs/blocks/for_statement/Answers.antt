@@ -3,7 +3,7 @@ use Rattle.tl_base.specs.declared.ids.TermId.{TermId}
 use Rattle.terra_term.specs.declared.lists.VarName.{VarName}
 use Rattle.terra_term.specs.declared.term.Statement.TheVariants as s
 use Rattle.spec_model.specs.Plans.{SpecPlan, join}
-use Rattle.spec_machine.proofs.Doing.{mapped}
+use Rattle.spec_machine.proofs.Carrying.{carried}
 use Rattle.spec_machine.proofs.Entering.{does_as}
 use Rattle.spec_machine.proofs.blocks.for_statement.Goals as goal
 
@@ -15,9 +15,9 @@ returns-clause-means c =
     let bounds = c.in_ok-bounds.bounds in
     let list = c.in_ok-list.list in
     let by : VarName → List TermId → List TermId → SpecPlan = λ n bs ts. join a.place (s.For n bs ts) in
-    mapped _ _ c.join.result (λ step g items left fs.
+    carried _ _ c.join.result c.join.ensures.means (λ step g items left fs.
     does_as items fs (by plain a.bounds a.terms) (by name bounds list) a.world.now c.join.new.world left left step
     (ap (λ (n : VarName). by n a.bounds a.terms) (sym c.in_ok-name.ensures)
     ∙ ap (λ (bs : List TermId). by name bs a.terms) (sym c.in_ok-bounds.ensures)
     ∙ ap (λ (ts : List TermId). by name bounds ts) (sym c.in_ok-list.ensures))
-    (g items left)) c.join.ensures.means
+    (g items left))

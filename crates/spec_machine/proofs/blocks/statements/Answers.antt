@@ -2,7 +2,8 @@ use Rattle.std.proofs.Common.{refl, ap, List}
 use Rattle.tl_base.specs.declared.ids.NodeId.{NodeId}
 use Rattle.tl_tree.specs.Arena.{items_of}
 use Rattle.spec_machine.specs.Frames.{block_plan, block_then}
-use Rattle.spec_machine.proofs.Doing.{moved, mapped}
+use Rattle.spec_machine.proofs.Doing.{moved}
+use Rattle.spec_machine.proofs.Carrying.{carried}
 use Rattle.spec_machine.proofs.Pushing.{none_is, block_enters}
 use Rattle.spec_machine.proofs.blocks.statements.Goals as goal
 
@@ -10,11 +11,10 @@ pub returns-in-None-clause-means : goal.returns-in-None-clause-means
 returns-in-None-clause-means c =
     let a = c.args in
     let items = items_of a.tree.now in
-    mapped _ _ c.with_block.result (λ step g.
+    carried _ _ c.with_block.result c.with_block.ensures.means (λ step g.
     moved items a.frames.now.items c.with_block.new.frames.items (block_plan items a.nodes.now a.env a.terms a.then)
     (block_then items a.then a.env a.terms) a.world.now a.world.now c.with_block.new.world a.budget.now c.with_block.new.budget step
     (ap (λ (ns : List NodeId). block_plan items ns a.env a.terms a.then) (none_is a.nodes.now c.in-None.ensures.cases)) refl g)
-    c.with_block.ensures.means
 
 pub returns-in_ok-push-in-Some-clause-means : goal.returns-in_ok-push-in-Some-clause-means
 returns-in_ok-push-in-Some-clause-means c =

@@ -11,7 +11,8 @@ use Rattle.spec_model.specs.Statements.{else_of}
 use Rattle.spec_machine.specs.declared.frame.BlockThen.TheVariants as of_block
 use Rattle.spec_machine.specs.Frames.{last_arm, block_plan}
 use Rattle.spec_machine.specs.Kept.{keeps_then}
-use Rattle.spec_machine.proofs.Doing.{moved, mapped}
+use Rattle.spec_machine.proofs.Doing.{moved}
+use Rattle.spec_machine.proofs.Carrying.{carried}
 use Rattle.spec_machine.proofs.Entering.{does_as, entering_goes}
 use Rattle.spec_machine.proofs.Pushing.{none_is, block_enters}
 use Rattle.spec_machine.proofs.conditions.else_block.Goals as goal
@@ -20,11 +21,11 @@ pub returns-in_default-clause-means : goal.returns-in_default-clause-means
 returns-in_default-clause-means c =
     let a = c.args in
     let items = items_of a.tree.now in
-    mapped _ _ c.last_arm.result (λ step g left.
+    carried _ _ c.last_arm.result c.last_arm.ensures.means (λ step g left.
     does_as items a.frames.now.items (else_of items [] a.otherwise a.env (λ us. last_arm a.last a.arms us)) (last_arm a.last a.arms None)
     a.world.now c.last_arm.new.world left left step
     (ap (λ (o : Option NodeId). else_of items [] o a.env (λ us. last_arm a.last a.arms us)) c.in_default.is)
-    (g items left)) c.last_arm.ensures.means
+    (g items left))
 
 pub returns-in-None-clause-means : goal.returns-in-None-clause-means
 returns-in-None-clause-means c =
@@ -39,20 +40,19 @@ returns-in-None-clause-means c =
     let none = c.new-none.result in
     let go : List TermId → SpecPlan = λ ts. last_arm a.last a.arms (Some ts) in
     let ns : statements_at items b ≡ [] = sym c.block_statements.ensures ∙ none_is c.block_statements.result.now c.in-None.ensures.cases in
-    mapped _ _ c.last_arm-in-None.result (λ step g left.
+    carried _ _ c.last_arm-in-None.result c.last_arm-in-None.ensures.means (λ step g left.
     moved items fs fs (else_of items [] a.otherwise a.env (λ us. last_arm a.last a.arms us))
     (else_of items [] (Some b) a.env (λ us. last_arm a.last a.arms us)) w w w2 left left step
     (ap (λ (o : Option NodeId). else_of items [] o a.env (λ us. last_arm a.last a.arms us)) c.in-Some.is) refl
     (entering_goes items fs fs b a.env inner (λ (e : EnvId). block (statements_at items b) e [] go) w v w2 left left step
     c.in_ok-env.ensures.id c.in_ok-env.ensures.ok
     (does_as items fs (block (statements_at items b) inner [] go) (go none) v w2 left left step
-    (ap (λ (l : List NodeId). block l inner [] go) ns ∙ ap go (sym c.new-none.ensures)) (g items left)))) c.last_arm-in-None.ensures.means
+    (ap (λ (l : List NodeId). block l inner [] go) ns ∙ ap go (sym c.new-none.ensures)) (g items left))))
 
 pub returns-in-None-clause-kept : goal.returns-in-None-clause-kept
 returns-in-None-clause-kept c =
-    mapped _ _ c.last_arm-in-None.result (λ step k.
+    carried _ _ c.last_arm-in-None.result c.last_arm-in-None.ensures.kept (λ step k.
     keeps_then c.args.world.now c.new_env.new.world c.last_arm-in-None.new.world c.in_ok-env.ensures.kept k)
-    c.last_arm-in-None.ensures.kept
 
 pub returns-in_ok-push-in-Some-clause-means : goal.returns-in_ok-push-in-Some-clause-means
 returns-in_ok-push-in-Some-clause-means c = λ left.

@@ -11,7 +11,8 @@ use Rattle.spec_model.specs.Statements.{if_plan, inner_block, joined}
 use Rattle.spec_machine.specs.declared.frame.Arm.{Arm}
 use Rattle.spec_machine.specs.declared.frame.ArmsFrame.{ArmsFrame}
 use Rattle.spec_machine.specs.Frames as waiting
-use Rattle.spec_machine.proofs.Doing.{moved, mapped}
+use Rattle.spec_machine.proofs.Doing.{moved}
+use Rattle.spec_machine.proofs.Carrying.{carried}
 use Rattle.spec_machine.proofs.Entering.{gives}
 use Rattle.spec_machine.proofs.Pushing.{none_is}
 use Rattle.spec_machine.proofs.conditions.if_statement.Goals as goal
@@ -37,8 +38,8 @@ returns-in-Some-clause-means c =
     let by : List Arm → SpecPlan = λ before.
     term (arm_condition (item_at items n)) a.env (λ test. inner_block items (arm_block (item_at items n)) a.env (λ ts.
     waiting.others items (record { rest = rest; otherwise = a.otherwise; place = a.place; env = a.env; arms = before }) test ts)) in
-    mapped _ _ c.arm.result (λ step g left.
+    carried _ _ c.arm.result c.arm.ensures (λ step g left.
     moved items a.frames.now.items c.arm.new.frames.items (if_plan items a.arms.now a.otherwise a.place a.env)
     (by c.new-in-Some.result) w w w left left step
     (ap (λ (ns : List NodeId). if_plan items ns a.otherwise a.place a.env) c.in-Some.ensures.cases.0
-    ∙ ap by (sym c.new-in-Some.ensures)) refl (g w left)) c.arm.ensures
+    ∙ ap by (sym c.new-in-Some.ensures)) refl (g w left))

@@ -13,7 +13,8 @@ use Rattle.spec_machine.specs.declared.frame.Arm.{Arm}
 use Rattle.spec_machine.specs.Frames as waiting
 use Rattle.spec_machine.specs.Frames.{last_arm, behind, joined_one}
 use Rattle.spec_machine.proofs.Arms.{closed, behind_more}
-use Rattle.spec_machine.proofs.Doing.{moved, mapped}
+use Rattle.spec_machine.proofs.Doing.{moved}
+use Rattle.spec_machine.proofs.Carrying.{carried}
 use Rattle.spec_machine.proofs.Pushing.{none_is}
 use Rattle.spec_machine.proofs.conditions.others.Goals as goal
 
@@ -23,11 +24,11 @@ returns-in-None-clause-means c =
     let f = a.frame in
     let items = items_of a.tree.now in
     let done : Arm = record { place = f.place; test = a.test; statements = a.statements } in
-    mapped _ _ c.else_block.result (λ step g left.
+    carried _ _ c.else_block.result c.else_block.ensures.means (λ step g left.
     moved items a.frames.now.items c.else_block.new.frames.items (waiting.others items f a.test a.statements)
     (else_of items [] f.otherwise f.env (λ us. last_arm done f.arms us)) a.world.now a.world.now c.else_block.new.world left left step
     (ap (λ (ns : List NodeId). else_of items ns f.otherwise f.env (λ us. last_arm done f.arms us))
-    (none_is f.rest.now c.in-None.ensures.cases)) refl (g left)) c.else_block.ensures.means
+    (none_is f.rest.now c.in-None.ensures.cases)) refl (g left))
 
 pub returns-in-Some-clause-means : goal.returns-in-Some-clause-means
 returns-in-Some-clause-means c =
@@ -49,9 +50,9 @@ returns-in-Some-clause-means c =
     c.place.ensures ∙ ap (λ (m : NodeId). place_at items m) c.arm_parts.ensures.condition in
     let more_is : behind more joined_one ≡ closed done (behind f.arms joined_one) =
     ap (λ (before : List Arm). behind before joined_one) c.in_ok-push-in-Some.ensures ∙ behind_more f.arms done joined_one in
-    mapped _ _ c.arm.result (λ step g left.
+    carried _ _ c.arm.result c.arm.ensures (λ step g left.
     moved items a.frames.now.items c.arm.new.frames.items (waiting.others items f a.test a.statements) (by at (behind more joined_one))
     w w w left left step
     (ap (λ (ns : List NodeId). else_of items ns f.otherwise f.env (λ us. last_arm done f.arms us)) c.in-Some.ensures.cases.0
     ∙ ap (by (place_at items condition)) (sym more_is)
-    ∙ ap (λ (p : Place). by p (behind more joined_one)) (sym at_is)) refl (g w left)) c.arm.ensures
+    ∙ ap (λ (p : Place). by p (behind more joined_one)) (sym at_is)) refl (g w left))

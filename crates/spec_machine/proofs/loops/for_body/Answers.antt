@@ -14,7 +14,8 @@ use Rattle.spec_machine.specs.declared.frame.BlockThen.{BlockThen}
 use Rattle.spec_machine.specs.declared.frame.BlockThen.TheVariants as of_block
 use Rattle.spec_machine.specs.Frames.{for_plan_of, block_plan}
 use Rattle.spec_machine.specs.Kept.{keeps_then}
-use Rattle.spec_machine.proofs.Doing.{moved, mapped}
+use Rattle.spec_machine.proofs.Doing.{moved}
+use Rattle.spec_machine.proofs.Carrying.{carried}
 use Rattle.spec_machine.proofs.Entering.{entering_goes, declaring_goes}
 use Rattle.spec_machine.proofs.loops.for_body.Goals as goal
 
@@ -24,10 +25,10 @@ returns-in-Some-clause-means c =
     let f = a.frame in
     let items = items_of a.tree.now in
     let w = a.world.now in
-    mapped _ _ c.entered.result (λ step g.
+    carried _ _ c.entered.result c.entered.ensures.means (λ step g.
     moved items a.frames.now.items c.entered.new.frames.items (for_plan_of items f f.symbol a.bounds)
     (for_plan_of items f (Some c.in-Some.symbol) a.bounds) w w c.entered.new.world a.budget.now c.entered.new.budget step
-    (ap (λ (o : Option SymId). for_plan_of items f o a.bounds) c.in-Some.is) refl g) c.entered.ensures.means
+    (ap (λ (o : Option SymId). for_plan_of items f o a.bounds) c.in-Some.is) refl g)
 
 pub returns-in-None-clause-means : goal.returns-in-None-clause-means
 returns-in-None-clause-means c =
@@ -50,7 +51,7 @@ returns-in-None-clause-means c =
     let then = of_block.For x f.at a.bounds f.place in
     let by : SymId → SpecPlan = λ y. entering f.node f.env (λ (e : EnvId).
     declaring e (values.Symbol y) (plans.for_body items f.node f.block y f.at a.bounds f.place e)) in
-    mapped _ _ c.statements.result (λ step g.
+    carried _ _ c.statements.result c.statements.ensures.means (λ step g.
     moved items fs fs2 (for_plan_of items f f.symbol a.bounds) (for_plan_of items f None a.bounds) w w w4 left left2 step
     (ap (λ (o : Option SymId). for_plan_of items f o a.bounds) c.in-None.is) refl
     (moved items fs fs2 (by (next_symbol w)) (by x) (with_symbol w None) w1 w4 left left2 step
@@ -63,7 +64,7 @@ returns-in-None-clause-means c =
     (moved items fs fs2 (block_plan items (statements_at items f.block) inner [] then) (block_plan items nodes inner none then)
     w3 w3 w4 left left2 step
     (ap (λ (l : List NodeId). block_plan items l inner [] then) (sym c.block_statements-nodes.ensures)
-    ∙ ap (λ (ts : List TermId). block_plan items nodes inner ts then) (sym c.new-none.ensures)) refl g))))) c.statements.ensures.means
+    ∙ ap (λ (ts : List TermId). block_plan items nodes inner ts then) (sym c.new-none.ensures)) refl g)))))
 
 pub returns-in-None-clause-kept : goal.returns-in-None-clause-kept
 returns-in-None-clause-kept c =
@@ -72,7 +73,6 @@ returns-in-None-clause-kept c =
     let w2 = c.new_env.new.world in
     let w3 = c.declare.new.world in
     let w4 = c.statements.new.world in
-    mapped _ _ c.statements.result (λ step k.
+    carried _ _ c.statements.result c.statements.ensures.kept (λ step k.
     keeps_then w w1 w4 c.in_ok-symbol-in-None.ensures.kept
     (keeps_then w1 w2 w4 c.in_ok-inner-in-None.ensures.kept (keeps_then w2 w3 w4 c.in_ok-declare-in-None.ensures.kept k)))
-    c.statements.ensures.kept

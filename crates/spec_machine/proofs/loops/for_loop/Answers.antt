@@ -11,7 +11,8 @@ use Rattle.spec_model.specs.Statements.{for_plan}
 use Rattle.spec_machine.specs.declared.frame.ForFrame.{ForFrame}
 use Rattle.spec_machine.specs.declared.frame.ValueFrame.TheVariants as of_value
 use Rattle.spec_machine.specs.Frames.{bounds_from, with_value}
-use Rattle.spec_machine.proofs.Doing.{moved, mapped}
+use Rattle.spec_machine.proofs.Doing.{moved}
+use Rattle.spec_machine.proofs.Carrying.{carried}
 use Rattle.spec_machine.proofs.Pushing.{asks_value}
 use Rattle.spec_machine.proofs.loops.for_loop.Goals as goal
 
@@ -37,8 +38,8 @@ returns-in-None-clause-means c =
     let w = a.world.now in
     let f : ForFrame = record { node = a.node; symbol = None; at = c.place.result; block = a.block; place = a.at; env = a.env } in
     let by : Option NodeId → Place → SpecPlan = λ e p. for_plan items a.node e p (a.first ∷ a.limit ∷ if_any a.step) a.block a.at a.env in
-    mapped _ _ c.bounds.result (λ step g left.
+    carried _ _ c.bounds.result c.bounds.ensures (λ step g left.
     moved items a.frames.now.items c.bounds.new.frames.items (by (escaped_at items a.name) (place_at items a.name))
     (bounds_from items f (a.first ∷ a.limit ∷ if_any a.step) []) w w w left left step
     (ap (λ (e : Option NodeId). by e (place_at items a.name)) (sym c.escaped.ensures ∙ c.in-None.is)
-    ∙ ap (by None) (sym c.place.ensures)) refl (g items w left)) c.bounds.ensures
+    ∙ ap (by None) (sym c.place.ensures)) refl (g items w left))

@@ -7,7 +7,8 @@ use Rattle.spec_model.specs.declared.job.Job.TheVariants as jobs
 use Rattle.spec_model.specs.Plans.{SpecPlan}
 use Rattle.spec_machine.specs.declared.frame.TermFrame.TheVariants as of_term
 use Rattle.spec_machine.specs.Frames.{bounds_from}
-use Rattle.spec_machine.proofs.Doing.{moved, mapped}
+use Rattle.spec_machine.proofs.Doing.{moved}
+use Rattle.spec_machine.proofs.Carrying.{carried}
 use Rattle.spec_machine.proofs.Pushing.{term_enters}
 use Rattle.spec_machine.proofs.loops.last_bound.Goals as goal
 
@@ -30,6 +31,6 @@ returns-in-None-clause-means c =
     let items = items_of a.tree.now in
     let w = a.world.now in
     let by : Option NodeId → SpecPlan = λ o. bounds_from items a.frame (if_any o) a.terms in
-    mapped _ _ c.for_body.result (λ next g.
+    carried _ _ c.for_body.result c.for_body.ensures.means (λ next g.
     moved items a.frames.now.items c.for_body.new.frames.items (by a.step) (by None) w w c.for_body.new.world
-    a.budget.now c.for_body.new.budget next (ap by c.in-None.is) refl g) c.for_body.ensures.means
+    a.budget.now c.for_body.new.budget next (ap by c.in-None.is) refl g)

@@ -7,7 +7,8 @@ use Rattle.spec_model.specs.declared.job.Job.TheVariants as jobs
 use Rattle.spec_model.specs.Plans.{SpecPlan}
 use Rattle.spec_machine.specs.declared.frame.TermFrame.TheVariants as of_term
 use Rattle.spec_machine.specs.Frames.{bounds_from}
-use Rattle.spec_machine.proofs.Doing.{moved, mapped}
+use Rattle.spec_machine.proofs.Doing.{moved}
+use Rattle.spec_machine.proofs.Carrying.{carried}
 use Rattle.spec_machine.proofs.Pushing.{term_enters}
 use Rattle.spec_machine.proofs.loops.more_bounds.Goals as goal
 
@@ -30,6 +31,6 @@ returns-in-None-clause-means c =
     let items = items_of a.tree.now in
     let w = a.world.now in
     let by : Option NodeId → SpecPlan = λ o. bounds_from items a.frame (if_any o ++ if_any a.step) a.terms in
-    mapped _ _ c.last_bound.result (λ next g.
+    carried _ _ c.last_bound.result c.last_bound.ensures.means (λ next g.
     moved items a.frames.now.items c.last_bound.new.frames.items (by a.limit) (by None) w w c.last_bound.new.world
-    a.budget.now c.last_bound.new.budget next (ap by c.in-None.is) refl g) c.last_bound.ensures.means
+    a.budget.now c.last_bound.new.budget next (ap by c.in-None.is) refl g)

@@ -3,7 +3,7 @@ use Rattle.tl_base.specs.declared.ids.TermId.{TermId}
 use Rattle.spec_model.specs.Plans.{SpecPlan}
 use Rattle.spec_model.specs.Statements.{spliced}
 use Rattle.spec_machine.specs.Steps.{Comes}
-use Rattle.spec_machine.proofs.Doing.{mapped}
+use Rattle.spec_machine.proofs.Carrying.{carried}
 use Rattle.spec_machine.proofs.Entering.{joins}
 use Rattle.spec_machine.proofs.splices.splice.Goals as goal
 
@@ -18,5 +18,5 @@ returns-clause-means c =
     let came : Comes (λ (go : List TermId → SpecPlan). spliced a.value a.at [] go) w left reached v after =
     subst (λ (ts : List TermId). Comes (λ (go : List TermId → SpecPlan). spliced a.value a.at ts go) w left reached v after)
     c.new-none.ensures c.in_ok-reached.ensures.means in
-    mapped _ _ c.joined.result (λ step e items.
-    joins items (λ (go : List TermId → SpecPlan). spliced a.value a.at [] go) reached step w v left after e came) c.joined.ensures
+    carried _ _ c.joined.result c.joined.ensures (λ step e items.
+    joins items (λ (go : List TermId → SpecPlan). spliced a.value a.at [] go) reached step w v left after e came)

@@ -7,7 +7,8 @@ use Rattle.spec_model.specs.Plans.{SpecPlan, join}
 use Rattle.spec_model.specs.Statements.{drawn}
 use Rattle.spec_machine.specs.Kept.{keeps_then}
 use Rattle.spec_machine.specs.Steps.{Gets}
-use Rattle.spec_machine.proofs.Doing.{moved, mapped, gets}
+use Rattle.spec_machine.proofs.Doing.{moved, gets}
+use Rattle.spec_machine.proofs.Carrying.{carried}
 use Rattle.spec_machine.proofs.Entering.{does_as}
 use Rattle.spec_machine.proofs.variables.declared.Goals as goal
 
@@ -21,14 +22,13 @@ returns-clause-means c =
     let got : Gets (λ (go : List VarName → SpecPlan). drawn a.wanted a.env [] go) w names v =
     subst (λ (ws : List Wanted). Gets (λ (go : List VarName → SpecPlan). drawn ws a.env [] go) w names v) c.as_slice.ensures
     c.in_ok-names.ensures.means in
-    mapped _ _ c.join.result (λ step g items left fs.
+    carried _ _ c.join.result c.join.ensures.means (λ step g items left fs.
     gets items fs fs (λ (go : List VarName → SpecPlan). drawn a.wanted a.env [] go) (λ ns. join a.place (s.Var ns a.values)) names
     w v c.join.new.world left left step got
     (does_as items fs (join a.place (s.Var names a.values)) (join a.place (s.Var names values)) v c.join.new.world left left step
     (ap (λ (vs : Option (List TermId)). join a.place (s.Var names vs)) (sym c.in_ok-values.ensures)) (g items left)))
-    c.join.ensures.means
 
 pub returns-clause-kept : goal.returns-clause-kept
 returns-clause-kept c =
-    mapped _ _ c.join.result (λ step k.
-    keeps_then c.args.world.now c.drawn.new.world c.join.new.world c.in_ok-names.ensures.kept k) c.join.ensures.kept
+    carried _ _ c.join.result c.join.ensures.kept (λ step k.
+    keeps_then c.args.world.now c.drawn.new.world c.join.new.world c.in_ok-names.ensures.kept k)

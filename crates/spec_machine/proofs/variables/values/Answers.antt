@@ -8,7 +8,8 @@ use Rattle.spec_model.specs.Plans.{SpecPlan, terms_of, join}
 use Rattle.spec_model.specs.Statements.{drawn, values_if_any}
 use Rattle.spec_machine.specs.declared.frame.TermsThen.TheVariants as of_terms
 use Rattle.spec_machine.specs.Frames.{wanted_from}
-use Rattle.spec_machine.proofs.Doing.{moved, mapped}
+use Rattle.spec_machine.proofs.Doing.{moved}
+use Rattle.spec_machine.proofs.Carrying.{carried}
 use Rattle.spec_machine.proofs.Entering.{does_as}
 use Rattle.spec_machine.proofs.Pushing.{none_is, list_enters}
 use Rattle.spec_machine.proofs.variables.values.Goals as goal
@@ -17,11 +18,11 @@ pub returns-in-None-clause-means : goal.returns-in-None-clause-means
 returns-in-None-clause-means c =
     let a = c.args in
     let f = a.frame in
-    mapped _ _ c.declared.result (λ step g items left.
+    carried _ _ c.declared.result c.declared.ensures.means (λ step g items left.
     does_as items a.frames.now.items (wanted_from items f [] f.wanted)
     (drawn f.wanted f.env [] (λ names. join f.place (s.Var names None))) a.world.now c.declared.new.world left left step
     (ap (λ (ns : List NodeId). values_if_any ns f.env (λ vs. drawn f.wanted f.env [] (λ names. join f.place (s.Var names vs))))
-    (none_is f.values.now c.in-None.ensures.cases)) (g items left)) c.declared.ensures.means
+    (none_is f.values.now c.in-None.ensures.cases)) (g items left))
 
 pub returns-in_ok-push-in-Some-clause-means : goal.returns-in_ok-push-in-Some-clause-means
 returns-in_ok-push-in-Some-clause-means c = λ items left.

@@ -9,7 +9,8 @@ use Rattle.spec_model.specs.Types.{type_if_any}
 use Rattle.spec_model.specs.Statements.{wanted_one}
 use Rattle.spec_machine.specs.declared.frame.ValueFrame.TheVariants as of_value
 use Rattle.spec_machine.specs.Frames.{wanted_from, variable_plan, with_value, with_wanted}
-use Rattle.spec_machine.proofs.Doing.{moved, mapped}
+use Rattle.spec_machine.proofs.Doing.{moved}
+use Rattle.spec_machine.proofs.Carrying.{carried}
 use Rattle.spec_machine.proofs.Pushing.{asks_value}
 use Rattle.spec_machine.proofs.variables.variable.Goals as goal
 
@@ -38,7 +39,7 @@ returns-in-None-clause-means c =
     wanted_one items (typing_at items a.node) e f.env f.wanted (λ more. wanted_from items f f.rest.now more) in
     let is : escaped_at items (typing_at items a.node).name ≡ None =
     ap (λ (n : NodeId). escaped_at items n) (sym c.typing_at.ensures.name) ∙ sym c.escaped.ensures ∙ c.in-None.is in
-    mapped _ _ c.variable_type.result (λ step g left.
+    carried _ _ c.variable_type.result c.variable_type.ensures.means (λ step g left.
     moved items a.frames.now.items c.variable_type.new.frames.items (variable_plan items a.node f)
     (type_if_any items (typing_at items a.node).type f.env (λ of. with_wanted items a.node None f of))
-    a.world.now a.world.now c.variable_type.new.world left left step (ap by is) refl (g left)) c.variable_type.ensures.means
+    a.world.now a.world.now c.variable_type.new.world left left step (ap by is) refl (g left))
