@@ -114,7 +114,8 @@ pub fn quote<'a>(
 {
     let parts = quoted_parts(tree, node);
     let then = BlockThen::Quoted(parts.value, place);
-    entered(tree, frames, world, budget, node, parts.block, env, then)
+    let step = entered(tree, frames, world, budget, node, parts.block, env, then)?;
+    Ok(step)
 }
 
 /// Goes on behind the statements of a quote.
@@ -137,7 +138,10 @@ pub fn quoted<'a>(
             frames.push(SpecFrame::Term(TermFrame::Quoted(statements, place)))?;
             Ok(Step::Enter(Job::Expression(node, env)))
         }
-        None => quote_statements(world, budget, statements, place),
+        None => {
+            let step = quote_statements(world, budget, statements, place)?;
+            Ok(step)
+        }
     }
 }
 
@@ -155,10 +159,14 @@ fn quote_statements(
 {
     let size = terms_size(world, statements.as_slice());
     match past_limits(size) {
-        Some(fault) => raise(world, budget, place, fault),
+        Some(fault) => {
+            let step = raise(world, budget, place, fault)?;
+            Ok(step)
+        }
         None => {
             let list = term_list(statements)?;
-            give_quote(world, Quote::Statements(list))
+            let step = give_quote(world, Quote::Statements(list))?;
+            Ok(step)
         }
     }
 }
@@ -176,8 +184,14 @@ pub fn quote_term(
 {
     let size = world.term_size(term);
     match past_limits(size) {
-        Some(fault) => raise(world, budget, place, fault),
-        None => give_quote(world, Quote::Expression(term)),
+        Some(fault) => {
+            let step = raise(world, budget, place, fault)?;
+            Ok(step)
+        }
+        None => {
+            let step = give_quote(world, Quote::Expression(term))?;
+            Ok(step)
+        }
     }
 }
 
@@ -198,7 +212,8 @@ pub fn quote_let(
     let made = world
         .store
         .new_term(Term::Expression(place, Expression::Let(list, term)))?;
-    quote_term(world, budget, place, made)
+    let step = quote_term(world, budget, place, made)?;
+    Ok(step)
 }
 
 /// Makes a quote, which is the end.

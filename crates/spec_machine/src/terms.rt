@@ -68,7 +68,8 @@ pub fn one(
         return Ok(Reached::Left(Step::Spent));
     }
     let became = world.term_of(value, at)?;
-    became_term(world, budget, became, at)
+    let reached = became_term(world, budget, became, at)?;
+    Ok(reached)
 }
 
 /// The bytes of a literal become a static's address.
@@ -83,7 +84,8 @@ pub fn literal(
     ensures kept { OnOk result (KeepsStage world.old world.new) }
 {
     let became = world.term_of_text(bytes, at)?;
-    became_term(world, budget, became, at)
+    let reached = became_term(world, budget, became, at)?;
+    Ok(reached)
 }
 
 /// Goes on with a term, or raises why there is none.
@@ -165,9 +167,13 @@ pub fn listed(
     match value {
         Value::Table(table) => {
             let values = values_in(&world.heap, table)?;
-            each_one(world, budget, values.as_slice(), at, terms)
+            let reached = each_one(world, budget, values.as_slice(), at, terms)?;
+            Ok(reached)
         }
-        _ => one_more(world, budget, value, at, terms),
+        _ => {
+            let reached = one_more(world, budget, value, at, terms)?;
+            Ok(reached)
+        }
     }
 }
 
