@@ -6,3 +6,6 @@ pub mod Otherwise
 pub mod Looping
 pub mod Limiting
 pub mod Worlds
+pub mod Texts
+pub mod Making
+pub mod Asking

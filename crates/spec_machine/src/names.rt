@@ -29,6 +29,7 @@ use tl_base::{Budget, CellId, EnvId, NoMemory, NodeId, Place, Step, SymId, Text,
 use tl_tree::Tree;
 
 /// The environment so many steps outwards.
+#[tactic(auto, using(crate::proofs::Looping::out_next))]
 fn env_out(heap: &Heap, env: EnvId, depth: u32) -> EnvId
     ensures { result ≡ env_out heap.now env depth }
 {

@@ -49,6 +49,7 @@ pub fn past_limits(size: Size) -> Option<Fault>
 }
 
 /// How many nodes and levels terms side by side have.
+#[tactic(auto, using(crate::proofs::Looping::sizes_next))]
 pub fn terms_size(world: &World, terms: &[TermId]) -> Size
     ensures { result ≡ terms_size world.now terms.now }
 {

@@ -42,6 +42,7 @@ fn numbered(heap: &Heap, table: TableId, number: u64) -> Result<Value, NoMemory>
 }
 
 /// The values of a table, from 1 to its border.
+#[tactic(auto, using(crate::proofs::Looping::values_more))]
 pub fn values_in(heap: &Heap, table: TableId) -> Result<Values, NoMemory>
     ensures { IfOk result (λ values. values ≡ plans.values_in (table_at heap.now table)) }
 {
