@@ -9,3 +9,4 @@ pub mod Worlds
 pub mod Texts
 pub mod Making
 pub mod Asking
+pub mod Quoted
