@@ -7,3 +7,13 @@ pub mod Arms
 pub mod Splicing
 pub mod Varying
 pub mod Spliced
+pub mod Becoming
+pub mod Otherwise
+pub mod Looping
+pub mod Limiting
+pub mod Worlds
+pub mod Texts
+pub mod Making
+pub mod Asking
+pub mod Quoted
+pub mod Carrying

@@ -23,6 +23,7 @@ use Rattle.spec_machine.specs.declared.frame.VarFrame.{VarFrame}
 use Rattle.spec_machine.specs.Frames.{wanted_from, wanted_of}
 use Rattle.spec_machine.specs.Variables.{wanted_at}
 use Rattle.spec_machine.specs.Steps.{Gets}
+use Rattle.spec_machine.proofs.Reaching.{Passes}
 
 -- ---- frames
 
@@ -50,8 +51,7 @@ wanted_is items n None of = refl
 pub given_next : (xs : List SymId) (i : ℕ) (d x : SymId) (of : Option TypeId) (at : Place) → i < length xs → get_or xs i d ≡ x
     → given (drop i xs) of at ≡ record { symbol = Some x; of = of; place = at } ∷ given (drop (i + 1) xs) of at
 given_next xs i d x of at h is =
-    at_drop_more (λ us. given us of at) xs i d h
-    ∙ ap (λ (y : SymId). ◌∷◌ {A = Wanted} (record { symbol = Some y; of = of; place = at }) (given (drop (i + 1) xs) of at)) is
+    at_drop_more (λ us. given us of at) xs i d h ∙ ap (λ (y : SymId). given (y ∷ drop (i + 1) xs) of at) is
 
 pub given_end : (xs : List SymId) (i : ℕ) (of : Option TypeId) (at : Place) → length xs ≤ i → given (drop i xs) of at ≡ []
 given_end xs i of at h = at_drop_all (λ us. given us of at) xs i h
@@ -88,3 +88,13 @@ drawn_gets w u t v x env names is x_is u_is t_is = λ f go left later.
     ∙ ap (λ (z : StageState). run f (go (names ++ record { symbol = x; of = v.of; place = v.place } ∷ []))
     (state (with_heap z (declare env (values.Symbol x) z.heap)) left) later) (sym u_is)
     ∙ ap (λ (z : StageState). run f (go (names ++ record { symbol = x; of = v.of; place = v.place } ∷ [])) (state z left) later) (sym t_is)
+
+-- one turn more of the loop that draws
+pub drawn_turn : (vs : List Wanted) (i : ℕ) (d v : Wanted) (env : EnvId) (names : List VarName) (name : VarName) (w u : StageState) (left : ℕ)
+    → Gets (λ (go : List VarName → SpecPlan). drawn_one v v.symbol env names go) w (names ++ name ∷ []) u
+    → i < length vs → get_or vs i d ≡ v
+    → Passes (λ (go : List VarName → SpecPlan). drawn (drop i vs) env names go) w left
+    (λ (go : List VarName → SpecPlan). drawn (drop (i + 1) vs) env (names ++ name ∷ []) go) u left
+drawn_turn vs i d v env names name w u left got h is = λ f go later.
+    ap (λ (p : SpecPlan). run f p (state w left) later) (drawn_next vs i d v env names go h is)
+    ∙ got f (λ more. drawn (drop (i + 1) vs) env more go) left later

@@ -18,3 +18,5 @@ pub mod Limits
 pub mod Rest
 -- What stands in the place of a variable.
 pub mod Variables
+-- Types among values, and the terms of quotes.
+pub mod Among

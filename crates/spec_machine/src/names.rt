@@ -6,6 +6,7 @@ ghost use Rattle.tl_tree.specs.Code.{Items};
 ghost use Rattle.lua_table.specs.Cells.{local_value, local_cell};
 ghost use Rattle.lua_table.specs.Cells.{declare as with_declared};
 ghost use Rattle.lua_table.specs.Cells.{env_out};
+ghost use Rattle.lua_table.specs.Keeping.{KeepsHeap};
 ghost use Rattle.exotype.specs.World.{with_heap};
 ghost use Rattle.spec_model.specs.Making.{with_name};
 ghost use Rattle.spec_model.specs.Names as plans;
@@ -29,6 +30,7 @@ use tl_base::{Budget, CellId, EnvId, NoMemory, NodeId, Place, Step, SymId, Text,
 use tl_tree::Tree;
 
 /// The environment so many steps outwards.
+#[tactic(auto, using(crate::proofs::Looping::out_next))]
 fn env_out(heap: &Heap, env: EnvId, depth: u32) -> EnvId
     ensures { result ≡ env_out heap.now env depth }
 {
@@ -66,8 +68,17 @@ pub fn declare(world: &mut World, env: EnvId, value: Value) -> Result<(), NoMemo
     ensures ok { OnOk result (world.new ≡ with_heap world.old (with_declared env value world.old.heap)) }
     ensures kept { OnOk result (KeepsStage world.old world.new) }
 {
-    let cell = world.heap.new_cell(value)?;
-    world.heap.declare(env, cell)?;
+    declare_in(&mut world.heap, env, value)?;
+    Ok(())
+}
+
+/// Declares a local with a value in the heap.
+fn declare_in(heap: &mut Heap, env: EnvId, value: Value) -> Result<(), NoMemory>
+    ensures ok { OnOk result (heap.new ≡ with_declared env value heap.old) }
+    ensures kept { OnOk result (KeepsHeap heap.old heap.new) }
+{
+    let cell = heap.new_cell(value)?;
+    heap.declare(env, cell)?;
     Ok(())
 }
 
@@ -78,7 +89,10 @@ pub fn naming(world: &mut World, text: TextId) -> Result<(), NoMemory>
 {
     // No text has more bytes than texts have.
     match Text::new(world.heap.allocator(), world.heap.text(text))? {
-        Some(bytes) => world.store.keep_name(text, bytes),
+        Some(bytes) => {
+            world.store.keep_name(text, bytes)?;
+            Ok(())
+        }
         None => Ok(()),
     }
 }
@@ -126,7 +140,8 @@ pub fn member<'a>(
         }
         None => {
             let text = text(world, name(tree, node).as_bytes())?;
-            with_member(frames, world, then, text)
+            let step = with_member(frames, world, then, text)?;
+            Ok(step)
         }
     }
 }
@@ -150,12 +165,14 @@ pub fn with_member<'a>(
         }
         MemberThen::Select(object, place) => {
             naming(world, text)?;
-            make(world, place, Expression::Select(object, text))
+            let step = make(world, place, Expression::Select(object, text))?;
+            Ok(step)
         }
         MemberThen::Method(object, arguments, place, env) => {
             let none = Row::new(world.heap.allocator());
             let then = TermsThen::Method(object, text, place);
-            terms(frames, world, arguments, env, none, then)
+            let step = terms(frames, world, arguments, env, none, then)?;
+            Ok(step)
         }
     }
 }
@@ -175,7 +192,8 @@ pub fn symbols_of(
         Value::Symbol(symbol) => { Ok(Reached::Value(single(world.heap.allocator(), symbol)?)) }
         Value::Table(table) => {
             let values = values_in(&world.heap, table)?;
-            symbols_in(world, budget, values.as_slice(), at)
+            let reached = symbols_in(world, budget, values.as_slice(), at)?;
+            Ok(reached)
         }
         _ => {
             let step = raise(world, budget, at, Fault::InTerraCode(value.kind()))?;

@@ -245,7 +245,8 @@ fn drawn(world: &mut World, wanted: &[Wanted], env: EnvId) -> Result<VarNameList
 {
     let mut names = Vec::new(world.heap.allocator());
     'variables: for variable in wanted {
-        names.push(drawn_one(world, *variable, env)?)?;
+        let name = drawn_one(world, *variable, env)?;
+        names.push(name)?;
     }
     VarNameList::from_vec(names)
 }

@@ -15,8 +15,8 @@ use Rattle.spec_machine.proofs.Entering.{does_as}
 use Rattle.spec_machine.proofs.Pushing.{term_enters}
 use Rattle.spec_machine.proofs.blocks.with_block.Goals as goal
 
-pub returns-in-Do-clause-means : goal.returns-in-Do-clause-means
-returns-in-Do-clause-means c =
+pub returns-in_ok-list-in-Do-clause-means : goal.returns-in_ok-list-in-Do-clause-means
+returns-in_ok-list-in-Do-clause-means c =
     let a = c.args in
     let m = c.in-Do in
     let items = items_of a.tree.now in
@@ -28,8 +28,8 @@ returns-in-Do-clause-means c =
     ∙ ap (λ (ts : List TermId). join m.place (s.Do ts)) (sym c.in_ok-list-in-Do.ensures))
     (g items a.budget.now))
 
-pub returns-in-While-clause-means : goal.returns-in-While-clause-means
-returns-in-While-clause-means c =
+pub returns-in_ok-list-in-While-clause-means : goal.returns-in_ok-list-in-While-clause-means
+returns-in_ok-list-in-While-clause-means c =
     let a = c.args in
     let m = c.in-While in
     let items = items_of a.tree.now in

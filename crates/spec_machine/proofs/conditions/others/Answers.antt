@@ -30,8 +30,8 @@ returns-in-None-clause-means c =
     (ap (λ (ns : List NodeId). else_of items ns f.otherwise f.env (λ us. last_arm done f.arms us))
     (none_is f.rest.now c.in-None.ensures.cases)) refl (g left))
 
-pub returns-in-Some-clause-means : goal.returns-in-Some-clause-means
-returns-in-Some-clause-means c =
+pub returns-in_ok-push-in-Some-clause-means : goal.returns-in_ok-push-in-Some-clause-means
+returns-in_ok-push-in-Some-clause-means c =
     let a = c.args in
     let f = a.frame in
     let items = items_of a.tree.now in

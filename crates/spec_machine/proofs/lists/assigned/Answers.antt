@@ -6,7 +6,8 @@ use Rattle.terra_term.specs.declared.term.Statement.TheVariants as s
 use Rattle.spec_model.specs.declared.job.Job.TheVariants as jobs
 use Rattle.spec_model.specs.Plans.{SpecPlan, terms_of, join}
 use Rattle.spec_machine.specs.declared.frame.TermsThen.TheVariants as of_terms
-use Rattle.spec_machine.proofs.Doing.{moved, mapped}
+use Rattle.spec_machine.proofs.Doing.{moved}
+use Rattle.spec_machine.proofs.Carrying.{carried}
 use Rattle.spec_machine.proofs.Entering.{does_as}
 use Rattle.spec_machine.proofs.Pushing.{none_is, list_enters}
 use Rattle.spec_machine.proofs.lists.assigned.Goals as goal
@@ -16,10 +17,10 @@ returns-in-None-clause-means c =
     let a = c.args in
     let none = c.new-none.result in
     let go : List TermId → SpecPlan = λ us. join a.place (s.Assign a.targets us) in
-    mapped _ _ c.assign.result (λ step g items left.
+    carried _ _ c.assign.result c.assign.ensures.means (λ step g items left.
     does_as items a.frames.now.items (terms_of a.values.now a.env [] go) (go none) a.world.now c.assign.new.world left left step
     (ap (λ (ns : List NodeId). terms_of ns a.env [] go) (none_is a.values.now c.in-None.ensures.cases) ∙ ap go (sym c.new-none.ensures))
-    (g items left)) c.assign.ensures.means
+    (g items left))
 
 pub returns-in_ok-push-in-Some-clause-means : goal.returns-in_ok-push-in-Some-clause-means
 returns-in_ok-push-in-Some-clause-means c = λ items left.

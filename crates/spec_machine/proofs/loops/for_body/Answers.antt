@@ -30,8 +30,8 @@ returns-in-Some-clause-means c =
     (for_plan_of items f (Some c.in-Some.symbol) a.bounds) w w c.entered.new.world a.budget.now c.entered.new.budget step
     (ap (λ (o : Option SymId). for_plan_of items f o a.bounds) c.in-Some.is) refl g)
 
-pub returns-in-None-clause-means : goal.returns-in-None-clause-means
-returns-in-None-clause-means c =
+pub returns-in_ok-declare-in-None-clause-means : goal.returns-in_ok-declare-in-None-clause-means
+returns-in_ok-declare-in-None-clause-means c =
     let a = c.args in
     let f = a.frame in
     let items = items_of a.tree.now in
@@ -66,8 +66,8 @@ returns-in-None-clause-means c =
     (ap (λ (l : List NodeId). block_plan items l inner [] then) (sym c.block_statements-nodes.ensures)
     ∙ ap (λ (ts : List TermId). block_plan items nodes inner ts then) (sym c.new-none.ensures)) refl g)))))
 
-pub returns-in-None-clause-kept : goal.returns-in-None-clause-kept
-returns-in-None-clause-kept c =
+pub returns-in_ok-declare-in-None-clause-kept : goal.returns-in_ok-declare-in-None-clause-kept
+returns-in_ok-declare-in-None-clause-kept c =
     let w = c.args.world.now in
     let w1 = c.new_symbol.new.world in
     let w2 = c.new_env.new.world in
