@@ -23,12 +23,10 @@ use Rattle.terra_term.specs.declared.store.FunctionState.{FunctionState}
 use Rattle.terra_term.specs.declared.store.Quote.{Quote}
 use Rattle.terra_term.specs.declared.store.TextBytes.{TextBytes}
 use Rattle.terra_term.specs.declared.term.Term.{Term}
-use Rattle.terra_term.specs.Held.{Held, state_of, with_term, with_symbol, with_quote, with_types, with_function, with_defined, with_text, after_room, after_search, with_static, text_address, room_for}
+use Rattle.terra_term.specs.Held.{Held, state_of, with_term, with_symbol, with_quote, with_types, with_function, with_defined}
 use Rattle.terra_term.specs.Keeping.{AllStay, Stays}
 use Rattle.terra_term.proofs.Staying.{stays-same, defining-stays, declaring-stays}
 use Rattle.exotype.specs.World.{StageState, with_heap, with_store}
-use Rattle.exotype.specs.Becoming.{Becoming, Leaf, Text, Spliced, Again, Not, after, text_leaf, leaf_of, address_of}
-use Rattle.exotype.specs.Becoming as becoming
 use Rattle.spec_machine.specs.Keeping.{KeepsStage, KeepsStore}
 use Rattle.spec_machine.specs.Kept.{store_itself, keeps_itself, keeps_then}
 

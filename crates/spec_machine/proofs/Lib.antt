@@ -1,2 +1,11 @@
 pub mod Keeping
 pub mod Doing
+pub mod Becoming
+pub mod Reaching
+pub mod Otherwise
+pub mod Looping
+pub mod Limiting
+pub mod Worlds
+pub mod Texts
+pub mod Making
+pub mod Asking

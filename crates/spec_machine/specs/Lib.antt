@@ -16,3 +16,5 @@ pub mod Splices
 pub mod Limits
 -- What remains of what is suspended.
 pub mod Rest
+-- Types among values, and the terms of quotes.
+pub mod Among

@@ -29,6 +29,7 @@ use tl_base::{Budget, CellId, EnvId, NoMemory, NodeId, Place, Step, SymId, Text,
 use tl_tree::Tree;
 
 /// The environment so many steps outwards.
+#[tactic(auto, using(crate::proofs::Looping::out_next))]
 fn env_out(heap: &Heap, env: EnvId, depth: u32) -> EnvId
     ensures { result ≡ env_out heap.now env depth }
 {
@@ -126,7 +127,8 @@ pub fn member<'a>(
         }
         None => {
             let text = text(world, name(tree, node).as_bytes())?;
-            with_member(frames, world, then, text)
+            let step = with_member(frames, world, then, text)?;
+            Ok(step)
         }
     }
 }
@@ -150,12 +152,14 @@ pub fn with_member<'a>(
         }
         MemberThen::Select(object, place) => {
             naming(world, text)?;
-            make(world, place, Expression::Select(object, text))
+            let step = make(world, place, Expression::Select(object, text))?;
+            Ok(step)
         }
         MemberThen::Method(object, arguments, place, env) => {
             let none = Row::new(world.heap.allocator());
             let then = TermsThen::Method(object, text, place);
-            terms(frames, world, arguments, env, none, then)
+            let step = terms(frames, world, arguments, env, none, then)?;
+            Ok(step)
         }
     }
 }
@@ -175,7 +179,8 @@ pub fn symbols_of(
         Value::Symbol(symbol) => { Ok(Reached::Value(single(world.heap.allocator(), symbol)?)) }
         Value::Table(table) => {
             let values = values_in(&world.heap, table)?;
-            symbols_in(world, budget, values.as_slice(), at)
+            let reached = symbols_in(world, budget, values.as_slice(), at)?;
+            Ok(reached)
         }
         _ => {
             let step = raise(world, budget, at, Fault::InTerraCode(value.kind()))?;

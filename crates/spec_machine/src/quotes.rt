@@ -49,6 +49,7 @@ pub fn past_limits(size: Size) -> Option<Fault>
 }
 
 /// How many nodes and levels terms side by side have.
+#[tactic(auto, using(crate::proofs::Looping::sizes_next))]
 pub fn terms_size(world: &World, terms: &[TermId]) -> Size
     ensures { result ≡ terms_size world.now terms.now }
 {
@@ -114,7 +115,8 @@ pub fn quote<'a>(
 {
     let parts = quoted_parts(tree, node);
     let then = BlockThen::Quoted(parts.value, place);
-    entered(tree, frames, world, budget, node, parts.block, env, then)
+    let step = entered(tree, frames, world, budget, node, parts.block, env, then)?;
+    Ok(step)
 }
 
 /// Goes on behind the statements of a quote.
@@ -137,7 +139,10 @@ pub fn quoted<'a>(
             frames.push(SpecFrame::Term(TermFrame::Quoted(statements, place)))?;
             Ok(Step::Enter(Job::Expression(node, env)))
         }
-        None => quote_statements(world, budget, statements, place),
+        None => {
+            let step = quote_statements(world, budget, statements, place)?;
+            Ok(step)
+        }
     }
 }
 
@@ -155,10 +160,14 @@ fn quote_statements(
 {
     let size = terms_size(world, statements.as_slice());
     match past_limits(size) {
-        Some(fault) => raise(world, budget, place, fault),
+        Some(fault) => {
+            let step = raise(world, budget, place, fault)?;
+            Ok(step)
+        }
         None => {
             let list = term_list(statements)?;
-            give_quote(world, Quote::Statements(list))
+            let step = give_quote(world, Quote::Statements(list))?;
+            Ok(step)
         }
     }
 }
@@ -176,8 +185,14 @@ pub fn quote_term(
 {
     let size = world.term_size(term);
     match past_limits(size) {
-        Some(fault) => raise(world, budget, place, fault),
-        None => give_quote(world, Quote::Expression(term)),
+        Some(fault) => {
+            let step = raise(world, budget, place, fault)?;
+            Ok(step)
+        }
+        None => {
+            let step = give_quote(world, Quote::Expression(term))?;
+            Ok(step)
+        }
     }
 }
 
@@ -198,7 +213,8 @@ pub fn quote_let(
     let made = world
         .store
         .new_term(Term::Expression(place, Expression::Let(list, term)))?;
-    quote_term(world, budget, place, made)
+    let step = quote_term(world, budget, place, made)?;
+    Ok(step)
 }
 
 /// Makes a quote, which is the end.

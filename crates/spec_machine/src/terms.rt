@@ -42,6 +42,7 @@ fn numbered(heap: &Heap, table: TableId, number: u64) -> Result<Value, NoMemory>
 }
 
 /// The values of a table, from 1 to its border.
+#[tactic(auto, using(crate::proofs::Looping::values_more))]
 pub fn values_in(heap: &Heap, table: TableId) -> Result<Values, NoMemory>
     ensures { IfOk result (λ values. values ≡ plans.values_in (table_at heap.now table)) }
 {
@@ -68,7 +69,8 @@ pub fn one(
         return Ok(Reached::Left(Step::Spent));
     }
     let became = world.term_of(value, at)?;
-    became_term(world, budget, became, at)
+    let reached = became_term(world, budget, became, at)?;
+    Ok(reached)
 }
 
 /// The bytes of a literal become a static's address.
@@ -83,7 +85,8 @@ pub fn literal(
     ensures kept { OnOk result (KeepsStage world.old world.new) }
 {
     let became = world.term_of_text(bytes, at)?;
-    became_term(world, budget, became, at)
+    let reached = became_term(world, budget, became, at)?;
+    Ok(reached)
 }
 
 /// Goes on with a term, or raises why there is none.
@@ -165,9 +168,13 @@ pub fn listed(
     match value {
         Value::Table(table) => {
             let values = values_in(&world.heap, table)?;
-            each_one(world, budget, values.as_slice(), at, terms)
+            let reached = each_one(world, budget, values.as_slice(), at, terms)?;
+            Ok(reached)
         }
-        _ => one_more(world, budget, value, at, terms),
+        _ => {
+            let reached = one_more(world, budget, value, at, terms)?;
+            Ok(reached)
+        }
     }
 }
 

@@ -2,11 +2,12 @@
 
 ghost use Rattle.std.specs.Prelude.{◌≡◌, IfOk, OnOk};
 ghost use Rattle.spec_model.specs.Types as plans;
-ghost use Rattle.spec_model.specs.Making.{type_at};
+ghost use Rattle.spec_model.specs.Making.{type_at, quote_at};
 ghost use Rattle.spec_model.specs.Plans.{SpecPlan, raise};
 ghost use Rattle.spec_model.specs.Expressions.{type_from, or_no_type};
 ghost use Rattle.tl_base.specs.Plan.{Read};
 ghost use Rattle.tl_base.specs.declared.ids.TypeId.{TypeId};
+ghost use Rattle.spec_machine.specs.Among.{type_of_value, type_among, expression_in};
 ghost use Rattle.spec_machine.specs.Keeping.{KeepsStage};
 ghost use Rattle.spec_machine.specs.Steps.{Comes};
 
@@ -46,9 +47,13 @@ pub fn as_type(
         Value::TerraType(of) => Ok(Reached::Value(of)),
         Value::Table(table) => {
             let values = values_in(&world.heap, table)?;
-            type_in(world, budget, values.as_slice(), at)
+            let reached = type_in(world, budget, values.as_slice(), at)?;
+            Ok(reached)
         }
-        _ => no_type(world, budget, at),
+        _ => {
+            let reached = no_type(world, budget, at)?;
+            Ok(reached)
+        }
     }
 }
 
@@ -63,10 +68,38 @@ fn type_in(
         Comes (λ go. plans.type_in values.now at go) world.old budget.old reached world.new budget.new) }
     ensures kept { OnOk result (KeepsStage world.old world.new) }
 {
+    match type_among(values) {
+        Some(of) => Ok(Reached::Value(of)),
+        None => {
+            let reached = no_type(world, budget, at)?;
+            Ok(reached)
+        }
+    }
+}
+
+/// The type of a table's values, if they have one: none is the unit type, and one type is that type.
+fn type_among(values: &[Value]) -> Option<TypeId>
+    ensures { result ≡ type_among values.now }
+{
     match values.split_first() {
-        None => Ok(Reached::Value(UNIT)),
-        Some((Value::TerraType(of), rest)) if rest.is_empty() => Ok(Reached::Value(*of)),
-        _ => no_type(world, budget, at),
+        None => Some(UNIT),
+        Some((first, rest)) => {
+            if rest.is_empty() {
+                type_of_value(first)
+            } else {
+                None
+            }
+        }
+    }
+}
+
+/// The type that a value is, if it is one.
+fn type_of_value(value: &Value) -> Option<TypeId>
+    ensures { result ≡ type_of_value value.now }
+{
+    match value {
+        Value::TerraType(of) => Some(*of),
+        _ => None,
     }
 }
 
@@ -93,7 +126,10 @@ pub fn type_of_term(
 {
     match type_at(world, term) {
         Some(of) => Ok(Reached::Value(of)),
-        None => no_type(world, budget, at),
+        None => {
+            let reached = no_type(world, budget, at)?;
+            Ok(reached)
+        }
     }
 }
 
@@ -109,13 +145,21 @@ pub fn type_from(
     ensures kept { OnOk result (KeepsStage world.old world.new) }
 {
     match value {
-        Value::Quote(quote) => quoted_type(world, budget, quote, at),
-        _ => as_type(world, budget, value, at),
+        Value::Quote(quote) => {
+            let reached = quoted_type(world, budget, quote, at)?;
+            Ok(reached)
+        }
+        _ => {
+            let reached = as_type(world, budget, value, at)?;
+            Ok(reached)
+        }
     }
 }
 
 /// The term of a quote of an expression.
-fn quoted_term(world: &World, quote: QuoteId) -> Option<TermId> {
+fn quoted_term(world: &World, quote: QuoteId) -> Option<TermId>
+    ensures { result ≡ expression_in (quote_at world.now quote) }
+{
     match world.store.quote(quote) {
         Some(Quote::Expression(term)) => Some(*term),
         _ => None,
@@ -134,7 +178,8 @@ fn quoted_type(
     ensures kept { OnOk result (KeepsStage world.old world.new) }
 {
     let Some(term) = quoted_term(world, quote) else {
-        return no_type(world, budget, at);
+        let reached = no_type(world, budget, at)?;
+        return Ok(reached);
     };
     match type_at(world, term) {
         Some(of) => {
@@ -143,6 +188,9 @@ fn quoted_type(
             }
             Ok(Reached::Value(of))
         }
-        None => no_type(world, budget, at),
+        None => {
+            let reached = no_type(world, budget, at)?;
+            Ok(reached)
+        }
     }
 }
