@@ -9,3 +9,10 @@ pub mod Worlds
 pub mod Texts
 pub mod Making
 pub mod Asking
+pub mod Pushing
+pub mod Entering
+pub mod Defining
+pub mod Standing
+pub mod Placing
+pub mod Typing
+pub mod Entries

@@ -35,10 +35,14 @@ abbrev pub typed_symbols : StageState → List SymId → Place → List Drawn �
 typed_symbols w [] place ds = Some ds
 typed_symbols w (x ∷ xs) place ds = option_and_then (λ more. typed_symbols w xs place more) (typed_symbol x (symbol_type w x) place ds)
 
+-- the heap with the name of a parameter that has one
+abbrev pub with_parameter : Drawn → EnvId → LuaState → LuaState
+with_parameter d env s = if d.named then declare env (values.Symbol d.symbol) s else s
+
 -- the heap with the names of these parameters
 abbrev pub with_parameters : List Drawn → EnvId → LuaState → LuaState
 with_parameters [] env s = s
-with_parameters (d ∷ ds) env s = with_parameters ds env (if d.named then declare env (values.Symbol d.symbol) s else s)
+with_parameters (d ∷ ds) env s = with_parameters ds env (with_parameter d env s)
 
 -- an initialiser of the code
 abbrev pub initial_in : Option InitialCode → Option Initial

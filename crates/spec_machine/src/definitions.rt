@@ -1,14 +1,13 @@
 // Declarations and definitions of Terra functions.
 
-ghost use Rattle.std.specs.Prelude.{◌≡◌, ℕ, true, length, Some, None, IfOk, OnOk, if◌then◌else◌};
+ghost use Rattle.std.specs.Prelude.{◌≡◌, ℕ, true, Some, None, IfOk, OnOk, if◌then◌else◌};
 ghost use Rattle.tl_tree.specs.Arena.{items_of};
 ghost use Rattle.tl_tree.specs.Code.{Items};
 ghost use Rattle.exotype.specs.World.{StageState, with_heap};
 ghost use Rattle.lua_value.specs.declared.value.Value.TheVariants as values;
 ghost use Rattle.lua_table.specs.Keeping.{KeepsHeap};
-ghost use Rattle.terra_term.specs.Held.{NamesTyped};
 ghost use Rattle.terra_term.specs.declared.term.Term.TheVariants as terms;
-ghost use Rattle.spec_model.specs.Making.{is_undefined, form_at, next_function, with_function, next_term, with_term, with_defined};
+ghost use Rattle.spec_model.specs.Making.{is_undefined, form_at, next_function, with_function, with_defined};
 ghost use Rattle.spec_model.specs.Plans.{node};
 ghost use Rattle.spec_model.specs.Plans.{raise as fails};
 ghost use Rattle.spec_model.specs.Nodes.{terra_parts_at};
@@ -24,6 +23,7 @@ ghost use Rattle.spec_machine.specs.Steps.{Goes, Does, Gets};
 
 use crate::code::{place, terra_parts};
 use crate::frame::{Definition, ParameterFrame, SpecFrame, ValueFrame};
+use crate::making::new_term;
 use crate::names::declare;
 use crate::parameters::{draw, parameters};
 use crate::quotes::{function_size, past_limits};
@@ -338,17 +338,6 @@ fn take_term(
     let term = new_term(world, Term::Function(parameters, of, body))?;
     define_term(world, definition.function, term, definition.place)?;
     Ok(Step::Return(End::Gave(defined(definition))))
-}
-
-/// A new node, which is no typed quote.
-fn new_term(world: &mut World, term: Term) -> Result<TermId, NoMemory>
-    requires { NamesTyped (length world.old.store.typed) term }
-    ensures id { IfOk result (λ t. t ≡ next_term world.old) }
-    ensures ok { OnOk result (world.new ≡ with_term world.old term) }
-    ensures kept { OnOk result (KeepsStage world.old world.new) }
-{
-    let term = world.store.new_term(term)?;
-    Ok(term)
 }
 
 /// Gives a function its term.

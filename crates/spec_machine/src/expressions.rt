@@ -2,7 +2,8 @@
 
 ghost use Rattle.std.specs.Prelude.{◌≡◌, ℕ, [], IfOk, OnOk};
 ghost use Rattle.tl_tree.specs.Arena.{items_of};
-ghost use Rattle.tl_tree.specs.Code.{Items};
+ghost use Rattle.tl_tree.specs.Code.{Items, place_at};
+ghost use Rattle.terra_term.specs.declared.term.Expression.TheVariants as kinds;
 ghost use Rattle.tl_tree.specs.Nodes.{item_at};
 ghost use Rattle.tl_tree.specs.Scopes.{binder};
 ghost use Rattle.tl_base.specs.Plan.{Give};
@@ -78,11 +79,33 @@ pub fn node<'a>(
             let step = specialise(tree, frames, world, expression, *place, env)?;
             Ok(step)
         }
-        _ => {
-            let step = make(world, place(tree, node), Expression::Nil)?;
+        Node::Expression(_, _) => {
+            let step = nothing(tree, world, node)?;
+            Ok(step)
+        }
+        Node::Statement(_, _) => {
+            let step = nothing(tree, world, node)?;
+            Ok(step)
+        }
+        Node::TerraStatement(_, _) => {
+            let step = nothing(tree, world, node)?;
+            Ok(step)
+        }
+        Node::Piece(_) => {
+            let step = nothing(tree, world, node)?;
             Ok(step)
         }
     }
+}
+
+/// What is no expression is nil.
+fn nothing(tree: &Tree<'_>, world: &mut World, node: NodeId) -> Result<SpecStep, NoMemory>
+    ensures means { IfOk result (λ step. (left : ℕ) →
+        Does (items_of tree.now) (models.make (place_at (items_of tree.now) node) kinds.Nil) world.old left step world.new left) }
+    ensures kept { OnOk result (KeepsStage world.old world.new) }
+{
+    let step = make(world, place(tree, node), Expression::Nil)?;
+    Ok(step)
 }
 
 /// The use of a name: the value of its cell at this moment, or what stands under it in the globals.

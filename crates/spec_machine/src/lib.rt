@@ -25,6 +25,7 @@ pub mod frame;
 pub mod lists;
 pub mod loops;
 pub mod machine;
+pub mod making;
 pub mod names;
 pub mod operators;
 pub mod parameters;

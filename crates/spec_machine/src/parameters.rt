@@ -4,9 +4,8 @@ ghost use Rattle.std.specs.Prelude.{◌≡◌, ℕ, true, Some, IfOk, OnOk};
 ghost use Rattle.tl_tree.specs.Arena.{items_of};
 ghost use Rattle.tl_tree.specs.Code.{Items};
 ghost use Rattle.exotype.specs.World.{StageState, with_heap};
-ghost use Rattle.terra_types.specs.Making.{same_types};
-ghost use Rattle.lua_table.specs.Heap.{next_env, with_env};
-ghost use Rattle.spec_machine.specs.Agreeing.{agreed, typed_symbols, with_parameters};
+ghost use Rattle.terra_types.specs.Making.{same_type, same_types};
+ghost use Rattle.spec_machine.specs.Agreeing.{agreed, typed_symbols, with_parameter, with_parameters};
 ghost use Rattle.spec_machine.specs.declared.frame.ValueFrame.TheVariants as of_value;
 ghost use Rattle.spec_model.specs.Making.{symbol_type, next_symbol, with_symbol, declared_type, form_at};
 ghost use Rattle.spec_model.specs.Nodes.{typing_at, escaped_at};
@@ -18,6 +17,7 @@ ghost use Rattle.spec_machine.specs.Steps.{Goes, Comes};
 use crate::blocks::statements;
 use crate::code::{block_statements, escaped, place, terra_parts, typing_at};
 use crate::frame::{BlockThen, Definition, NextFrame, ParameterFrame, SpecFrame, ValueFrame};
+use crate::making::{new_env, new_symbol};
 use crate::names::{declare, symbols_of};
 use crate::raise::raise;
 use crate::reached::{Reached, SpecStep};
@@ -245,7 +245,7 @@ pub fn draw(world: &mut World, of: TypeId, at: Place) -> Result<Drawn, NoMemory>
     ensures ok { OnOk result (world.new ≡ with_symbol world.old (Some of)) }
     ensures kept { OnOk result (KeepsStage world.old world.new) }
 {
-    let symbol = world.store.new_symbol(Some(of))?;
+    let symbol = new_symbol(world, Some(of))?;
     Ok(Drawn {
         symbol,
         of,
@@ -397,11 +397,18 @@ fn same_types(drawn: &[Drawn], params: &[TypeId]) -> bool
         return false;
     }
     'params: for at in 0..params.len() {
-        if drawn[at].of != params[at] {
+        if !same_type(drawn[at].of, params[at]) {
             return false;
         }
     }
     true
+}
+
+/// Whether two types are one.
+fn same_type(a: TypeId, b: TypeId) -> bool
+    ensures { result ≡ same_type a b }
+{
+    a == b
 }
 
 /// Whether a written result type, if there is one, is the declared one.
@@ -409,7 +416,7 @@ fn agrees(written: Option<TypeId>, declared: TypeId) -> bool
     ensures { result ≡ plans.agrees written declared }
 {
     match written {
-        Some(of) => of == declared,
+        Some(of) => same_type(of, declared),
         None => true,
     }
 }
@@ -429,7 +436,7 @@ fn body<'a>(
         world.old budget.old frames.new.items step world.new budget.new) }
     ensures kept { OnOk result (KeepsStage world.old world.new) }
 {
-    let inner = inner_env(world, definition.owner, definition.env)?;
+    let inner = new_env(world, definition.owner, definition.env)?;
     declare_all(world, drawn.as_slice(), inner)?;
     let none = Row::new(world.heap.allocator());
     let nodes = block_statements(tree, terra_parts(tree, definition.body).block);
@@ -438,25 +445,24 @@ fn body<'a>(
     Ok(step)
 }
 
-/// A new environment within another one, which belongs to an owner.
-fn inner_env(world: &mut World, owner: NodeId, env: EnvId) -> Result<EnvId, NoMemory>
-    ensures id { IfOk result (λ inner. inner ≡ next_env world.old.heap) }
-    ensures ok { OnOk result (world.new ≡ with_heap world.old (with_env world.old.heap owner (Some env))) }
-    ensures kept { OnOk result (KeepsStage world.old world.new) }
-{
-    let inner = world.heap.new_env(owner, Some(env))?;
-    Ok(inner)
-}
-
 /// Declares the names of parameters.
 fn declare_all(world: &mut World, drawn: &[Drawn], env: EnvId) -> Result<(), NoMemory>
     ensures ok { OnOk result (world.new ≡ with_heap world.old (with_parameters drawn.now env world.old.heap)) }
     ensures kept { OnOk result (KeepsStage world.old world.new) }
 {
     'parameters: for parameter in drawn {
-        if parameter.named {
-            declare(world, env, Value::Symbol(parameter.symbol))?;
-        }
+        declare_parameter(world, parameter, env)?;
+    }
+    Ok(())
+}
+
+/// Declares the name of a parameter that has one.
+fn declare_parameter(world: &mut World, parameter: &Drawn, env: EnvId) -> Result<(), NoMemory>
+    ensures ok { OnOk result (world.new ≡ with_heap world.old (with_parameter parameter.now env world.old.heap)) }
+    ensures kept { OnOk result (KeepsStage world.old world.new) }
+{
+    if parameter.named {
+        declare(world, env, Value::Symbol(parameter.symbol))?;
     }
     Ok(())
 }
