@@ -16,3 +16,4 @@ pub mod Standing
 pub mod Placing
 pub mod Typing
 pub mod Entries
+pub mod Quoted

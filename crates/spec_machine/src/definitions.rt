@@ -265,7 +265,8 @@ fn self_parameter(world: &mut World, of: Option<TypeId>, at: Place) -> Result<Ro
         Some(of) => {
             let pointer = world.pointer_to(of)?;
             let first = draw(world, pointer, at)?;
-            single(alloc, first)
+            let drawn = single(alloc, first)?;
+            Ok(drawn)
         }
     }
 }
@@ -282,7 +283,8 @@ fn parameter_list(world: &World, drawn: &[Drawn]) -> Result<ParameterList, NoMem
             place: parameter.place,
         })?;
     }
-    ParameterList::from_vec(list)
+    let list = ParameterList::from_vec(list)?;
+    Ok(list)
 }
 
 /// Gives a function its term, if it has none yet.

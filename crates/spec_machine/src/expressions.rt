@@ -480,7 +480,8 @@ fn make_named(
     ensures kept { OnOk result (KeepsStage world.old world.new) }
 {
     let names = FieldList::from_vec(names.into_vec())?;
-    let values = Initialiser::Named(names, term_list(terms)?);
+    let terms = term_list(terms)?;
+    let values = Initialiser::Named(names, terms);
     let step = make(world, made.place, Expression::New(made.of, values))?;
     Ok(step)
 }

@@ -6,6 +6,7 @@ ghost use Rattle.tl_tree.specs.Code.{Items};
 ghost use Rattle.lua_table.specs.Cells.{local_value, local_cell};
 ghost use Rattle.lua_table.specs.Cells.{declare as with_declared};
 ghost use Rattle.lua_table.specs.Cells.{env_out};
+ghost use Rattle.lua_table.specs.Keeping.{KeepsHeap};
 ghost use Rattle.exotype.specs.World.{with_heap};
 ghost use Rattle.spec_model.specs.Making.{with_name};
 ghost use Rattle.spec_model.specs.Names as plans;
@@ -67,8 +68,17 @@ pub fn declare(world: &mut World, env: EnvId, value: Value) -> Result<(), NoMemo
     ensures ok { OnOk result (world.new ≡ with_heap world.old (with_declared env value world.old.heap)) }
     ensures kept { OnOk result (KeepsStage world.old world.new) }
 {
-    let cell = world.heap.new_cell(value)?;
-    world.heap.declare(env, cell)?;
+    declare_in(&mut world.heap, env, value)?;
+    Ok(())
+}
+
+/// Declares a local with a value in the heap.
+fn declare_in(heap: &mut Heap, env: EnvId, value: Value) -> Result<(), NoMemory>
+    ensures ok { OnOk result (heap.new ≡ with_declared env value heap.old) }
+    ensures kept { OnOk result (KeepsHeap heap.old heap.new) }
+{
+    let cell = heap.new_cell(value)?;
+    heap.declare(env, cell)?;
     Ok(())
 }
 
@@ -79,7 +89,10 @@ pub fn naming(world: &mut World, text: TextId) -> Result<(), NoMemory>
 {
     // No text has more bytes than texts have.
     match Text::new(world.heap.allocator(), world.heap.text(text))? {
-        Some(bytes) => world.store.keep_name(text, bytes),
+        Some(bytes) => {
+            world.store.keep_name(text, bytes)?;
+            Ok(())
+        }
         None => Ok(()),
     }
 }

@@ -224,6 +224,6 @@ fn give_quote(world: &mut World, quote: Quote) -> Result<SpecStep, NoMemory>
         Does items (plans.give_quote quote) world.old left step world.new left) }
     ensures kept { OnOk result (KeepsStage world.old world.new) }
 {
-    let quote = world.store.new_quote(quote)?;
-    Ok(Step::Return(End::Gave(Value::Quote(quote))))
+    let id = world.store.new_quote(quote)?;
+    Ok(Step::Return(End::Gave(Value::Quote(id))))
 }

@@ -46,7 +46,8 @@ pub fn text(world: &mut World, bytes: &[u8]) -> Result<TextId, NoMemory>
     if bytes.len() > LONGEST_TEXT {
         return Ok(TextId(0));
     }
-    world.heap.intern(bytes)
+    let id = world.heap.intern(bytes)?;
+    Ok(id)
 }
 
 /// Raises a fault, with its place before its text, which is paid for.

@@ -1,6 +1,6 @@
 // Lists that grow while code is specialised.
 
-ghost use Rattle.std.specs.Prelude.{◌≡◌, [], ◌∷◌, ◌++◌, IfOk, OnOk, OnErr};
+ghost use Rattle.std.specs.Prelude.{◌≡◌, [], ◌∷◌, ◌++◌, IfOk, IfNone, OnOk, OnErr};
 ghost use Rattle.std.specs.Option.{option_to_list};
 
 use std::alloc::Global;
@@ -45,7 +45,8 @@ impl<T> Row<T> {
 
     /// Takes the last item.
     pub fn pop(&mut self) -> Option<T>
-        ensures { self.old ≡ self.new ++ option_to_list result }
+        ensures items { self.old ≡ self.new ++ option_to_list result }
+        ensures none { IfNone result (self.old ≡ []) }
     {
         self.items.pop()
     }

@@ -15,4 +15,4 @@ parameters-preserved c =
 pub returns : goal.returns
 returns c =
     let ds = c.args.drawn.now in
-    c.from_vec.ensures ∙ sym (defining.listed_end ds c.parameters.parameter-index c.parameters.list.items c.parameters-test.false) ∙ c.parameters.invariant
+    c.in_ok-list.ensures ∙ sym (defining.listed_end ds c.parameters.parameter-index c.parameters.list.items c.parameters-test.false) ∙ c.parameters.invariant

@@ -38,7 +38,7 @@ returns-clause-means c =
     ap (λ (o : Option TypeId). run f (definitions.self o a.at go) (state w left) later) c.in-Some.is
     ∙ ap (λ (u : StageState). run f (go (drawn v p ∷ [])) (state u left) later) (sym made)
     ∙ ap (λ (ds : List Drawn). run f (go ds) (state c.draw.new.world left) later)
-    (sym (c.single.ensures ∙ ap (λ (d : Drawn). d ∷ []) first_is))
+    (sym (c.in_ok-drawn.ensures ∙ ap (λ (d : Drawn). d ∷ []) first_is))
 
 pub returns-clause-kept : goal.returns-clause-kept
 returns-clause-kept c =
