@@ -40,7 +40,7 @@ use Rattle.spec_machine.proofs.Doing.{jobs_of, moved, pays, lacks}
 -- ---- payments, as the budget answers them
 
 pub paid_goes : (items : Items) (fs fs2 : List SpecFrame) (n : ℕ) (p : SpecPlan) (w w2 : StageState) (left after left2 : ℕ) (step : SpecStep)
-    (answer : Bool) → answer ≡ true → IsTrue answer ↔ (n ≤ left) → OnTrue answer (after ≡ left - n)
+    (answer : Bool) → answer ≡ true → (IsTrue answer ↔ (n ≤ left)) → OnTrue answer (after ≡ left - n)
     → Goes items fs p w after fs2 step w2 left2 → Goes items fs (Pay n p) w left fs2 step w2 left2
 paid_goes items fs fs2 n p w w2 left after left2 step true is enough paid g =
     pays items fs fs2 n p w w2 left after left2 step (enough.0 refl) paid g
@@ -170,7 +170,7 @@ listed_end ds i ps h = at_drop_all (λ us. ps ++ parameter_list us) ds i h ∙ a
 
 pub same_next : (ds : List Drawn) (ps : List TypeId) (i : ℕ) (d : Drawn) (p : TypeId)
     → i < length ds → i < length ps → get_or ds i d ≡ d → get_or ps i p ≡ p
-    → same_types (drawn_types (drop i ds)) (drop i ps) ≡ same_type d.of p && same_types (drawn_types (drop (i + 1) ds)) (drop (i + 1) ps)
+    → same_types (drawn_types (drop i ds)) (drop i ps) ≡ (same_type d.of p && same_types (drawn_types (drop (i + 1) ds)) (drop (i + 1) ps))
 same_next ds ps i d p h k is are =
     at_drop_more (λ us. same_types (drawn_types us) (drop i ps)) ds i d h
     ∙ at_drop_more (λ qs. same_types (drawn_types (get_or ds i d ∷ drop (i + 1) ds)) qs) ps i p k
@@ -187,11 +187,11 @@ pub not_as_many : (ds : List Drawn) (ps : List TypeId) → (length ds ≡ length
 not_as_many [] [] other = absurd (other refl)
 not_as_many [] (p ∷ ps) other = refl
 not_as_many (d ∷ ds) [] other = refl
-not_as_many (d ∷ ds) (p ∷ ps) other = and_false (same_type d.of p) (not_as_many ds ps (λ e. other (omega arith)))
+not_as_many (d ∷ ds) (p ∷ ps) other = and_false (same_type d.of p) (same_types (drawn_types ds) ps) (not_as_many ds ps (λ e. other (omega arith)))
   where
-    and_false : (b : Bool) {c : Bool} → c ≡ false → b && c ≡ false
-    and_false true e = e
-    and_false false e = refl
+    and_false : (b c : Bool) → c ≡ false → (b && c) ≡ false
+    and_false true c e = e
+    and_false false c e = refl
 
 -- ---- a declaration's type
 
@@ -200,7 +200,7 @@ agreed_to (Some t) place go = go (Some t)
 agreed_to None place go = raise place faults.DiffersFromDeclaration
 
 agreed_by : (b : Bool) (t : TypeId) (place : Place) (go : Option TypeId → SpecPlan)
-    → if b then go (Some t) else raise place faults.DiffersFromDeclaration ≡ agreed_to (if b then Some t else None) place go
+    → (if b then go (Some t) else raise place faults.DiffersFromDeclaration) ≡ agreed_to (if b then Some t else None) place go
 agreed_by true t place go = refl
 agreed_by false t place go = refl
 

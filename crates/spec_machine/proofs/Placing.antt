@@ -1,6 +1,7 @@
 -- Names and targets by the paths of their declarations, and what values refuse.
-use Rattle.std.proofs.Common.{◌≡◌, ℕ, ◌<◌, Bool, true, false, List, [], ◌∷◌, ◌++◌, length, refl, sym, ap, ◌∙◌, Option, Some, None, arith}
+use Rattle.std.proofs.Common.{◌≡◌, ℕ, ◌<◌, Bool, true, false, List, [], ◌∷◌, ◌++◌, length, refl, sym, ap, ◌∙◌, Option, Some, None, ◌==◌, arith}
 use Rattle.std.specs.Prelude.{option_map}
+use Rattle.std.proofs.lemmas.Bool.Decides.{nat_tests}
 use Rattle.tl_base.specs.declared.ids.EnvId.{EnvId}
 use Rattle.tl_base.specs.declared.ids.NodeId.{NodeId}
 use Rattle.tl_base.specs.declared.ids.TableId.{TableId}
@@ -33,7 +34,9 @@ use Rattle.spec_model.specs.Plans.{SpecPlan, with_text_of, raise, index, one, as
 use Rattle.spec_model.specs.Expressions.{named_value, select, select_from, select_term, constructed}
 use Rattle.spec_model.specs.Definitions.{Go, only_name, targeted, steps, key, method_key, over}
 use Rattle.spec_model.specs.Meaning.{first_of, value_plan, definition_plan}
+use Rattle.spec_machine.specs.Agreeing.{is_last}
 use Rattle.spec_machine.specs.Frames.{on_answer}
+use Rattle.spec_machine.proofs.Pushing.{none_is}
 
 abbrev pub path_of : Option Found → Option (ℕ × ℕ)
 path_of = option_map (λ found. (found.depth, found.position))
@@ -160,6 +163,24 @@ answer_ended (ends.Answered vs) go answered = absurd (answered vs refl)
 answer_ended (ends.Raised v at) go answered = refl
 
 -- ---- the names of a path
+
+no_more : (ns : List NodeId) → (length ns == 0) ≡ true → length ns ≡ 0
+no_more ns e = grind (arith, nat_tests)
+
+some_more : (ns : List NodeId) → (length ns == 0) ≡ false → 0 < length ns
+some_more ns e = grind (arith, nat_tests)
+
+pub last_names : (ns : List NodeId) (method : Option NodeId) → is_last ns method ≡ true → ns ≡ []
+last_names ns None e = none_is ns (no_more ns e)
+last_names ns (Some m) e = absurd (cc e)
+
+pub last_method : (ns : List NodeId) (method : Option NodeId) → is_last ns method ≡ true → method ≡ None
+last_method ns None e = refl
+last_method ns (Some m) e = absurd (cc e)
+
+pub not_last : (ns : List NodeId) (method : Option NodeId) → is_last ns method ≡ false → ns ≡ [] → method ≡ None → ⊥
+not_last ns None e none no = omega (arith, ap length none, some_more ns e)
+not_last ns (Some m) e none no = cc no
 
 pub targeted_only : (items : Items) (n : NodeId) (ns : List NodeId) (method : Option NodeId) (env : EnvId) (go : Go)
     → ns ≡ [] → method ≡ None

@@ -21,7 +21,7 @@ standing_to (Some f) t place go = go f
 standing_to None t place go = made t place go
 
 standing_by : (b : Bool) (f : FnId) (t : Target) (place : Place) (go : FnId → SpecPlan)
-    → if b then go f else made t place go ≡ standing_to (if b then Some f else None) t place go
+    → (if b then go f else made t place go) ≡ standing_to (if b then Some f else None) t place go
 standing_by true f t place go = refl
 standing_by false f t place go = refl
 

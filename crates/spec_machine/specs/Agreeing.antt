@@ -1,6 +1,7 @@
 -- Parameters: the declared type with which they agree, and their declarations; and initialisers.
-use Rattle.std.specs.Prelude.{true, false, List, [], ◌∷◌, ◌++◌, ◌&&◌, Option, Some, None, option_and_then, if◌then◌else◌}
+use Rattle.std.specs.Prelude.{Bool, true, false, ◌==◌, List, [], ◌∷◌, ◌++◌, length, ◌&&◌, Option, Some, None, option_and_then, if◌then◌else◌}
 use Rattle.tl_base.specs.declared.ids.EnvId.{EnvId}
+use Rattle.tl_base.specs.declared.ids.NodeId.{NodeId}
 use Rattle.tl_base.specs.declared.ids.SymId.{SymId}
 use Rattle.tl_base.specs.declared.place.Place.{Place}
 use Rattle.tl_base.specs.declared.ids.TypeId.{TypeId}
@@ -43,6 +44,11 @@ with_parameter d env s = if d.named then declare env (values.Symbol d.symbol) s 
 abbrev pub with_parameters : List Drawn → EnvId → LuaState → LuaState
 with_parameters [] env s = s
 with_parameters (d ∷ ds) env s = with_parameters ds env (with_parameter d env s)
+
+-- no name stands behind one in a path
+abbrev pub is_last : List NodeId → Option NodeId → Bool
+is_last ns (Some method) = false
+is_last ns None = length ns == 0
 
 -- an initialiser of the code
 abbrev pub initial_in : Option InitialCode → Option Initial

@@ -1,6 +1,6 @@
 // Where definitions are stored: the names of a path.
 
-ghost use Rattle.std.specs.Prelude.{ℕ, ◌++◌, IfOk, OnOk};
+ghost use Rattle.std.specs.Prelude.{◌≡◌, ℕ, ◌++◌, IfOk, OnOk};
 ghost use Rattle.tl_tree.specs.Arena.{items_of};
 ghost use Rattle.tl_tree.specs.Code.{name_at, place_at, if_any, is_any};
 ghost use Rattle.lua_value.specs.declared.value.Value.TheVariants as values;
@@ -11,6 +11,7 @@ ghost use Rattle.spec_machine.specs.declared.frame.ValueFrame.TheVariants as of_
 ghost use Rattle.spec_model.specs.Plans.{with_text_of, index};
 ghost use Rattle.spec_machine.specs.Frames as waiting;
 ghost use Rattle.spec_machine.specs.Keeping.{KeepsStage};
+ghost use Rattle.spec_machine.specs.Agreeing.{is_last};
 ghost use Rattle.spec_machine.specs.Slots.{ArePaths};
 ghost use Rattle.spec_machine.specs.Steps.{Goes};
 
@@ -88,7 +89,7 @@ fn targeted<'a>(
             }
         },
         Some((first, rest)) => {
-            if rest.is_empty() && frame.method.is_none() {
+            if is_last(rest, frame.method) {
                 let step = only_name(tree, slots, frames, world, budget, *first, &frame)?;
                 Ok(step)
             } else {
@@ -97,6 +98,16 @@ fn targeted<'a>(
                 Ok(step)
             }
         }
+    }
+}
+
+/// Whether no name stands behind one in a path.
+fn is_last(rest: &[NodeId], method: Option<NodeId>) -> bool
+    ensures { result ≡ is_last rest.now method }
+{
+    match method {
+        Some(_) => false,
+        None => rest.is_empty(),
     }
 }
 
@@ -192,7 +203,7 @@ pub fn names<'a>(
             }
         },
         Some((next, rest)) => {
-            if rest.is_empty() && frame.method.is_none() {
+            if is_last(rest, frame.method) {
                 let step = key(tree, frames, world, budget, *next, object, &frame)?;
                 Ok(step)
             } else {
