@@ -1,7 +1,13 @@
 pub mod Keeping
 pub mod Doing
-pub mod Becoming
 pub mod Reaching
+pub mod Pushing
+pub mod Entering
+pub mod Arms
+pub mod Splicing
+pub mod Varying
+pub mod Spliced
+pub mod Becoming
 pub mod Otherwise
 pub mod Looping
 pub mod Limiting
@@ -17,3 +23,4 @@ pub mod Placing
 pub mod Typing
 pub mod Entries
 pub mod Quoted
+pub mod Carrying

@@ -16,5 +16,7 @@ pub mod Splices
 pub mod Limits
 -- What remains of what is suspended.
 pub mod Rest
+-- What stands in the place of a variable.
+pub mod Variables
 -- Types among values, and the terms of quotes.
 pub mod Among

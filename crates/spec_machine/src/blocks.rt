@@ -13,6 +13,7 @@ use crate::code::block_statements;
 use crate::conditions::{last_arm, others};
 use crate::definitions::finish;
 use crate::frame::{BlockFrame, BlockThen, SpecFrame, TermFrame};
+use crate::making::new_env;
 use crate::quotes::quoted;
 use crate::reached::SpecStep;
 use crate::row::{Row, term_list};
@@ -40,7 +41,7 @@ pub fn entered<'a>(
         world.old budget.old frames.new.items step world.new budget.new) }
     ensures kept { OnOk result (KeepsStage world.old world.new) }
 {
-    let inner = world.heap.new_env(owner, Some(env))?;
+    let inner = new_env(world, owner, env)?;
     let none = Row::new(world.heap.allocator());
     statements(
         tree,

@@ -16,6 +16,7 @@ ghost use Rattle.spec_machine.specs.Steps.{Goes, Does, Gets};
 
 use crate::code::{arm_parts, block_statements, place};
 use crate::frame::{Arm, ArmsFrame, BlockFrame, BlockThen, SpecFrame, TermFrame};
+use crate::making::{new_env, new_term};
 use crate::reached::SpecStep;
 use crate::row::{Row, list_if_any, single, term_list};
 use exotype::World;
@@ -141,7 +142,7 @@ fn else_block<'a>(
     let Some(block) = otherwise else {
         return last_arm(world, last, arms, None);
     };
-    let env = world.heap.new_env(block, Some(env))?;
+    let env = new_env(world, block, env)?;
     let none = Row::new(world.heap.allocator());
     match block_statements(tree, block).split_first() {
         None => last_arm(world, last, arms, Some(none)),
@@ -172,7 +173,8 @@ fn arm_statement(
     let statements = term_list(arm.statements)?;
     let otherwise = list_if_any(otherwise)?;
     let statement = Statement::If(arm.test, statements, otherwise);
-    world.store.new_term(Term::Statement(arm.place, statement))
+    let made = new_term(world, Term::Statement(arm.place, statement))?;
+    Ok(made)
 }
 
 /// Makes the statement of the last arm, and those of the arms before it, each of which has it behind its `else`.
@@ -192,6 +194,7 @@ pub fn last_arm(
         let behind = single(world.heap.allocator(), made)?;
         made = arm_statement(world, arm, Some(behind))?;
     }
-    let terms = term_list(single(world.heap.allocator(), made)?)?;
+    let row = single(world.heap.allocator(), made)?;
+    let terms = term_list(row)?;
     Ok(Step::Return(End::Joined(terms)))
 }

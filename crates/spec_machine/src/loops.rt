@@ -13,6 +13,7 @@ ghost use Rattle.spec_machine.specs.Steps.{Goes};
 use crate::blocks::{entered, statements};
 use crate::code::{block_statements, escaped, place};
 use crate::frame::{BlockThen, ForFrame, SpecFrame, TermFrame, ValueFrame};
+use crate::making::{new_env, new_symbol};
 use crate::names::declare;
 use crate::reached::SpecStep;
 use crate::row::Row;
@@ -95,18 +96,39 @@ pub fn more_bounds<'a>(
         world.old budget.old frames.new.items next world.new budget.new) }
     ensures kept { OnOk result (KeepsStage world.old world.new) }
 {
-    match (limit, step) {
-        (Some(bound), step) => {
+    match limit {
+        Some(bound) => {
             let waits = TermFrame::Bound(None, step, terms, frame);
             frames.push(SpecFrame::Term(waits))?;
             Ok(Step::Enter(Job::Expression(bound, frame.env)))
         }
-        (None, Some(bound)) => {
+        None => last_bound(tree, frames, world, budget, step, terms, frame),
+    }
+}
+
+/// Goes on with the step of a `for`, if it has one.
+fn last_bound<'a>(
+    tree: &'a Tree<'a>,
+    frames: &mut Vec<SpecFrame<'a>>,
+    world: &mut World,
+    budget: &mut Budget,
+    step: Option<NodeId>,
+    terms: Row<TermId>,
+    frame: ForFrame,
+) -> Result<SpecStep, NoMemory>
+    ensures means { IfOk result (λ next.
+        Goes (items_of tree.now) frames.old.items
+        (bounds_from (items_of tree.now) frame (if_any step) terms)
+        world.old budget.old frames.new.items next world.new budget.new) }
+    ensures kept { OnOk result (KeepsStage world.old world.new) }
+{
+    match step {
+        Some(bound) => {
             let waits = TermFrame::Bound(None, None, terms, frame);
             frames.push(SpecFrame::Term(waits))?;
             Ok(Step::Enter(Job::Expression(bound, frame.env)))
         }
-        (None, None) => for_body(tree, frames, world, budget, terms, frame),
+        None => for_body(tree, frames, world, budget, terms, frame),
     }
 }
 
@@ -139,8 +161,8 @@ fn for_body<'a>(
             )
         }
         None => {
-            let symbol = world.store.new_symbol(None)?;
-            let inner = world.heap.new_env(frame.node, Some(frame.env))?;
+            let symbol = new_symbol(world, None)?;
+            let inner = new_env(world, frame.node, frame.env)?;
             declare(world, inner, Value::Symbol(symbol))?;
             let then = BlockThen::For(symbol, frame.at, bounds, frame.place);
             let none = Row::new(world.heap.allocator());

@@ -8,6 +8,7 @@ ghost use Rattle.spec_model.specs.Making.{quote_at};
 ghost use Rattle.spec_machine.specs.Splices.{statements_in, joined_step};
 ghost use Rattle.spec_machine.specs.Steps.{Comes, Does};
 
+use crate::making::new_term;
 use crate::quotes::terms_size;
 use crate::reached::{Reached, SpecStep};
 use crate::row::{Row, append, term_list};
@@ -30,11 +31,12 @@ fn performed(
         Comes (λ go. plans.performed value at terms go) world.old budget.old reached world.new budget.new) }
     ensures kept { OnOk result (KeepsStage world.old world.new) }
 {
-    match one(world, budget, value, at)? {
+    let reached = one(world, budget, value, at)?;
+    match reached {
         Reached::Value(term) => {
-            let statement = Term::Statement(at, Statement::Perform(term));
+            let made = new_term(world, Term::Statement(at, Statement::Perform(term)))?;
             let mut terms = terms;
-            terms.push(world.store.new_term(statement)?)?;
+            terms.push(made)?;
             Ok(Reached::Value(terms))
         }
         Reached::Left(step) => Ok(Reached::Left(step)),
@@ -67,17 +69,22 @@ fn quoted(
         Comes (λ go. plans.item_of (Value.Quote quote) at terms go) world.old budget.old reached world.new budget.new) }
     ensures kept { OnOk result (KeepsStage world.old world.new) }
 {
-    match quoted_statements(world, quote)? {
+    let found = quoted_statements(world, quote)?;
+    match found {
         Some(statements) => {
             let size = terms_size(world, statements.as_slice());
-            if !budget.pay(u64::from(size.nodes)) {
+            let nodes = u64::from(size.nodes);
+            if !budget.pay(nodes) {
                 return Ok(Reached::Left(Step::Spent));
             }
             let mut terms = terms;
             append(&mut terms, statements.as_slice())?;
             Ok(Reached::Value(terms))
         }
-        None => performed(world, budget, Value::Quote(quote), at, terms),
+        None => {
+            let reached = performed(world, budget, Value::Quote(quote), at, terms)?;
+            Ok(reached)
+        }
     }
 }
 
@@ -94,8 +101,14 @@ fn item(
     ensures kept { OnOk result (KeepsStage world.old world.new) }
 {
     match value {
-        Value::Quote(quote) => quoted(world, budget, quote, at, terms),
-        _ => performed(world, budget, value, at, terms),
+        Value::Quote(quote) => {
+            let reached = quoted(world, budget, quote, at, terms)?;
+            Ok(reached)
+        }
+        _ => {
+            let reached = performed(world, budget, value, at, terms)?;
+            Ok(reached)
+        }
     }
 }
 
@@ -113,7 +126,8 @@ fn each_item(
 {
     let mut terms = terms;
     'values: for value in values {
-        match item(world, budget, *value, at, terms)? {
+        let reached = item(world, budget, *value, at, terms)?;
+        match reached {
             Reached::Value(more) => terms = more,
             Reached::Left(step) => return Ok(Reached::Left(step)),
         }
@@ -136,9 +150,13 @@ pub fn spliced(
     match value {
         Value::Table(table) => {
             let values = values_in(&world.heap, table)?;
-            each_item(world, budget, values.as_slice(), at, terms)
+            let reached = each_item(world, budget, values.as_slice(), at, terms)?;
+            Ok(reached)
         }
-        _ => item(world, budget, value, at, terms),
+        _ => {
+            let reached = item(world, budget, value, at, terms)?;
+            Ok(reached)
+        }
     }
 }
 
@@ -155,7 +173,8 @@ fn each_spliced(
 {
     let mut terms = Row::new(world.heap.allocator());
     'values: for value in values {
-        match spliced(world, budget, *value, at, terms)? {
+        let reached = spliced(world, budget, *value, at, terms)?;
+        match reached {
             Reached::Value(more) => terms = more,
             Reached::Left(step) => return Ok(Reached::Left(step)),
         }

@@ -4,6 +4,7 @@ ghost use Rattle.std.specs.Prelude.{◌≡◌, ℕ, [], IfOk, OnOk};
 ghost use Rattle.tl_tree.specs.Arena.{items_of};
 ghost use Rattle.tl_tree.specs.Code.{Items};
 ghost use Rattle.tl_tree.specs.Nodes.{item_at};
+ghost use Rattle.spec_model.specs.Nodes.{escaped_at, or_first};
 ghost use Rattle.spec_model.specs.Statements as plans;
 ghost use Rattle.spec_machine.specs.Keeping.{KeepsStage};
 ghost use Rattle.spec_machine.specs.Steps.{Goes};
@@ -78,7 +79,7 @@ fn specialise<'a>(
             Ok(Step::Enter(Job::Expression(*call, env)))
         }
         TerraStatement::Splice(code) => {
-            let code = escaped(tree, *code).unwrap_or(NodeId(0));
+            let code = escape(tree, *code);
             frames.push(SpecFrame::Value(ValueFrame::Splice(place)))?;
             Ok(Step::Stop(SpecQuestion::Eval(code, env)))
         }
@@ -120,5 +121,15 @@ fn specialise<'a>(
             terms(frames, world, values.as_slice(), env, none, then)
         }
         TerraStatement::Break => join(world, place, Statement::Break),
+    }
+}
+
+/// The Lua code of an escape, which a splice holds.
+fn escape(tree: &Tree<'_>, node: NodeId) -> NodeId
+    ensures { result ≡ or_first (escaped_at (items_of tree.now) node) }
+{
+    match escaped(tree, node) {
+        Some(code) => code,
+        None => NodeId(0),
     }
 }

@@ -11,11 +11,13 @@ ghost use Rattle.spec_model.specs.Plans as models;
 ghost use Rattle.spec_model.specs.Types.{type_if_any};
 ghost use Rattle.spec_model.specs.Statements as plans;
 ghost use Rattle.spec_machine.specs.Frames as waiting;
+ghost use Rattle.spec_machine.specs.Variables.{wanted_at};
 ghost use Rattle.spec_machine.specs.Keeping.{KeepsStage};
 ghost use Rattle.spec_machine.specs.Steps.{Goes, Does, Gets};
 
 use crate::code::{escaped, place, typing_at};
 use crate::frame::{NextFrame, SpecFrame, TermsFrame, TermsThen, ValueFrame, VarFrame};
+use crate::making::new_symbol;
 use crate::names::declare;
 use crate::reached::SpecStep;
 use crate::row::{Row, list_if_any};
@@ -123,16 +125,47 @@ pub fn with_wanted<'a>(
     ensures wanted { IfOk result (λ f. f.wanted ≡ frame.entry.wanted ++ waiting.wanted_of (items_of tree.now) node symbols of) }
 {
     let at = place(tree, typing_at(tree, node).name);
-    let mut frame = frame;
+    let VarFrame {
+        rest,
+        values,
+        place,
+        env,
+        wanted,
+    } = frame;
+    let wanted = placed(wanted, symbols, of, at)?;
+    Ok(VarFrame {
+        rest,
+        values,
+        place,
+        env,
+        wanted,
+    })
+}
+
+/// Puts what stands in the place of a variable behind what stands in the place of others.
+fn placed(
+    before: Row<Wanted>,
+    symbols: Option<Row<SymId>>,
+    of: Option<TypeId>,
+    at: Place,
+) -> Result<Row<Wanted>, NoMemory>
+    ensures { IfOk result (λ all. all ≡ before ++ wanted_at symbols of at) }
+{
+    let mut wanted = before;
     match symbols {
-        Some(symbols) => given(&mut frame.wanted, symbols.as_slice(), of, at)?,
-        None => frame.wanted.push(Wanted {
-            symbol: None,
-            of,
-            place: at,
-        })?,
+        Some(symbols) => {
+            given(&mut wanted, symbols.as_slice(), of, at)?;
+            Ok(wanted)
+        }
+        None => {
+            wanted.push(Wanted {
+                symbol: None,
+                of,
+                place: at,
+            })?;
+            Ok(wanted)
+        }
     }
-    Ok(frame)
 }
 
 /// Puts symbols in the place of a variable behind what stands in the place of others.
@@ -212,7 +245,8 @@ fn drawn(world: &mut World, wanted: &[Wanted], env: EnvId) -> Result<VarNameList
 {
     let mut names = Vec::new(world.heap.allocator());
     'variables: for variable in wanted {
-        names.push(drawn_one(world, *variable, env)?)?;
+        let name = drawn_one(world, *variable, env)?;
+        names.push(name)?;
     }
     VarNameList::from_vec(names)
 }
@@ -230,7 +264,7 @@ fn drawn_one(world: &mut World, wanted: Wanted, env: EnvId) -> Result<VarName, N
             place: wanted.place,
         }),
         None => {
-            let symbol = world.store.new_symbol(wanted.of)?;
+            let symbol = new_symbol(world, wanted.of)?;
             declare(world, env, Value::Symbol(symbol))?;
             Ok(VarName {
                 symbol,
