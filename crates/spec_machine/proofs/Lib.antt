@@ -13,7 +13,7 @@ pub mod Looping
 pub mod Limiting
 pub mod Worlds
 pub mod Texts
-pub mod Making
+pub mod Made
 pub mod Asking
 pub mod Pushing
 pub mod Entering

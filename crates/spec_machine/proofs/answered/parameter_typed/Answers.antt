@@ -11,7 +11,7 @@ use Rattle.spec_model.specs.Definitions as definitions
 use Rattle.spec_machine.specs.Kept.{keeps_then}
 use Rattle.spec_machine.specs.Frames as waiting
 use Rattle.spec_machine.proofs.Doing.{moved, comes, leaves}
-use Rattle.spec_machine.proofs.Making.{named}
+use Rattle.spec_machine.proofs.Made.{named}
 use Rattle.spec_machine.proofs.answered.parameter_typed.Goals as goal
 
 pub returns-in_ok-step-clause-means : goal.returns-in_ok-step-clause-means

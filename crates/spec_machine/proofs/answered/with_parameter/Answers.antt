@@ -6,7 +6,7 @@ use Rattle.spec_model.specs.Plans.{SpecPlan}
 use Rattle.spec_machine.specs.Kept.{keeps_then}
 use Rattle.spec_machine.specs.Frames as waiting
 use Rattle.spec_machine.proofs.Doing.{moved}
-use Rattle.spec_machine.proofs.Making.{named}
+use Rattle.spec_machine.proofs.Made.{named}
 use Rattle.spec_machine.proofs.answered.with_parameter.Goals as goal
 
 pub returns-clause-means : goal.returns-clause-means

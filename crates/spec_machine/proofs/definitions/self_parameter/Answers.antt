@@ -8,7 +8,7 @@ use Rattle.spec_model.specs.declared.wanted.Drawn.{Drawn}
 use Rattle.spec_model.specs.Making as making
 use Rattle.spec_model.specs.Definitions as definitions
 use Rattle.spec_machine.specs.Kept.{keeps_then}
-use Rattle.spec_machine.proofs.Making.{named}
+use Rattle.spec_machine.proofs.Made.{named}
 use Rattle.spec_machine.proofs.Keeping.{kept_as}
 use Rattle.spec_machine.proofs.Typing.{keeps_pointer}
 use Rattle.spec_machine.proofs.definitions.self_parameter.Goals as goal

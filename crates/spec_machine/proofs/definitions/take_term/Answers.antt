@@ -13,7 +13,7 @@ use Rattle.spec_machine.specs.Kept.{keeps_then}
 use Rattle.spec_machine.specs.Frames as waiting
 use Rattle.spec_machine.specs.Steps.{SpecStep}
 use Rattle.spec_machine.proofs.Doing.{returns as returned, moved, gets}
-use Rattle.spec_machine.proofs.Making.{node_got}
+use Rattle.spec_machine.proofs.Made.{node_got}
 use Rattle.spec_machine.proofs.definitions.take_term.Goals as goal
 
 pub returns-clause-means : goal.returns-clause-means

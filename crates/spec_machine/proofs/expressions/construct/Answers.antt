@@ -11,7 +11,7 @@ use Rattle.spec_model.specs.Expressions as expressions
 use Rattle.spec_machine.specs.declared.frame.TermsThen.TheVariants as of_terms
 use Rattle.spec_machine.specs.Frames as waiting
 use Rattle.spec_machine.proofs.Doing.{moved, chosen}
-use Rattle.spec_machine.proofs.Making.{named}
+use Rattle.spec_machine.proofs.Made.{named}
 use Rattle.spec_machine.proofs.expressions.construct.Goals as goal
 
 pub returns-in_ok-step-clause-means : goal.returns-in_ok-step-clause-means

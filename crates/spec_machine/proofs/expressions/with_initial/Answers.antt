@@ -9,7 +9,7 @@ use Rattle.spec_model.specs.Names as naming
 use Rattle.spec_machine.specs.Kept.{keeps_then}
 use Rattle.spec_machine.specs.Frames as waiting
 use Rattle.spec_machine.proofs.Doing.{moved, gets}
-use Rattle.spec_machine.proofs.Making.{named}
+use Rattle.spec_machine.proofs.Made.{named}
 use Rattle.spec_machine.proofs.expressions.with_initial.Goals as goal
 
 pub returns-clause-means : goal.returns-clause-means

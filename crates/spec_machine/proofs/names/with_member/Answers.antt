@@ -9,7 +9,7 @@ use Rattle.spec_machine.specs.Kept.{keeps_then}
 use Rattle.spec_machine.proofs.Doing.{moved}
 use Rattle.spec_machine.specs.declared.frame.ValueFrame.TheVariants.{Found}
 use Rattle.spec_machine.proofs.Asking.{asks_value}
-use Rattle.spec_machine.proofs.Making.{named}
+use Rattle.spec_machine.proofs.Made.{named}
 use Rattle.spec_machine.proofs.names.with_member.Goals as goal
 
 pub returns-in-Table-clause-means : goal.returns-in-Table-clause-means

@@ -5,7 +5,7 @@ use Rattle.exotype.specs.World.{StageState}
 use Rattle.exotype.specs.contracts.world.World.{the_view}
 use Rattle.spec_model.specs.Making.{next_quote, with_quote}
 use Rattle.spec_machine.proofs.Keeping.{kept_as, keeps_store, store_quote}
-use Rattle.spec_machine.proofs.Making.{gives_quote}
+use Rattle.spec_machine.proofs.Made.{gives_quote}
 use Rattle.spec_machine.proofs.Worlds.{store_by}
 use Rattle.spec_machine.proofs.quotes.give_quote.Goals as goal
 

@@ -13,7 +13,7 @@ use Rattle.spec_model.specs.Quotes.{quote_term}
 use Rattle.spec_machine.specs.Kept.{keeps_then}
 use Rattle.spec_machine.proofs.Doing.{moved, gets}
 use Rattle.spec_machine.proofs.Keeping.{kept_as, keeps_store, store_term}
-use Rattle.spec_machine.proofs.Making.{node_got}
+use Rattle.spec_machine.proofs.Made.{node_got}
 use Rattle.spec_machine.proofs.Worlds.{store_by}
 use Rattle.spec_machine.proofs.quotes.quote_let.Goals as goal
 

@@ -4,7 +4,7 @@ use Rattle.spec_model.specs.Plans.{literal, on_became}
 use Rattle.spec_machine.specs.Kept.{keeps_then}
 use Rattle.spec_machine.proofs.Becoming.{keeps_became}
 use Rattle.spec_machine.proofs.Keeping.{kept_as}
-use Rattle.spec_machine.proofs.Making.{literal_passes}
+use Rattle.spec_machine.proofs.Made.{literal_passes}
 use Rattle.spec_machine.proofs.Reaching.{comes_past}
 use Rattle.spec_machine.proofs.terms.literal.Goals as goal
 

@@ -6,7 +6,7 @@ use Rattle.exotype.specs.World.{StageState}
 use Rattle.exotype.specs.contracts.world.World.{the_view}
 use Rattle.spec_model.specs.Making.{next_term, with_term}
 use Rattle.spec_machine.proofs.Keeping.{kept_as, keeps_store, store_term}
-use Rattle.spec_machine.proofs.Making.{makes}
+use Rattle.spec_machine.proofs.Made.{makes}
 use Rattle.spec_machine.proofs.Worlds.{store_by}
 use Rattle.spec_machine.proofs.terms.make.Goals as goal
 

@@ -5,7 +5,7 @@ use Rattle.spec_model.specs.Plans.{one, on_became}
 use Rattle.spec_machine.specs.Kept.{keeps_then}
 use Rattle.spec_machine.proofs.Becoming.{keeps_became}
 use Rattle.spec_machine.proofs.Keeping.{kept_as}
-use Rattle.spec_machine.proofs.Making.{one_passes, one_short}
+use Rattle.spec_machine.proofs.Made.{one_passes, one_short}
 use Rattle.spec_machine.proofs.Reaching.{comes_past}
 use Rattle.spec_machine.proofs.terms.one.Goals as goal
 
