@@ -15,8 +15,6 @@ pub mod Worlds
 pub mod Texts
 pub mod Made
 pub mod Asking
-pub mod Pushing
-pub mod Entering
 pub mod Defining
 pub mod Standing
 pub mod Placing

@@ -31,7 +31,20 @@ undefined_is (states.Refused t why) is = absurd (cc is)
 -- ---- types
 
 store_types : (s : Held) (new : List TypeForm) → IsFront s.types new → KeepsStore s (with_types s new)
-store_types s new front = record (store_itself s) { types = front }
+store_types s new front =
+    let same = store_itself s in
+    record {
+      functions = same.functions;
+      terms = same.terms;
+      types = front;
+      symbols = same.symbols;
+      quotes = same.quotes;
+      statics = same.statics;
+      names = same.names;
+      constants = same.constants;
+      globals = same.globals;
+      typed = same.typed;
+    }
 
 form_front : (place : Option ℕ) (old : List TypeForm) (form : TypeForm) → IsFront old (types_in place old form)
 form_front (Some place) old form = front_self old

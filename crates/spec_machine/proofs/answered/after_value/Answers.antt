@@ -18,7 +18,7 @@ returns-in_ok-step-clause-means c =
     let items = items_of a.tree.now in
     let go : Value → SpecPlan = λ v. waiting.with_value items a.frame v in
     moved items a.frames.now.items c.with_value.new.frames.items (waiting.on_answer a.end (λ vs. go (first_value vs))) (go c.first-value.result)
-    a.world.now a.world.now c.with_value.new.world a.budget.now a.budget.now c.with_value.new.budget c.in_ok-step.step
+    a.world.now a.world.now c.with_value.new.world a.budget.now c.with_value.new.budget c.in_ok-step.step
     (ap (λ (r : End). waiting.on_answer r (λ vs. go (first_value vs))) c.in-Answered.is
     ∙ ap go (sym (c.first-value.ensures ∙ ap first_value c.as_slice.ensures))) refl c.in_ok-step.ensures.means
 
@@ -31,7 +31,7 @@ returns c =
     record {
       means =
           moved items fs fs (waiting.on_answer a.end go) (Give a.end) a.world.now a.world.now a.world.now
-          a.budget.now a.budget.now a.budget.now (Return a.end) (placing.answer_ended a.end go c.in_default.not-Answered) refl
+          a.budget.now a.budget.now (Return a.end) (placing.answer_ended a.end go c.in_default.not-Answered) refl
           (returned items fs a.end a.world.now a.budget.now);
       kept = keeps_itself a.world.now;
     }

@@ -21,7 +21,7 @@ returns-in_ok-step-clause-means c =
     let fs2 = c.with_result.new.frames.items in
     let w2 = c.with_result.new.world in
     let left2 = c.with_result.new.budget in
-    moved items fs fs2 (plan (place_at items a.of) (go (place_at items a.of))) (plan (c.place.result) (go (c.place.result))) w w w2 a.budget.now a.budget.now left2 c.in_ok-step.step
+    moved items fs fs2 (plan (place_at items a.of) (go (place_at items a.of))) (plan (c.place.result) (go (c.place.result))) w w w2 a.budget.now left2 c.in_ok-step.step
     (ap (λ (p : Place). plan p (go p)) (sym c.place.ensures)) refl
     (comes {X = TypeId} items fs fs2 (plan (c.place.result)) (go (c.place.result)) c.in_ok-reached.reached c.in-Value.of
     w c.as_type.new.world w2 a.budget.now c.as_type.new.budget left2 c.in_ok-step.step c.in-Value.is c.in_ok-reached.ensures.means
@@ -35,7 +35,7 @@ returns-in-Left-clause-means c =
     let w = a.world.now in
     let go : Place → TypeId → SpecPlan = λ p. λ t. waiting.with_result items a.definition a.drawn (Some t) in
     let plan : Place → (TypeId → SpecPlan) → SpecPlan = λ p k. types.as_type a.value p k in
-    moved items fs fs (plan (place_at items a.of) (go (place_at items a.of))) (plan (c.place.result) (go (c.place.result))) w w c.as_type.new.world a.budget.now a.budget.now c.as_type.new.budget c.in-Left.step
+    moved items fs fs (plan (place_at items a.of) (go (place_at items a.of))) (plan (c.place.result) (go (c.place.result))) w w c.as_type.new.world a.budget.now c.as_type.new.budget c.in-Left.step
     (ap (λ (p : Place). plan p (go p)) (sym c.place.ensures)) refl
     (leaves {X = TypeId} items fs (plan (c.place.result)) (go (c.place.result)) c.in_ok-reached.reached c.in-Left.step
     w c.as_type.new.world a.budget.now c.as_type.new.budget c.in-Left.is c.in_ok-reached.ensures.means)

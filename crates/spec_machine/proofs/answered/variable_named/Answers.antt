@@ -24,7 +24,7 @@ returns-in_ok-step-clause-means c =
     let fs2 = c.variable_type.new.frames.items in
     let w2 = c.variable_type.new.world in
     let left2 = c.symbols_of.new.budget in
-    moved items fs fs2 (plan (place_at items (typing_at items a.node).name) (go (place_at items (typing_at items a.node).name))) (plan (c.place-at.result) (go (c.place-at.result))) w w w2 a.budget.now a.budget.now left2 c.in_ok-step.step
+    moved items fs fs2 (plan (place_at items (typing_at items a.node).name) (go (place_at items (typing_at items a.node).name))) (plan (c.place-at.result) (go (c.place-at.result))) w w w2 a.budget.now left2 c.in_ok-step.step
     (ap (λ (p : Place). plan p (go p)) (ap (λ (n : NodeId). place_at items n) (sym c.typing_at.ensures.name) ∙ sym c.place-at.ensures)) refl
     (comes {X = List SymId} items fs fs2 (plan (c.place-at.result)) (go (c.place-at.result)) c.in_ok-reached.reached c.in-Value.symbols
     w c.symbols_of.new.world w2 a.budget.now c.symbols_of.new.budget left2 c.in_ok-step.step c.in-Value.is c.in_ok-reached.ensures.means
@@ -38,7 +38,7 @@ returns-in-Left-clause-means c =
     let w = a.world.now in
     let go : Place → List SymId → SpecPlan = λ p. λ xs. types.type_if_any items (typing_at items a.node).type a.frame.env (λ of. waiting.with_wanted items a.node (Some xs) a.frame of) in
     let plan : Place → (List SymId → SpecPlan) → SpecPlan = λ p k. naming.symbols_of a.value p k in
-    moved items fs fs (plan (place_at items (typing_at items a.node).name) (go (place_at items (typing_at items a.node).name))) (plan (c.place-at.result) (go (c.place-at.result))) w w c.symbols_of.new.world a.budget.now a.budget.now c.symbols_of.new.budget c.in-Left.step
+    moved items fs fs (plan (place_at items (typing_at items a.node).name) (go (place_at items (typing_at items a.node).name))) (plan (c.place-at.result) (go (c.place-at.result))) w w c.symbols_of.new.world a.budget.now c.symbols_of.new.budget c.in-Left.step
     (ap (λ (p : Place). plan p (go p)) (ap (λ (n : NodeId). place_at items n) (sym c.typing_at.ensures.name) ∙ sym c.place-at.ensures)) refl
     (leaves {X = List SymId} items fs (plan (c.place-at.result)) (go (c.place-at.result)) c.in_ok-reached.reached c.in-Left.step
     w c.symbols_of.new.world a.budget.now c.symbols_of.new.budget c.in-Left.is c.in_ok-reached.ensures.means)

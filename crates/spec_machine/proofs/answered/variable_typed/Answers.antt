@@ -27,7 +27,7 @@ returns-in_ok-step-clause-means c =
     let fs2 = c.variables.new.frames.items in
     let w2 = c.variables.new.world in
     let left2 = c.variables.new.budget in
-    moved items fs fs2 (plan (place_at items a.of) (go (place_at items a.of))) (plan (c.place.result) (go (c.place.result))) w w w2 a.budget.now a.budget.now left2 c.in_ok-step.step
+    moved items fs fs2 (plan (place_at items a.of) (go (place_at items a.of))) (plan (c.place.result) (go (c.place.result))) w w w2 a.budget.now left2 c.in_ok-step.step
     (ap (λ (p : Place). plan p (go p)) (sym c.place.ensures)) refl
     (comes {X = TypeId} items fs fs2 (plan (c.place.result)) (go (c.place.result)) c.in_ok-reached.reached c.in-Value.of
     w c.as_type.new.world w2 a.budget.now c.as_type.new.budget left2 c.in_ok-step.step c.in-Value.is c.in_ok-reached.ensures.means
@@ -38,7 +38,7 @@ returns-in_ok-step-clause-means c =
     let all : List NodeId → List NodeId → Place → EnvId → List Wanted → SpecPlan = λ ns vs at env ws. statements.wanted items ns env ws
     (λ all. statements.values_if_any vs env (λ ts. statements.drawn all env [] (λ names. plans.join at (s.Var names ts)))) in
     moved items fs fs2 (all a.frame.rest.now a.frame.values.now a.frame.place a.frame.env ws) (all f.rest.now f.values.now f.place f.env f.wanted)
-    u u w2 left left left2 c.in_ok-step.step
+    u u w2 left left2 c.in_ok-step.step
     (sym (ap (λ (ns : List NodeId). all ns f.values.now f.place f.env f.wanted) c.in_ok-frame.ensures.rest
     ∙ ap (λ (vs : List NodeId). all a.frame.rest.now vs f.place f.env f.wanted) c.in_ok-frame.ensures.values
     ∙ ap (λ (p : Place). all a.frame.rest.now a.frame.values.now p f.env f.wanted) c.in_ok-frame.ensures.place
@@ -54,7 +54,7 @@ returns-in-Left-clause-means c =
     let w = a.world.now in
     let go : Place → TypeId → SpecPlan = λ p. λ of. waiting.wanted_from items a.frame a.frame.rest.now (a.frame.wanted ++ waiting.wanted_of items a.node a.symbols (Some of)) in
     let plan : Place → (TypeId → SpecPlan) → SpecPlan = λ p k. types.as_type a.value p k in
-    moved items fs fs (plan (place_at items a.of) (go (place_at items a.of))) (plan (c.place.result) (go (c.place.result))) w w c.as_type.new.world a.budget.now a.budget.now c.as_type.new.budget c.in-Left.step
+    moved items fs fs (plan (place_at items a.of) (go (place_at items a.of))) (plan (c.place.result) (go (c.place.result))) w w c.as_type.new.world a.budget.now c.as_type.new.budget c.in-Left.step
     (ap (λ (p : Place). plan p (go p)) (sym c.place.ensures)) refl
     (leaves {X = TypeId} items fs (plan (c.place.result)) (go (c.place.result)) c.in_ok-reached.reached c.in-Left.step
     w c.as_type.new.world a.budget.now c.as_type.new.budget c.in-Left.is c.in_ok-reached.ensures.means)

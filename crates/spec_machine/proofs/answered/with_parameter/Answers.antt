@@ -19,7 +19,7 @@ returns-clause-means c =
     let d : Drawn = record { symbol = making.next_symbol w; of = a.of; place = a.at; named = true } in
     let go : List Drawn → SpecPlan = λ ds. waiting.parameters_from items f.definition f.rest.now ds in
     moved items a.frames.now.items c.parameters.new.frames.items (go (f.drawn ++ d ∷ [])) (go c.push.new.self) u c.draw.new.world c.parameters.new.world
-    a.budget.now a.budget.now c.parameters.new.budget c.in_ok-step.step
+    a.budget.now c.parameters.new.budget c.in_ok-step.step
     (ap go (sym (c.in_ok-push.ensures.ok ∙ ap (λ (x : Drawn). f.drawn ++ x ∷ []) c.in_ok-more.ensures.drawn))) (sym c.in_ok-more.ensures.ok)
     c.in_ok-step.ensures.means
 

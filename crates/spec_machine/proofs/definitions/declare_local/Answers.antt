@@ -17,5 +17,5 @@ returns-clause-means c = λ items left.
     let w = a.world.now in
     let go : CellId → SpecPlan = λ cell. waiting.with_target items (of_target.Declare a.of) a.at a.env (targets.Cell cell) None in
     moved items a.frames.now.items c.declare_target.new.frames.items (go (next_cell w.heap)) (go c.next_cell-cell.result)
-    (with_heap w (declare a.env values.Nil w.heap)) c.declare.new.world c.declare.new.world left left left c.in_ok-step.step
+    (with_heap w (declare a.env values.Nil w.heap)) c.declare.new.world c.declare.new.world left left c.in_ok-step.step
     (ap go (sym c.next_cell-cell.ensures)) (sym c.in_ok-declare.ensures.ok) (c.in_ok-step.ensures.means items c.declare.new.world left)

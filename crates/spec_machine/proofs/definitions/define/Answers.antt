@@ -39,7 +39,7 @@ returns-clause-means c =
     c.parameters.new.budget c.in_ok-step.step c.pay.result c.if-pay.true c.pay.ensures.enough c.pay.ensures.paid
     (gets {X = List Drawn} items fs fs2 (λ k. definitions.self a.of d.place k) (go ns) drawn
     a.world.now v c.parameters.new.world left c.parameters.new.budget c.in_ok-step.step c.in_ok-drawn.ensures.means
-    (moved items fs fs2 (go ns drawn) (go c.terra_parts.result.parameters.now drawn) v v c.parameters.new.world left left
+    (moved items fs fs2 (go ns drawn) (go c.terra_parts.result.parameters.now drawn) v v c.parameters.new.world left
     c.parameters.new.budget c.in_ok-step.step (ap (λ (l : List NodeId). go l drawn) (sym c.terra_parts.ensures.parameters)) refl
     c.in_ok-step.ensures.means))
 

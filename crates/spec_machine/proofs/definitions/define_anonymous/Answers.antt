@@ -20,7 +20,7 @@ returns-clause-means c =
     let go : FnId → SpecPlan = λ x.
     definitions.define items x (terra_parts_at items a.body) a.body None a.at a.env (Give (ends.Gave (values.TerraFunction x))) in
     moved items a.frames.now.items c.define.new.frames.items (go (next_function w)) (go c.in_ok-function.function)
-    (with_function w a.at None) c.new_function.new.world c.define.new.world a.budget.now a.budget.now c.define.new.budget c.in_ok-step.step
+    (with_function w a.at None) c.new_function.new.world c.define.new.world a.budget.now c.define.new.budget c.in_ok-step.step
     (ap go (sym c.in_ok-function.ensures.id)) (sym c.in_ok-function.ensures.ok) c.in_ok-step.ensures.means
 
 pub returns-clause-kept : goal.returns-clause-kept

@@ -23,7 +23,7 @@ returns-clause-means c =
     let go : FnId → SpecPlan = λ x. definitions.define items x (terra_parts_at items a.body) a.body None a.at a.env definitions.over in
     moved items a.frames.now.items c.define.new.frames.items (go g) (go f)
     (with_heap v (declare a.env (values.TerraFunction g) v.heap)) c.declare.new.world c.define.new.world
-    a.budget.now a.budget.now c.define.new.budget c.in_ok-step.step
+    a.budget.now c.define.new.budget c.in_ok-step.step
     (ap go (sym c.in_ok-function.ensures.id))
     (sym (c.in_ok-declare.ensures.ok
     ∙ ap (λ (u : StageState). with_heap u (declare a.env (values.TerraFunction f) u.heap)) c.in_ok-function.ensures.ok

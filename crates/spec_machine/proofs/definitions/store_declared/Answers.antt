@@ -18,7 +18,7 @@ returns-clause-means c = λ items left fs.
     let v = with_function w a.at (Some a.of) in
     let f = c.in_ok-function.function in
     moved items fs fs definitions.over definitions.over
-    (with_heap v (definitions.with_held v.heap a.target (values.TerraFunction g))) c.store.new.world c.store.new.world left left left
+    (with_heap v (definitions.with_held v.heap a.target (values.TerraFunction g))) c.store.new.world c.store.new.world left left
     (Return (ends.Gave values.Nil)) refl
     (sym (c.in_ok-store.ensures.ok
     ∙ ap (λ (u : StageState). with_heap u (definitions.with_held u.heap a.target (values.TerraFunction f))) c.in_ok-function.ensures.ok

@@ -27,13 +27,13 @@ returns-clause-means c = λ items left fs.
     let made = term c.in_ok-parameters.parameters c.in_ok-body.body in
     let go : TermId → SpecPlan = λ x. Read (λ v. Write (making.with_defined v f d.place x) (waiting.defined d)) in
     let end : SpecStep = Return (ends.Gave c.defined.result) in
-    moved items fs fs (plans.node (term (definitions.parameter_list a.drawn) a.body) go) (plans.node made go) w w c.define_term.new.world left left left end
+    moved items fs fs (plans.node (term (definitions.parameter_list a.drawn) a.body) go) (plans.node made go) w w c.define_term.new.world left left end
     (ap (λ (ps : List Parameter). plans.node (term ps a.body) go) (sym (c.in_ok-parameters.ensures ∙ ap definitions.parameter_list c.as_slice.ensures))
     ∙ ap (λ (ts : List TermId). plans.node (term c.in_ok-parameters.parameters ts) go) (sym c.in_ok-body.ensures)) refl
     (gets {X = TermId} items fs fs (λ k. plans.node made k) go t w c.new_term.new.world c.define_term.new.world left left end
     (node_got made w c.new_term.new.world t c.in_ok-term.ensures.id c.in_ok-term.ensures.ok)
     (moved items fs fs (waiting.defined d) (Give (ends.Gave c.defined.result)) (making.with_defined c.new_term.new.world f d.place t)
-    c.define_term.new.world c.define_term.new.world left left left end c.defined.ensures (sym c.in_ok-define_term.ensures.ok)
+    c.define_term.new.world c.define_term.new.world left left end c.defined.ensures (sym c.in_ok-define_term.ensures.ok)
     (returned items fs (ends.Gave c.defined.result) c.define_term.new.world left)))
 
 pub returns-clause-kept : goal.returns-clause-kept

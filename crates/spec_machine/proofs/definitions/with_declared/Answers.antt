@@ -25,7 +25,7 @@ returns-in-Left-clause-means c = λ fs.
     then definitions.new_function a.at (Some of) (λ f. definitions.storing a.target (values.TerraFunction f) definitions.over)
     else plans.raise (place_at items a.node) faults.NotAType) in
     moved items fs fs (types.as_type a.value (place_at items a.node) go) (types.as_type a.value c.place.result go)
-    a.world.now a.world.now c.as_type.new.world a.budget.now a.budget.now c.as_type.new.budget c.in-Left.step
+    a.world.now a.world.now c.as_type.new.world a.budget.now c.as_type.new.budget c.in-Left.step
     (ap (λ (p : Place). types.as_type a.value p go) (sym c.place.ensures)) refl
     (leaves {X = TypeId} items fs (λ k. types.as_type a.value c.place.result k) go c.in_ok-reached.reached c.in-Left.step
     a.world.now c.as_type.new.world a.budget.now c.as_type.new.budget c.in-Left.is c.in_ok-reached.ensures.means)
@@ -41,7 +41,7 @@ returns-clause-means c = λ fs.
     then definitions.new_function a.at (Some of) (λ f. definitions.storing a.target (values.TerraFunction f) definitions.over)
     else plans.raise p faults.NotAType) in
     moved items fs fs (types.as_type a.value (place_at items a.node) (go (place_at items a.node))) (types.as_type a.value c.place.result (go c.place.result))
-    a.world.now a.world.now w2 a.budget.now a.budget.now left2 c.in_ok-step.step
+    a.world.now a.world.now w2 a.budget.now left2 c.in_ok-step.step
     (ap (λ (p : Place). types.as_type a.value p (go p)) (sym c.place.ensures)) refl
     (comes {X = TypeId} items fs fs (λ k. types.as_type a.value c.place.result k) (go c.place.result) c.in_ok-reached.reached c.in-Value.of
     a.world.now c.as_type.new.world w2 a.budget.now c.as_type.new.budget left2 c.in_ok-step.step c.in-Value.is c.in_ok-reached.ensures.means

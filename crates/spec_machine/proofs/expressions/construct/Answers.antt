@@ -27,7 +27,7 @@ returns-in_ok-step-clause-means c = λ left.
     let plan : List TextId → List TermId → SpecPlan = λ xs ts. waiting.initials_from items (record { of = a.of; place = f.place; env = f.env }) ns xs ts in
     chosen items fs c.initials.new.frames.items (are_named items ns) true named listed w c.initials.new.world left left c.in_ok-step.step
     (sym c.are_named.ensures ∙ c.if-are_named.true)
-    (moved items fs c.initials.new.frames.items (plan [] []) (plan c.new-names.result c.new-terms.result) w w c.initials.new.world left left left c.in_ok-step.step
+    (moved items fs c.initials.new.frames.items (plan [] []) (plan c.new-names.result c.new-terms.result) w w c.initials.new.world left left c.in_ok-step.step
     (ap (λ (xs : List TextId). plan xs []) (sym c.new-names.ensures) ∙ ap (plan c.new-names.result) (sym c.new-terms.ensures)) refl
     (c.in_ok-step.ensures.means left))
 
@@ -44,5 +44,5 @@ returns-in_ok-step-2-clause-means c = λ left.
     let plan : List TermId → SpecPlan = λ ts. waiting.terms_plan items ns f.env ts (of_terms.Positional a.of f.place) in
     chosen items fs c.terms.new.frames.items (are_named items ns) false named listed w c.terms.new.world left left c.in_ok-step-2.step
     (sym c.are_named.ensures ∙ c.if-are_named.false)
-    (moved items fs c.terms.new.frames.items (plan []) (plan c.new.result) w w c.terms.new.world left left left c.in_ok-step-2.step
+    (moved items fs c.terms.new.frames.items (plan []) (plan c.new.result) w w c.terms.new.world left left c.in_ok-step-2.step
     (ap plan (sym c.new.ensures)) refl (c.in_ok-step-2.ensures.means items left))

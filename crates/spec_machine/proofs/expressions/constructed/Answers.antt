@@ -41,7 +41,7 @@ returns c =
     let go : TypeId → SpecPlan = λ t. expressions.construct items t f.initials.now f.place f.env in
     record {
       means =
-          moved items fs fs (expressions.constructed a.end f.at go) (Give a.end) w w w a.budget.now a.budget.now a.budget.now (Return a.end)
+          moved items fs fs (expressions.constructed a.end f.at go) (Give a.end) w w w a.budget.now a.budget.now (Return a.end)
           (placing.construct_ended a.end f.at go c.in_default.not-Found c.in_default.not-Made) refl (returned items fs a.end w a.budget.now);
       kept = keeps_itself w;
     }

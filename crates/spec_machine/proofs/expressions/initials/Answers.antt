@@ -17,7 +17,7 @@ returns-in_ok-step-in-None-clause-means c = λ left.
     let fs = a.frames.now.items in
     let w = a.world.now in
     let plan : List NodeId → SpecPlan = λ ns. waiting.initials_from items a.made ns a.names a.terms in
-    moved items fs fs (plan a.nodes.now) (plan []) w w c.make_named.new.world left left left c.in_ok-step-in-None.step
+    moved items fs fs (plan a.nodes.now) (plan []) w w c.make_named.new.world left left c.in_ok-step-in-None.step
     (ap plan (none_is a.nodes.now c.in-None.ensures.cases)) refl (c.in_ok-step-in-None.ensures.means items left fs)
 
 pub returns-in_ok-step-in-Some : goal.returns-in_ok-step-in-Some
@@ -33,7 +33,7 @@ returns-in_ok-step-in-Some c =
     (λ more others. waiting.initials_from items a.made rest more others) in
     record {
       means = λ left.
-          moved items fs c.named_initial.new.frames.items (plan a.nodes.now) (one (agreeing.initial_in c.initial_at.result)) w w w left left left c.in_ok-step-in-Some.step
+          moved items fs c.named_initial.new.frames.items (plan a.nodes.now) (one (agreeing.initial_in c.initial_at.result)) w w w left left c.in_ok-step-in-Some.step
           (ap plan c.in-Some.ensures.cases.0 ∙ ap one (sym c.initial_at.ensures)) refl (c.in_ok-step-in-Some.ensures.means items w left);
       kept = keeps_itself w;
     }

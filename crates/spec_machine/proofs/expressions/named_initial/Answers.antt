@@ -8,8 +8,8 @@ use Rattle.spec_machine.specs.declared.frame.NextFrame.TheVariants as of_next
 use Rattle.spec_machine.proofs.Doing.{bounces, enters}
 use Rattle.spec_machine.proofs.expressions.named_initial.Goals as goal
 
-pub returns-in-Some : goal.returns-in-Some
-returns-in-Some c =
+pub returns-in_ok-push-in-Some : goal.returns-in_ok-push-in-Some
+returns-in_ok-push-in-Some c =
     let a = c.args in
     let f = a.frame in
     let m = c.in-Some.named in
@@ -19,8 +19,8 @@ returns-in-Some c =
           rw c.in-Some.is (enters items a.frames.now.items c.push.new.self.items waits (jobs.Expression m.value f.made.env) w left c.in_ok-push.ensures.items);
     }
 
-pub returns-in-None : goal.returns-in-None
-returns-in-None c =
+pub returns-in_ok-push-in-None : goal.returns-in_ok-push-in-None
+returns-in_ok-push-in-None c =
     let a = c.args in
     let f = a.frame in
     record {

@@ -19,7 +19,7 @@ returns c =
     let w = a.world.now in
     record {
       means =
-          moved items fs fs (expressions.select items a.end a.name a.place a.env) (Give a.end) w w w a.budget.now a.budget.now a.budget.now (Return a.end)
+          moved items fs fs (expressions.select items a.end a.name a.place a.env) (Give a.end) w w w a.budget.now a.budget.now (Return a.end)
           (placing.select_ended items a.end a.name a.place a.env c.in_default.not-Found c.in_default.not-Made) refl
           (returned items fs a.end w a.budget.now);
       kept = keeps_itself w;

@@ -17,5 +17,5 @@ returns-in_ok-step-in_default-clause-means c =
     let w = a.world.now in
     moved items fs c.select_one.new.frames.items (expressions.select_from items a.value a.at a.name a.place a.env)
     (plans.one a.value a.at (λ object. expressions.select_term items object a.name a.place a.env)) w w c.select_one.new.world
-    a.budget.now a.budget.now c.select_one.new.budget c.in_ok-step-in_default.step
+    a.budget.now c.select_one.new.budget c.in_ok-step-in_default.step
     (placing.select_other items a.value a.at a.name a.place a.env c.in_default.not-Table) refl c.in_ok-step-in_default.ensures.means

@@ -44,8 +44,8 @@ returns-in_ok-step-in-True-clause-means c = λ left.
     let w = a.world.now in
     rw c.in-True.is (c.in_ok-step-in-True.ensures.means items left fs)
 
-pub returns-in-Binary : goal.returns-in-Binary
-returns-in-Binary c =
+pub returns-in_ok-push-in-Binary : goal.returns-in_ok-push-in-Binary
+returns-in_ok-push-in-Binary c =
     let a = c.args in
     let items = items_of a.tree.now in
     let fs = a.frames.now.items in
@@ -56,8 +56,8 @@ returns-in-Binary c =
       kept = keeps_itself w;
     }
 
-pub returns-in-Unary : goal.returns-in-Unary
-returns-in-Unary c =
+pub returns-in_ok-push-in-Unary : goal.returns-in_ok-push-in-Unary
+returns-in_ok-push-in-Unary c =
     let a = c.args in
     let items = items_of a.tree.now in
     let fs = a.frames.now.items in
@@ -68,8 +68,8 @@ returns-in-Unary c =
       kept = keeps_itself w;
     }
 
-pub returns-in-Paren : goal.returns-in-Paren
-returns-in-Paren c =
+pub returns-in_ok-push-in-Paren : goal.returns-in_ok-push-in-Paren
+returns-in_ok-push-in-Paren c =
     let a = c.args in
     let items = items_of a.tree.now in
     let fs = a.frames.now.items in
@@ -80,8 +80,8 @@ returns-in-Paren c =
       kept = keeps_itself w;
     }
 
-pub returns-in-Escape : goal.returns-in-Escape
-returns-in-Escape c =
+pub returns-in_ok-push-in-Escape : goal.returns-in_ok-push-in-Escape
+returns-in_ok-push-in-Escape c =
     let a = c.args in
     let items = items_of a.tree.now in
     let fs = a.frames.now.items in
@@ -92,8 +92,8 @@ returns-in-Escape c =
       kept = keeps_itself w;
     }
 
-pub returns-in-Index : goal.returns-in-Index
-returns-in-Index c =
+pub returns-in_ok-push-in-Index : goal.returns-in_ok-push-in-Index
+returns-in_ok-push-in-Index c =
     let a = c.args in
     let items = items_of a.tree.now in
     let fs = a.frames.now.items in
@@ -104,8 +104,8 @@ returns-in-Index c =
       kept = keeps_itself w;
     }
 
-pub returns-in-Select : goal.returns-in-Select
-returns-in-Select c =
+pub returns-in_ok-push-in-Select : goal.returns-in_ok-push-in-Select
+returns-in_ok-push-in-Select c =
     let a = c.args in
     let items = items_of a.tree.now in
     let fs = a.frames.now.items in
@@ -116,8 +116,8 @@ returns-in-Select c =
       kept = keeps_itself w;
     }
 
-pub returns-in-Call : goal.returns-in-Call
-returns-in-Call c =
+pub returns-in_ok-push-in-Call : goal.returns-in_ok-push-in-Call
+returns-in_ok-push-in-Call c =
     let a = c.args in
     let items = items_of a.tree.now in
     let fs = a.frames.now.items in
@@ -128,13 +128,13 @@ returns-in-Call c =
     let f = frames.Term (of_term.Callee slice a.place a.env) in
     let job = jobs.Expression m.callee a.env in
     record {
-      means = λ left. rw m.is (moved items fs c.push-in-Call.new.self.items (plan m.arguments) (plan slice.now) w w w left left left (Enter job)
+      means = λ left. rw m.is (moved items fs c.push-in-Call.new.self.items (plan m.arguments) (plan slice.now) w w w left left (Enter job)
           (ap plan (sym c.as_slice.ensures)) refl (enters items fs c.push-in-Call.new.self.items f job w left c.in_ok-push-in-Call.ensures.items));
       kept = keeps_itself w;
     }
 
-pub returns-in-Method : goal.returns-in-Method
-returns-in-Method c =
+pub returns-in_ok-push-in-Method : goal.returns-in_ok-push-in-Method
+returns-in_ok-push-in-Method c =
     let a = c.args in
     let items = items_of a.tree.now in
     let fs = a.frames.now.items in
@@ -146,13 +146,13 @@ returns-in-Method c =
     let f = frames.Term (of_term.Method m.name slice a.place a.env) in
     let job = jobs.Expression m.object a.env in
     record {
-      means = λ left. rw m.is (moved items fs c.push-in-Method.new.self.items (plan m.arguments) (plan slice.now) w w w left left left (Enter job)
+      means = λ left. rw m.is (moved items fs c.push-in-Method.new.self.items (plan m.arguments) (plan slice.now) w w w left left (Enter job)
           (ap plan (sym c.as_slice-in-Method.ensures)) refl (enters items fs c.push-in-Method.new.self.items f job w left c.in_ok-push-in-Method.ensures.items));
       kept = keeps_itself w;
     }
 
-pub returns-in-Construct : goal.returns-in-Construct
-returns-in-Construct c =
+pub returns-in_ok-push-in-Construct : goal.returns-in_ok-push-in-Construct
+returns-in_ok-push-in-Construct c =
     let a = c.args in
     let items = items_of a.tree.now in
     let fs = a.frames.now.items in
@@ -164,7 +164,7 @@ returns-in-Construct c =
     let f = frames.Construct (record { at = c.place.result; initials = slice; place = a.place; env = a.env }) in
     let job = jobs.Expression m.of a.env in
     record {
-      means = λ left. rw m.is (moved items fs c.push-in-Construct.new.self.items (plan (place_at items m.of) m.initials) (plan c.place.result slice.now) w w w left left left (Enter job)
+      means = λ left. rw m.is (moved items fs c.push-in-Construct.new.self.items (plan (place_at items m.of) m.initials) (plan c.place.result slice.now) w w w left left (Enter job)
           (ap (λ (p : Place). plan p m.initials) (sym c.place.ensures) ∙ ap (plan c.place.result) (sym c.as_slice-in-Construct.ensures)) refl
           (enters items fs c.push-in-Construct.new.self.items f job w left c.in_ok-push-in-Construct.ensures.items));
       kept = keeps_itself w;

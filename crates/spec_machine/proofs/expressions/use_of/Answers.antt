@@ -33,14 +33,14 @@ returns-in-Some c =
           let go : Value → SpecPlan = expressions.found a.place in
           let p : Some (depth, position) ≡ placing.path_of b = c.in-Some.ensures ∙ ap placing.path_of (paths a.node) in
           moved items fs fs (expressions.named_value b a.name.now a.place a.env go) (Read (λ u. go (local_value u.heap a.env depth position))) w w w
-          left left left (Return end) (placing.local_is b depth position a.name.now a.place a.env go p) refl
-          (moved items fs fs (go (local_value w.heap a.env depth position)) (go c.local-value.result) w w w left left left (Return end)
+          left left (Return end) (placing.local_is b depth position a.name.now a.place a.env go p) refl
+          (moved items fs fs (go (local_value w.heap a.env depth position)) (go c.local-value.result) w w w left left (Return end)
           (ap go (sym c.local-value.ensures)) refl (returned items fs end w left));
       kept = keeps_itself w;
     }
 
-pub returns-in-None-clause-means : goal.returns-in-None-clause-means
-returns-in-None-clause-means c = λ items left paths.
+pub returns-in_ok-push-in-None-clause-means : goal.returns-in_ok-push-in-None-clause-means
+returns-in_ok-push-in-None-clause-means c = λ items left paths.
     let a = c.args in
     let fs = a.frames.now.items in
     let pushed = c.push.new.self.items in
@@ -52,7 +52,7 @@ returns-in-None-clause-means c = λ items left paths.
     let ask : TextId → SpecPlan = λ t. AskFor (questions.Index (values.Table globals) t a.place) (λ r. plans.on_value r go) in
     let q = questions.Index (values.Table globals) c.in_ok-text.text a.place in
     let p : None ≡ placing.path_of b = c.in-None.ensures ∙ ap placing.path_of (paths a.node) in
-    moved items fs pushed (expressions.named_value b a.name.now a.place a.env go) (plans.with_text_of bytes ask) w w v left left left (Stop q)
+    moved items fs pushed (expressions.named_value b a.name.now a.place a.env go) (plans.with_text_of bytes ask) w w v left left (Stop q)
     (placing.global_is b a.name.now a.place a.env go p ∙ ap (λ (bs : List ℕ). plans.with_text_of bs ask) (sym c.as_bytes.ensures.value)) refl
     (gets {X = TextId} items fs pushed (λ k. plans.with_text_of bytes k) ask c.in_ok-text.text w v v left left (Stop q) c.in_ok-text.ensures.means
     (asks_value items fs pushed (of_value.Found a.place) q v left c.in_ok-push.ensures.items))

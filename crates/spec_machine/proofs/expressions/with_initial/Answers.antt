@@ -28,11 +28,11 @@ returns-clause-means c = λ left.
     let step = c.in_ok-step.step in
     let plan : List TextId → List TermId → SpecPlan = λ xs ts. waiting.initials_from items f.made f.rest.now xs ts in
     let go : TextId → SpecPlan = λ name. naming.naming name (plan (f.names ++ name ∷ []) (f.terms ++ a.term ∷ [])) in
-    moved items fs fs2 (plans.with_text_of (name_at items f.name) go) (plans.with_text_of bytes go) w w w2 left left left step
+    moved items fs fs2 (plans.with_text_of (name_at items f.name) go) (plans.with_text_of bytes go) w w w2 left left step
     (ap (λ (bs : List ℕ). plans.with_text_of bs go) (sym (c.as_bytes.ensures.value ∙ c.name.ensures))) refl
     (gets {X = TextId} items fs fs2 (λ k. plans.with_text_of bytes k) go text w u w2 left left step c.in_ok-text.ensures.means
     (named items fs fs2 text (plan (f.names ++ text ∷ []) (f.terms ++ a.term ∷ [])) u v w2 left left step c.in_ok-naming.ensures.ok
-    (moved items fs fs2 (plan (f.names ++ text ∷ []) (f.terms ++ a.term ∷ [])) (plan c.push.new.self c.push-2.new.self) v v w2 left left left step
+    (moved items fs fs2 (plan (f.names ++ text ∷ []) (f.terms ++ a.term ∷ [])) (plan c.push.new.self c.push-2.new.self) v v w2 left left step
     (sym (ap (λ (xs : List TextId). plan xs c.push-2.new.self) c.in_ok-push.ensures.ok ∙ ap (plan (f.names ++ text ∷ [])) c.in_ok-push-2.ensures.ok)) refl
     (c.in_ok-step.ensures.means left))))
 

@@ -18,7 +18,7 @@ returns-in-Value-clause-means c = λ items fs.
     let go : TermId → SpecPlan = λ t. Give (ends.Made t) in
     let plan : List ℕ → (TermId → SpecPlan) → SpecPlan = λ bs k. plans.literal bs a.place k in
     let bytes = c.deref.result.now in
-    moved items fs fs (plan (literal_value a.written.now) go) (plan bytes go) w w v a.budget.now a.budget.now left2 (Return (ends.Made c.in-Value.term))
+    moved items fs fs (plan (literal_value a.written.now) go) (plan bytes go) w w v a.budget.now left2 (Return (ends.Made c.in-Value.term))
     (ap (λ (bs : List ℕ). plan bs go) (sym (c.deref.ensures.value ∙ c.in_ok-bytes.ensures))) refl
     (comes {X = TermId} items fs fs (plan bytes) go c.in_ok-reached.reached c.in-Value.term w v v a.budget.now left2 left2 (Return (ends.Made c.in-Value.term))
     c.in-Value.is c.in_ok-reached.ensures.means (returned items fs (ends.Made c.in-Value.term) v left2))
@@ -32,6 +32,6 @@ returns-in-Left-clause-means c = λ items fs.
     let go : TermId → SpecPlan = λ t. Give (ends.Made t) in
     let plan : List ℕ → (TermId → SpecPlan) → SpecPlan = λ bs k. plans.literal bs a.place k in
     let bytes = c.deref.result.now in
-    moved items fs fs (plan (literal_value a.written.now) go) (plan bytes go) w w v a.budget.now a.budget.now left2 c.in-Left.step
+    moved items fs fs (plan (literal_value a.written.now) go) (plan bytes go) w w v a.budget.now left2 c.in-Left.step
     (ap (λ (bs : List ℕ). plan bs go) (sym (c.deref.ensures.value ∙ c.in_ok-bytes.ensures))) refl
     (leaves {X = TermId} items fs (plan bytes) go c.in_ok-reached.reached c.in-Left.step w v a.budget.now left2 c.in-Left.is c.in_ok-reached.ensures.means)

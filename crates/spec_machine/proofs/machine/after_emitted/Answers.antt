@@ -16,7 +16,7 @@ returns-in_ok-step-clause-means c = λ items fs.
     let a = c.args in
     let go : List Value → SpecPlan = λ vs. statements.each_spliced vs a.at [] statements.joined in
     moved items fs fs (waiting.on_answer a.end go) (go c.as_slice.result.now) a.world.now a.world.now c.splice_all.new.world
-    a.budget.now a.budget.now c.splice_all.new.budget c.in_ok-step.step
+    a.budget.now c.splice_all.new.budget c.in_ok-step.step
     (ap (λ (r : End). waiting.on_answer r go) c.in-Answered.is ∙ ap go (sym c.as_slice.ensures)) refl (c.in_ok-step.ensures.means items fs)
 
 pub returns : goal.returns
@@ -26,7 +26,7 @@ returns c =
       means = λ items fs.
           let go : List Value → SpecPlan = λ vs. statements.each_spliced vs a.at [] statements.joined in
           moved items fs fs (waiting.on_answer a.end go) (Give a.end) a.world.now a.world.now a.world.now
-          a.budget.now a.budget.now a.budget.now (Return a.end) (placing.answer_ended a.end go c.in_default.not-Answered) refl
+          a.budget.now a.budget.now (Return a.end) (placing.answer_ended a.end go c.in_default.not-Answered) refl
           (returned items fs a.end a.world.now a.budget.now);
       kept = keeps_itself a.world.now;
     }

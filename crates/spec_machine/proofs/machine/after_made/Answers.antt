@@ -11,4 +11,4 @@ returns-clause-means c = λ items left.
     let f = a.frame in
     let plan : List TermId → SpecPlan = λ ts. waiting.terms_plan items f.rest.now f.env ts f.then in
     moved items a.frames.now.items c.terms.new.frames.items (plan (f.terms ++ a.term ∷ [])) (plan c.push.new.self) a.world.now a.world.now c.terms.new.world
-    left left left c.in_ok-step.step (ap plan (sym c.in_ok-push.ensures.ok)) refl (c.in_ok-step.ensures.means items left)
+    left left c.in_ok-step.step (ap plan (sym c.in_ok-push.ensures.ok)) refl (c.in_ok-step.ensures.means items left)

@@ -20,7 +20,7 @@ returns-in_ok-step-clause-means c =
     let fs = a.frames.now.items in
     let go : List TermId → SpecPlan = λ ts. waiting.block_plan items f.rest.now f.env ts f.then in
     moved items fs c.statements.new.frames.items (plans.as_statements a.end f.terms go) (go c.append.new.terms) a.world.now a.world.now c.statements.new.world
-    a.budget.now a.budget.now c.statements.new.budget c.in_ok-step.step
+    a.budget.now c.statements.new.budget c.in_ok-step.step
     (ap (λ (r : End). plans.as_statements r f.terms go) c.in-Joined.is
     ∙ ap go (sym (c.in_ok-append.ensures ∙ ap (λ (us : List TermId). f.terms ++ us) c.as_slice.ensures))) refl
     c.in_ok-step.ensures.means
@@ -35,7 +35,7 @@ returns c =
     record {
       means =
           moved items fs fs (plans.as_statements a.end f.terms go) (Give a.end) a.world.now a.world.now a.world.now
-          a.budget.now a.budget.now a.budget.now (Return a.end) (placing.block_ended a.end f.terms go c.in_default.not-Joined) refl
+          a.budget.now a.budget.now (Return a.end) (placing.block_ended a.end f.terms go c.in_default.not-Joined) refl
           (returned items fs a.end a.world.now a.budget.now);
       kept = keeps_itself a.world.now;
     }

@@ -18,7 +18,7 @@ returns c =
     record {
       means =
           moved items fs fs (plans.as_term a.end (λ t. waiting.with_term items a.frame t)) (Give a.end) a.world.now a.world.now a.world.now
-          a.budget.now a.budget.now a.budget.now (Return a.end)
+          a.budget.now a.budget.now (Return a.end)
           (placing.term_ended a.end (λ t. waiting.with_term items a.frame t) d.not-Found d.not-Made) refl
           (returned items fs a.end a.world.now a.budget.now);
       kept = keeps_itself a.world.now;

@@ -25,7 +25,7 @@ returns c =
       means = λ items.
           let go : List TermId → SpecPlan = λ ts. waiting.terms_plan items a.frame.rest.now a.frame.env ts a.frame.then in
           moved items fs fs (plans.as_terms a.end a.frame.terms go) (Give a.end) a.world.now a.world.now a.world.now
-          a.budget.now a.budget.now a.budget.now (Return a.end)
+          a.budget.now a.budget.now (Return a.end)
           (placing.terms_ended a.end a.frame.terms go d.not-Found d.not-Made) refl
           (returned items fs a.end a.world.now a.budget.now);
       kept = keeps_itself a.world.now;

@@ -25,7 +25,7 @@ returns-in_ok-step-in-Struct-clause-means c =
     let plan : LuaExpression → SpecPlan = λ y. meaning.value_plan items y a.at a.env in
     let go : List NodeId → SpecPlan = λ ns. structs.anonymous_struct_plan items ns a.at a.env in
     moved items fs c.anonymous_struct.new.frames.items (plan x) (go c.as_slice.result.now) w w c.anonymous_struct.new.world
-    a.budget.now a.budget.now a.budget.now c.in_ok-step-in-Struct.step (ap plan c.in-Struct.is ∙ ap go (sym c.as_slice.ensures)) refl
+    a.budget.now a.budget.now c.in_ok-step-in-Struct.step (ap plan c.in-Struct.is ∙ ap go (sym c.as_slice.ensures)) refl
     (c.in_ok-step-in-Struct.ensures.means a.budget.now)
 
 pub returns-in_ok-step-in-Backtick : goal.returns-in_ok-step-in-Backtick
@@ -39,7 +39,7 @@ returns-in_ok-step-in-Backtick c =
     record {
       means =
           moved items fs c.backtick.new.frames.items (plan x) (quotes.backtick_plan c.in-Backtick.node a.at a.env) w w w
-          a.budget.now a.budget.now a.budget.now c.in_ok-step-in-Backtick.step (ap plan c.in-Backtick.is) refl
+          a.budget.now a.budget.now c.in_ok-step-in-Backtick.step (ap plan c.in-Backtick.is) refl
           (c.in_ok-step-in-Backtick.ensures.means items w a.budget.now);
       kept = keeps_itself w;
     }
@@ -55,7 +55,7 @@ returns-in_default c =
     let d = c.in_default in
     record {
       means =
-          moved items fs fs (plan x) definitions.over w w w a.budget.now a.budget.now a.budget.now (Return (ends.Gave values.Nil))
+          moved items fs fs (plan x) definitions.over w w w a.budget.now a.budget.now (Return (ends.Gave values.Nil))
           (placing.no_value items x a.at a.env d.not-Terra d.not-Struct d.not-Quote d.not-Backtick) refl
           (returned items fs (ends.Gave values.Nil) w a.budget.now);
       kept = keeps_itself w;

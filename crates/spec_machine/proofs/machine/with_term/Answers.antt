@@ -17,8 +17,8 @@ use Rattle.spec_machine.proofs.Doing.{returns as returned, enters, moved}
 use Rattle.spec_machine.proofs.Entering.{does_as}
 use Rattle.spec_machine.proofs.machine.with_term.Goals as goal
 
-pub returns-in-Left : goal.returns-in-Left
-returns-in-Left c =
+pub returns-in_ok-push-in-Left : goal.returns-in_ok-push-in-Left
+returns-in_ok-push-in-Left c =
     let a = c.args in
     let items = items_of a.tree.now in
     let fs = a.frames.now.items in
@@ -63,8 +63,8 @@ returns-in-Paren c =
     let left = a.budget.now in
     record { means = rw c.in-Paren.is (returned items fs (ends.Made a.term) w left); kept = keeps_itself w }
 
-pub returns-in-Object : goal.returns-in-Object
-returns-in-Object c =
+pub returns-in_ok-push-in-Object : goal.returns-in_ok-push-in-Object
+returns-in_ok-push-in-Object c =
     let a = c.args in
     let items = items_of a.tree.now in
     let fs = a.frames.now.items in
@@ -95,7 +95,7 @@ returns-in_ok-step-in-Callee-clause-means c =
     let left = a.budget.now in
     let m = c.in-Callee in
     rw m.is (moved items fs c.terms.new.frames.items (waiting.terms_plan items m.arguments.now m.env [] (of_terms.Call a.term m.place))
-    (waiting.terms_plan items m.arguments.now m.env c.new-none.result (of_terms.Call a.term m.place)) w w c.terms.new.world left left left c.in_ok-step-in-Callee.step
+    (waiting.terms_plan items m.arguments.now m.env c.new-none.result (of_terms.Call a.term m.place)) w w c.terms.new.world left left c.in_ok-step-in-Callee.step
     (ap (λ (ts : List TermId). waiting.terms_plan items m.arguments.now m.env ts (of_terms.Call a.term m.place)) (sym c.new-none.ensures)) refl
     (c.in_ok-step-in-Callee.ensures.means items left))
 
@@ -148,7 +148,7 @@ returns-in_ok-step-in-Bound-clause-means c =
     let left = a.budget.now in
     let m = c.in-Bound in
     rw m.is (moved items fs c.more_bounds.new.frames.items (waiting.bounds_from items m.frame (if_any m.limit ++ if_any m.stride) (m.before ++ a.term ∷ []))
-    (waiting.bounds_from items m.frame (if_any m.limit ++ if_any m.stride) c.push-in-Bound.new.self) w w c.more_bounds.new.world left left c.more_bounds.new.budget
+    (waiting.bounds_from items m.frame (if_any m.limit ++ if_any m.stride) c.push-in-Bound.new.self) w w c.more_bounds.new.world left c.more_bounds.new.budget
     c.in_ok-step-in-Bound.step (ap (λ (ts : List TermId). waiting.bounds_from items m.frame (if_any m.limit ++ if_any m.stride) ts) (sym c.in_ok-push-in-Bound.ensures.ok)) refl
     c.in_ok-step-in-Bound.ensures.means)
 

@@ -40,7 +40,7 @@ returns-clause-means c =
     c.in_ok-inner.ensures.id c.in_ok-inner.ensures.ok
     (defining.declaring_all_goes items fs fs2 a.drawn inner (body inner ns2 []) v u w2 left left2 c.in_ok-step.step
     (c.in_ok-declare_all.ensures.ok ∙ ap (λ (ds : List Drawn). with_heap v (agreeing.with_parameters ds inner v.heap)) c.as_slice.ensures)
-    (moved items fs fs2 (body inner ns2 []) (body inner ns none) u u w2 left left left2 c.in_ok-step.step
+    (moved items fs fs2 (body inner ns2 []) (body inner ns none) u u w2 left left2 c.in_ok-step.step
     (ap (λ (l : List NodeId). body inner l [])
     (sym (c.block_statements.ensures ∙ ap (λ (b : NodeId). statements_at items b) c.terra_parts.ensures.block))
     ∙ ap (λ (ts : List TermId). body inner ns ts) (sym c.new-none.ensures)) refl c.in_ok-step.ensures.means))

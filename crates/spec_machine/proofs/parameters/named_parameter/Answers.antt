@@ -15,8 +15,8 @@ use Rattle.spec_machine.proofs.Doing.{bounces, moved}
 use Rattle.spec_machine.proofs.Asking.{asks_value}
 use Rattle.spec_machine.proofs.parameters.named_parameter.Goals as goal
 
-pub returns-in-Some : goal.returns-in-Some
-returns-in-Some c =
+pub returns-in_ok-push-in-Some : goal.returns-in_ok-push-in-Some
+returns-in_ok-push-in-Some c =
     let a = c.args in
     let f = a.frame in
     let of = c.in-Some.of in
@@ -24,14 +24,14 @@ returns-in-Some c =
       means = λ items w left is.
           let p : Option NodeId → SpecPlan = λ o. definitions.named_parameter items (typing_at items a.node) o f.definition.env f.drawn
           (λ more. waiting.parameters_from items f.definition f.rest.now more) in
-          moved items a.frames.now.items c.push.new.self.items (p (typing_at items a.node).type) (p (Some of)) w w w left left left
+          moved items a.frames.now.items c.push.new.self.items (p (typing_at items a.node).type) (p (Some of)) w w w left left
           (Stop (questions.Eval of f.definition.env)) (ap p (is ∙ c.in-Some.is)) refl
           (asks_value items a.frames.now.items c.push.new.self.items (of_value.ParameterType a.node of f) (questions.Eval of f.definition.env) w left
           c.in_ok-push.ensures.items);
     }
 
-pub returns-in-None : goal.returns-in-None
-returns-in-None c =
+pub returns-in_ok-push-in-None : goal.returns-in_ok-push-in-None
+returns-in_ok-push-in-None c =
     let a = c.args in
     let f = a.frame in
     record {
@@ -39,7 +39,7 @@ returns-in-None c =
           let p : Option NodeId → SpecPlan = λ o. definitions.named_parameter items (typing_at items a.node) o f.definition.env f.drawn
           (λ more. waiting.parameters_from items f.definition f.rest.now more) in
           let end = ends.Gave values.Nil in
-          moved items a.frames.now.items c.push-in-None.new.self.items (p (typing_at items a.node).type) (p None) w w w left left left
+          moved items a.frames.now.items c.push-in-None.new.self.items (p (typing_at items a.node).type) (p None) w w w left left
           (Return end) (ap p (is ∙ c.in-None.is)) refl
           (bounces items a.frames.now.items c.push-in-None.new.self.items (frames.Next (of_next.Parameters f)) end w left
           c.in_ok-push-in-None.ensures.items);

@@ -13,8 +13,8 @@ use Rattle.spec_machine.proofs.Doing.{moved}
 use Rattle.spec_machine.proofs.Asking.{asks_value}
 use Rattle.spec_machine.proofs.parameters.parameter.Goals as goal
 
-pub returns-in-Some : goal.returns-in-Some
-returns-in-Some c =
+pub returns-in_ok-push-in-Some : goal.returns-in_ok-push-in-Some
+returns-in_ok-push-in-Some c =
     let a = c.args in
     let f = a.frame in
     let items = items_of a.tree.now in
@@ -23,7 +23,7 @@ returns-in-Some c =
     let code = c.in-Some.code in
     record {
       means = λ w left.
-          moved items a.frames.now.items c.push.new.self.items (p (escaped_at items (typing_at items a.node).name)) (p (Some code)) w w w left left left
+          moved items a.frames.now.items c.push.new.self.items (p (escaped_at items (typing_at items a.node).name)) (p (Some code)) w w w left left
           (Stop (questions.Eval code f.definition.env))
           (ap (λ (n : NodeId). p (escaped_at items n)) (sym c.typing_at.ensures.name) ∙ ap p (sym c.in-Some.ensures)) refl
           (asks_value items a.frames.now.items c.push.new.self.items (of_value.Spliced a.node f) (questions.Eval code f.definition.env) w left
@@ -39,7 +39,7 @@ returns-in_ok-step-in-None c =
     let p : Option NodeId → SpecPlan = λ o. definitions.parameter items (typing_at items a.node) o f.definition.env f.drawn go in
     record {
       means = λ w left.
-          moved items a.frames.now.items c.named_parameter.new.frames.items (p (escaped_at items (typing_at items a.node).name)) (p None) w w w left left left
+          moved items a.frames.now.items c.named_parameter.new.frames.items (p (escaped_at items (typing_at items a.node).name)) (p None) w w w left left
           c.in_ok-step-in-None.step
           (ap (λ (n : NodeId). p (escaped_at items n)) (sym c.typing_at.ensures.name) ∙ ap p (sym c.in-None.ensures)) refl
           (c.in_ok-step-in-None.ensures.means items w left (sym c.typing_at-in-None.ensures.of));

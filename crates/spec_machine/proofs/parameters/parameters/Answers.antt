@@ -21,7 +21,7 @@ returns-in_ok-step-in-None-clause-means c =
     let items = items_of a.tree.now in
     let plan : List NodeId → SpecPlan = λ ns. waiting.parameters_from items f.definition ns f.drawn in
     moved items a.frames.now.items c.with_parameters.new.frames.items (plan f.rest.now) (plan []) a.world.now a.world.now c.with_parameters.new.world
-    a.budget.now a.budget.now c.with_parameters.new.budget c.in_ok-step-in-None.step (ap plan (none_is f.rest.now c.in-None.ensures.cases)) refl
+    a.budget.now c.with_parameters.new.budget c.in_ok-step-in-None.step (ap plan (none_is f.rest.now c.in-None.ensures.cases)) refl
     c.in_ok-step-in-None.ensures.means
 
 pub returns-then-pay : goal.returns-then-pay
@@ -35,7 +35,7 @@ returns-then-pay c =
     let go : List Drawn → SpecPlan = λ more. waiting.parameters_from items f.definition rest more in
     let p : SpecPlan = definitions.parameter items (typing_at items n) (escaped_at items (typing_at items n).name) f.definition.env f.drawn go in
     record {
-      means = moved items a.frames.now.items a.frames.now.items (plan f.rest.now) (Pay 1 p) a.world.now a.world.now a.world.now a.budget.now a.budget.now c.pay.new.self
+      means = moved items a.frames.now.items a.frames.now.items (plan f.rest.now) (Pay 1 p) a.world.now a.world.now a.world.now a.budget.now c.pay.new.self
           Spent (ap plan c.in-Some.ensures.cases.0) refl
           (defining.unpaid_goes items a.frames.now.items 1 p a.world.now a.budget.now c.pay.new.self c.pay.result c.if-pay.false c.pay.ensures.short c.pay.ensures.refused);
       kept = keeps_itself a.world.now;
@@ -55,7 +55,7 @@ returns-in_ok-step-in-Some c =
     let go : List Drawn → SpecPlan = λ more. waiting.parameters_from items f.definition rest more in
     let p : SpecPlan = definitions.parameter items (typing_at items n) (escaped_at items (typing_at items n).name) f.definition.env f.drawn go in
     record {
-      means = moved items fs fs2 (plan f.rest.now) (Pay 1 p) a.world.now a.world.now a.world.now a.budget.now a.budget.now left
+      means = moved items fs fs2 (plan f.rest.now) (Pay 1 p) a.world.now a.world.now a.world.now a.budget.now left
           c.in_ok-step-in-Some.step (ap plan c.in-Some.ensures.cases.0) refl
           (defining.paid_goes items fs fs2 1 p a.world.now a.world.now a.budget.now left left c.in_ok-step-in-Some.step
           c.pay.result c.if-pay.true c.pay.ensures.enough c.pay.ensures.paid (c.in_ok-step-in-Some.ensures.means a.world.now left));

@@ -22,7 +22,7 @@ returns-in_ok-step-in-Some-clause-means c =
     let form = making.form_at w a.declared in
     let go : Option TypeId → SpecPlan = λ of. waiting.body_plan items d a.drawn of in
     moved items a.frames.now.items c.body.new.frames.items (definitions.as_declared form a.drawn a.written d.place go) (go (Some c.in-Some.of))
-    w w c.body.new.world a.budget.now a.budget.now c.body.new.budget c.in_ok-step-in-Some.step
+    w w c.body.new.world a.budget.now c.body.new.budget c.in_ok-step-in-Some.step
     (defining.agreed_is form a.drawn a.written d.place go c.in-Some.of
     (sym c.in-Some.is ∙ c.agreed.ensures ∙ ap (λ (ds : List Drawn). agreeing.agreed form ds a.written) c.as_slice.ensures)) refl
     c.in_ok-step-in-Some.ensures.means
@@ -37,7 +37,7 @@ returns-in_ok-step-in-None-clause-means c =
     let form = making.form_at w a.declared in
     let go : Option TypeId → SpecPlan = λ of. waiting.body_plan items d a.drawn of in
     moved items fs fs (definitions.as_declared form a.drawn a.written d.place go) (plans.raise d.place faults.DiffersFromDeclaration)
-    w w c.raise.new.world a.budget.now a.budget.now c.raise.new.budget c.in_ok-step-in-None.step
+    w w c.raise.new.world a.budget.now c.raise.new.budget c.in_ok-step-in-None.step
     (defining.differs_is form a.drawn a.written d.place go
     (sym c.in-None.is ∙ c.agreed.ensures ∙ ap (λ (ds : List Drawn). agreeing.agreed form ds a.written) c.as_slice.ensures)) refl
     (c.in_ok-step-in-None.ensures.means items fs)

@@ -13,8 +13,8 @@ use Rattle.spec_machine.proofs.Doing.{moved}
 use Rattle.spec_machine.proofs.Asking.{asks_value}
 use Rattle.spec_machine.proofs.parameters.with_parameters.Goals as goal
 
-pub returns-in-Some : goal.returns-in-Some
-returns-in-Some c =
+pub returns-in_ok-push-in-Some : goal.returns-in_ok-push-in-Some
+returns-in_ok-push-in-Some c =
     let a = c.args in
     let d = a.definition.now in
     let items = items_of a.tree.now in
@@ -23,7 +23,7 @@ returns-in-Some c =
     record {
       means =
           moved items a.frames.now.items c.push.new.self.items (plan (terra_parts_at items d.body).result) (plan (Some of))
-          a.world.now a.world.now a.world.now a.budget.now a.budget.now a.budget.now (Stop (questions.Eval of d.env))
+          a.world.now a.world.now a.world.now a.budget.now a.budget.now (Stop (questions.Eval of d.env))
           (ap plan (sym c.terra_parts.ensures.of ∙ c.in-Some.is)) refl
           (asks_value items a.frames.now.items c.push.new.self.items (of_value.Result of d a.drawn) (questions.Eval of d.env) a.world.now a.budget.now
           c.in_ok-push.ensures.items);
@@ -37,5 +37,5 @@ returns-in_ok-step-in-None-clause-means c =
     let items = items_of a.tree.now in
     let plan : Option NodeId → SpecPlan = λ o. types.type_if_any items o d.env (λ written. waiting.with_result items d a.drawn written) in
     moved items a.frames.now.items c.with_result.new.frames.items (plan (terra_parts_at items d.body).result) (plan None)
-    a.world.now a.world.now c.with_result.new.world a.budget.now a.budget.now c.with_result.new.budget c.in_ok-step-in-None.step
+    a.world.now a.world.now c.with_result.new.world a.budget.now c.with_result.new.budget c.in_ok-step-in-None.step
     (ap plan (sym c.terra_parts.ensures.of ∙ c.in-None.is)) refl c.in_ok-step-in-None.ensures.means

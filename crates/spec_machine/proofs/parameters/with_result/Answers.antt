@@ -16,7 +16,7 @@ returns-in_ok-step-in-None-clause-means c =
     let w = a.world.now in
     let plan : Option TypeId → SpecPlan = λ o. definitions.result_type w o a.drawn a.written d.place (λ result. waiting.body_plan items d a.drawn result) in
     moved items a.frames.now.items c.body.new.frames.items (plan (making.declared_type w d.function)) (plan None) w w c.body.new.world
-    a.budget.now a.budget.now c.body.new.budget c.in_ok-step-in-None.step
+    a.budget.now c.body.new.budget c.in_ok-step-in-None.step
     (ap plan (sym c.declared_type.ensures ∙ c.in-None.is)) refl c.in_ok-step-in-None.ensures.means
 
 pub returns-in_ok-step-in-Some-clause-means : goal.returns-in_ok-step-in-Some-clause-means
@@ -27,5 +27,5 @@ returns-in_ok-step-in-Some-clause-means c =
     let w = a.world.now in
     let plan : Option TypeId → SpecPlan = λ o. definitions.result_type w o a.drawn a.written d.place (λ result. waiting.body_plan items d a.drawn result) in
     moved items a.frames.now.items c.with_declaration.new.frames.items (plan (making.declared_type w d.function)) (plan (Some c.in-Some.declared))
-    w w c.with_declaration.new.world a.budget.now a.budget.now c.with_declaration.new.budget c.in_ok-step-in-Some.step
+    w w c.with_declaration.new.world a.budget.now c.with_declaration.new.budget c.in_ok-step-in-Some.step
     (ap plan (sym c.declared_type.ensures ∙ c.in-Some.is)) refl c.in_ok-step-in-Some.ensures.means

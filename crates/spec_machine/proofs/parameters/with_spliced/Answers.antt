@@ -17,7 +17,7 @@ returns-in-Left-clause-means c =
     let fs = a.frames.now.items in
     let go : List Drawn → SpecPlan = λ ds. waiting.parameters_from items f.definition f.rest.now ds in
     let plan : List SymId → (List Drawn → SpecPlan) → SpecPlan = λ xs k. definitions.spliced xs a.at f.drawn k in
-    moved items fs fs (plan a.symbols go) (plan c.as_slice.result.now go) a.world.now a.world.now c.spliced.new.world a.budget.now a.budget.now
+    moved items fs fs (plan a.symbols go) (plan c.as_slice.result.now go) a.world.now a.world.now c.spliced.new.world a.budget.now
     c.spliced.new.budget c.in-Left.step (ap (λ (xs : List SymId). plan xs go) (sym c.as_slice.ensures)) refl
     (leaves {X = List Drawn} items fs (plan c.as_slice.result.now) go c.in_ok-reached.reached c.in-Left.step
     a.world.now c.spliced.new.world a.budget.now c.spliced.new.budget c.in-Left.is c.in_ok-reached.ensures.means)
@@ -33,7 +33,7 @@ returns-clause-means c =
     let left2 = c.parameters.new.budget in
     let go : List Drawn → SpecPlan = λ ds. waiting.parameters_from items f.definition f.rest.now ds in
     let plan : List SymId → (List Drawn → SpecPlan) → SpecPlan = λ xs k. definitions.spliced xs a.at f.drawn k in
-    moved items fs fs2 (plan a.symbols go) (plan c.as_slice.result.now go) a.world.now a.world.now w2 a.budget.now a.budget.now
+    moved items fs fs2 (plan a.symbols go) (plan c.as_slice.result.now go) a.world.now a.world.now w2 a.budget.now
     left2 c.in_ok-step.step (ap (λ (xs : List SymId). plan xs go) (sym c.as_slice.ensures)) refl
     (comes {X = List Drawn} items fs fs2 (plan c.as_slice.result.now) go c.in_ok-reached.reached c.in-Value.drawn
     a.world.now c.spliced.new.world w2 a.budget.now c.spliced.new.budget left2 c.in_ok-step.step c.in-Value.is c.in_ok-reached.ensures.means

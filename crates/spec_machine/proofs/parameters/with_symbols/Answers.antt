@@ -25,7 +25,7 @@ returns-in-Left-clause-means c =
     definitions.spliced xs p f.drawn (λ ds. waiting.parameters_from items f.definition f.rest.now ds) in
     let same : at ≡ here = ap (λ (n : NodeId). place_at items n) (sym c.typing_at.ensures.name) ∙ sym c.place-at.ensures in
     moved items fs fs (naming.symbols_of a.value at (go at)) (naming.symbols_of a.value here (go here)) a.world.now a.world.now c.symbols_of.new.world
-    a.budget.now a.budget.now c.symbols_of.new.budget c.in-Left.step
+    a.budget.now c.symbols_of.new.budget c.in-Left.step
     (ap (λ (p : Place). naming.symbols_of a.value p (go p)) same) refl
     (leaves {X = List SymId} items fs (λ k. naming.symbols_of a.value here k) (go here) c.in_ok-reached.reached c.in-Left.step
     a.world.now c.symbols_of.new.world a.budget.now c.symbols_of.new.budget c.in-Left.is c.in_ok-reached.ensures.means)
@@ -45,7 +45,7 @@ returns-clause-means c =
     definitions.spliced xs p f.drawn (λ ds. waiting.parameters_from items f.definition f.rest.now ds) in
     let same : at ≡ here = ap (λ (n : NodeId). place_at items n) (sym c.typing_at.ensures.name) ∙ sym c.place-at.ensures in
     moved items fs fs2 (naming.symbols_of a.value at (go at)) (naming.symbols_of a.value here (go here)) a.world.now a.world.now w2
-    a.budget.now a.budget.now left2 c.in_ok-step.step
+    a.budget.now left2 c.in_ok-step.step
     (ap (λ (p : Place). naming.symbols_of a.value p (go p)) same) refl
     (comes {X = List SymId} items fs fs2 (λ k. naming.symbols_of a.value here k) (go here) c.in_ok-reached.reached c.in-Value.symbols
     a.world.now c.symbols_of.new.world w2 a.budget.now c.symbols_of.new.budget left2 c.in_ok-step.step c.in-Value.is c.in_ok-reached.ensures.means

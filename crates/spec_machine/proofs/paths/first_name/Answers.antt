@@ -30,10 +30,10 @@ returns-in_ok-step-in-Some-clause-means c =
     let position = c.in-Some.position in
     let p : Some (depth, position) ≡ placing.path_of b = c.in-Some.ensures ∙ ap placing.path_of (c.requires a.node) in
     moved items a.frames.now.items c.names.new.frames.items (expressions.named_value b name at f.env go)
-    (Read (λ u. go (local_value u.heap f.env depth position))) w w c.names.new.world a.budget.now a.budget.now c.names.new.budget
+    (Read (λ u. go (local_value u.heap f.env depth position))) w w c.names.new.world a.budget.now c.names.new.budget
     c.in_ok-step-in-Some.step (placing.local_is b depth position name at f.env go p) refl
     (moved items a.frames.now.items c.names.new.frames.items (go (local_value w.heap f.env depth position)) (go c.local-object.result)
-    w w c.names.new.world a.budget.now a.budget.now c.names.new.budget c.in_ok-step-in-Some.step
+    w w c.names.new.world a.budget.now c.names.new.budget c.in_ok-step-in-Some.step
     (ap go (sym c.local-object.ensures)) refl c.in_ok-step-in-Some.ensures.means)
 
 pub returns-in_ok-step-in-None-clause-means : goal.returns-in_ok-step-in-None-clause-means
@@ -48,5 +48,5 @@ returns-in_ok-step-in-None-clause-means c =
     let go : Value → SpecPlan = λ object. waiting.with_value items (of_value.Path f) object in
     let p : None ≡ placing.path_of b = c.in-None.ensures ∙ ap placing.path_of (c.requires a.node) in
     moved items a.frames.now.items c.next_object.new.frames.items (expressions.named_value b name at f.env go)
-    (plans.index (values.Table globals) name at go) w w c.next_object.new.world a.budget.now a.budget.now a.budget.now
+    (plans.index (values.Table globals) name at go) w w c.next_object.new.world a.budget.now a.budget.now
     c.in_ok-step-in-None.step (placing.global_is b name at f.env go p) refl (c.in_ok-step-in-None.ensures.means a.budget.now)

@@ -18,6 +18,6 @@ returns-in_ok-step-in-None-clause-means c =
     let w = a.world.now in
     let go : definitions.Go = waiting.path_end items f in
     let plan : List NodeId → Option NodeId → SpecPlan = λ ns m. definitions.steps items (is_any m) (ns ++ if_any m) a.object go in
-    moved items fs fs (plan f.rest.now f.method) (plan [] None) w w c.raise.new.world a.budget.now a.budget.now c.raise.new.budget c.in_ok-step-in-None.step
+    moved items fs fs (plan f.rest.now f.method) (plan [] None) w w c.raise.new.world a.budget.now c.raise.new.budget c.in_ok-step-in-None.step
     (ap (λ (ns : List NodeId). plan ns f.method) (none_is f.rest.now c.in-None.ensures.cases) ∙ ap (λ (m : Option NodeId). plan [] m) c.in-None-2.is) refl
     (c.in_ok-step-in-None.ensures.means items fs)

@@ -28,7 +28,7 @@ returns-in_ok-step-clause-means c =
     chosen items fs c.at_target.new.frames.items (is_struct w a.of) true (there (tables_of w a.of).methods) missing
     w c.at_target.new.world a.budget.now c.at_target.new.budget c.in_ok-step.step (sym c.is_struct.ensures ∙ c.if-is_struct.true)
     (moved items fs c.at_target.new.frames.items (there (tables_of w a.of).methods) (there c.struct_tables.result.methods) w w c.at_target.new.world
-    a.budget.now a.budget.now c.at_target.new.budget c.in_ok-step.step (ap (λ (t : _). there t.methods) (sym c.struct_tables.ensures)) refl
+    a.budget.now c.at_target.new.budget c.in_ok-step.step (ap (λ (t : _). there t.methods) (sym c.struct_tables.ensures)) refl
     c.in_ok-step.ensures.means)
 
 pub returns-in_ok-step-2-clause-means : goal.returns-in_ok-step-2-clause-means
@@ -46,5 +46,5 @@ returns-in_ok-step-2-clause-means c =
     chosen items fs fs (is_struct w a.of) false (there (tables_of w a.of).methods) (missing at)
     w c.raise.new.world a.budget.now c.raise.new.budget step (sym c.is_struct.ensures ∙ c.if-is_struct.false)
     (moved items fs fs (missing at) (missing c.place.result) w w c.raise.new.world
-    a.budget.now a.budget.now c.raise.new.budget step (ap missing (sym c.place.ensures)) refl
+    a.budget.now c.raise.new.budget step (ap missing (sym c.place.ensures)) refl
     (c.in_ok-step-2.ensures.means items fs))

@@ -40,6 +40,6 @@ returns-clause-means c =
     let method = path_method_of (item_at items a.path) in
     defining.paid_goes items fs fs2 1 (plan names method) a.world.now w2 a.budget.now left left2 c.in_ok-step.step
     c.pay.result c.if-pay.true c.pay.ensures.enough c.pay.ensures.paid
-    (moved items fs fs2 (plan names method) (plan ns m) a.world.now a.world.now w2 left left left2 c.in_ok-step.step
+    (moved items fs fs2 (plan names method) (plan ns m) a.world.now a.world.now w2 left left2 c.in_ok-step.step
     (ap (λ (l : List NodeId). plan l method) (sym c.path_names.ensures) ∙ ap (λ (o : Option NodeId). plan ns o) (sym c.path_method.ensures)) refl
     c.in_ok-step.ensures.means)

@@ -26,7 +26,7 @@ returns-in-None-in-None c =
     let plan : List NodeId → Option NodeId → SpecPlan = λ ns m. definitions.targeted items (ns ++ if_any m) (is_any m) f.env go in
     record {
       means =
-          moved items fs fs (plan f.rest.now f.method) definitions.over a.world.now a.world.now a.world.now a.budget.now a.budget.now a.budget.now
+          moved items fs fs (plan f.rest.now f.method) definitions.over a.world.now a.world.now a.world.now a.budget.now a.budget.now
           (Return (ends.Gave values.Nil))
           (ap (λ (ns : List NodeId). plan ns f.method) (none_is f.rest.now c.in-None.ensures.cases) ∙ ap (λ (m : Option NodeId). plan [] m) c.in-None-2.is) refl
           (returned items fs (ends.Gave values.Nil) a.world.now a.budget.now);
@@ -42,7 +42,7 @@ returns-in_ok-step-in-Some-clause-means c =
     let go : definitions.Go = waiting.path_end items f in
     let plan : List NodeId → Option NodeId → SpecPlan = λ ns m. definitions.targeted items (ns ++ if_any m) (is_any m) f.env go in
     moved items fs c.only_name.new.frames.items (plan f.rest.now f.method) (definitions.only_name (binder items c.in-Some.first) (name_at items c.in-Some.first) f.env go)
-    a.world.now a.world.now c.only_name.new.world a.budget.now a.budget.now c.only_name.new.budget c.in_ok-step-in-Some.step
+    a.world.now a.world.now c.only_name.new.world a.budget.now c.only_name.new.budget c.in_ok-step-in-Some.step
     (ap (λ (ns : List NodeId). plan ns f.method) (none_is f.rest.now c.in-None.ensures.cases) ∙ ap (λ (m : Option NodeId). plan [] m) c.in-Some.is) refl
     c.in_ok-step-in-Some.ensures.means
 
@@ -59,7 +59,7 @@ returns-in_ok-step-then-is_last-clause-means c =
     let last = sym c.is_last.ensures ∙ c.if-is_last.true in
     let step = c.in_ok-step-then-is_last.step in
     moved items fs c.only_name-then-is_last.new.frames.items (plan f.rest.now f.method) (definitions.only_name (binder items n) (name_at items n) f.env go)
-    a.world.now a.world.now c.only_name-then-is_last.new.world a.budget.now a.budget.now c.only_name-then-is_last.new.budget step
+    a.world.now a.world.now c.only_name-then-is_last.new.world a.budget.now c.only_name-then-is_last.new.budget step
     (ap (λ (ns : List NodeId). plan ns f.method) c.in-Some-2.ensures.cases.0
     ∙ placing.targeted_only items n rest f.method f.env go (placing.last_names rest f.method last) (placing.last_method rest f.method last)) refl
     c.in_ok-step-then-is_last.ensures.means
@@ -78,6 +78,6 @@ returns-in_ok-step-else-is_last-clause-means c =
     let step = c.in_ok-step-else-is_last.step in
     moved items fs c.first_name.new.frames.items (plan f.rest.now f.method)
     (expressions.named_value (binder items n) (name_at items n) (place_at items n) f.env (λ object. definitions.steps items (is_any f.method) (rest ++ if_any f.method) object go))
-    a.world.now a.world.now c.first_name.new.world a.budget.now a.budget.now c.first_name.new.budget step
+    a.world.now a.world.now c.first_name.new.world a.budget.now c.first_name.new.budget step
     (ap (λ (ns : List NodeId). plan ns f.method) c.in-Some-2.ensures.cases.0 ∙ placing.targeted_more items n rest f.method f.env go more) refl
     c.in_ok-step-else-is_last.ensures.means

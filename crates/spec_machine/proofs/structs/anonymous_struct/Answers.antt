@@ -20,7 +20,7 @@ returns-clause-means c = λ left.
     let v = c.new_struct.new.self in
     let go : TypeId → SpecPlan = λ t. structs.entries_plan items a.entries.now t 1 a.env (Give (ends.Gave (values.TerraType t))) in
     moved items a.frames.now.items c.more_entries.new.frames.items (go (next_type w)) (go c.in_ok-of.of)
-    (with_struct w a.at) v v left left left c.in_ok-step.step
+    (with_struct w a.at) v v left left c.in_ok-step.step
     (ap go (sym c.in_ok-of.ensures.id)) (sym c.in_ok-of.ensures.ok) (c.in_ok-step.ensures.means v left)
 
 pub returns-clause-kept : goal.returns-clause-kept

@@ -25,7 +25,7 @@ returns-in-None c =
       means = λ w left.
           let rest : SpecPlan = if f.anonymous then Give (ends.Gave (values.TerraType f.of)) else definitions.over in
           let end = ends.Gave c.made.result in
-          moved items fs fs (waiting.entries_from items f f.rest.now f.number) (Give end) w w w left left left (Return end)
+          moved items fs fs (waiting.entries_from items f f.rest.now f.number) (Give end) w w w left left (Return end)
           (ap (λ (ns : List NodeId). waiting.entries_from items f ns f.number) (none_is f.rest.now c.in-None.ensures.cases)
           ∙ struct_is f ∙ ap (λ (v : Value). Give (ends.Gave v)) (sym c.made.ensures)) refl (returned items fs end w left);
     }
@@ -38,7 +38,7 @@ returns-in_ok-step-in-Some c =
     record {
       means = λ w left.
           moved items a.frames.now.items c.entry_type.new.frames.items (waiting.entries_from items f f.rest.now f.number)
-          (waiting.entries_from items f (c.in-Some.first.now ∷ c.in-Some.rest.now) f.number) w w w left left left c.in_ok-step-in-Some.step
+          (waiting.entries_from items f (c.in-Some.first.now ∷ c.in-Some.rest.now) f.number) w w w left left c.in_ok-step-in-Some.step
           (ap (λ (ns : List NodeId). waiting.entries_from items f ns f.number) c.in-Some.ensures.cases.0) refl
           (c.in_ok-step-in-Some.ensures.means items w left (sym c.typing_at.ensures.of));
     }

@@ -23,7 +23,7 @@ returns-clause-means c = λ left.
     let of = c.in_ok-of.of in
     let go : TypeId → SpecPlan = λ t. structs.entries_plan items a.entries.now t 1 a.env definitions.over in
     moved items a.frames.now.items c.more_entries.new.frames.items (go x) (go of)
-    (with_heap v (definitions.with_held v.heap a.target (values.TerraType x))) c.store.new.world c.store.new.world left left left c.in_ok-step.step
+    (with_heap v (definitions.with_held v.heap a.target (values.TerraType x))) c.store.new.world c.store.new.world left left c.in_ok-step.step
     (ap go (sym c.in_ok-of.ensures.id))
     (sym (c.in_ok-store.ensures.ok
     ∙ ap (λ (u : StageState). with_heap u (definitions.with_held u.heap a.target (values.TerraType of))) c.in_ok-of.ensures.ok

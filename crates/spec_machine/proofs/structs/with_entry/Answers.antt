@@ -23,7 +23,7 @@ returns-in-Left-clause-means c =
     let go : TypeId → SpecPlan = λ t. Read (λ w. structs.entry (tables_of w f.of).entries f.number (name_at items (typing_at items a.node).name) t
     (waiting.entries_from items f f.rest.now (f.number + 1))) in
     moved items fs fs (types.as_type a.value (place_at items a.of) go) (types.as_type a.value c.place.result go)
-    a.world.now a.world.now c.as_type.new.world a.budget.now a.budget.now c.as_type.new.budget c.in-Left.step
+    a.world.now a.world.now c.as_type.new.world a.budget.now c.as_type.new.budget c.in-Left.step
     (ap (λ (p : Place). types.as_type a.value p go) (sym c.place.ensures)) refl
     (leaves {X = TypeId} items fs (λ k. types.as_type a.value c.place.result k) go c.in_ok-reached.reached c.in-Left.step
     a.world.now c.as_type.new.world a.budget.now c.as_type.new.budget c.in-Left.is c.in_ok-reached.ensures.means)
@@ -40,7 +40,7 @@ returns-clause-means c =
     let go : TypeId → SpecPlan = λ t. Read (λ w. structs.entry (tables_of w f.of).entries f.number (name_at items (typing_at items a.node).name) t
     (waiting.entries_from items f f.rest.now (f.number + 1))) in
     moved items fs fs2 (types.as_type a.value (place_at items a.of) go) (types.as_type a.value c.place.result go)
-    a.world.now a.world.now w2 a.budget.now a.budget.now left2 c.in_ok-step.step
+    a.world.now a.world.now w2 a.budget.now left2 c.in_ok-step.step
     (ap (λ (p : Place). types.as_type a.value p go) (sym c.place.ensures)) refl
     (comes {X = TypeId} items fs fs2 (λ k. types.as_type a.value c.place.result k) go c.in_ok-reached.reached c.in-Value.of
     a.world.now c.as_type.new.world w2 a.budget.now left2 left2 c.in_ok-step.step c.in-Value.is c.in_ok-reached.ensures.means

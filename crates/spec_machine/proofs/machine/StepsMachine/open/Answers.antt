@@ -26,7 +26,7 @@ returns-in_ok-step-in-Expression-clause-means c =
     let m = c.in-Expression in
     let is : item_at items n ≡ kept.Expression m.place m.expression = search rules in
     moved items fs c.value.new.frames.items (plan (item_at items n)) (meaning.value_plan items m.expression m.place env)
-    w w c.value.new.world a.budget.now a.budget.now c.value.new.budget c.in_ok-step-in-Expression.step (ap plan is) refl
+    w w c.value.new.world a.budget.now c.value.new.budget c.in_ok-step-in-Expression.step (ap plan is) refl
     c.in_ok-step-in-Expression.ensures.means
 
 pub returns-in_ok-step-in-Statement-clause-means : goal.returns-in_ok-step-in-Statement-clause-means
@@ -41,7 +41,7 @@ returns-in_ok-step-in-Statement-clause-means c =
     let m = c.in-Statement in
     let is : item_at items n ≡ kept.Statement m.place m.statement = search rules in
     moved items fs c.definition.new.frames.items (plan (item_at items n)) (meaning.definition_plan items m.statement n m.place env)
-    w w c.definition.new.world a.budget.now a.budget.now c.definition.new.budget c.in_ok-step-in-Statement.step (ap plan is) refl
+    w w c.definition.new.world a.budget.now c.definition.new.budget c.in_ok-step-in-Statement.step (ap plan is) refl
     c.in_ok-step-in-Statement.ensures.means
 
 pub returns-in_default : goal.returns-in_default
@@ -56,7 +56,7 @@ returns-in_default c =
     let d = c.in_default in
     record {
       means =
-          moved items fs fs (plan (item_at items n)) definitions.over w w w a.budget.now a.budget.now a.budget.now (Return (ends.Gave values.Nil))
+          moved items fs fs (plan (item_at items n)) definitions.over w w w a.budget.now a.budget.now (Return (ends.Gave values.Nil))
           (placing.nothing_first items c.node.result.now (item_at items n) n env c.node.ensures d.not-Expression d.not-Statement) refl
           (returned items fs (ends.Gave values.Nil) w a.budget.now);
       kept = keeps_itself w;
