@@ -8,8 +8,9 @@ use Rattle.lua_table.proofs.Keeping.{front_self, front_more}
 use Rattle.terra_term.specs.declared.store.TextBytes.{TextBytes}
 use Rattle.terra_term.specs.declared.term.Expression.TheVariants as expressions
 use Rattle.terra_term.specs.declared.term.Term.TheVariants as terms
-use Rattle.terra_term.specs.Held.{Held, with_term, with_static, with_text, with_name, text_address, room_for, placed_text, name_place, ended}
-use Rattle.exotype.specs.World.{StageState}
+use Rattle.terra_term.proofs.Staying.{stays-same}
+use Rattle.terra_term.specs.Held.{Held, state_of, with_term, with_static, with_text, with_name, text_address, room_for, placed_text, name_place, ended}
+use Rattle.exotype.specs.World.{StageState, with_store}
 use Rattle.exotype.specs.Becoming.{Becoming, Leaf, Text, Spliced, Again, Not, store_after, after}
 use Rattle.spec_model.specs.Making as making
 use Rattle.spec_machine.specs.Keeping.{KeepsStage, KeepsStore}
@@ -19,7 +20,18 @@ use Rattle.spec_machine.proofs.Keeping.{keeps_store, store_term}
 -- ---- statics
 
 store_static : (s : Held) (is_text : Bool) (bytes : List ℕ) → KeepsStore s (with_static s is_text bytes)
-store_static s is_text bytes = record (store_itself s) { statics = front_more s.statics _ }
+store_static s is_text bytes = record {
+  functions = λ f. stays-same (state_of s f);
+  terms = front_self s.terms;
+  types = front_self s.types;
+  symbols = front_self s.symbols;
+  quotes = front_self s.quotes;
+  statics = front_more s.statics _;
+  names = front_self s.names;
+  constants = refl;
+  globals = refl;
+  typed = refl;
+}
 
 -- the store with a text, if there is room for it
 abbrev if_room : Option ℕ → Held → Held → Held
@@ -80,7 +92,21 @@ names_front (Some i) names text bytes = front_self names
 names_front None names text bytes = front_more names (record { text = text; bytes = bytes } ∷ [])
 
 store_name : (s : Held) (text : TextId) (bytes : List ℕ) → KeepsStore s (with_name s text bytes)
-store_name s text bytes = record (store_itself s) { names = names_front (name_place s.names text) s.names text bytes }
+store_name s text bytes = record {
+  functions = λ f. stays-same (state_of s f);
+  terms = front_self s.terms;
+  types = front_self s.types;
+  symbols = front_self s.symbols;
+  quotes = front_self s.quotes;
+  statics = front_self s.statics;
+  names = names_front (name_place s.names text) s.names text bytes;
+  constants = refl;
+  globals = refl;
+  typed = refl;
+}
 
 pub keeps_name : (w : StageState) (text : TextId) → KeepsStage w (making.with_name w text)
 keeps_name w text = keeps_store w (with_name w.store text (text_at w.heap text)) (store_name w.store text (text_at w.heap text))
+
+pub keeps_bytes : (w : StageState) (text : TextId) (bytes : List ℕ) → KeepsStage w (with_store w (with_name w.store text bytes))
+keeps_bytes w text bytes = keeps_store w (with_name w.store text bytes) (store_name w.store text bytes)

@@ -59,16 +59,71 @@ keeps_store w store kept = record {
 -- ---- words of the store
 
 pub store_term : (s : Held) (t : Term) → KeepsStore s (with_term s t)
-store_term s t = record (store_itself s) { terms = front_more s.terms (t ∷ []) }
+store_term s t = record {
+  functions = λ f. stays-same (state_of s f);
+  terms = front_more s.terms (t ∷ []);
+  types = front_self s.types;
+  symbols = front_self s.symbols;
+  quotes = front_self s.quotes;
+  statics = front_self s.statics;
+  names = front_self s.names;
+  constants = refl;
+  globals = refl;
+  typed = refl;
+}
 
 pub store_symbol : (s : Held) (of : Option TypeId) → KeepsStore s (with_symbol s of)
-store_symbol s of = record (store_itself s) { symbols = front_more s.symbols (record { of = of } ∷ []) }
+store_symbol s of = record {
+  functions = λ f. stays-same (state_of s f);
+  terms = front_self s.terms;
+  types = front_self s.types;
+  symbols = front_more s.symbols (record { of = of } ∷ []);
+  quotes = front_self s.quotes;
+  statics = front_self s.statics;
+  names = front_self s.names;
+  constants = refl;
+  globals = refl;
+  typed = refl;
+}
 
 pub store_quote : (s : Held) (q : Quote) → KeepsStore s (with_quote s q)
-store_quote s q = record (store_itself s) { quotes = front_more s.quotes (q ∷ []) }
+store_quote s q = record {
+  functions = λ f. stays-same (state_of s f);
+  terms = front_self s.terms;
+  types = front_self s.types;
+  symbols = front_self s.symbols;
+  quotes = front_more s.quotes (q ∷ []);
+  statics = front_self s.statics;
+  names = front_self s.names;
+  constants = refl;
+  globals = refl;
+  typed = refl;
+}
 
 pub store_function : (s : Held) (of : Option TypeId) (place : Place) → KeepsStore s (with_function s of place)
-store_function s of place = record (store_itself s) { functions = declaring-stays s of place }
+store_function s of place = record {
+  functions = declaring-stays s of place;
+  terms = front_self s.terms;
+  types = front_self s.types;
+  symbols = front_self s.symbols;
+  quotes = front_self s.quotes;
+  statics = front_self s.statics;
+  names = front_self s.names;
+  constants = refl;
+  globals = refl;
+  typed = refl;
+}
 
 pub store_defined : (s : Held) (f : FnId) (t : TermId) (place : Place) → state_of s f ≡ states.Undefined → KeepsStore s (with_defined s f t place)
-store_defined s f t place none = record (store_itself s) { functions = defining-stays s f t place none }
+store_defined s f t place none = record {
+  functions = defining-stays s f t place none;
+  terms = front_self s.terms;
+  types = front_self s.types;
+  symbols = front_self s.symbols;
+  quotes = front_self s.quotes;
+  statics = front_self s.statics;
+  names = front_self s.names;
+  constants = refl;
+  globals = refl;
+  typed = refl;
+}

@@ -47,11 +47,12 @@ one_passes v at w u n became left middle costs enough paid found made = λ f go 
     ∙ ap (λ (x : StageState). run f (on_became became at go) (state x middle) later) (sym made)
 
 -- one that isn't paid for
-pub one_short : (v : Value) (at : Place) (w : StageState) (n left : ℕ) → n ≡ spliced_nodes w v → left < n
-    → Comes (λ go. one v at go) w left (Left Spent) w left
-one_short v at w n left costs short = λ items go fs.
-    lacks items fs (spliced_nodes w v) (Write (with_term_of w v at) (on_became (term_of w v) at go)) w left
-    (subst (λ (m : ℕ). left < m) costs short)
+pub one_short : (v : Value) (at : Place) (w : StageState) (n left after : ℕ) → n ≡ spliced_nodes w v → left < n → after ≡ left
+    → Comes (λ go. one v at go) w left (Left Spent) w after
+one_short v at w n left after costs short same = λ items go fs.
+    subst (λ (m : ℕ). Goes items fs (one v at go) w left fs Spent w m) (sym same)
+    (lacks items fs (spliced_nodes w v) (Write (with_term_of w v at) (on_became (term_of w v) at go)) w left
+    (subst (λ (m : ℕ). left < m) costs short))
 
 pub literal_passes : (bytes : List ℕ) (at : Place) (w u : StageState) (became : Became) (left : ℕ)
     → became ≡ became_of w (Text bytes) → u ≡ after w at (Text bytes)

@@ -67,6 +67,7 @@ pub type_among_is : (vs : List Value) (place : Place) (go : TypeId → SpecPlan)
 type_among_is [] place go = refl
 type_among_is (values.TerraType t ∷ []) place go = refl
 type_among_is (v ∷ []) place go = refl
+type_among_is (values.TerraType t ∷ u ∷ vs) place go = refl
 type_among_is (v ∷ u ∷ vs) place go = refl
 
 pub among_one : (v : Value) (vs : List Value) → length vs ≡ 0 → type_among (v ∷ vs) ≡ type_of_value v
@@ -92,3 +93,7 @@ quoted_none (Some (quotes.Expression u)) place go is = absurd (cc is)
 quoted_none (Some (quotes.Statements ts)) place go is = refl
 quoted_none (Some (quotes.Typed source made)) place go is = refl
 quoted_none None place go is = refl
+
+pub none_there : (o : Option TermId) → ((t : TermId) → o ≡ Some t → ⊥) → o ≡ None
+none_there None no_term = refl
+none_there (Some t) no_term = absurd (no_term t refl)

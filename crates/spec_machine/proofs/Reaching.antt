@@ -1,5 +1,5 @@
 -- Plans that wait for nothing: what comes of one is what comes of another, or of the next one behind it.
-use Rattle.std.proofs.Common.{◌≡◌, ℕ, ◌-◌, ◌≤◌, ◌<◌, List, [], ◌∷◌, ◌++◌, length, refl, sym, ap, ◌∙◌}
+use Rattle.std.proofs.Common.{◌≡◌, ℕ, ◌-◌, ◌≤◌, ◌<◌, List, [], ◌∷◌, ◌++◌, length, refl, sym, ap, subst, ◌∙◌}
 use Rattle.tl_base.specs.Layer.{State, state}
 use Rattle.tl_base.specs.declared.machine.Step.TheVariants.{Spent}
 use Rattle.tl_base.specs.Plan.{Pay, Course, run}
@@ -45,9 +45,10 @@ passes_enough {X} n p w left after enough is = λ f go later.
     ∙ ap (λ (m : ℕ). run f (p go) (state w m) later) (sym is)
 
 -- a payment above what is left
-pub comes_short : {X : Type 0} (n : ℕ) (p : (X → SpecPlan) → SpecPlan) (w : StageState) (left : ℕ)
-    → left < n → Comes (λ (go : X → SpecPlan). Pay n (p go)) w left (Left Spent) w left
-comes_short {X} n p w left short = λ items go fs. lacks items fs n (p go) w left short
+pub comes_short : {X : Type 0} (n : ℕ) (p : (X → SpecPlan) → SpecPlan) (w : StageState) (left after : ℕ)
+    → left < n → after ≡ left → Comes (λ (go : X → SpecPlan). Pay n (p go)) w left (Left Spent) w after
+comes_short {X} n p w left after short same = λ items go fs.
+    subst (λ (m : ℕ). Goes items fs (Pay n (p go)) w left fs Spent w m) (sym same) (lacks items fs n (p go) w left short)
 
 -- what comes of the plan that a plan goes on as
 pub comes_past : {X : Type 0} (p q : (X → SpecPlan) → SpecPlan) (r : Reached X) (w v w2 : StageState) (left middle left2 : ℕ)

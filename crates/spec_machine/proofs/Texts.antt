@@ -1,5 +1,5 @@
 -- The texts of bytes, and errors that are raised with one.
-use Rattle.std.proofs.Common.{◌≡◌, ℕ, ◌-◌, ◌≤◌, ◌<◌, Bool, true, false, List, length, refl, sym, ap, ◌∙◌, arith}
+use Rattle.std.proofs.Common.{◌≡◌, ℕ, ◌-◌, ◌≤◌, ◌<◌, Bool, true, false, List, length, refl, sym, ap, subst, ◌∙◌, arith}
 use Rattle.std.proofs.lemmas.Bool.Decides.{nat_tests}
 use Rattle.std.specs.Prelude.{nat_le, if◌then◌else◌}
 use Rattle.tl_base.specs.declared.ids.TextId.{TextId}
@@ -61,12 +61,12 @@ raises items fs place fault bytes id w v left after is enough paid got =
     (gets items fs fs (λ go. with_text_of bytes go) end id w v v after after step got
     (returns items fs (Raised (values.Text id) place) v after)))
 
-pub raises_short : (items : Items) (fs : List SpecFrame) (place : Place) (fault : Fault) (bytes : List ℕ) (w : StageState) (left : ℕ)
-    → bytes ≡ error_text place fault → left < text_units (length bytes)
-    → Goes items fs (raise place fault) w left fs Spent w left
-raises_short items fs place fault bytes w left is short =
+pub raises_short : (items : Items) (fs : List SpecFrame) (place : Place) (fault : Fault) (bytes : List ℕ) (w : StageState) (left after : ℕ)
+    → bytes ≡ error_text place fault → left < text_units (length bytes) → after ≡ left
+    → Goes items fs (raise place fault) w left fs Spent w after
+raises_short items fs place fault bytes w left after is short same =
     let n = text_units (length bytes) in
     let end = λ (text : TextId). Give (Raised (values.Text text) place) in
-    moved items fs fs (raise place fault) (raise_with bytes place) w w w left left Spent
+    moved items fs fs (raise place fault) (raise_with bytes place) w w w left after Spent
     (ap (λ (bs : List ℕ). raise_with bs place) (sym is)) refl
-    (lacks items fs n (with_text_of bytes end) w left short)
+    (subst (λ (m : ℕ). Goes items fs (raise_with bytes place) w left fs Spent w m) (sym same) (lacks items fs n (with_text_of bytes end) w left short))

@@ -14,8 +14,8 @@ use Rattle.spec_machine.proofs.Asking.{asks_value}
 use Rattle.spec_machine.proofs.Doing.{moved, gets}
 use Rattle.spec_machine.proofs.names.member.Goals as goal
 
-pub returns-in-Some-clause-means : goal.returns-in-Some-clause-means
-returns-in-Some-clause-means c = λ left.
+pub returns-in_ok-push-in-Some-clause-means : goal.returns-in_ok-push-in-Some-clause-means
+returns-in_ok-push-in-Some-clause-means c = λ left.
     let a = c.args in
     let items = items_of a.tree.now in
     let fs = a.frames.now.items in

@@ -20,7 +20,7 @@ values-preserved c =
     let vs = a.values.now in
     let i = l.value-index in
     let v = c.value-item.result in
-    let x = c.in-Symbol.symbol.now in
+    let x = c.in-Symbol.symbol in
     let rest = drop (i + 1) vs in
     let is = sym (get_or_read vs i v c.values-test.true c.value-item.is values.Nil) in
     record {
@@ -30,7 +30,7 @@ values-preserved c =
           l.invariant.same go
           ∙ symbols_at vs i v a.at l.symbols go c.values-test.true is
           ∙ ap (λ (u : Value). symbols_in (u ∷ rest) a.at l.symbols go) c.in-Symbol.is
-          ∙ ap (λ (xs : List SymId). symbols_in rest a.at xs go) (sym c.in_ok-push.ensures.ok);
+          ∙ ap (λ (xs : List SymId). symbols_in rest a.at xs go) (sym c.in_ok-push-in-Symbol.ensures.ok);
     }
 
 pub returns-in_default-clause-means : goal.returns-in_default-clause-means
@@ -42,7 +42,7 @@ returns-in_default-clause-means c =
     let v = c.value-item.result in
     let w = c.raise.new.world in
     let left = c.raise.new.budget in
-    let step = c.in_ok-step.step in
+    let step = c.in_ok-step-in_default.step in
     let fault = InTerraCode c.kind.result in
     let whole = λ (go : List SymId → SpecPlan). symbols_in vs a.at [] go in
     let refused = λ (go : List SymId → SpecPlan). raise a.at fault in
@@ -52,7 +52,7 @@ returns-in_default-clause-means c =
     (λ go. l.invariant.same go ∙ symbols_at vs i v a.at l.symbols go c.values-test.true is
     ∙ none_in v (drop (i + 1) vs) a.at l.symbols go c.in_default.not-Symbol
     ∙ ap (λ (k : Kind). raise a.at (InTerraCode k)) (sym c.kind.ensures)) (sym l.invariant.world)))
-    (comes_left (raise a.at fault) step l.world w l.budget left c.in_ok-step.ensures.means)
+    (comes_left (raise a.at fault) step l.world w l.budget left c.in_ok-step-in_default.ensures.means)
 
 pub returns-clause-means : goal.returns-clause-means
 returns-clause-means c =

@@ -12,8 +12,8 @@ use Rattle.spec_machine.proofs.Asking.{asks_value}
 use Rattle.spec_machine.proofs.Made.{named}
 use Rattle.spec_machine.proofs.names.with_member.Goals as goal
 
-pub returns-in-Table-clause-means : goal.returns-in-Table-clause-means
-returns-in-Table-clause-means c = λ items left.
+pub returns-in_ok-push-in-Table-clause-means : goal.returns-in_ok-push-in-Table-clause-means
+returns-in_ok-push-in-Table-clause-means c = λ items left.
     let a = c.args in
     let m = c.in-Table in
     rw m.is (asks_value items a.frames.now.items c.push.new.self.items (Found m.place) (Index (values.Table m.table) a.text m.place)

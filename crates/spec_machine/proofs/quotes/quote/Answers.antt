@@ -16,7 +16,7 @@ returns-clause-means c =
     let is = c.quoted_parts-parts.ensures in
     let from = quoted_at items a.node in
     let plan = λ (b : NodeId) (value : Option NodeId).
-        entering a.node a.env (λ inner. block (statements_at items b) inner [] (λ ts. quoted_plan value ts a.place inner)) in
+    entering a.node a.env (λ inner. block (statements_at items b) inner [] (λ ts. quoted_plan value ts a.place inner)) in
     moved items a.frames.now.items c.entered.new.frames.items (plan from.block from.value) (plan parts.block parts.value)
     a.world.now a.world.now c.entered.new.world a.budget.now c.entered.new.budget c.in_ok-step.step
     (ap (λ (b : NodeId). plan b from.value) (sym is.block) ∙ ap (λ (v : Option NodeId). plan parts.block v) (sym is.value)) refl

@@ -19,7 +19,7 @@ returns-in_ok-step-in-Some-clause-means c = λ items fs.
     let size = terms_size w a.statements in
     let fault = c.in-Some.fault in
     let is = ap (λ (ts : List TermId). fault_of (terms_size w ts)) (sym c.as_slice.ensures)
-        ∙ ap fault_of (sym c.terms_size-size.ensures) ∙ sym c.past_limits.ensures ∙ c.in-Some.is in
+    ∙ ap fault_of (sym c.terms_size-size.ensures) ∙ sym c.past_limits.ensures ∙ c.in-Some.is in
     moved items fs fs (limited size a.place rest) (raise a.place fault) w w c.raise.new.world left c.raise.new.budget c.in_ok-step-in-Some.step
     (past_limits size a.place rest fault is) refl (c.in_ok-step-in-Some.ensures.means items fs)
 
@@ -32,7 +32,7 @@ returns-in_ok-step-in-None-clause-means c = λ items fs.
     let size = terms_size w a.statements in
     let list = c.in_ok-list-in-None.list in
     let is = ap (λ (ts : List TermId). fault_of (terms_size w ts)) (sym c.as_slice.ensures)
-        ∙ ap fault_of (sym c.terms_size-size.ensures) ∙ sym c.past_limits.ensures ∙ c.in-None.is in
+    ∙ ap fault_of (sym c.terms_size-size.ensures) ∙ sym c.past_limits.ensures ∙ c.in-None.is in
     moved items fs fs (limited size a.place rest) (give_quote (Statements list)) w w c.give_quote.new.world left left c.in_ok-step-in-None.step
     (within_limits size a.place rest is ∙ ap (λ (ts : List TermId). give_quote (Statements ts)) (sym c.in_ok-list-in-None.ensures)) refl
     (c.in_ok-step-in-None.ensures.means items left fs)

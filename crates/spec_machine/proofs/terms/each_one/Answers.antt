@@ -29,7 +29,7 @@ returns-in-Left-clause-means c =
     (comes_past rest next (Left step) l.world l.world w l.budget l.budget left
     (passes_same rest next l.world l.world l.budget (λ go. each_next vs i v a.at l.terms go c.values-test.true is) refl)
     (comes_gone first behind step l.world w l.budget left
-    (came_as first c.in_ok-one.value (Left step) l.world w l.budget left c.in-Left.is c.in_ok-one.ensures.means)))
+    (came_as first c.in_ok-term.field-0 (Left step) l.world w l.budget left c.in-Left.is c.in_ok-term.ensures.means)))
 
 pub values-preserved : goal.values-preserved
 values-preserved c =
@@ -55,10 +55,10 @@ values-preserved c =
           (passes_same rest next l.world l.world l.budget (λ go. each_next vs i v a.at l.terms go c.values-test.true is) refl)
           (passes_then next (behind t) after l.world w w l.budget left left
           (comes_on first behind t l.world w l.budget left
-          (came_as first c.in_ok-one.value (Value t) l.world w l.budget left c.in-Value.is c.in_ok-one.ensures.means))
+          (came_as first c.in_ok-term.field-0 (Value t) l.world w l.budget left c.in-Value.is c.in_ok-term.ensures.means))
           (passes_same (behind t) after w w left
-          (λ go. ap (λ (ts : List TermId). each_one (drop (i + 1) vs) a.at ts go) (sym c.in_ok-push.ensures.ok)) refl)));
-      kept = keeps_then a.world.now l.world w l.invariant.kept c.in_ok-one.ensures.kept;
+          (λ go. ap (λ (ts : List TermId). each_one (drop (i + 1) vs) a.at ts go) (sym c.in_ok-push-in-Value.ensures.ok)) refl)));
+      kept = keeps_then a.world.now l.world w l.invariant.kept c.in_ok-term.ensures.kept;
     }
 
 pub returns-clause-means : goal.returns-clause-means
@@ -72,3 +72,6 @@ returns-clause-means c =
     let end = λ (go : List TermId → SpecPlan). go l.terms in
     passes_then whole rest end a.world.now l.world l.world a.budget.now l.budget l.budget l.invariant.passes
     (passes_same rest end l.world l.world l.budget (λ go. each_end vs i a.at l.terms go c.values-test.false) refl)
+
+pub returns-in-Left-clause-kept : goal.returns-in-Left-clause-kept
+returns-in-Left-clause-kept c = keeps_then c.args.world.now c.values.world c.one.new.world c.values.invariant.kept c.in_ok-term.ensures.kept

@@ -15,7 +15,7 @@ returns-in_ok-reached-in-Table-clause-means c =
     let t = c.in-Table.table in
     let vs = c.as_slice.result.now in
     let is = c.as_slice.ensures ∙ c.in_ok-values-in-Table.ensures
-        ∙ ap (λ (w : StageState). values_in (table_at w.heap t)) c.world-in-Table.view_is in
+    ∙ ap (λ (w : StageState). values_in (table_at w.heap t)) c.world.view_is in
     rw c.in-Table.is (comes_past (λ go. listed (Table t) a.at a.terms go) (λ go. each_one vs a.at a.terms go) c.in_ok-reached-in-Table.reached
     a.world.now a.world.now c.each_one.new.world a.budget.now a.budget.now c.each_one.new.budget
     (reads_values (λ us go. each_one us a.at a.terms go) a.world.now a.budget.now t vs is)

@@ -9,12 +9,12 @@ use Rattle.spec_machine.proofs.Made.{one_passes, one_short}
 use Rattle.spec_machine.proofs.Reaching.{comes_past}
 use Rattle.spec_machine.proofs.terms.one.Goals as goal
 
-pub returns-then-pay-clause-means : goal.returns-then-pay-clause-means
-returns-then-pay-clause-means c =
+pub returns-then-not-pay-clause-means : goal.returns-then-not-pay-clause-means
+returns-then-not-pay-clause-means c =
     let a = c.args in
     let w = a.world.now in
-    one_short a.value a.at w c.spliced_nodes-nodes.result a.budget.now
-    (c.spliced_nodes-nodes.ensures ∙ ap (λ (v : Value). spliced_nodes w v) c.copy.ensures) (omega arith)
+    one_short a.value a.at w c.spliced_nodes-nodes.result a.budget.now c.pay.new.self
+    (c.spliced_nodes-nodes.ensures ∙ ap (λ (v : Value). spliced_nodes w v) c.copy.ensures) c.if-not-pay.ensures.short c.if-not-pay.ensures.refused
 
 pub returns-clause-means : goal.returns-clause-means
 returns-clause-means c =
@@ -26,7 +26,7 @@ returns-clause-means c =
     comes_past (λ go. one a.value a.at go) (λ go. on_became became a.at go) c.in_ok-reached.reached w u c.became_term.new.world
     a.budget.now left c.became_term.new.budget
     (one_passes a.value a.at w u c.spliced_nodes-nodes.result became a.budget.now left
-    (c.spliced_nodes-nodes.ensures ∙ ap (λ (v : Value). spliced_nodes w v) c.copy.ensures) (omega arith) (omega arith)
+    (c.spliced_nodes-nodes.ensures ∙ ap (λ (v : Value). spliced_nodes w v) c.copy.ensures) (grind (arith, c.if-not-pay.ensures.enough)) c.if-not-pay.ensures.paid
     c.in_ok-became.ensures.term c.in_ok-became.ensures.ok)
     c.in_ok-reached.ensures.means
 

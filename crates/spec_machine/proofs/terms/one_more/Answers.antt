@@ -5,8 +5,8 @@ use Rattle.spec_machine.specs.declared.reached.Reached.TheVariants.{Value, Left}
 use Rattle.spec_machine.proofs.Reaching.{passes_then, passes_same, comes_on, comes_gone, came_as}
 use Rattle.spec_machine.proofs.terms.one_more.Goals as goal
 
-pub returns-in-Value-clause-means : goal.returns-in-Value-clause-means
-returns-in-Value-clause-means c =
+pub returns-in_ok-push-in-Value-clause-means : goal.returns-in_ok-push-in-Value-clause-means
+returns-in_ok-push-in-Value-clause-means c =
     let a = c.args in
     let w = c.one.new.world in
     let left = c.one.new.budget in
@@ -17,8 +17,8 @@ returns-in-Value-clause-means c =
     let end = λ (go : List TermId → SpecPlan). go c.push.new.self in
     passes_then whole (behind t) end a.world.now w w a.budget.now left left
     (comes_on first behind t a.world.now w a.budget.now left
-    (came_as first c.in_ok-one.value (Value t) a.world.now w a.budget.now left c.in-Value.is c.in_ok-one.ensures.means))
-    (passes_same (behind t) end w w left (λ go. ap go (sym c.in_ok-push.ensures.ok)) refl)
+    (came_as first c.in_ok-term.field-0 (Value t) a.world.now w a.budget.now left c.in-Value.is c.in_ok-term.ensures.means))
+    (passes_same (behind t) end w w left (λ go. ap go (sym c.in_ok-push-in-Value.ensures.ok)) refl)
 
 pub returns-in-Left-clause-means : goal.returns-in-Left-clause-means
 returns-in-Left-clause-means c =
@@ -29,4 +29,4 @@ returns-in-Left-clause-means c =
     let first = λ (go : TermId → SpecPlan). one a.value a.at go in
     let behind = λ (u : TermId) (go : List TermId → SpecPlan). go (a.terms ++ u ∷ []) in
     comes_gone first behind step a.world.now w a.budget.now left
-    (came_as first c.in_ok-one.value (Left step) a.world.now w a.budget.now left c.in-Left.is c.in_ok-one.ensures.means)
+    (came_as first c.in_ok-term.field-0 (Left step) a.world.now w a.budget.now left c.in-Left.is c.in_ok-term.ensures.means)
