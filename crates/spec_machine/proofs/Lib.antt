@@ -15,6 +15,11 @@ pub mod Worlds
 pub mod Texts
 pub mod Made
 pub mod Asking
+pub mod Defining
+pub mod Standing
+pub mod Placing
+pub mod Typing
+pub mod Entries
 pub mod Quoted
 pub mod Carrying
 pub mod Paying

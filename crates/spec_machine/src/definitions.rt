@@ -1,23 +1,29 @@
 // Declarations and definitions of Terra functions.
 
-ghost use Rattle.std.specs.Prelude.{◌≡◌, ℕ, None, IfOk, OnOk};
+ghost use Rattle.std.specs.Prelude.{◌≡◌, ℕ, true, Some, None, IfOk, OnOk, if◌then◌else◌};
 ghost use Rattle.tl_tree.specs.Arena.{items_of};
 ghost use Rattle.tl_tree.specs.Code.{Items};
 ghost use Rattle.exotype.specs.World.{StageState, with_heap};
-ghost use Rattle.spec_model.specs.Making.{is_undefined, form_at};
+ghost use Rattle.lua_value.specs.declared.value.Value.TheVariants as values;
+ghost use Rattle.lua_table.specs.Keeping.{KeepsHeap};
+ghost use Rattle.terra_term.specs.declared.term.Term.TheVariants as terms;
+ghost use Rattle.spec_model.specs.Making.{is_undefined, form_at, next_function, with_function, with_defined};
+ghost use Rattle.spec_model.specs.Plans.{node};
+ghost use Rattle.spec_model.specs.Plans.{raise as fails};
 ghost use Rattle.spec_model.specs.Nodes.{terra_parts_at};
 ghost use Rattle.spec_model.specs.Definitions as plans;
 ghost use Rattle.spec_machine.specs.Frames as waiting;
 ghost use Rattle.spec_machine.specs.Agreeing.{standing_in};
 ghost use Rattle.spec_machine.specs.declared.frame.TargetThen.TheVariants as of_target;
 ghost use Rattle.spec_machine.specs.declared.frame.ValueFrame.TheVariants as of_value;
-ghost use Rattle.tl_base.specs.Plan.{Give, Read};
+ghost use Rattle.tl_base.specs.Plan.{Give, Read, Write};
 ghost use Rattle.spec_model.specs.declared.end.End.TheVariants.{Gave};
 ghost use Rattle.spec_machine.specs.Keeping.{KeepsStage};
 ghost use Rattle.spec_machine.specs.Steps.{Goes, Does, Gets};
 
 use crate::code::{place, terra_parts};
 use crate::frame::{Definition, ParameterFrame, SpecFrame, ValueFrame};
+use crate::making::new_term;
 use crate::names::declare;
 use crate::parameters::{draw, parameters};
 use crate::quotes::{function_size, past_limits};
@@ -44,18 +50,35 @@ fn held(heap: &Heap, target: Target) -> Value
     }
 }
 
+/// Puts a value into a target, past all handlers.
+fn put(heap: &mut Heap, target: Target, value: Value) -> Result<(), NoMemory>
+    ensures ok { OnOk result (heap.new ≡ plans.with_held heap.old target value) }
+    ensures kept { OnOk result (KeepsHeap heap.old heap.new) }
+{
+    match target {
+        Target::Cell(cell) => heap.set_cell(cell, value),
+        Target::Key(table, key) => heap.store(table, Value::Text(key), value)?,
+    }
+    Ok(())
+}
+
 /// Stores a value, past all handlers.
 pub fn store(world: &mut World, target: Target, value: Value) -> Result<(), NoMemory>
     ensures ok { OnOk result (world.new ≡ with_heap world.old (plans.with_held world.old.heap target value)) }
     ensures kept { OnOk result (KeepsStage world.old world.new) }
 {
-    match target {
-        Target::Cell(cell) => {
-            world.heap.set_cell(cell, value);
-            Ok(())
-        }
-        Target::Key(table, key) => world.heap.store(table, Value::Text(key), value),
-    }
+    put(&mut world.heap, target, value)?;
+    Ok(())
+}
+
+/// A new function, which isn't defined, with its type where it is declared.
+fn new_function(world: &mut World, of: Option<TypeId>, at: Place) -> Result<FnId, NoMemory>
+    ensures id { IfOk result (λ f. f ≡ next_function world.old) }
+    ensures ok { OnOk result (world.new ≡ with_function world.old at of) }
+    ensures kept { OnOk result (KeepsStage world.old world.new) }
+{
+    let function = world.store.declare(of, at)?;
+    Ok(function)
 }
 
 /// Whether a function isn't defined.
@@ -64,7 +87,10 @@ fn is_undefined(world: &World, function: FnId) -> bool
 {
     match world.store.state(function) {
         FunctionState::Undefined => true,
-        _ => false,
+        FunctionState::Defined(_)
+        | FunctionState::Typing(_)
+        | FunctionState::Typed(_, _)
+        | FunctionState::Refused(_, _) => false,
     }
 }
 
@@ -73,7 +99,13 @@ fn standing(world: &World, target: Target) -> Option<FnId>
     ensures { result ≡ standing_in world.now (plans.held_in world.now.heap target) }
 {
     match held(&world.heap, target) {
-        Value::TerraFunction(function) if is_undefined(world, function) => Some(function),
+        Value::TerraFunction(function) => {
+            if is_undefined(world, function) {
+                Some(function)
+            } else {
+                None
+            }
+        }
         _ => None,
     }
 }
@@ -87,11 +119,20 @@ fn target_function(world: &mut World, target: Target, at: Place) -> Result<FnId,
     match standing(world, target) {
         Some(function) => Ok(function),
         None => {
-            let function = world.store.declare(None, at)?;
-            store(world, target, Value::TerraFunction(function))?;
+            let function = stored_function(world, target, at)?;
             Ok(function)
         }
     }
+}
+
+/// A new function, which is stored in a target.
+fn stored_function(world: &mut World, target: Target, at: Place) -> Result<FnId, NoMemory>
+    ensures means { IfOk result (λ f. Gets (λ go. plans.made target at go) world.old f world.new) }
+    ensures kept { OnOk result (KeepsStage world.old world.new) }
+{
+    let function = new_function(world, None, at)?;
+    store(world, target, Value::TerraFunction(function))?;
+    Ok(function)
 }
 
 /// Defines the function of a target.
@@ -122,7 +163,8 @@ pub fn define_target<'a>(
         env,
         anonymous: false,
     };
-    define(tree, frames, world, budget, definition, of)
+    let step = define(tree, frames, world, budget, definition, of)?;
+    Ok(step)
 }
 
 /// Defines a local function, which its body sees.
@@ -140,7 +182,7 @@ pub fn define_local<'a>(
         world.old budget.old frames.new.items step world.new budget.new) }
     ensures kept { OnOk result (KeepsStage world.old world.new) }
 {
-    let function = world.store.declare(None, at)?;
+    let function = new_function(world, None, at)?;
     declare(world, env, Value::TerraFunction(function))?;
     let definition = Definition {
         function,
@@ -150,7 +192,8 @@ pub fn define_local<'a>(
         env,
         anonymous: false,
     };
-    define(tree, frames, world, budget, definition, None)
+    let step = define(tree, frames, world, budget, definition, None)?;
+    Ok(step)
 }
 
 /// Defines a function that is given as a value.
@@ -168,7 +211,7 @@ pub fn define_anonymous<'a>(
         world.old budget.old frames.new.items step world.new budget.new) }
     ensures kept { OnOk result (KeepsStage world.old world.new) }
 {
-    let function = world.store.declare(None, at)?;
+    let function = new_function(world, None, at)?;
     let definition = Definition {
         function,
         body,
@@ -177,7 +220,8 @@ pub fn define_anonymous<'a>(
         env,
         anonymous: true,
     };
-    define(tree, frames, world, budget, definition, None)
+    let step = define(tree, frames, world, budget, definition, None)?;
+    Ok(step)
 }
 
 /// Specialises a function, and defines it; a method of a struct has an implicit first parameter.
@@ -206,7 +250,8 @@ fn define<'a>(
         rest,
         drawn,
     };
-    parameters(tree, frames, world, budget, frame)
+    let step = parameters(tree, frames, world, budget, frame)?;
+    Ok(step)
 }
 
 /// The implicit first parameter of a method.
@@ -220,7 +265,8 @@ fn self_parameter(world: &mut World, of: Option<TypeId>, at: Place) -> Result<Ro
         Some(of) => {
             let pointer = world.pointer_to(of)?;
             let first = draw(world, pointer, at)?;
-            single(alloc, first)
+            let drawn = single(alloc, first)?;
+            Ok(drawn)
         }
     }
 }
@@ -237,7 +283,8 @@ fn parameter_list(world: &World, drawn: &[Drawn]) -> Result<ParameterList, NoMem
             place: parameter.place,
         })?;
     }
-    ParameterList::from_vec(list)
+    let list = ParameterList::from_vec(list)?;
+    Ok(list)
 }
 
 /// Gives a function its term, if it has none yet.
@@ -256,17 +303,53 @@ pub fn finish(
 {
     let at = definition.place;
     let size = function_size(world, drawn.as_slice().len(), body.as_slice());
-    if let Some(fault) = past_limits(size) {
-        return raise(world, budget, at, fault);
+    match past_limits(size) {
+        Some(fault) => {
+            let step = raise(world, budget, at, fault)?;
+            Ok(step)
+        }
+        None => {
+            if is_undefined(world, definition.function) {
+                let step = take_term(world, definition, drawn, of, body)?;
+                Ok(step)
+            } else {
+                let step = raise(world, budget, at, Fault::AlreadyDefined)?;
+                Ok(step)
+            }
+        }
     }
-    if !is_undefined(world, definition.function) {
-        return raise(world, budget, at, Fault::AlreadyDefined);
-    }
+}
+
+/// Makes the term of a function, and defines it.
+fn take_term(
+    world: &mut World,
+    definition: &Definition,
+    drawn: Row<Drawn>,
+    of: Option<TypeId>,
+    body: Row<TermId>,
+) -> Result<SpecStep, NoMemory>
+    requires { is_undefined world.old definition.now.function ≡ true }
+    ensures means { IfOk result (λ step. (items : Items) (left : ℕ) →
+        Does items (node (terms.Function (plans.parameter_list drawn) of body)
+        (λ t. Read (λ w. Write (with_defined w definition.now.function definition.now.place t) (waiting.defined definition.now))))
+        world.old left step world.new left) }
+    ensures kept { OnOk result (KeepsStage world.old world.new) }
+{
     let parameters = parameter_list(world, drawn.as_slice())?;
-    let term = Term::Function(parameters, of, term_list(body)?);
-    let term = world.store.new_term(term)?;
-    world.store.define(definition.function, term, at)?;
+    let body = term_list(body)?;
+    let term = new_term(world, Term::Function(parameters, of, body))?;
+    define_term(world, definition.function, term, definition.place)?;
     Ok(Step::Return(End::Gave(defined(definition))))
+}
+
+/// Gives a function its term.
+fn define_term(world: &mut World, function: FnId, term: TermId, at: Place) -> Result<(), NoMemory>
+    requires { is_undefined world.old function ≡ true }
+    ensures ok { OnOk result (world.new ≡ with_defined world.old function at term) }
+    ensures kept { OnOk result (KeepsStage world.old world.new) }
+{
+    world.store.define(function, term, at)?;
+    Ok(())
 }
 
 /// What a definition gives.
@@ -311,7 +394,8 @@ pub fn declare_local<'a>(
 {
     let cell = world.heap.next_cell();
     declare(world, env, Value::Nil)?;
-    declare_target(frames, Target::Cell(cell), of, at, env)
+    let step = declare_target(frames, Target::Cell(cell), of, at, env)?;
+    Ok(step)
 }
 
 /// Whether a type is one of functions.
@@ -319,8 +403,23 @@ fn is_function_type(world: &World, of: TypeId) -> bool
     ensures { result ≡ plans.function_form (form_at world.now of) }
 {
     match world.store.types().form(of) {
-        Some(TypeForm::Function(_, _)) => true,
-        _ => false,
+        Some(form) => is_function_form(form),
+        None => false,
+    }
+}
+
+/// Whether a form is that of functions.
+fn is_function_form(form: &TypeForm) -> bool
+    ensures { result ≡ plans.function_form (Some form.now) }
+{
+    match form {
+        TypeForm::Function(_, _) => true,
+        TypeForm::Integer(_)
+        | TypeForm::Bool
+        | TypeForm::Unit
+        | TypeForm::Pointer(_)
+        | TypeForm::Array(_, _)
+        | TypeForm::Struct(_, _, _) => false,
     }
 }
 
@@ -339,15 +438,56 @@ pub fn with_declared(
         world.old budget.old step world.new budget.new) }
     ensures kept { OnOk result (KeepsStage world.old world.new) }
 {
-    match as_type(world, budget, value, place(tree, node))? {
+    let at_type = place(tree, node);
+    let reached = as_type(world, budget, value, at_type)?;
+    match reached {
         Reached::Left(step) => Ok(step),
         Reached::Value(of) => {
-            if !is_function_type(world, of) {
-                return raise(world, budget, place(tree, node), Fault::NotAType);
-            }
-            let function = world.store.declare(Some(of), at)?;
-            store(world, target, Value::TerraFunction(function))?;
-            Ok(Step::Return(End::Gave(Value::Nil)))
+            let step = declare_typed(world, budget, of, at_type, target, at)?;
+            Ok(step)
         }
     }
+}
+
+/// Declares a function of a type, which must be one of functions.
+fn declare_typed(
+    world: &mut World,
+    budget: &mut Budget,
+    of: TypeId,
+    at_type: Place,
+    target: Target,
+    at: Place,
+) -> Result<SpecStep, NoMemory>
+    ensures means { IfOk result (λ step. (items : Items) →
+        Does items (Read (λ w.
+        if plans.function_form (form_at w of)
+        then plans.new_function at (Some of) (λ f. plans.storing target (values.TerraFunction f) plans.over)
+        else fails at_type Fault.NotAType))
+        world.old budget.old step world.new budget.new) }
+    ensures kept { OnOk result (KeepsStage world.old world.new) }
+{
+    if is_function_type(world, of) {
+        let step = store_declared(world, of, target, at)?;
+        Ok(step)
+    } else {
+        let step = raise(world, budget, at_type, Fault::NotAType)?;
+        Ok(step)
+    }
+}
+
+/// Stores a new function of a declared type in a target.
+fn store_declared(
+    world: &mut World,
+    of: TypeId,
+    target: Target,
+    at: Place,
+) -> Result<SpecStep, NoMemory>
+    ensures means { IfOk result (λ step. (items : Items) (left : ℕ) →
+        Does items (plans.new_function at (Some of) (λ f. plans.storing target (values.TerraFunction f) plans.over))
+        world.old left step world.new left) }
+    ensures kept { OnOk result (KeepsStage world.old world.new) }
+{
+    let function = new_function(world, Some(of), at)?;
+    store(world, target, Value::TerraFunction(function))?;
+    Ok(Step::Return(End::Gave(Value::Nil)))
 }

@@ -2,7 +2,8 @@
 
 ghost use Rattle.std.specs.Prelude.{◌≡◌, ℕ, [], IfOk, OnOk};
 ghost use Rattle.tl_tree.specs.Arena.{items_of};
-ghost use Rattle.tl_tree.specs.Code.{Items};
+ghost use Rattle.tl_tree.specs.Code.{Items, place_at};
+ghost use Rattle.terra_term.specs.declared.term.Expression.TheVariants as kinds;
 ghost use Rattle.tl_tree.specs.Nodes.{item_at};
 ghost use Rattle.tl_tree.specs.Scopes.{binder};
 ghost use Rattle.tl_base.specs.Plan.{Give};
@@ -15,7 +16,8 @@ ghost use Rattle.spec_machine.specs.Keeping.{KeepsStage};
 ghost use Rattle.spec_machine.specs.Slots.{ArePaths};
 ghost use Rattle.spec_machine.specs.Agreeing.{initial_in};
 ghost use Rattle.exotype.specs.World.{StageState};
-ghost use Rattle.spec_machine.specs.Steps.{Goes, Does};
+ghost use Rattle.tl_base.specs.declared.ids.TypeId.{TypeId};
+ghost use Rattle.spec_machine.specs.Steps.{Goes, Does, Comes};
 
 use crate::code::{Initial, are_named, initial_at, name, place};
 use crate::frame::{
@@ -60,17 +62,50 @@ pub fn node<'a>(
     ensures kept { OnOk result (KeepsStage world.old world.new) }
 {
     match tree.node(node) {
-        Node::Name(place, _, name) => use_of(slots, frames, world, node, name, *place, env),
+        Node::Name(place, _, name) => {
+            let step = use_of(slots, frames, world, node, name, *place, env)?;
+            Ok(step)
+        }
         Node::Numeral(place, digits) => {
             let number = Expression::Number(numeral(digits), numeral_type(digits));
-            make(world, *place, number)
+            let step = make(world, *place, number)?;
+            Ok(step)
         }
-        Node::Literal(place, written) => written_text(world, budget, written, *place),
+        Node::Literal(place, written) => {
+            let step = written_text(world, budget, written, *place)?;
+            Ok(step)
+        }
         Node::TerraExpression(place, expression) => {
-            specialise(tree, frames, world, expression, *place, env)
+            let step = specialise(tree, frames, world, expression, *place, env)?;
+            Ok(step)
         }
-        _ => make(world, place(tree, node), Expression::Nil),
+        Node::Expression(_, _) => {
+            let step = nothing(tree, world, node)?;
+            Ok(step)
+        }
+        Node::Statement(_, _) => {
+            let step = nothing(tree, world, node)?;
+            Ok(step)
+        }
+        Node::TerraStatement(_, _) => {
+            let step = nothing(tree, world, node)?;
+            Ok(step)
+        }
+        Node::Piece(_) => {
+            let step = nothing(tree, world, node)?;
+            Ok(step)
+        }
     }
+}
+
+/// What is no expression is nil.
+fn nothing(tree: &Tree<'_>, world: &mut World, node: NodeId) -> Result<SpecStep, NoMemory>
+    ensures means { IfOk result (λ step. (left : ℕ) →
+        Does (items_of tree.now) (models.make (place_at (items_of tree.now) node) kinds.Nil) world.old left step world.new left) }
+    ensures kept { OnOk result (KeepsStage world.old world.new) }
+{
+    let step = make(world, place(tree, node), Expression::Nil)?;
+    Ok(step)
 }
 
 /// The use of a name: the value of its cell at this moment, or what stands under it in the globals.
@@ -115,7 +150,8 @@ fn written_text(
     ensures kept { OnOk result (KeepsStage world.old world.new) }
 {
     let bytes = literal_value(world.heap.allocator(), written)?;
-    match literal(world, budget, &bytes, place)? {
+    let reached = literal(world, budget, &bytes, place)?;
+    match reached {
         Reached::Value(term) => Ok(Step::Return(End::Made(term))),
         Reached::Left(step) => Ok(step),
     }
@@ -137,9 +173,18 @@ fn specialise<'a>(
     ensures kept { OnOk result (KeepsStage world.old world.new) }
 {
     match expression {
-        TerraExpression::Nil => make(world, place, Expression::Nil),
-        TerraExpression::False => make(world, place, Expression::Truth(false)),
-        TerraExpression::True => make(world, place, Expression::Truth(true)),
+        TerraExpression::Nil => {
+            let step = make(world, place, Expression::Nil)?;
+            Ok(step)
+        }
+        TerraExpression::False => {
+            let step = make(world, place, Expression::Truth(false))?;
+            Ok(step)
+        }
+        TerraExpression::True => {
+            let step = make(world, place, Expression::Truth(true))?;
+            Ok(step)
+        }
         TerraExpression::Binary(op, left, right) => {
             frames.push(SpecFrame::Term(TermFrame::Left(*op, *right, place, env)))?;
             Ok(Step::Enter(Job::Expression(*left, env)))
@@ -205,11 +250,13 @@ pub fn select<'a>(
 {
     match end {
         End::Found(value, at) => {
-            select_from(tree, frames, world, budget, value, at, name, place, env)
+            let step = select_from(tree, frames, world, budget, value, at, name, place, env)?;
+            Ok(step)
         }
         End::Made(object) => {
             let then = MemberThen::Select(object, place);
-            member(tree, frames, world, name, env, then)
+            let step = member(tree, frames, world, name, env, then)?;
+            Ok(step)
         }
         end => Ok(Step::Return(end)),
     }
@@ -235,15 +282,42 @@ fn select_from<'a>(
     match value {
         Value::Table(table) => {
             let then = MemberThen::Table(table, place);
-            member(tree, frames, world, name, env, then)
+            let step = member(tree, frames, world, name, env, then)?;
+            Ok(step)
         }
-        _ => match one(world, budget, value, at)? {
-            Reached::Value(object) => {
-                let then = MemberThen::Select(object, place);
-                member(tree, frames, world, name, env, then)
-            }
-            Reached::Left(step) => Ok(step),
-        },
+        _ => {
+            let step = select_one(tree, frames, world, budget, value, at, name, place, env)?;
+            Ok(step)
+        }
+    }
+}
+
+/// Selects from the term that a value becomes.
+fn select_one<'a>(
+    tree: &'a Tree<'a>,
+    frames: &mut Vec<SpecFrame<'a>>,
+    world: &mut World,
+    budget: &mut Budget,
+    value: Value,
+    at: Place,
+    name: NodeId,
+    place: Place,
+    env: EnvId,
+) -> Result<SpecStep, NoMemory>
+    ensures means { IfOk result (λ step.
+        Goes (items_of tree.now) frames.old.items
+        (models.one value at (λ object. plans.select_term (items_of tree.now) object name place env))
+        world.old budget.old frames.new.items step world.new budget.new) }
+    ensures kept { OnOk result (KeepsStage world.old world.new) }
+{
+    let reached = one(world, budget, value, at)?;
+    match reached {
+        Reached::Value(object) => {
+            let then = MemberThen::Select(object, place);
+            let step = member(tree, frames, world, name, env, then)?;
+            Ok(step)
+        }
+        Reached::Left(step) => Ok(step),
     }
 }
 
@@ -264,15 +338,42 @@ pub fn constructed<'a>(
     ensures kept { OnOk result (KeepsStage world.old world.new) }
 {
     match end {
-        End::Found(value, _) => match type_from(world, budget, value, frame.at)? {
-            Reached::Value(of) => construct(tree, frames, world, of, frame),
-            Reached::Left(step) => Ok(step),
-        },
-        End::Made(term) => match type_of_term(world, budget, term, frame.at)? {
-            Reached::Value(of) => construct(tree, frames, world, of, frame),
-            Reached::Left(step) => Ok(step),
-        },
+        End::Found(value, _) => {
+            let reached = type_from(world, budget, value, frame.at)?;
+            let step = construct_reached(tree, frames, world, reached, frame)?;
+            Ok(step)
+        }
+        End::Made(term) => {
+            let reached = type_of_term(world, budget, term, frame.at)?;
+            let step = construct_reached(tree, frames, world, reached, frame)?;
+            Ok(step)
+        }
         end => Ok(Step::Return(end)),
+    }
+}
+
+/// Goes on with the type of a constructor, or with the step at which it was left.
+fn construct_reached<'a>(
+    tree: &'a Tree<'a>,
+    frames: &mut Vec<SpecFrame<'a>>,
+    world: &mut World,
+    reached: Reached<TypeId>,
+    frame: &ConstructFrame<'a>,
+) -> Result<SpecStep, NoMemory>
+    ensures means { IfOk result (λ step.
+        (plan : (TypeId → models.SpecPlan) → models.SpecPlan) (w : StageState) (left middle : ℕ) →
+        Comes plan w left reached world.old middle →
+        Goes (items_of tree.now) frames.old.items
+        (plan (λ of. plans.construct (items_of tree.now) of frame.now.initials.now frame.now.place frame.now.env))
+        w left frames.new.items step world.new middle) }
+    ensures kept { OnOk result (KeepsStage world.old world.new) }
+{
+    match reached {
+        Reached::Value(of) => {
+            let step = construct(tree, frames, world, of, frame)?;
+            Ok(step)
+        }
+        Reached::Left(step) => Ok(step),
     }
 }
 
@@ -294,11 +395,14 @@ fn construct<'a>(
     let (place, env) = (frame.place, frame.env);
     if are_named(tree, frame.initials) {
         let made = NewFrame { of, place, env };
-        let (names, terms) = (Row::new(alloc), Row::new(alloc));
-        return initials(tree, frames, world, made, frame.initials, names, terms);
+        let names = Row::new(alloc);
+        let terms = Row::new(alloc);
+        let step = initials(tree, frames, world, made, frame.initials, names, terms)?;
+        return Ok(step);
     }
     let then = TermsThen::Positional(of, place);
-    terms(frames, world, frame.initials, env, Row::new(alloc), then)
+    let step = terms(frames, world, frame.initials, env, Row::new(alloc), then)?;
+    Ok(step)
 }
 
 /// Specialises the named initialisers that are left.
@@ -317,7 +421,10 @@ pub fn initials<'a>(
     ensures kept { OnOk result (KeepsStage world.old world.new) }
 {
     match nodes.split_first() {
-        None => make_named(world, made, names, terms),
+        None => {
+            let step = make_named(world, made, names, terms)?;
+            Ok(step)
+        }
         Some((first, rest)) => {
             let frame = InitialFrame {
                 name: *first,
@@ -326,7 +433,8 @@ pub fn initials<'a>(
                 terms,
                 made,
             };
-            named_initial(frames, initial_at(tree, *first), frame)
+            let step = named_initial(frames, initial_at(tree, *first), frame)?;
+            Ok(step)
         }
     }
 }
@@ -372,8 +480,10 @@ fn make_named(
     ensures kept { OnOk result (KeepsStage world.old world.new) }
 {
     let names = FieldList::from_vec(names.into_vec())?;
-    let values = Initialiser::Named(names, term_list(terms)?);
-    make(world, made.place, Expression::New(made.of, values))
+    let terms = term_list(terms)?;
+    let values = Initialiser::Named(names, terms);
+    let step = make(world, made.place, Expression::New(made.of, values))?;
+    Ok(step)
 }
 
 /// Goes on with the term of a named initialiser.
@@ -400,5 +510,6 @@ pub fn with_initial<'a>(
     naming(world, text)?;
     names.push(text)?;
     terms.push(term)?;
-    initials(tree, frames, world, made, rest, names, terms)
+    let step = initials(tree, frames, world, made, rest, names, terms)?;
+    Ok(step)
 }

@@ -15,6 +15,7 @@
 //! on by a frame, `Next`, and the end that it waits for.
 #![tactic(auto)]
 
+pub mod answered;
 pub mod blocks;
 pub mod code;
 pub mod conditions;

@@ -1,10 +1,10 @@
 // The machine: how tasks and jobs begin, and how frames go on.
 
-ghost use Rattle.std.specs.Prelude.{◌≡◌, [], IfOk, OnOk};
+ghost use Rattle.std.specs.Prelude.{◌≡◌, ℕ, [], ◌∷◌, ◌++◌, IfOk, OnOk};
 ghost use Rattle.tl_tree.specs.Arena.{items_of};
 ghost use Rattle.tl_tree.specs.Code.{Items};
 ghost use Rattle.spec_model.specs.Meaning.{value_plan, definition_plan};
-ghost use Rattle.spec_model.specs.Plans.{as_term, as_terms, as_statements};
+ghost use Rattle.spec_model.specs.Plans.{one, listed, as_term, as_terms, as_statements};
 ghost use Rattle.spec_machine.specs.Frames as waiting;
 ghost use Rattle.spec_machine.specs.Frames.{spec_rules, is_go};
 ghost use Rattle.spec_machine.specs.Keeping.{KeepsStage};
@@ -13,28 +13,28 @@ ghost use Rattle.spec_machine.specs.Steps.{Goes, Does};
 ghost use Rattle.lua_table.specs.Cells.{first_value};
 ghost use Rattle.spec_model.specs.Statements.{each_spliced, joined};
 
+use crate::answered::after_value;
 use crate::blocks::{entered, statements};
-use crate::definitions::{declare_local, define_anonymous, define_local, with_declared};
+use crate::definitions::{declare_local, define_anonymous, define_local};
 use crate::expressions::{constructed, initials, node, select, with_initial};
 use crate::frame::{
-    BlockFrame, BlockThen, InitialFrame, NextFrame, SpecFrame, TargetThen, TermFrame, TermsFrame,
-    TermsThen, ValueFrame,
+    BlockFrame, BlockThen, InitialFrame, MemberThen, NextFrame, SpecFrame, TargetThen, TermFrame,
+    TermsFrame, TermsThen,
 };
 use crate::lists::terms;
-use crate::loops::{bounds, more_bounds};
-use crate::names::{member, symbol_of, symbols_of, text_in, with_member};
+use crate::loops::more_bounds;
+use crate::names::member;
 use crate::operators::{operator, unary};
-use crate::parameters::{draw, parameters, with_result, with_symbols};
-use crate::paths::{names, target};
+use crate::parameters::parameters;
+use crate::paths::target;
 use crate::quotes::{backtick, quote, quote_let, quote_term};
 use crate::reached::{Reached, SpecStep};
 use crate::row::{Row, append, term_list};
-use crate::splices::{splice, splice_all};
+use crate::splices::splice_all;
 use crate::statements::statement;
-use crate::structs::{anonymous_struct, local_struct, more_entries, with_entry};
+use crate::structs::{anonymous_struct, local_struct, more_entries};
 use crate::terms::{join, listed, make, one};
-use crate::types::as_type;
-use crate::variables::{variable_type, variables, with_wanted};
+use crate::variables::variables;
 use exotype::World;
 use lua_value::{Value, Values};
 use spec_model::{End, Job, SpecAnswer, SpecEnd, SpecJob, SpecQuestion};
@@ -80,13 +80,21 @@ fn value<'a>(
 {
     match expression {
         LuaExpression::Terra(body) => {
-            define_anonymous(tree, frames, world, budget, *body, at, env)
+            let step = define_anonymous(tree, frames, world, budget, *body, at, env)?;
+            Ok(step)
         }
         LuaExpression::Struct(entries) => {
-            anonymous_struct(tree, frames, world, entries.as_slice(), at, env)
+            let step = anonymous_struct(tree, frames, world, entries.as_slice(), at, env)?;
+            Ok(step)
         }
-        LuaExpression::Quote(node) => quote(tree, frames, world, budget, *node, at, env),
-        LuaExpression::Backtick(node) => backtick(frames, *node, at, env),
+        LuaExpression::Quote(node) => {
+            let step = quote(tree, frames, world, budget, *node, at, env)?;
+            Ok(step)
+        }
+        LuaExpression::Backtick(node) => {
+            let step = backtick(frames, *node, at, env)?;
+            Ok(step)
+        }
         _ => Ok(Step::Return(End::Gave(Value::Nil))),
     }
 }
@@ -112,24 +120,30 @@ fn definition<'a>(
     match statement {
         LuaStatement::Terra(path, body) => {
             let then = TargetThen::Terra(*body, node);
-            target(tree, slots, frames, world, budget, *path, then, at, env)
+            let step = target(tree, slots, frames, world, budget, *path, then, at, env)?;
+            Ok(step)
         }
         LuaStatement::DeclareTerra(path, of) => {
             let then = TargetThen::Declare(*of);
-            target(tree, slots, frames, world, budget, *path, then, at, env)
+            let step = target(tree, slots, frames, world, budget, *path, then, at, env)?;
+            Ok(step)
         }
         LuaStatement::LocalTerra(word, _, body) => {
-            define_local(tree, frames, world, budget, *body, *word, env)
+            let step = define_local(tree, frames, world, budget, *body, *word, env)?;
+            Ok(step)
         }
         LuaStatement::LocalDeclareTerra(word, _, of) => {
-            declare_local(frames, world, *of, *word, env)
+            let step = declare_local(frames, world, *of, *word, env)?;
+            Ok(step)
         }
         LuaStatement::Struct(path, entries) => {
             let then = TargetThen::Struct(entries.as_slice());
-            target(tree, slots, frames, world, budget, *path, then, at, env)
+            let step = target(tree, slots, frames, world, budget, *path, then, at, env)?;
+            Ok(step)
         }
         LuaStatement::LocalStruct(word, _, entries) => {
-            local_struct(tree, frames, world, entries.as_slice(), *word, env)
+            let step = local_struct(tree, frames, world, entries.as_slice(), *word, env)?;
+            Ok(step)
         }
         _ => Ok(Step::Return(End::Gave(Value::Nil))),
     }
@@ -155,47 +169,70 @@ fn with_term<'a>(
             Ok(Step::Enter(Job::Expression(right, env)))
         }
         TermFrame::Right(op, left, place) => {
-            make(world, place, Expression::Binary(operator(op), left, term))
+            let step = make(world, place, Expression::Binary(operator(op), left, term))?;
+            Ok(step)
         }
-        TermFrame::Unary(op, place) => make(world, place, Expression::Unary(unary(op), term)),
+        TermFrame::Unary(op, place) => {
+            let step = make(world, place, Expression::Unary(unary(op), term))?;
+            Ok(step)
+        }
         TermFrame::Paren => Ok(Step::Return(End::Made(term))),
         TermFrame::Object(key, place, env) => {
             frames.push(SpecFrame::Term(TermFrame::Key(term, place)))?;
             Ok(Step::Enter(Job::Expression(key, env)))
         }
-        TermFrame::Key(object, place) => make(world, place, Expression::Index(object, term)),
+        TermFrame::Key(object, place) => {
+            let step = make(world, place, Expression::Index(object, term))?;
+            Ok(step)
+        }
         TermFrame::Callee(arguments, place, env) => {
             let none = Row::new(world.heap.allocator());
             let then = TermsThen::Call(term, place);
-            terms(frames, world, arguments, env, none, then)
+            let step = terms(frames, world, arguments, env, none, then)?;
+            Ok(step)
         }
         TermFrame::Method(name, arguments, place, env) => {
-            let then = crate::frame::MemberThen::Method(term, arguments, place, env);
-            member(tree, frames, world, name, env, then)
+            let then = MemberThen::Method(term, arguments, place, env);
+            let step = member(tree, frames, world, name, env, then)?;
+            Ok(step)
         }
-        TermFrame::Initial(frame) => with_initial(tree, frames, world, frame, term),
-        TermFrame::Backtick(place) => quote_term(world, budget, place, term),
+        TermFrame::Initial(frame) => {
+            let step = with_initial(tree, frames, world, frame, term)?;
+            Ok(step)
+        }
+        TermFrame::Backtick(place) => {
+            let step = quote_term(world, budget, place, term)?;
+            Ok(step)
+        }
         TermFrame::Quoted(statements, place) => {
-            quote_let(world, budget, statements, place, term)
+            let step = quote_let(world, budget, statements, place, term)?;
+            Ok(step)
         }
-        TermFrame::Bound(limit, step, before, frame) => {
+        TermFrame::Bound(limit, stride, before, frame) => {
             let mut before = before;
             before.push(term)?;
-            more_bounds(tree, frames, world, budget, limit, step, before, frame)
+            let step = more_bounds(tree, frames, world, budget, limit, stride, before, frame)?;
+            Ok(step)
         }
-        TermFrame::Perform(place) => join(world, place, Statement::Perform(term)),
+        TermFrame::Perform(place) => {
+            let step = join(world, place, Statement::Perform(term))?;
+            Ok(step)
+        }
         TermFrame::While(block, place, env) => {
             let then = BlockThen::While(term, place);
-            entered(tree, frames, world, budget, block, block, env, then)
+            let step = entered(tree, frames, world, budget, block, block, env, then)?;
+            Ok(step)
         }
         TermFrame::Repeat(statements, place) => {
             let list = term_list(statements)?;
-            join(world, place, Statement::Repeat(list, term))
+            let step = join(world, place, Statement::Repeat(list, term))?;
+            Ok(step)
         }
         TermFrame::Arm(block, frame) => {
             let env = frame.env;
             let then = BlockThen::Arm(term, frame);
-            entered(tree, frames, world, budget, block, block, env, then)
+            let step = entered(tree, frames, world, budget, block, block, env, then)?;
+            Ok(step)
         }
     }
 }
@@ -215,12 +252,40 @@ fn after_term<'a>(
     ensures kept { OnOk result (KeepsStage world.old world.new) }
 {
     match end {
-        End::Made(term) => with_term(tree, frames, world, budget, frame, term),
-        End::Found(value, at) => match one(world, budget, value, at)? {
-            Reached::Value(term) => with_term(tree, frames, world, budget, frame, term),
-            Reached::Left(step) => Ok(step),
-        },
+        End::Made(term) => {
+            let step = with_term(tree, frames, world, budget, frame, term)?;
+            Ok(step)
+        }
+        End::Found(value, at) => {
+            let step = after_found(tree, frames, world, budget, frame, value, at)?;
+            Ok(step)
+        }
         end => Ok(Step::Return(end)),
+    }
+}
+
+/// Goes on with what waited for one term, which a value becomes.
+fn after_found<'a>(
+    tree: &'a Tree<'a>,
+    frames: &mut Vec<SpecFrame<'a>>,
+    world: &mut World,
+    budget: &mut Budget,
+    frame: TermFrame<'a>,
+    value: Value,
+    at: Place,
+) -> Result<SpecStep, NoMemory>
+    ensures means { IfOk result (λ step.
+        Goes (items_of tree.now) frames.old.items (one value at (λ t. waiting.with_term (items_of tree.now) frame.entry t))
+        world.old budget.old frames.new.items step world.new budget.new) }
+    ensures kept { OnOk result (KeepsStage world.old world.new) }
+{
+    let reached = one(world, budget, value, at)?;
+    match reached {
+        Reached::Value(term) => {
+            let step = with_term(tree, frames, world, budget, frame, term)?;
+            Ok(step)
+        }
+        Reached::Left(step) => Ok(step),
     }
 }
 
@@ -238,23 +303,72 @@ fn after_terms<'a>(
         world.old budget.old frames.new.items step world.new budget.new) }
     ensures kept { OnOk result (KeepsStage world.old world.new) }
 {
+    match end {
+        End::Made(term) => {
+            let step = after_made(frames, world, frame, term)?;
+            Ok(step)
+        }
+        End::Found(value, at) => {
+            let step = after_listed(frames, world, budget, frame, value, at)?;
+            Ok(step)
+        }
+        end => Ok(Step::Return(end)),
+    }
+}
+
+/// Goes on with a list behind a term.
+fn after_made<'a>(
+    frames: &mut Vec<SpecFrame<'a>>,
+    world: &mut World,
+    frame: TermsFrame<'a>,
+    term: TermId,
+) -> Result<SpecStep, NoMemory>
+    ensures means { IfOk result (λ step. (items : Items) (left : ℕ) →
+        Goes items frames.old.items
+        (waiting.terms_plan items frame.entry.rest.now frame.entry.env (frame.entry.terms ++ term ∷ []) frame.entry.then)
+        world.old left frames.new.items step world.new left) }
+    ensures kept { OnOk result (KeepsStage world.old world.new) }
+{
+    let TermsFrame {
+        rest,
+        env,
+        terms: mut all,
+        then,
+    } = frame;
+    all.push(term)?;
+    let step = terms(frames, world, rest, env, all, then)?;
+    Ok(step)
+}
+
+/// Goes on with a list behind the terms that a value in a list position becomes.
+fn after_listed<'a>(
+    frames: &mut Vec<SpecFrame<'a>>,
+    world: &mut World,
+    budget: &mut Budget,
+    frame: TermsFrame<'a>,
+    value: Value,
+    at: Place,
+) -> Result<SpecStep, NoMemory>
+    ensures means { IfOk result (λ step. (items : Items) →
+        Goes items frames.old.items
+        (listed value at frame.entry.terms
+        (λ ts. waiting.terms_plan items frame.entry.rest.now frame.entry.env ts frame.entry.then))
+        world.old budget.old frames.new.items step world.new budget.new) }
+    ensures kept { OnOk result (KeepsStage world.old world.new) }
+{
     let TermsFrame {
         rest,
         env,
         terms: before,
         then,
     } = frame;
-    match end {
-        End::Made(term) => {
-            let mut before = before;
-            before.push(term)?;
-            terms(frames, world, rest, env, before, then)
+    let reached = listed(world, budget, value, at, before)?;
+    match reached {
+        Reached::Value(all) => {
+            let step = terms(frames, world, rest, env, all, then)?;
+            Ok(step)
         }
-        End::Found(value, at) => match listed(world, budget, value, at, before)? {
-            Reached::Value(all) => terms(frames, world, rest, env, all, then),
-            Reached::Left(step) => Ok(step),
-        },
-        end => Ok(Step::Return(end)),
+        Reached::Left(step) => Ok(step),
     }
 }
 
@@ -283,130 +397,10 @@ fn after_statement<'a>(
                 then,
             } = frame;
             append(&mut all, more.as_slice())?;
-            statements(tree, frames, world, budget, rest, env, all, then)
+            let step = statements(tree, frames, world, budget, rest, env, all, then)?;
+            Ok(step)
         }
         end => Ok(Step::Return(end)),
-    }
-}
-
-/// Goes on with what waited for a value.
-fn with_value<'a>(
-    tree: &'a Tree<'a>,
-    frames: &mut Vec<SpecFrame<'a>>,
-    world: &mut World,
-    budget: &mut Budget,
-    frame: ValueFrame<'a>,
-    value: Value,
-) -> Result<SpecStep, NoMemory>
-    ensures means { IfOk result (λ step.
-        Goes (items_of tree.now) frames.old.items (waiting.with_value (items_of tree.now) frame.entry value)
-        world.old budget.old frames.new.items step world.new budget.new) }
-    ensures kept { OnOk result (KeepsStage world.old world.new) }
-{
-    match frame {
-        ValueFrame::Found(place) => Ok(Step::Return(End::Found(value, place))),
-        ValueFrame::Member(at, then) => match text_in(world, budget, value, at)? {
-            Reached::Value(text) => with_member(frames, world, then, text),
-            Reached::Left(step) => Ok(step),
-        },
-        ValueFrame::Splice(place) => splice(world, budget, value, place),
-        ValueFrame::Symbols(node, frame) => {
-            let at = crate::code::place(tree, crate::code::typing_at(tree, node).name);
-            match symbols_of(world, budget, value, at)? {
-                Reached::Value(symbols) => {
-                    variable_type(tree, frames, world, node, Some(symbols), frame)
-                }
-                Reached::Left(step) => Ok(step),
-            }
-        }
-        ValueFrame::VarType(node, of, symbols, frame) => {
-            match as_type(world, budget, value, crate::code::place(tree, of))? {
-                Reached::Value(of) => {
-                    let frame = with_wanted(tree, node, symbols, Some(of), frame)?;
-                    variables(tree, frames, world, budget, frame)
-                }
-                Reached::Left(step) => Ok(step),
-            }
-        }
-        ValueFrame::ForName(first, limit, step, frame) => {
-            match symbol_of(world, budget, value, frame.at)? {
-                Reached::Value(symbol) => {
-                    let mut frame = frame;
-                    frame.symbol = Some(symbol);
-                    bounds(frames, world, first, limit, step, frame)
-                }
-                Reached::Left(step) => Ok(step),
-            }
-        }
-        ValueFrame::Spliced(node, frame) => {
-            with_symbols(tree, frames, world, budget, node, frame, value)
-        }
-        ValueFrame::ParameterType(node, of, frame) => {
-            match as_type(world, budget, value, crate::code::place(tree, of))? {
-                Reached::Value(of) => {
-                    let at = crate::code::place(tree, crate::code::typing_at(tree, node).name);
-                    let mut frame = frame;
-                    frame.drawn.push(draw(world, of, at)?)?;
-                    parameters(tree, frames, world, budget, frame)
-                }
-                Reached::Left(step) => Ok(step),
-            }
-        }
-        ValueFrame::Result(of, definition, drawn) => {
-            match as_type(world, budget, value, crate::code::place(tree, of))? {
-                Reached::Value(of) => with_result(
-                    tree,
-                    frames,
-                    world,
-                    budget,
-                    &definition,
-                    drawn,
-                    Some(of),
-                ),
-                Reached::Left(step) => Ok(step),
-            }
-        }
-        ValueFrame::Declared(of, target, place) => {
-            with_declared(tree, world, budget, value, of, target, place)
-        }
-        ValueFrame::Path(frame) => names(tree, frames, world, budget, frame, value),
-        ValueFrame::EntryType(node, of, frame) => {
-            with_entry(tree, frames, world, budget, node, of, frame, value)
-        }
-    }
-}
-
-/// Goes on with what waited for a value, given the answer.
-fn after_value<'a>(
-    tree: &'a Tree<'a>,
-    frames: &mut Vec<SpecFrame<'a>>,
-    world: &mut World,
-    budget: &mut Budget,
-    frame: ValueFrame<'a>,
-    end: End,
-) -> Result<SpecStep, NoMemory>
-    ensures means { IfOk result (λ step.
-        Goes (items_of tree.now) frames.old.items
-        (waiting.on_answer end (λ vs. waiting.with_value (items_of tree.now) frame.entry (first_value vs)))
-        world.old budget.old frames.new.items step world.new budget.new) }
-    ensures kept { OnOk result (KeepsStage world.old world.new) }
-{
-    match end {
-        End::Answered(values) => {
-            let value = first(values.as_slice());
-            with_value(tree, frames, world, budget, frame, value)
-        }
-        end => Ok(Step::Return(end)),
-    }
-}
-
-/// The first value, or nil.
-fn first(values: &[Value]) -> Value
-    ensures { result ≡ first_value values.now }
-{
-    match values.first() {
-        Some(value) => *value,
-        None => Value::Nil,
     }
 }
 
@@ -423,7 +417,10 @@ fn after_emitted(
     ensures kept { OnOk result (KeepsStage world.old world.new) }
 {
     match end {
-        End::Answered(values) => splice_all(world, budget, values.as_slice(), at),
+        End::Answered(values) => {
+            let step = splice_all(world, budget, values.as_slice(), at)?;
+            Ok(step)
+        }
         end => Ok(Step::Return(end)),
     }
 }
@@ -442,9 +439,18 @@ fn next<'a>(
     ensures kept { OnOk result (KeepsStage world.old world.new) }
 {
     match frame {
-        NextFrame::Var(frame) => variables(tree, frames, world, budget, frame),
-        NextFrame::Parameters(frame) => parameters(tree, frames, world, budget, frame),
-        NextFrame::Entries(frame) => more_entries(tree, frames, frame),
+        NextFrame::Var(frame) => {
+            let step = variables(tree, frames, world, budget, frame)?;
+            Ok(step)
+        }
+        NextFrame::Parameters(frame) => {
+            let step = parameters(tree, frames, world, budget, frame)?;
+            Ok(step)
+        }
+        NextFrame::Entries(frame) => {
+            let step = more_entries(tree, frames, frame)?;
+            Ok(step)
+        }
         NextFrame::Initials(frame) => {
             let InitialFrame {
                 rest,
@@ -453,7 +459,8 @@ fn next<'a>(
                 made,
                 ..
             } = frame;
-            initials(tree, frames, world, made, rest, names, terms)
+            let step = initials(tree, frames, world, made, rest, names, terms)?;
+            Ok(step)
         }
     }
 }
@@ -497,11 +504,15 @@ impl<'a> Machine for Steps<'a> {
         let SpecJob { node, env } = task;
         match self.tree.node(node) {
             Node::Expression(place, expression) => {
-                value(self.tree, frames, world, budget, expression, *place, env)
+                let step = value(self.tree, frames, world, budget, expression, *place, env)?;
+                Ok(step)
             }
-            Node::Statement(place, statement) => definition(
-                self.tree, self.slots, frames, world, budget, statement, node, *place, env,
-            ),
+            Node::Statement(place, statement) => {
+                let step = definition(
+                    self.tree, self.slots, frames, world, budget, statement, node, *place, env,
+                )?;
+                Ok(step)
+            }
             _ => Ok(Step::Return(End::Gave(Value::Nil))),
         }
     }
@@ -515,9 +526,13 @@ impl<'a> Machine for Steps<'a> {
     ) -> Result<SpecStep, NoMemory> {
         match job {
             Job::Expression(id, env) => {
-                node(self.tree, self.slots, frames, world, budget, id, env)
+                let step = node(self.tree, self.slots, frames, world, budget, id, env)?;
+                Ok(step)
             }
-            Job::Statement(id, env) => statement(self.tree, frames, world, budget, id, env),
+            Job::Statement(id, env) => {
+                let step = statement(self.tree, frames, world, budget, id, env)?;
+                Ok(step)
+            }
         }
     }
 
@@ -530,20 +545,38 @@ impl<'a> Machine for Steps<'a> {
         end: End,
     ) -> Result<SpecStep, NoMemory> {
         match frame {
-            SpecFrame::Term(frame) => after_term(self.tree, frames, world, budget, frame, end),
-            SpecFrame::Terms(frame) => after_terms(frames, world, budget, frame, end),
+            SpecFrame::Term(frame) => {
+                let step = after_term(self.tree, frames, world, budget, frame, end)?;
+                Ok(step)
+            }
+            SpecFrame::Terms(frame) => {
+                let step = after_terms(frames, world, budget, frame, end)?;
+                Ok(step)
+            }
             SpecFrame::Block(frame) => {
-                after_statement(self.tree, frames, world, budget, frame, end)
+                let step = after_statement(self.tree, frames, world, budget, frame, end)?;
+                Ok(step)
             }
-            SpecFrame::Select(name, place, env) => select(
-                self.tree, frames, world, budget, end, name, place, env,
-            ),
+            SpecFrame::Select(name, place, env) => {
+                let step = select(self.tree, frames, world, budget, end, name, place, env)?;
+                Ok(step)
+            }
             SpecFrame::Construct(frame) => {
-                constructed(self.tree, frames, world, budget, &frame, end)
+                let step = constructed(self.tree, frames, world, budget, &frame, end)?;
+                Ok(step)
             }
-            SpecFrame::Value(frame) => after_value(self.tree, frames, world, budget, frame, end),
-            SpecFrame::Emitted(place) => after_emitted(world, budget, place, end),
-            SpecFrame::Next(frame) => next(self.tree, frames, world, budget, frame),
+            SpecFrame::Value(frame) => {
+                let step = after_value(self.tree, frames, world, budget, frame, end)?;
+                Ok(step)
+            }
+            SpecFrame::Emitted(place) => {
+                let step = after_emitted(world, budget, place, end)?;
+                Ok(step)
+            }
+            SpecFrame::Next(frame) => {
+                let step = next(self.tree, frames, world, budget, frame)?;
+                Ok(step)
+            }
         }
     }
 

@@ -1,9 +1,12 @@
 // Struct types.
 
-ghost use Rattle.std.specs.Prelude.{◌≡◌, ◌∷◌, ℕ, pos, None, IfOk, OnOk};
+ghost use Rattle.std.specs.Prelude.{◌≡◌, ◌∷◌, ◌+◌, ℕ, pos, None, IfOk, OnOk};
+ghost use Rattle.tl_base.specs.Plan.{Read};
 ghost use Rattle.tl_tree.specs.Arena.{items_of};
-ghost use Rattle.tl_tree.specs.Code.{Items};
+ghost use Rattle.tl_tree.specs.Code.{Items, name_at};
+ghost use Rattle.lua_table.specs.Keeping.{KeepsHeap};
 ghost use Rattle.exotype.specs.World.{StageState};
+ghost use Rattle.exotype.specs.Types.{tables_of};
 ghost use Rattle.lua_value.specs.Numbers.{number_from};
 ghost use Rattle.spec_model.specs.Nodes.{typing_at};
 ghost use Rattle.spec_model.specs.Plans.{SpecPlan};
@@ -23,9 +26,10 @@ use crate::raise::text;
 use crate::reached::{Reached, SpecStep};
 use crate::types::as_type;
 use exotype::World;
+use lua_table::Heap;
 use lua_value::{Number, Value};
 use spec_model::{End, SpecQuestion, Target};
-use tl_base::{Budget, EnvId, NoMemory, NodeId, Place, Step, TableId, TypeId};
+use tl_base::{Budget, EnvId, NoMemory, NodeId, Place, Step, TableId, TextId, TypeId};
 use tl_tree::Tree;
 
 /// Makes a struct, which is stored in a target before the types of its entries are evaluated.
@@ -53,7 +57,8 @@ pub fn struct_target<'a>(
         env,
         anonymous: false,
     };
-    more_entries(tree, frames, frame)
+    let step = more_entries(tree, frames, frame)?;
+    Ok(step)
 }
 
 /// Makes a local struct, which the types of its entries see.
@@ -80,7 +85,8 @@ pub fn local_struct<'a>(
         env,
         anonymous: false,
     };
-    more_entries(tree, frames, frame)
+    let step = more_entries(tree, frames, frame)?;
+    Ok(step)
 }
 
 /// Makes a struct that is given as a value.
@@ -106,7 +112,8 @@ pub fn anonymous_struct<'a>(
         env,
         anonymous: true,
     };
-    more_entries(tree, frames, frame)
+    let step = more_entries(tree, frames, frame)?;
+    Ok(step)
 }
 
 /// Goes on with the entries that are left: evaluates the type of the next one.
@@ -124,7 +131,8 @@ pub fn more_entries<'a>(
         None => Ok(Step::Return(End::Gave(made(&frame)))),
         Some((first, rest)) => {
             let frame = EntryFrame { rest, ..frame };
-            entry_type(frames, *first, typing_at(tree, *first).of, frame)
+            let step = entry_type(frames, *first, typing_at(tree, *first).of, frame)?;
+            Ok(step)
         }
     }
 }
@@ -154,21 +162,29 @@ fn entry_type<'a>(
 {
     match of {
         Some(of) => {
+            let env = frame.env;
             frames.push(SpecFrame::Value(ValueFrame::EntryType(node, of, frame)))?;
-            Ok(Step::Stop(SpecQuestion::Eval(of, frame.env)))
+            Ok(Step::Stop(SpecQuestion::Eval(of, env)))
         }
         None => {
-            frames.push(SpecFrame::Next(NextFrame::Entries(next_entry(frame))))?;
+            let next = next_entry(frame)?;
+            frames.push(SpecFrame::Next(NextFrame::Entries(next)))?;
             Ok(Step::Return(End::Gave(Value::Nil)))
         }
     }
 }
 
-/// The entries behind one.
-fn next_entry<'a>(frame: EntryFrame<'a>) -> EntryFrame<'a> {
-    EntryFrame {
-        number: frame.number.saturating_add(1),
-        ..frame
+/// The entries behind one. No memory holds so many that their numbers don't fit.
+fn next_entry<'a>(frame: EntryFrame<'a>) -> Result<EntryFrame<'a>, NoMemory>
+    ensures rest { IfOk result (λ next. next.rest.now ≡ frame.entry.rest.now) }
+    ensures of { IfOk result (λ next. next.of ≡ frame.entry.of) }
+    ensures number { IfOk result (λ next. next.number ≡ frame.entry.number + 1) }
+    ensures env { IfOk result (λ next. next.env ≡ frame.entry.env) }
+    ensures anonymous { IfOk result (λ next. next.anonymous ≡ frame.entry.anonymous) }
+{
+    match frame.number.checked_add(1) {
+        Some(number) => Ok(EntryFrame { number, ..frame }),
+        None => Err(NoMemory),
     }
 }
 
@@ -189,15 +205,39 @@ pub fn with_entry<'a>(
         world.old budget.old frames.new.items step world.new budget.new) }
     ensures kept { OnOk result (KeepsStage world.old world.new) }
 {
-    match as_type(world, budget, value, place(tree, of))? {
+    let reached = as_type(world, budget, value, place(tree, of))?;
+    match reached {
         Reached::Left(step) => Ok(step),
         Reached::Value(of) => {
-            let entries = world.struct_tables(frame.of).entries;
-            let bytes = name(tree, typing_at(tree, node).name).as_bytes();
-            put_entry(world, entries, frame.number, bytes, of)?;
-            more_entries(tree, frames, next_entry(frame))
+            let step = typed_entry(tree, frames, world, node, of, frame)?;
+            Ok(step)
         }
     }
+}
+
+/// Puts an entry of a type under its number, and goes on with those behind it.
+fn typed_entry<'a>(
+    tree: &'a Tree<'a>,
+    frames: &mut Vec<SpecFrame<'a>>,
+    world: &mut World,
+    node: NodeId,
+    of: TypeId,
+    frame: EntryFrame<'a>,
+) -> Result<SpecStep, NoMemory>
+    ensures means { IfOk result (λ step. (left : ℕ) →
+        Goes (items_of tree.now) frames.old.items
+        (Read (λ w. plans.entry (tables_of w frame.entry.of).entries frame.entry.number
+        (name_at (items_of tree.now) (typing_at (items_of tree.now) node).name) of
+        (waiting.entries_from (items_of tree.now) frame.entry frame.entry.rest.now (frame.entry.number + 1))))
+        world.old left frames.new.items step world.new left) }
+    ensures kept { OnOk result (KeepsStage world.old world.new) }
+{
+    let entries = world.struct_tables(frame.of).entries;
+    let bytes = name(tree, typing_at(tree, node).name).as_bytes();
+    put_entry(world, entries, frame.number, bytes, of)?;
+    let next = next_entry(frame)?;
+    let step = more_entries(tree, frames, next)?;
+    Ok(step)
 }
 
 /// Puts an entry under its number.
@@ -214,17 +254,40 @@ fn put_entry(
     let field = text(world, b"field")?;
     let written = text(world, bytes)?;
     let kind = text(world, b"type")?;
-    let entry = world.heap.new_table()?;
-    world
-        .heap
-        .store(entry, Value::Text(field), Value::Text(written))?;
-    world
-        .heap
-        .store(entry, Value::Text(kind), Value::TerraType(of))?;
+    put_fields(&mut world.heap, entries, number, field, written, kind, of)?;
+    Ok(())
+}
+
+/// Makes a table with the fields of an entry, and puts it under the entry's number.
+fn put_fields(
+    heap: &mut Heap,
+    entries: TableId,
+    number: u64,
+    field: TextId,
+    written: TextId,
+    kind: TextId,
+    of: TypeId,
+) -> Result<(), NoMemory>
+    ensures ok { OnOk result (heap.new ≡ plans.with_entry heap.old entries number field written kind of) }
+    ensures kept { OnOk result (KeepsHeap heap.old heap.new) }
+{
+    let entry = heap.new_table()?;
+    heap.store(entry, Value::Text(field), Value::Text(written))?;
+    heap.store(entry, Value::Text(kind), Value::TerraType(of))?;
+    put(heap, entries, number, Value::Table(entry))?;
+    Ok(())
+}
+
+/// Puts a value under a number of a table, where the number is in the profile.
+fn put(heap: &mut Heap, table: TableId, number: u64, value: Value) -> Result<(), NoMemory>
+    ensures ok { OnOk result (heap.new ≡ plans.put heap.old table (number_from (pos number)) value) }
+    ensures kept { OnOk result (KeepsHeap heap.old heap.new) }
+{
     match numbered(number) {
-        Some(key) => world
-            .heap
-            .store(entries, Value::Number(key), Value::Table(entry)),
+        Some(key) => {
+            heap.store(table, Value::Number(key), value)?;
+            Ok(())
+        }
         None => Ok(()),
     }
 }

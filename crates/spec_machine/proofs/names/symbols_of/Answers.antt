@@ -19,7 +19,7 @@ returns-in_ok-reached-in-Table-clause-means c =
     let t = c.in-Table.table in
     let vs = c.as_slice.result.now in
     let is = c.as_slice.ensures ∙ c.in_ok-values-in-Table.ensures
-    ∙ ap (λ (w : StageState). values_in (table_at w.heap t)) c.world.view_is in
+    ∙ ap (λ (w : StageState). values_in (table_at w.heap t)) c.world-in-Table.view_is in
     rw c.in-Table.is (comes_past (λ go. symbols_of (Table t) a.at go) (λ go. symbols_in vs a.at [] go) c.in_ok-reached-in-Table.reached
     a.world.now a.world.now c.symbols_in.new.world a.budget.now a.budget.now c.symbols_in.new.budget
     (reads_values (λ us go. symbols_in us a.at [] go) a.world.now a.budget.now t vs is)

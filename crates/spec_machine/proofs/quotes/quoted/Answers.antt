@@ -4,8 +4,8 @@ use Rattle.spec_machine.specs.declared.frame.TermFrame.TheVariants.{Quoted}
 use Rattle.spec_machine.proofs.Doing.{enters}
 use Rattle.spec_machine.proofs.quotes.quoted.Goals as goal
 
-pub returns-in-Some-clause-means : goal.returns-in-Some-clause-means
-returns-in-Some-clause-means c = λ items.
+pub returns-in_ok-push-in-Some-clause-means : goal.returns-in_ok-push-in-Some-clause-means
+returns-in_ok-push-in-Some-clause-means c = λ items.
     let a = c.args in
     rw c.in-Some.is (enters items a.frames.now.items c.push.new.self.items (frames.Term (Quoted a.statements a.place))
     (Expression c.in-Some.node a.env) a.world.now a.budget.now c.in_ok-push-in-Some.ensures.items)

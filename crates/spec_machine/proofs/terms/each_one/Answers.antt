@@ -72,3 +72,6 @@ returns-clause-means c =
     let end = λ (go : List TermId → SpecPlan). go l.terms in
     passes_then whole rest end a.world.now l.world l.world a.budget.now l.budget l.budget l.invariant.passes
     (passes_same rest end l.world l.world l.budget (λ go. each_end vs i a.at l.terms go c.values-test.false) refl)
+
+pub returns-in-Left-clause-kept : goal.returns-in-Left-clause-kept
+returns-in-Left-clause-kept c = keeps_then c.args.world.now c.values.world c.one.new.world c.values.invariant.kept c.in_ok-term.ensures.kept
