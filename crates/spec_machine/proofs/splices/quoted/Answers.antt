@@ -36,4 +36,4 @@ returns-in_ok-append-in-Some-clause-means c =
     let paid : c.pay.new.self ≡ a.budget.now - (terms_size w us).nodes = rw nodes at c.if-not-pay.ensures.paid in
     quoted_comes a.quote a.at a.terms us c.append.new.terms w a.budget.now c.pay.new.self (sym c.in-Some.is ∙ c.in_ok-found.ensures)
     enough paid
-    (c.in_ok-append-in-Some.ensures ∙ ap (λ (ts : List TermId). a.terms ++ ts) c.as_slice-2.ensures)
+    (c.in_ok-append-in-Some.ensures ∙ ap (λ (ts : List TermId). a.terms ++ ts) c.as_slice-in-Some.ensures)
