@@ -32,7 +32,7 @@ returns-in-Assign-clause-means c =
     let items = items_of a.tree.now in
     let w = a.world.now in
     let left = a.budget.now in
-    let ns = c.as_slice-2.result.now in
+    let ns = c.as_slice-in-Assign.result.now in
     let values = c.as_slice.result in
     let none = c.new-none.result in
     carried _ _ c.terms.result c.terms.ensures.means (λ step g.
@@ -40,7 +40,7 @@ returns-in-Assign-clause-means c =
     (terms_plan items ns a.env none (of_terms.Targets values a.place)) w w c.terms.new.world left left step
     (ap (λ (x : TerraStatement). statement_of items x a.node a.place a.env) m.is
     ∙ ap (λ (es : List NodeId). terms_of m.targets a.env [] (λ ts. terms_of es a.env [] (λ us. join a.place (s.Assign ts us)))) (sym c.as_slice.ensures)
-    ∙ ap (λ (l : List NodeId). terms_of l a.env [] (λ ts. terms_of values.now a.env [] (λ us. join a.place (s.Assign ts us)))) (sym c.as_slice-2.ensures)
+    ∙ ap (λ (l : List NodeId). terms_of l a.env [] (λ ts. terms_of values.now a.env [] (λ us. join a.place (s.Assign ts us)))) (sym c.as_slice-in-Assign.ensures)
     ∙ ap (λ (before : List TermId). terms_of ns a.env before (λ ts. terms_of values.now a.env [] (λ us. join a.place (s.Assign ts us)))) (sym c.new-none.ensures))
     refl (g items left))
 
