@@ -22,3 +22,4 @@ pub mod Typing
 pub mod Entries
 pub mod Quoted
 pub mod Carrying
+pub mod Paying

@@ -1,5 +1,5 @@
 -- What comes of values as items of a block.
-use Rattle.std.proofs.Common.{◌≡◌, ⊥, ℕ, ◌+◌, ◌-◌, ◌<◌, ◌≤◌, List, [], ◌∷◌, ◌++◌, length, drop, get_or, refl, sym, ap, ◌∙◌, Option, Some, None}
+use Rattle.std.proofs.Common.{◌≡◌, ⊥, ℕ, ◌+◌, ◌-◌, ◌<◌, ◌≤◌, List, [], ◌∷◌, ◌++◌, length, drop, get_or, refl, sym, ap, subst, ◌∙◌, Option, Some, None}
 use Rattle.tl_base.specs.declared.ids.QuoteId.{QuoteId}
 use Rattle.tl_base.specs.declared.ids.TableId.{TableId}
 use Rattle.tl_base.specs.declared.ids.TermId.{TermId}
@@ -137,3 +137,12 @@ pub spliced_left : (vs : List Value) (i : ℕ) (d value : Value) (at : Place) (t
 spliced_left vs i d value at ts step w v left after h is came = λ items go fs.
     moved items fs fs (each_spliced (drop i vs) at ts go) (spliced value at ts (λ l. each_spliced (drop (i + 1) vs) at l go)) w w v left after step
     (spliced_next vs i d value at ts go h is) refl (came items (λ l. each_spliced (drop (i + 1) vs) at l go) fs)
+
+-- ---- the nodes of a quote's statements, where the budget refuses them
+
+pub quoted_unpaid : (q : QuoteId) (at : Place) (ts us : List TermId) (w : StageState) (left after : ℕ)
+    → Some us ≡ statements_in (quote_at w q) → left < (terms_size w us).nodes → after ≡ left
+    → Comes (λ (go : List TermId → SpecPlan). item_of (values.Quote q) at ts go) w left (Left Spent) w after
+quoted_unpaid q at ts us w left after is short same =
+    subst (λ (m : ℕ). Comes (λ (go : List TermId → SpecPlan). item_of (values.Quote q) at ts go) w left (Left Spent) w m) (sym same)
+    (quoted_short q at ts us w left is short)

@@ -1,4 +1,4 @@
-use Rattle.std.proofs.Common.{◌≡◌, refl, sym, ap, ◌∙◌, List, [], ◌∷◌, ◌++◌, Option, Some, None}
+use Rattle.std.proofs.Common.{◌≡◌, ⊥, refl, sym, ap, ◌∙◌, List, [], ◌∷◌, ◌++◌, Option, Some, None}
 use Rattle.tl_base.specs.declared.ids.NodeId.{NodeId}
 use Rattle.tl_base.specs.declared.ids.EnvId.{EnvId}
 use Rattle.tl_base.specs.declared.ids.TermId.{TermId}
@@ -17,6 +17,10 @@ use Rattle.spec_machine.proofs.Entering.{does_as, entering_goes}
 use Rattle.spec_machine.proofs.Pushing.{none_is, block_enters}
 use Rattle.spec_machine.proofs.conditions.else_block.Goals as goal
 
+no_block : (o : Option NodeId) → ((n : NodeId) → o ≡ Some n → ⊥) → o ≡ None
+no_block None none = refl
+no_block (Some n) none = absurd (none n refl)
+
 pub returns-in_default-clause-means : goal.returns-in_default-clause-means
 returns-in_default-clause-means c =
     let a = c.args in
@@ -24,7 +28,7 @@ returns-in_default-clause-means c =
     carried _ _ c.last_arm.result c.last_arm.ensures.means (λ step g left.
     does_as items a.frames.now.items (else_of items [] a.otherwise a.env (λ us. last_arm a.last a.arms us)) (last_arm a.last a.arms None)
     a.world.now c.last_arm.new.world left left step
-    (ap (λ (o : Option NodeId). else_of items [] o a.env (λ us. last_arm a.last a.arms us)) c.in_default.is)
+    (ap (λ (o : Option NodeId). else_of items [] o a.env (λ us. last_arm a.last a.arms us)) (no_block a.otherwise c.in_default.not-Some))
     (g items left))
 
 pub returns-in-None-clause-means : goal.returns-in-None-clause-means
