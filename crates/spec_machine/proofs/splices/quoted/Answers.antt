@@ -11,8 +11,8 @@ returns-in_ok-reached-in-None-clause-means c =
     quoted_other a.quote a.at a.terms c.in_ok-reached-in-None.reached a.world.now c.performed.new.world a.budget.now c.performed.new.budget
     (sym c.in-None.is ∙ c.in_ok-found.ensures) c.in_ok-reached-in-None.ensures.means
 
-pub returns-in-Some-then-not-pay-clause-means : goal.returns-in-Some-then-not-pay-clause-means
-returns-in-Some-then-not-pay-clause-means c =
+pub returns-then-not-pay-clause-means : goal.returns-then-not-pay-clause-means
+returns-then-not-pay-clause-means c =
     let a = c.args in
     let w = a.world.now in
     let us = c.in-Some.statements in
