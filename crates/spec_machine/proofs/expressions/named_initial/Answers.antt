@@ -16,7 +16,7 @@ returns-in_ok-push-in-Some c =
     let waits = frames.Term (of_term.Initial (record { name = m.name; rest = f.rest; names = f.names; terms = f.terms; made = f.made })) in
     record {
       means = λ items w left.
-          rw c.in-Some.is (enters items a.frames.now.items c.push.new.self.items waits (jobs.Expression m.value f.made.env) w left c.in_ok-push.ensures.items);
+          rw c.in-Some.is (enters items a.frames.now.items c.push.new.self.items waits (jobs.Expression m.value f.made.env) w left c.in_ok-push-in-Some.ensures.items);
     }
 
 pub returns-in_ok-push-in-None : goal.returns-in_ok-push-in-None

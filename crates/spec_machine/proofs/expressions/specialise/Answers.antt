@@ -52,7 +52,7 @@ returns-in_ok-push-in-Binary c =
     let w = a.world.now in
     let m = c.in-Binary in
     record {
-      means = λ left. rw m.is (enters items fs c.push.new.self.items (frames.Term (of_term.Left m.op m.right a.place a.env)) (jobs.Expression m.left a.env) w left c.in_ok-push.ensures.items);
+      means = λ left. rw m.is (enters items fs c.push.new.self.items (frames.Term (of_term.Left m.op m.right a.place a.env)) (jobs.Expression m.left a.env) w left c.in_ok-push-in-Binary.ensures.items);
       kept = keeps_itself w;
     }
 

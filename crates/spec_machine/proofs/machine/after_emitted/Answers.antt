@@ -11,13 +11,13 @@ use Rattle.spec_machine.proofs.Doing.{returns as returned, moved}
 use Rattle.spec_machine.proofs.Placing as placing
 use Rattle.spec_machine.proofs.machine.after_emitted.Goals as goal
 
-pub returns-in_ok-step-clause-means : goal.returns-in_ok-step-clause-means
-returns-in_ok-step-clause-means c = λ items fs.
+pub returns-in_ok-step-in-Answered-clause-means : goal.returns-in_ok-step-in-Answered-clause-means
+returns-in_ok-step-in-Answered-clause-means c = λ items fs.
     let a = c.args in
     let go : List Value → SpecPlan = λ vs. statements.each_spliced vs a.at [] statements.joined in
     moved items fs fs (waiting.on_answer a.end go) (go c.as_slice.result.now) a.world.now a.world.now c.splice_all.new.world
-    a.budget.now c.splice_all.new.budget c.in_ok-step.step
-    (ap (λ (r : End). waiting.on_answer r go) c.in-Answered.is ∙ ap go (sym c.as_slice.ensures)) refl (c.in_ok-step.ensures.means items fs)
+    a.budget.now c.splice_all.new.budget c.in_ok-step-in-Answered.step
+    (ap (λ (r : End). waiting.on_answer r go) c.in-Answered.is ∙ ap go (sym c.as_slice.ensures)) refl (c.in_ok-step-in-Answered.ensures.means items fs)
 
 pub returns : goal.returns
 returns c =

@@ -6,19 +6,19 @@ use Rattle.spec_machine.specs.Frames as waiting
 use Rattle.spec_machine.proofs.Doing.{comes, leaves}
 use Rattle.spec_machine.proofs.machine.after_listed.Goals as goal
 
-pub returns-in_ok-step-clause-means : goal.returns-in_ok-step-clause-means
-returns-in_ok-step-clause-means c = λ items.
+pub returns-in_ok-step-in-Value-clause-means : goal.returns-in_ok-step-in-Value-clause-means
+returns-in_ok-step-in-Value-clause-means c = λ items.
     let a = c.args in
     let f = a.frame in
     let left2 = c.listed.new.budget in
     comes {X = List TermId} items a.frames.now.items c.terms.new.frames.items (λ k. plans.listed a.value a.at f.terms k)
     (λ ts. waiting.terms_plan items f.rest.now f.env ts f.then)
     c.in_ok-reached.reached c.in-Value.all a.world.now c.listed.new.world c.terms.new.world a.budget.now left2 left2
-    c.in_ok-step.step c.in-Value.is c.in_ok-reached.ensures.means (c.in_ok-step.ensures.means items left2)
+    c.in_ok-step-in-Value.step c.in-Value.is c.in_ok-reached.ensures.means (c.in_ok-step-in-Value.ensures.means items left2)
 
-pub returns-in_ok-step-clause-kept : goal.returns-in_ok-step-clause-kept
-returns-in_ok-step-clause-kept c =
-    keeps_then c.args.world.now c.listed.new.world c.terms.new.world c.in_ok-reached.ensures.kept c.in_ok-step.ensures.kept
+pub returns-in_ok-step-in-Value-clause-kept : goal.returns-in_ok-step-in-Value-clause-kept
+returns-in_ok-step-in-Value-clause-kept c =
+    keeps_then c.args.world.now c.listed.new.world c.terms.new.world c.in_ok-reached.ensures.kept c.in_ok-step-in-Value.ensures.kept
 
 pub returns-in-Left-clause-means : goal.returns-in-Left-clause-means
 returns-in-Left-clause-means c = λ items.

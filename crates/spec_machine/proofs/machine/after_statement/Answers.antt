@@ -12,18 +12,18 @@ use Rattle.spec_machine.proofs.Doing.{returns as returned, moved}
 use Rattle.spec_machine.proofs.Placing as placing
 use Rattle.spec_machine.proofs.machine.after_statement.Goals as goal
 
-pub returns-in_ok-step-clause-means : goal.returns-in_ok-step-clause-means
-returns-in_ok-step-clause-means c =
+pub returns-in_ok-step-in-Joined-clause-means : goal.returns-in_ok-step-in-Joined-clause-means
+returns-in_ok-step-in-Joined-clause-means c =
     let a = c.args in
     let f = a.frame in
     let items = items_of a.tree.now in
     let fs = a.frames.now.items in
     let go : List TermId → SpecPlan = λ ts. waiting.block_plan items f.rest.now f.env ts f.then in
     moved items fs c.statements.new.frames.items (plans.as_statements a.end f.terms go) (go c.append.new.terms) a.world.now a.world.now c.statements.new.world
-    a.budget.now c.statements.new.budget c.in_ok-step.step
+    a.budget.now c.statements.new.budget c.in_ok-step-in-Joined.step
     (ap (λ (r : End). plans.as_statements r f.terms go) c.in-Joined.is
-    ∙ ap go (sym (c.in_ok-append.ensures ∙ ap (λ (us : List TermId). f.terms ++ us) c.as_slice.ensures))) refl
-    c.in_ok-step.ensures.means
+    ∙ ap go (sym (c.in_ok-append-in-Joined.ensures ∙ ap (λ (us : List TermId). f.terms ++ us) c.as_slice.ensures))) refl
+    c.in_ok-step-in-Joined.ensures.means
 
 pub returns : goal.returns
 returns c =

@@ -26,7 +26,7 @@ returns-in_ok-push-in-Left c =
     let left = a.budget.now in
     let m = c.in-Left in
     record {
-      means = rw m.is (enters items fs c.push.new.self.items (frames.Term (of_term.Right m.op a.term m.place)) (jobs.Expression m.right m.env) w left c.in_ok-push.ensures.items);
+      means = rw m.is (enters items fs c.push.new.self.items (frames.Term (of_term.Right m.op a.term m.place)) (jobs.Expression m.right m.env) w left c.in_ok-push-in-Left.ensures.items);
       kept = keeps_itself w;
     }
 
@@ -170,6 +170,12 @@ returns-in_ok-step-in-Repeat-clause-means c =
     let w = a.world.now in
     let left = a.budget.now in
     let m = c.in-Repeat in
-    rw m.is (does_as items fs (plans.join m.place (s.Repeat m.statements a.term)) (plans.join m.place (s.Repeat c.in_ok-list.list a.term))
+    rw m.is (does_as items fs (plans.join m.place (s.Repeat m.statements a.term)) (plans.join m.place (s.Repeat c.in_ok-list-in-Repeat.list a.term))
     w c.join-in-Repeat.new.world left left c.in_ok-step-in-Repeat.step
-    (ap (λ (ts : List TermId). plans.join m.place (s.Repeat ts a.term)) (sym c.in_ok-list.ensures)) (c.in_ok-step-in-Repeat.ensures.means items left))
+    (ap (λ (ts : List TermId). plans.join m.place (s.Repeat ts a.term)) (sym c.in_ok-list-in-Repeat.ensures)) (c.in_ok-step-in-Repeat.ensures.means items left))
+
+pub returns-in_ok-step-in-While-clause-means : goal.returns-in_ok-step-in-While-clause-means
+returns-in_ok-step-in-While-clause-means c = rw c.in-While.is c.in_ok-step-in-While.ensures.means
+
+pub returns-in_ok-step-in-Arm-clause-means : goal.returns-in_ok-step-in-Arm-clause-means
+returns-in_ok-step-in-Arm-clause-means c = rw c.in-Arm.is c.in_ok-step-in-Arm.ensures.means

@@ -6,6 +6,7 @@ use Rattle.tl_tree.specs.Scopes.{binder}
 use Rattle.lua_value.specs.declared.value.Value.{Value}
 use Rattle.lua_value.specs.declared.value.Value.TheVariants as values
 use Rattle.lua_table.specs.Cells.{local_value}
+use Rattle.exotype.specs.World.{StageState}
 use Rattle.spec_model.specs.Plans as plans
 use Rattle.spec_model.specs.Plans.{SpecPlan}
 use Rattle.spec_model.specs.Expressions as expressions
@@ -34,7 +35,7 @@ returns-in_ok-step-in-Some-clause-means c =
     c.in_ok-step-in-Some.step (placing.local_is b depth position name at f.env go p) refl
     (moved items a.frames.now.items c.names.new.frames.items (go (local_value w.heap f.env depth position)) (go c.local-object.result)
     w w c.names.new.world a.budget.now c.names.new.budget c.in_ok-step-in-Some.step
-    (ap go (sym c.local-object.ensures)) refl c.in_ok-step-in-Some.ensures.means)
+    (ap go (sym (c.local-object.ensures ∙ ap (λ (x : StageState). local_value x.heap f.env depth position) c.world.view_is))) refl c.in_ok-step-in-Some.ensures.means)
 
 pub returns-in_ok-step-in-None-clause-means : goal.returns-in_ok-step-in-None-clause-means
 returns-in_ok-step-in-None-clause-means c =

@@ -6,6 +6,7 @@ use Rattle.tl_tree.specs.Arena.{items_of}
 use Rattle.tl_tree.specs.Code.{name_at}
 use Rattle.tl_tree.specs.Scopes.{binder}
 use Rattle.lua_table.specs.Cells.{local_cell}
+use Rattle.exotype.specs.World.{StageState}
 use Rattle.spec_model.specs.declared.target.Target.TheVariants as targets
 use Rattle.spec_model.specs.Plans as plans
 use Rattle.spec_model.specs.Plans.{SpecPlan}
@@ -33,7 +34,7 @@ returns-in_ok-step-in-Some-clause-means c =
     c.in_ok-step-in-Some.step (placing.only_local b depth position (name_at items a.node) f.env go p) refl
     (moved items a.frames.now.items c.at_target.new.frames.items (at (local_cell w.heap f.env depth position)) (at c.local_cell-cell.result)
     w w c.at_target.new.world a.budget.now c.at_target.new.budget c.in_ok-step-in-Some.step
-    (ap at (sym c.local_cell-cell.ensures)) refl c.in_ok-step-in-Some.ensures.means)
+    (ap at (sym (c.local_cell-cell.ensures ∙ ap (λ (x : StageState). local_cell x.heap f.env depth position) c.world.view_is))) refl c.in_ok-step-in-Some.ensures.means)
 
 pub returns-in_ok-step-in-None-clause-means : goal.returns-in_ok-step-in-None-clause-means
 returns-in_ok-step-in-None-clause-means c =
@@ -54,5 +55,5 @@ returns-in_ok-step-in-None-clause-means c =
     w w w2 a.budget.now left2 c.in_ok-step-in-None.step
     (placing.only_global b (name_at items a.node) f.env go p
     ∙ ap (λ (bs : List ℕ). plans.with_text_of bs key) (sym (c.as_bytes.ensures.value ∙ c.name.ensures))) refl
-    (gets {X = TextId} items fs fs2 (λ k. plans.with_text_of bytes k) key c.in_ok-text.text w c.text.new.world w2 a.budget.now left2
-    c.in_ok-step-in-None.step c.in_ok-text.ensures.means c.in_ok-step-in-None.ensures.means)
+    (gets {X = TextId} items fs fs2 (λ k. plans.with_text_of bytes k) key c.in_ok-text-in-None.text w c.text.new.world w2 a.budget.now left2
+    c.in_ok-step-in-None.step c.in_ok-text-in-None.ensures.means c.in_ok-step-in-None.ensures.means)
