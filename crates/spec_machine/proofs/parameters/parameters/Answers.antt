@@ -23,8 +23,8 @@ returns-in_ok-step-in-None-clause-means c =
     a.budget.now c.with_parameters.new.budget c.in_ok-step-in-None.step (ap plan (none_is f.rest.now c.in-None.ensures.cases)) refl
     c.in_ok-step-in-None.ensures.means
 
-pub returns-in-Some-then-not-pay-clause-means : goal.returns-in-Some-then-not-pay-clause-means
-returns-in-Some-then-not-pay-clause-means c =
+pub returns-then-not-pay-clause-means : goal.returns-then-not-pay-clause-means
+returns-then-not-pay-clause-means c =
     let a = c.args in
     let f = a.frame in
     let n = c.in-Some.first.now in

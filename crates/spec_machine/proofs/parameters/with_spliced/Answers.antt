@@ -22,8 +22,8 @@ returns-in-Left-clause-means c =
     (leaves {X = List Drawn} items fs (plan c.as_slice.result.now) go c.in_ok-reached.reached c.in-Left.step
     a.world.now c.spliced.new.world a.budget.now c.spliced.new.budget c.in-Left.is c.in_ok-reached.ensures.means)
 
-pub returns-in_ok-step-in-Value-clause-means : goal.returns-in_ok-step-in-Value-clause-means
-returns-in_ok-step-in-Value-clause-means c =
+pub returns-clause-means : goal.returns-clause-means
+returns-clause-means c =
     let a = c.args in
     let f = a.frame in
     let items = items_of a.tree.now in
@@ -39,6 +39,6 @@ returns-in_ok-step-in-Value-clause-means c =
     a.world.now c.spliced.new.world w2 a.budget.now c.spliced.new.budget left2 c.in_ok-step-in-Value.step c.in-Value.is c.in_ok-reached.ensures.means
     c.in_ok-step-in-Value.ensures.means)
 
-pub returns-in_ok-step-in-Value-clause-kept : goal.returns-in_ok-step-in-Value-clause-kept
-returns-in_ok-step-in-Value-clause-kept c =
+pub returns-clause-kept : goal.returns-clause-kept
+returns-clause-kept c =
     keeps_then c.args.world.now c.spliced.new.world c.parameters.new.world c.in_ok-reached.ensures.kept c.in_ok-step-in-Value.ensures.kept
