@@ -22,8 +22,8 @@ returns-in_ok-step-in-Answered-clause-means c =
     (ap (λ (r : End). waiting.on_answer r (λ vs. go (first_value vs))) c.in-Answered.is
     ∙ ap go (sym (c.first-value.ensures ∙ ap first_value c.as_slice.ensures))) refl c.in_ok-step-in-Answered.ensures.means
 
-pub returns : goal.returns
-returns c =
+pub returns-in_default : goal.returns-in_default
+returns-in_default c =
     let a = c.args in
     let items = items_of a.tree.now in
     let fs = a.frames.now.items in
