@@ -97,14 +97,27 @@ spliced_raises items fs fs2 w w2 left left2 step xs place ds go is g = λ later.
     ap (plug (spec_rules items) fs) (spliced_runs (jobs_of items) w xs place ds go left later
     ∙ ap (λ (o : Option (List Drawn)). run (jobs_of items) (spliced_to o place go) (state w left) later) (sym is)) ∙ g later
 
--- one symbol more
-pub typed_next : (w : StageState) (xs : List SymId) (i : ℕ) (x : SymId) (place : Place) (ds : List Drawn)
-    → i < length xs → get_or xs i x ≡ x
-    → typed_symbols w (drop i xs) place ds
-    ≡ option_and_then (λ more. typed_symbols w (drop (i + 1) xs) place more) (typed_symbol x (symbol_type w x) place ds)
-typed_next w xs i x place ds h is =
-    at_drop_more (λ us. typed_symbols w us place ds) xs i x h
-    ∙ ap (λ (y : SymId). option_and_then (λ more. typed_symbols w (drop (i + 1) xs) place more) (typed_symbol y (symbol_type w y) place ds)) is
+-- one symbol more, which has a type
+pub typed_more : (w : StageState) (xs : List SymId) (i : ℕ) (d : SymId) (place : Place) (ds ds2 : List Drawn) (found : Option TypeId) (of : TypeId)
+    → i < length xs → found ≡ Some of → found ≡ symbol_type w (get_or xs i d)
+    → ds2 ≡ ds ++ record { symbol = get_or xs i d; of = of; place = place; named = false } ∷ []
+    → typed_symbols w (drop (i + 1) xs) place ds2 ≡ typed_symbols w (drop i xs) place ds
+typed_more w xs i d place ds ds2 found of h is has more =
+    let x = get_or xs i d in
+    let behind : List Drawn → Option (List Drawn) = λ all. typed_symbols w (drop (i + 1) xs) place all in
+    ap behind more
+    ∙ ap (λ (o : Option TypeId). option_and_then behind (typed_symbol x o place ds)) (sym is ∙ has)
+    ∙ sym (at_drop_more (λ us. typed_symbols w us place ds) xs i d h)
+
+-- and one that has none
+pub typed_none : (w : StageState) (xs : List SymId) (i : ℕ) (d : SymId) (place : Place) (ds : List Drawn) (found : Option TypeId)
+    → i < length xs → found ≡ None → found ≡ symbol_type w (get_or xs i d)
+    → None ≡ typed_symbols w (drop i xs) place ds
+typed_none w xs i d place ds found h is has =
+    let x = get_or xs i d in
+    let behind : List Drawn → Option (List Drawn) = λ all. typed_symbols w (drop (i + 1) xs) place all in
+    ap (λ (o : Option TypeId). option_and_then behind (typed_symbol x o place ds)) (sym is ∙ has)
+    ∙ sym (at_drop_more (λ us. typed_symbols w us place ds) xs i d h)
 
 pub typed_end : (w : StageState) (xs : List SymId) (i : ℕ) (place : Place) (ds : List Drawn)
     → length xs ≤ i → typed_symbols w (drop i xs) place ds ≡ Some ds
@@ -140,28 +153,26 @@ declaring_all_goes items fs fs2 ds env rest w v w2 left left2 step is g = λ lat
 
 -- one parameter more
 pub parameters_next : (ds : List Drawn) (i : ℕ) (d : Drawn) (env : EnvId) (w v : StageState)
-    → i < length ds → get_or ds i d ≡ d → v ≡ with_heap w (with_parameter d env w.heap)
+    → i < length ds → v ≡ with_heap w (with_parameter (get_or ds i d) env w.heap)
     → with_heap v (with_parameters (drop (i + 1) ds) env v.heap) ≡ with_heap w (with_parameters (drop i ds) env w.heap)
-parameters_next ds i d env w v h is made =
+parameters_next ds i d env w v h made =
     ap (λ (u : StageState). with_heap u (with_parameters (drop (i + 1) ds) env u.heap)) made
-    ∙ sym (ap (λ (s : LuaState). with_heap w s)
-    (at_drop_more (λ us. with_parameters us env w.heap) ds i d h
-    ∙ ap (λ (x : Drawn). with_parameters (drop (i + 1) ds) env (with_parameter x env w.heap)) is))
+    ∙ sym (ap (λ (s : LuaState). with_heap w s) (at_drop_more (λ us. with_parameters us env w.heap) ds i d h))
 
 pub parameters_end : (ds : List Drawn) (i : ℕ) (env : EnvId) (w : StageState)
     → length ds ≤ i → with_heap w (with_parameters (drop i ds) env w.heap) ≡ w
 parameters_end ds i env w h = at_drop_all (λ us. with_heap w (with_parameters us env w.heap)) ds i h
 
 -- parameters as they stand in a term
+abbrev pub listed_as : Drawn → Parameter
+listed_as d = record { symbol = d.symbol; of = d.of; place = d.place }
+
 pub listed_next : (ds : List Drawn) (i : ℕ) (d : Drawn) (ps : List Parameter)
-    → i < length ds → get_or ds i d ≡ d
-    → (ps ++ record { symbol = d.symbol; of = d.of; place = d.place } ∷ []) ++ parameter_list (drop (i + 1) ds) ≡ ps ++ parameter_list (drop i ds)
-listed_next ds i d ps h is =
-    let p : Parameter = record { symbol = d.symbol; of = d.of; place = d.place } in
-    append_assoc ps (p ∷ []) (parameter_list (drop (i + 1) ds))
-    ∙ sym (ap (λ (l : List Parameter). ps ++ l)
-    (at_drop_more (λ us. parameter_list us) ds i d h
-    ∙ ap (λ (x : Drawn). record { symbol = x.symbol; of = x.of; place = x.place } ∷ parameter_list (drop (i + 1) ds)) is))
+    → i < length ds
+    → (ps ++ listed_as (get_or ds i d) ∷ []) ++ parameter_list (drop (i + 1) ds) ≡ ps ++ parameter_list (drop i ds)
+listed_next ds i d ps h =
+    append_assoc ps (listed_as (get_or ds i d) ∷ []) (parameter_list (drop (i + 1) ds))
+    ∙ sym (ap (λ (l : List Parameter). ps ++ l) (at_drop_more (λ us. parameter_list us) ds i d h))
 
 pub listed_end : (ds : List Drawn) (i : ℕ) (ps : List Parameter) → length ds ≤ i → ps ++ parameter_list (drop i ds) ≡ ps
 listed_end ds i ps h = at_drop_all (λ us. ps ++ parameter_list us) ds i h ∙ append-nil ps

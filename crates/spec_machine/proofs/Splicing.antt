@@ -1,5 +1,5 @@
 -- Values as items of a block, by their kinds, and loops over them.
-use Rattle.std.proofs.Common.{◌≡◌, ⊥, ℕ, ◌+◌, ◌<◌, ◌≤◌, List, [], ◌∷◌, ◌++◌, length, drop, get_or, refl, sym, ap, ◌∙◌, Option, Some, None}
+use Rattle.std.proofs.Common.{◌≡◌, ℕ, ◌+◌, ◌<◌, ◌≤◌, List, [], ◌∷◌, ◌++◌, length, drop, get_or, refl, sym, ap, ◌∙◌, Option, Some, None}
 use Rattle.std.proofs.lemmas.List.{at_drop_more, at_drop_all}
 use Rattle.tl_base.specs.declared.ids.QuoteId.{QuoteId}
 use Rattle.tl_base.specs.declared.ids.TableId.{TableId}

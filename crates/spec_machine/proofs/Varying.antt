@@ -98,3 +98,13 @@ pub drawn_turn : (vs : List Wanted) (i : ℕ) (d v : Wanted) (env : EnvId) (name
 drawn_turn vs i d v env names name w u left got h is = λ f go later.
     ap (λ (p : SpecPlan). run f p (state w left) later) (drawn_next vs i d v env names go h is)
     ∙ got f (λ more. drawn (drop (i + 1) vs) env more go) left later
+
+-- the end of the loop that draws
+pub drawn_done : (vs : List Wanted) (i : ℕ) (env : EnvId) (before names : List VarName) (w v : StageState)
+    → ((left : ℕ) → Passes (λ (go : List VarName → SpecPlan). drawn vs env [] go) w left
+    (λ (go : List VarName → SpecPlan). drawn (drop i vs) env before go) v left)
+    → length vs ≤ i → names ≡ before → Gets (λ (go : List VarName → SpecPlan). drawn vs env [] go) w names v
+drawn_done vs i env before names w v passes h is = λ f go left later.
+    passes left f go later
+    ∙ ap (λ (p : SpecPlan). run f p (state v left) later) (drawn_end vs i env before go h)
+    ∙ ap (λ (ns : List VarName). run f (go ns) (state v left) later) (sym is)

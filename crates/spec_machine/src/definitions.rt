@@ -1,9 +1,10 @@
 // Declarations and definitions of Terra functions.
 
-ghost use Rattle.std.specs.Prelude.{◌≡◌, ℕ, true, Some, None, IfOk, OnOk, if◌then◌else◌};
+ghost use Rattle.std.specs.Prelude.{◌≡◌, ℕ, true, length, Some, None, IfOk, OnOk, if◌then◌else◌};
 ghost use Rattle.tl_tree.specs.Arena.{items_of};
 ghost use Rattle.tl_tree.specs.Code.{Items};
 ghost use Rattle.exotype.specs.World.{StageState, with_heap};
+ghost use Rattle.exotype.specs.Terms.{function_size};
 ghost use Rattle.lua_value.specs.declared.value.Value.TheVariants as values;
 ghost use Rattle.lua_table.specs.Keeping.{KeepsHeap};
 ghost use Rattle.terra_term.specs.declared.term.Term.TheVariants as terms;
@@ -35,7 +36,7 @@ use exotype::{Fault, World};
 use lua_table::Heap;
 use lua_value::Value;
 use spec_model::{Drawn, End, SpecQuestion, Target};
-use terra_term::{FunctionState, Parameter, ParameterList, Term};
+use terra_term::{FunctionState, Parameter, ParameterList, Size, Term};
 use terra_types::TypeForm;
 use tl_base::{Budget, EnvId, FnId, NoMemory, NodeId, Place, Step, TermId, TypeId};
 use tl_tree::Tree;
@@ -302,21 +303,50 @@ pub fn finish(
     ensures kept { OnOk result (KeepsStage world.old world.new) }
 {
     let at = definition.place;
-    let size = function_size(world, drawn.as_slice().len(), body.as_slice());
-    match past_limits(size) {
+    match past_limits(size_of(world, &drawn, &body)) {
         Some(fault) => {
             let step = raise(world, budget, at, fault)?;
             Ok(step)
         }
         None => {
-            if is_undefined(world, definition.function) {
-                let step = take_term(world, definition, drawn, of, body)?;
-                Ok(step)
-            } else {
-                let step = raise(world, budget, at, Fault::AlreadyDefined)?;
-                Ok(step)
-            }
+            let step = take_term_once(world, budget, definition, drawn, of, body)?;
+            Ok(step)
         }
+    }
+}
+
+/// How many nodes and levels a function of these parameters and this body has.
+fn size_of(world: &World, drawn: &Row<Drawn>, body: &Row<TermId>) -> Size
+    ensures { result ≡ function_size world.now (length drawn.now) body.now }
+{
+    let parameters = drawn.as_slice();
+    let statements = body.as_slice();
+    function_size(world, parameters.len(), statements)
+}
+
+/// Gives a function its term. One that has a term raises.
+fn take_term_once(
+    world: &mut World,
+    budget: &mut Budget,
+    definition: &Definition,
+    drawn: Row<Drawn>,
+    of: Option<TypeId>,
+    body: Row<TermId>,
+) -> Result<SpecStep, NoMemory>
+    ensures means { IfOk result (λ step. (items : Items) →
+        Does items (if is_undefined world.old definition.now.function
+        then node (terms.Function (plans.parameter_list drawn) of body)
+        (λ t. Read (λ w. Write (with_defined w definition.now.function definition.now.place t) (waiting.defined definition.now)))
+        else fails definition.now.place Fault.AlreadyDefined)
+        world.old budget.old step world.new budget.new) }
+    ensures kept { OnOk result (KeepsStage world.old world.new) }
+{
+    if is_undefined(world, definition.function) {
+        let step = take_term(world, definition, drawn, of, body)?;
+        Ok(step)
+    } else {
+        let step = raise(world, budget, definition.place, Fault::AlreadyDefined)?;
+        Ok(step)
     }
 }
 

@@ -12,8 +12,8 @@ use Rattle.spec_machine.proofs.Doing.{moved}
 use Rattle.spec_machine.proofs.Pushing.{term_enters}
 use Rattle.spec_machine.proofs.conditions.arm.Goals as goal
 
-pub returns-in_ok-push : goal.returns-in_ok-push
-returns-in_ok-push c = record {
+pub returns : goal.returns
+returns c = record {
   means = λ w left.
       let a = c.args in
       let f = a.frame in

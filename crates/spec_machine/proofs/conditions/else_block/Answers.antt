@@ -1,4 +1,4 @@
-use Rattle.std.proofs.Common.{◌≡◌, ⊥, refl, sym, ap, ◌∙◌, List, [], ◌∷◌, ◌++◌, Option, Some, None}
+use Rattle.std.proofs.Common.{◌≡◌, refl, sym, ap, ◌∙◌, List, [], ◌∷◌, ◌++◌, Option, Some, None}
 use Rattle.tl_base.specs.declared.ids.NodeId.{NodeId}
 use Rattle.tl_base.specs.declared.ids.EnvId.{EnvId}
 use Rattle.tl_base.specs.declared.ids.TermId.{TermId}
@@ -58,15 +58,15 @@ returns-in-None-clause-kept c =
     carried _ _ c.last_arm-in-None.result c.last_arm-in-None.ensures.kept (λ step k.
     keeps_then c.args.world.now c.new_env.new.world c.last_arm-in-None.new.world c.in_ok-env.ensures.kept k)
 
-pub returns-in_ok-push-in-Some-clause-means : goal.returns-in_ok-push-in-Some-clause-means
-returns-in_ok-push-in-Some-clause-means c = λ left.
+pub returns-in_ok-push-in-Some-split_first-clause-means : goal.returns-in_ok-push-in-Some-split_first-clause-means
+returns-in_ok-push-in-Some-split_first-clause-means c = λ left.
     let a = c.args in
     let items = items_of a.tree.now in
     let fs = a.frames.now.items in
     let pushed = c.push.new.self.items in
     let b = c.in-Some.block in
-    let n = c.in-Some-2.first.now in
-    let rest = c.in-Some-2.rest in
+    let n = c.in-Some-split_first.first.now in
+    let rest = c.in-Some-split_first.rest in
     let w = a.world.now in
     let v = c.new_env.new.world in
     let inner = c.in_ok-env.env in
@@ -80,7 +80,7 @@ returns-in_ok-push-in-Some-clause-means c = λ left.
     c.in_ok-env.ensures.id c.in_ok-env.ensures.ok
     (moved items fs pushed (block_plan items (statements_at items b) inner [] then) (block_plan items (n ∷ rest.now) inner none then)
     v v v left left step
-    (ap (λ (l : List NodeId). block_plan items l inner [] then) (sym c.block_statements.ensures ∙ c.in-Some-2.ensures.cases.0)
+    (ap (λ (l : List NodeId). block_plan items l inner [] then) (sym c.block_statements.ensures ∙ c.in-Some-split_first.ensures.cases.0)
     ∙ ap (λ (ts : List TermId). block_plan items (n ∷ rest.now) inner ts then) (sym c.new-none.ensures)) refl
     (block_enters items fs pushed (n ∷ rest.now) n (record { rest = rest; env = inner; terms = none; then = then }) v left refl
-    c.in_ok-push-in-Some.ensures.items)))
+    c.in_ok-push-in-Some-split_first.ensures.items)))

@@ -1,4 +1,4 @@
-use Rattle.std.proofs.Common.{◌≡◌, ◌+◌, ◌<◌, List, [], ◌∷◌, ◌++◌, length, refl, sym, ap, ◌∙◌, Some, None, arith}
+use Rattle.std.proofs.Common.{◌≡◌, ◌+◌, ◌<◌, List, [], ◌∷◌, ◌++◌, length, refl, sym, ap, ◌∙◌, Some, None, arith, rules, option_to_list}
 use Rattle.std.proofs.lemmas.List.{length-append}
 use Rattle.spec_machine.specs.Frames.{last_arm}
 use Rattle.spec_machine.specs.Kept.{keeps_then}
@@ -17,7 +17,7 @@ pub arms-preserved : goal.arms-preserved
 arms-preserved c =
     let a = c.args in
     let l = c.arms in
-    let u = c.arm_statement-in-arms.new.world in
+    let u = c.arm_statement-in-Some.new.world in
     record {
       runs = arms_turn (last_arm a.last a.arms a.otherwise) l.arms c.pop.new.self c.in-Some.arm c.in_ok-behind.behind l.made
           c.in_ok-made-2.made a.world.now l.world u l.invariant.runs (c.pop.ensures.items ∙ ap (λ o. c.pop.new.self ++ option_to_list o) c.in-Some.is)

@@ -49,8 +49,8 @@ returns-in_ok-push-in-Some-clause-means c =
     let at_is : at ≡ place_at items condition =
     c.place.ensures ∙ ap (λ (m : NodeId). place_at items m) c.arm_parts.ensures.condition in
     let more_is : behind more joined_one ≡ closed done (behind f.arms joined_one) =
-    ap (λ (before : List Arm). behind before joined_one) c.in_ok-push-in-Some.ensures ∙ behind_more f.arms done joined_one in
-    carried _ _ c.arm.result c.arm.ensures (λ step g left.
+    ap (λ (before : List Arm). behind before joined_one) c.in_ok-push-in-Some.ensures.ok ∙ behind_more f.arms done joined_one in
+    carried _ _ c.arm.result c.arm.ensures.means (λ step g left.
     moved items a.frames.now.items c.arm.new.frames.items (waiting.others items f a.test a.statements) (by at (behind more joined_one))
     w w w left left step
     (ap (λ (ns : List NodeId). else_of items ns f.otherwise f.env (λ us. last_arm done f.arms us)) c.in-Some.ensures.cases.0

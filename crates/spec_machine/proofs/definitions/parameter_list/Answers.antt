@@ -7,12 +7,13 @@ use Rattle.spec_machine.proofs.definitions.parameter_list.Goals as goal
 pub parameters-preserved : goal.parameters-preserved
 parameters-preserved c =
     let ds = c.args.drawn.now in
-    let i = c.parameters.parameter-index in
-    let d = c.parameter-item.result in
-    ap (λ (l : List Parameter). l ++ definitions.parameter_list (drop (i + 1) ds)) c.in_ok-push.ensures.items
-    ∙ defining.listed_next ds i d c.parameters.list.items c.parameters-test.true (sym c.parameter-item.is) ∙ c.parameters.invariant
+    let l = c.parameters in
+    let i = l.parameter-index in
+    ap (λ (ps : List Parameter). ps ++ definitions.parameter_list (drop (i + 1) ds)) c.in_ok-push.ensures.items
+    ∙ defining.listed_next ds i _ l.list.items c.parameters-test.true ∙ l.invariant
 
 pub returns : goal.returns
 returns c =
     let ds = c.args.drawn.now in
-    c.in_ok-list.ensures ∙ sym (defining.listed_end ds c.parameters.parameter-index c.parameters.list.items c.parameters-test.false) ∙ c.parameters.invariant
+    let l = c.parameters in
+    c.in_ok-list.ensures ∙ sym (defining.listed_end ds l.parameter-index l.list.items c.parameters-test.false) ∙ l.invariant

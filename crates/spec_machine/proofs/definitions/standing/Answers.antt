@@ -7,4 +7,4 @@ use Rattle.spec_machine.proofs.definitions.standing.Goals as goal
 pub returns-in_default : goal.returns-in_default
 returns-in_default c =
     let a = c.args in
-    sym (standing.no_function a.world.now (definitions.held_in a.world.now.heap a.target) (λ f h. c.in_default.not-TerraFunction f (sym (ap (λ (u : StageState). definitions.held_in u.heap a.target) c.world.view_is) ∙ sym c.held.ensures ∙ h)))
+    sym (standing.no_function a.world.now (definitions.held_in a.world.now.heap a.target) (λ f h. c.in_default.not-TerraFunction f (c.held.ensures ∙ ap (λ (u : StageState). definitions.held_in u.heap a.target) c.world.view_is ∙ h)))

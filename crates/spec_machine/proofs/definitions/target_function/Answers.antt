@@ -14,11 +14,11 @@ returns-in-Some-clause-means c =
     ap (λ (p : SpecPlan). run f p (state w left) later)
     (standing.stands w (definitions.held_in w.heap a.target) a.target a.at go c.in-Some.function (sym c.in-Some.is ∙ c.standing.ensures))
 
-pub returns-clause-means : goal.returns-clause-means
-returns-clause-means c =
+pub returns-in_ok-function-in-None-clause-means : goal.returns-in_ok-function-in-None-clause-means
+returns-in_ok-function-in-None-clause-means c =
     let a = c.args in
     let w = a.world.now in
     λ f go left later.
     ap (λ (p : SpecPlan). run f p (state w left) later)
     (standing.stands_nowhere w (definitions.held_in w.heap a.target) a.target a.at go (sym c.in-None.is ∙ c.standing.ensures))
-    ∙ c.in_ok-function.ensures.means f go left later
+    ∙ c.in_ok-function-in-None.ensures.means f go left later

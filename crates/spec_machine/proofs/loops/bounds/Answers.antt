@@ -9,8 +9,8 @@ use Rattle.spec_machine.proofs.Doing.{moved}
 use Rattle.spec_machine.proofs.Pushing.{term_enters}
 use Rattle.spec_machine.proofs.loops.bounds.Goals as goal
 
-pub returns-in_ok-push : goal.returns-in_ok-push
-returns-in_ok-push c = record {
+pub returns : goal.returns
+returns c = record {
   means = λ items w left.
       let a = c.args in
       let none = c.new-none.result in

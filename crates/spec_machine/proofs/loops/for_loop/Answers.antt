@@ -16,30 +16,35 @@ use Rattle.spec_machine.proofs.Carrying.{carried}
 use Rattle.spec_machine.proofs.Pushing.{asks_value}
 use Rattle.spec_machine.proofs.loops.for_loop.Goals as goal
 
-pub returns-in_ok-push-in-Some-clause-means : goal.returns-in_ok-push-in-Some-clause-means
-returns-in_ok-push-in-Some-clause-means c = λ left.
-    let a = c.args in
-    let items = items_of a.tree.now in
-    let w = a.world.now in
-    let code = c.in-Some.code in
-    let f : ForFrame = record { node = a.node; symbol = None; at = c.place.result; block = a.block; place = a.at; env = a.env } in
-    let value = of_value.ForName a.first a.limit a.step f in
-    let by : Option NodeId → Place → SpecPlan = λ e p. for_plan items a.node e p (a.first ∷ a.limit ∷ if_any a.step) a.block a.at a.env in
-    moved items a.frames.now.items c.push.new.self.items (by (escaped_at items a.name) (place_at items a.name))
-    (eval code a.env (with_value items value)) w w w left left (Stop (questions.Eval code a.env))
-    (ap (λ (e : Option NodeId). by e (place_at items a.name)) (sym c.escaped.ensures ∙ c.in-Some.is)
-    ∙ ap (by (Some code)) (sym c.place.ensures)) refl
-    (asks_value items a.frames.now.items c.push.new.self.items value code a.env w left c.in_ok-push-in-Some.ensures.items)
+pub returns-in_ok-push-in-Some : goal.returns-in_ok-push-in-Some
+returns-in_ok-push-in-Some c = record {
+  means = λ left.
+      let a = c.args in
+      let items = items_of a.tree.now in
+      let w = a.world.now in
+      let code = c.in-Some.code in
+      let f : ForFrame = record { node = a.node; symbol = None; at = c.place.result; block = a.block; place = a.at; env = a.env } in
+      let value = of_value.ForName a.first a.limit a.step f in
+      let by : Option NodeId → Place → SpecPlan = λ e p. for_plan items a.node e p (a.first ∷ a.limit ∷ if_any a.step) a.block a.at a.env in
+      moved items a.frames.now.items c.push.new.self.items (by (escaped_at items a.name) (place_at items a.name))
+      (eval code a.env (with_value items value)) w w w left left (Stop (questions.Eval code a.env))
+      (ap (λ (e : Option NodeId). by e (place_at items a.name)) (sym c.escaped.ensures ∙ c.in-Some.is)
+      ∙ ap (by (Some code)) (sym c.place.ensures)) refl
+      (asks_value items a.frames.now.items c.push.new.self.items value code a.env w left c.in_ok-push-in-Some.ensures.items);
+}
 
-pub returns-in-None-clause-means : goal.returns-in-None-clause-means
-returns-in-None-clause-means c =
-    let a = c.args in
-    let items = items_of a.tree.now in
-    let w = a.world.now in
-    let f : ForFrame = record { node = a.node; symbol = None; at = c.place.result; block = a.block; place = a.at; env = a.env } in
-    let by : Option NodeId → Place → SpecPlan = λ e p. for_plan items a.node e p (a.first ∷ a.limit ∷ if_any a.step) a.block a.at a.env in
-    carried _ _ c.bounds.result c.bounds.ensures (λ step g left.
-    moved items a.frames.now.items c.bounds.new.frames.items (by (escaped_at items a.name) (place_at items a.name))
-    (bounds_from items f (a.first ∷ a.limit ∷ if_any a.step) []) w w w left left step
-    (ap (λ (e : Option NodeId). by e (place_at items a.name)) (sym c.escaped.ensures ∙ c.in-None.is)
-    ∙ ap (by None) (sym c.place.ensures)) refl (g items w left))
+pub returns-in-None : goal.returns-in-None
+returns-in-None c =
+    record {
+      means =
+          let a = c.args in
+          let items = items_of a.tree.now in
+          let w = a.world.now in
+          let f : ForFrame = record { node = a.node; symbol = None; at = c.place.result; block = a.block; place = a.at; env = a.env } in
+          let by : Option NodeId → Place → SpecPlan = λ e p. for_plan items a.node e p (a.first ∷ a.limit ∷ if_any a.step) a.block a.at a.env in
+          carried _ _ c.bounds.result c.bounds.ensures.means (λ step g left.
+          moved items a.frames.now.items c.bounds.new.frames.items (by (escaped_at items a.name) (place_at items a.name))
+          (bounds_from items f (a.first ∷ a.limit ∷ if_any a.step) []) w w w left left step
+          (ap (λ (e : Option NodeId). by e (place_at items a.name)) (sym c.escaped.ensures ∙ c.in-None.is)
+          ∙ ap (by None) (sym c.place.ensures)) refl (g items w left));
+    }

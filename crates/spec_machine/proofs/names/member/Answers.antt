@@ -2,6 +2,7 @@ use Rattle.std.proofs.Common.{◌≡◌, ℕ, List, Option, Some, None, refl, sy
 use Rattle.tl_base.specs.declared.ids.NodeId.{NodeId}
 use Rattle.tl_base.specs.declared.ids.TextId.{TextId}
 use Rattle.tl_base.specs.declared.place.Place.{Place}
+use Rattle.tl_base.specs.declared.machine.Step.TheVariants.{Stop}
 use Rattle.tl_tree.specs.Arena.{items_of}
 use Rattle.tl_tree.specs.Code.{name_at}
 use Rattle.spec_model.specs.declared.question.SpecQuestion.TheVariants.{Eval}
@@ -25,7 +26,7 @@ returns-in_ok-push-in-Some-clause-means c = λ left.
     let at = c.place.result in
     let go = λ (t : TextId). with_member items a.then t in
     let evaluated = λ (p : Place). eval code a.env (λ v. text_in v p go) in
-    moved items fs pushed (member items a.node a.env go) (evaluated at) w w w left left _
+    moved items fs pushed (member items a.node a.env go) (evaluated at) w w w left left (Stop (Eval code a.env))
     (ap (λ (o : Option NodeId). member_of items o a.node a.env go) (sym c.escaped.ensures ∙ c.in-Some.is)
     ∙ ap evaluated (sym c.place.ensures)) refl
     (asks_value items fs pushed (Member at a.then) (Eval code a.env) w left c.in_ok-push-in-Some.ensures.items)

@@ -32,7 +32,7 @@ returns-clause-means c =
     let left = a.budget.now in
     let left2 = c.statements.new.budget in
     let inner = c.in_ok-inner.inner in
-    let ns = c.block_statements.result.now in
+    let ns = c.block_statements-nodes.result.now in
     let none = c.new-none.result in
     let body : EnvId → List NodeId → List TermId → SpecPlan = λ env l ts. waiting.block_plan items l env ts (of_block.Body d a.drawn a.of) in
     let ns2 = statements_at items (terra_parts_at items d.body).block in
@@ -42,7 +42,7 @@ returns-clause-means c =
     (c.in_ok-declare_all.ensures.ok ∙ ap (λ (ds : List Drawn). with_heap v (agreeing.with_parameters ds inner v.heap)) c.as_slice.ensures)
     (moved items fs fs2 (body inner ns2 []) (body inner ns none) u u w2 left left2 c.in_ok-step.step
     (ap (λ (l : List NodeId). body inner l [])
-    (sym (c.block_statements.ensures ∙ ap (λ (b : NodeId). statements_at items b) c.terra_parts.ensures.block))
+    (sym (c.block_statements-nodes.ensures ∙ ap (λ (b : NodeId). statements_at items b) c.terra_parts.ensures.block))
     ∙ ap (λ (ts : List TermId). body inner ns ts) (sym c.new-none.ensures)) refl c.in_ok-step.ensures.means))
 
 pub returns-clause-kept : goal.returns-clause-kept

@@ -27,7 +27,7 @@ returns-in_ok-push-in-Some c =
           moved items a.frames.now.items c.push.new.self.items (p (typing_at items a.node).type) (p (Some of)) w w w left left
           (Stop (questions.Eval of f.definition.env)) (ap p (is ∙ c.in-Some.is)) refl
           (asks_value items a.frames.now.items c.push.new.self.items (of_value.ParameterType a.node of f) (questions.Eval of f.definition.env) w left
-          c.in_ok-push.ensures.items);
+          c.in_ok-push-in-Some.ensures.items);
     }
 
 pub returns-in_ok-push-in-None : goal.returns-in_ok-push-in-None

@@ -25,9 +25,9 @@ returns-in_ok-push-in-Some c =
       means = λ w left.
           moved items a.frames.now.items c.push.new.self.items (p (escaped_at items (typing_at items a.node).name)) (p (Some code)) w w w left left
           (Stop (questions.Eval code f.definition.env))
-          (ap (λ (n : NodeId). p (escaped_at items n)) (sym c.typing_at.ensures.name) ∙ ap p (sym c.in-Some.ensures)) refl
+          (ap (λ (n : NodeId). p (escaped_at items n)) (sym c.typing_at.ensures.name) ∙ ap p (sym c.escaped.ensures ∙ c.in-Some.is)) refl
           (asks_value items a.frames.now.items c.push.new.self.items (of_value.Spliced a.node f) (questions.Eval code f.definition.env) w left
-          c.in_ok-push.ensures.items);
+          c.in_ok-push-in-Some.ensures.items);
     }
 
 pub returns-in_ok-step-in-None : goal.returns-in_ok-step-in-None
@@ -41,6 +41,6 @@ returns-in_ok-step-in-None c =
       means = λ w left.
           moved items a.frames.now.items c.named_parameter.new.frames.items (p (escaped_at items (typing_at items a.node).name)) (p None) w w w left left
           c.in_ok-step-in-None.step
-          (ap (λ (n : NodeId). p (escaped_at items n)) (sym c.typing_at.ensures.name) ∙ ap p (sym c.in-None.ensures)) refl
+          (ap (λ (n : NodeId). p (escaped_at items n)) (sym c.typing_at.ensures.name) ∙ ap p (sym c.escaped.ensures ∙ c.in-None.is)) refl
           (c.in_ok-step-in-None.ensures.means items w left (sym c.typing_at-in-None.ensures.of));
     }

@@ -9,9 +9,9 @@ returns-in-Some-clause-means c =
     λ f go later.
     defining.spliced_gets w a.symbols.now a.at a.drawn c.in-Some.drawn (sym c.in-Some.is ∙ c.in_ok-typed.ensures) f go a.budget.now later
 
-pub returns-clause-means : goal.returns-clause-means
-returns-clause-means c =
+pub returns-in_ok-step-in-None-clause-means : goal.returns-in_ok-step-in-None-clause-means
+returns-in_ok-step-in-None-clause-means c =
     let a = c.args in
     λ items go fs.
-    defining.spliced_raises items fs fs a.world.now c.raise.new.world a.budget.now c.raise.new.budget c.in_ok-step.step
-    a.symbols.now a.at a.drawn go (sym c.in-None.is ∙ c.in_ok-typed.ensures) (c.in_ok-step.ensures.means items fs)
+    defining.spliced_raises items fs fs a.world.now c.raise.new.world a.budget.now c.raise.new.budget c.in_ok-step-in-None.step
+    a.symbols.now a.at a.drawn go (sym c.in-None.is ∙ c.in_ok-typed.ensures) (c.in_ok-step-in-None.ensures.means items fs)

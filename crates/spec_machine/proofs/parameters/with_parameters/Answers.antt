@@ -26,7 +26,7 @@ returns-in_ok-push-in-Some c =
           a.world.now a.world.now a.world.now a.budget.now a.budget.now (Stop (questions.Eval of d.env))
           (ap plan (sym c.terra_parts.ensures.of ∙ c.in-Some.is)) refl
           (asks_value items a.frames.now.items c.push.new.self.items (of_value.Result of d a.drawn) (questions.Eval of d.env) a.world.now a.budget.now
-          c.in_ok-push.ensures.items);
+          c.in_ok-push-in-Some.ensures.items);
       kept = keeps_itself a.world.now;
     }
 

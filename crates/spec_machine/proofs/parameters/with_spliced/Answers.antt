@@ -34,11 +34,11 @@ returns-clause-means c =
     let go : List Drawn → SpecPlan = λ ds. waiting.parameters_from items f.definition f.rest.now ds in
     let plan : List SymId → (List Drawn → SpecPlan) → SpecPlan = λ xs k. definitions.spliced xs a.at f.drawn k in
     moved items fs fs2 (plan a.symbols go) (plan c.as_slice.result.now go) a.world.now a.world.now w2 a.budget.now
-    left2 c.in_ok-step.step (ap (λ (xs : List SymId). plan xs go) (sym c.as_slice.ensures)) refl
+    left2 c.in_ok-step-in-Value.step (ap (λ (xs : List SymId). plan xs go) (sym c.as_slice.ensures)) refl
     (comes {X = List Drawn} items fs fs2 (plan c.as_slice.result.now) go c.in_ok-reached.reached c.in-Value.drawn
-    a.world.now c.spliced.new.world w2 a.budget.now c.spliced.new.budget left2 c.in_ok-step.step c.in-Value.is c.in_ok-reached.ensures.means
-    c.in_ok-step.ensures.means)
+    a.world.now c.spliced.new.world w2 a.budget.now c.spliced.new.budget left2 c.in_ok-step-in-Value.step c.in-Value.is c.in_ok-reached.ensures.means
+    c.in_ok-step-in-Value.ensures.means)
 
 pub returns-clause-kept : goal.returns-clause-kept
 returns-clause-kept c =
-    keeps_then c.args.world.now c.spliced.new.world c.parameters.new.world c.in_ok-reached.ensures.kept c.in_ok-step.ensures.kept
+    keeps_then c.args.world.now c.spliced.new.world c.parameters.new.world c.in_ok-reached.ensures.kept c.in_ok-step-in-Value.ensures.kept

@@ -30,8 +30,8 @@ returns-in-Left-clause-means c =
     (leaves {X = List SymId} items fs (λ k. naming.symbols_of a.value here k) (go here) c.in_ok-reached.reached c.in-Left.step
     a.world.now c.symbols_of.new.world a.budget.now c.symbols_of.new.budget c.in-Left.is c.in_ok-reached.ensures.means)
 
-pub returns-clause-means : goal.returns-clause-means
-returns-clause-means c =
+pub returns-in_ok-step-in-Value-clause-means : goal.returns-in_ok-step-in-Value-clause-means
+returns-in_ok-step-in-Value-clause-means c =
     let a = c.args in
     let f = a.frame in
     let items = items_of a.tree.now in
@@ -45,12 +45,12 @@ returns-clause-means c =
     definitions.spliced xs p f.drawn (λ ds. waiting.parameters_from items f.definition f.rest.now ds) in
     let same : at ≡ here = ap (λ (n : NodeId). place_at items n) (sym c.typing_at.ensures.name) ∙ sym c.place-at.ensures in
     moved items fs fs2 (naming.symbols_of a.value at (go at)) (naming.symbols_of a.value here (go here)) a.world.now a.world.now w2
-    a.budget.now left2 c.in_ok-step.step
+    a.budget.now left2 c.in_ok-step-in-Value.step
     (ap (λ (p : Place). naming.symbols_of a.value p (go p)) same) refl
     (comes {X = List SymId} items fs fs2 (λ k. naming.symbols_of a.value here k) (go here) c.in_ok-reached.reached c.in-Value.symbols
-    a.world.now c.symbols_of.new.world w2 a.budget.now c.symbols_of.new.budget left2 c.in_ok-step.step c.in-Value.is c.in_ok-reached.ensures.means
-    c.in_ok-step.ensures.means)
+    a.world.now c.symbols_of.new.world w2 a.budget.now c.symbols_of.new.budget left2 c.in_ok-step-in-Value.step c.in-Value.is c.in_ok-reached.ensures.means
+    c.in_ok-step-in-Value.ensures.means)
 
-pub returns-clause-kept : goal.returns-clause-kept
-returns-clause-kept c =
-    keeps_then c.args.world.now c.symbols_of.new.world c.with_spliced.new.world c.in_ok-reached.ensures.kept c.in_ok-step.ensures.kept
+pub returns-in_ok-step-in-Value-clause-kept : goal.returns-in_ok-step-in-Value-clause-kept
+returns-in_ok-step-in-Value-clause-kept c =
+    keeps_then c.args.world.now c.symbols_of.new.world c.with_spliced.new.world c.in_ok-reached.ensures.kept c.in_ok-step-in-Value.ensures.kept

@@ -18,7 +18,7 @@ returns-in_ok-push-in-Value-clause-means c =
     performed_comes a.value a.at a.terms c.push.new.self t c.in_ok-made-in-Value.made w v c.new_term.new.world left after
     (came_as (λ (go : TermId → SpecPlan). one a.value a.at go) c.in_ok-reached.reached (Came t) w v left after
     c.in-Value.is c.in_ok-reached.ensures.means)
-    c.in_ok-made-in-Value.ensures.id c.in_ok-made-in-Value.ensures.ok c.in_ok-push-in-Value.ensures
+    c.in_ok-made-in-Value.ensures.id c.in_ok-made-in-Value.ensures.ok c.in_ok-push-in-Value.ensures.ok
 
 pub returns-in_ok-push-in-Value-clause-kept : goal.returns-in_ok-push-in-Value-clause-kept
 returns-in_ok-push-in-Value-clause-kept c =

@@ -11,8 +11,8 @@ returns-in_ok-reached-in-None-clause-means c =
     quoted_other a.quote a.at a.terms c.in_ok-reached-in-None.reached a.world.now c.performed.new.world a.budget.now c.performed.new.budget
     (sym c.in-None.is ∙ c.in_ok-found.ensures) c.in_ok-reached-in-None.ensures.means
 
-pub returns-in-Some-then-not-pay-clause-means : goal.returns-in-Some-then-not-pay-clause-means
-returns-in-Some-then-not-pay-clause-means c =
+pub returns-then-not-pay-clause-means : goal.returns-then-not-pay-clause-means
+returns-then-not-pay-clause-means c =
     let a = c.args in
     let w = a.world.now in
     let us = c.in-Some.statements in
@@ -36,4 +36,4 @@ returns-in_ok-append-in-Some-clause-means c =
     let paid : c.pay.new.self ≡ a.budget.now - (terms_size w us).nodes = rw nodes at c.if-not-pay.ensures.paid in
     quoted_comes a.quote a.at a.terms us c.append.new.terms w a.budget.now c.pay.new.self (sym c.in-Some.is ∙ c.in_ok-found.ensures)
     enough paid
-    (c.in_ok-append-in-Some.ensures ∙ ap (λ (ts : List TermId). a.terms ++ ts) c.as_slice-2.ensures)
+    (c.in_ok-append-in-Some.ensures ∙ ap (λ (ts : List TermId). a.terms ++ ts) c.as_slice-in-Some.ensures)

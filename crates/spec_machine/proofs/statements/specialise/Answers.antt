@@ -32,15 +32,15 @@ returns-in-Assign-clause-means c =
     let items = items_of a.tree.now in
     let w = a.world.now in
     let left = a.budget.now in
-    let ns = c.as_slice-2.result.now in
+    let ns = c.as_slice-in-Assign.result.now in
     let values = c.as_slice.result in
     let none = c.new-none.result in
     carried _ _ c.terms.result c.terms.ensures.means (λ step g.
     moved items a.frames.now.items c.terms.new.frames.items (statement_of items a.statement.now a.node a.place a.env)
     (terms_plan items ns a.env none (of_terms.Targets values a.place)) w w c.terms.new.world left left step
     (ap (λ (x : TerraStatement). statement_of items x a.node a.place a.env) m.is
-    ∙ ap (λ (es : List NodeId). terms_of m.targets.now a.env [] (λ ts. terms_of es a.env [] (λ us. join a.place (s.Assign ts us)))) (sym c.as_slice.ensures)
-    ∙ ap (λ (l : List NodeId). terms_of l a.env [] (λ ts. terms_of values.now a.env [] (λ us. join a.place (s.Assign ts us)))) (sym c.as_slice-2.ensures)
+    ∙ ap (λ (es : List NodeId). terms_of m.targets a.env [] (λ ts. terms_of es a.env [] (λ us. join a.place (s.Assign ts us)))) (sym c.as_slice.ensures)
+    ∙ ap (λ (l : List NodeId). terms_of l a.env [] (λ ts. terms_of values.now a.env [] (λ us. join a.place (s.Assign ts us)))) (sym c.as_slice-in-Assign.ensures)
     ∙ ap (λ (before : List TermId). terms_of ns a.env before (λ ts. terms_of values.now a.env [] (λ us. join a.place (s.Assign ts us)))) (sym c.new-none.ensures))
     refl (g items left))
 
@@ -51,7 +51,7 @@ returns-in_ok-push-in-Call-clause-means c =
     let items = items_of a.tree.now in
     let w = a.world.now in
     let left = a.budget.now in
-    let call = m.call.now in
+    let call = m.call in
     moved items a.frames.now.items c.push.new.self.items (statement_of items a.statement.now a.node a.place a.env)
     (statement_of items (tree.Call call) a.node a.place a.env) w w w left left (Enter (jobs.Expression call a.env))
     (ap (λ (x : TerraStatement). statement_of items x a.node a.place a.env) m.is) refl
@@ -65,8 +65,8 @@ returns-in_ok-push-in-While-clause-means c =
     let items = items_of a.tree.now in
     let w = a.world.now in
     let left = a.budget.now in
-    let condition = m.condition.now in
-    let b = m.block.now in
+    let condition = m.condition in
+    let b = m.block in
     moved items a.frames.now.items c.push-in-While.new.self.items (statement_of items a.statement.now a.node a.place a.env)
     (statement_of items (tree.While condition b) a.node a.place a.env) w w w left left (Enter (jobs.Expression condition a.env))
     (ap (λ (x : TerraStatement). statement_of items x a.node a.place a.env) m.is) refl
@@ -96,7 +96,7 @@ returns-in_ok-push-in-Escape-clause-means c =
     let items = items_of a.tree.now in
     let w = a.world.now in
     let left = a.budget.now in
-    let b = m.block.now in
+    let b = m.block in
     moved items a.frames.now.items c.push-in-Escape.new.self.items (statement_of items a.statement.now a.node a.place a.env)
     (statement_of items (tree.Escape b) a.node a.place a.env) w w w left left (Stop (questions.Emitted b a.env))
     (ap (λ (x : TerraStatement). statement_of items x a.node a.place a.env) m.is) refl
@@ -111,7 +111,7 @@ returns-in-Do-clause-means c =
     let w = a.world.now in
     carried _ _ c.entered.result c.entered.ensures.means (λ step g.
     moved items a.frames.now.items c.entered.new.frames.items (statement_of items a.statement.now a.node a.place a.env)
-    (statement_of items (tree.Do m.block.now) a.node a.place a.env) w w c.entered.new.world a.budget.now c.entered.new.budget step
+    (statement_of items (tree.Do m.block) a.node a.place a.env) w w c.entered.new.world a.budget.now c.entered.new.budget step
     (ap (λ (x : TerraStatement). statement_of items x a.node a.place a.env) m.is) refl g)
 
 pub returns-in-Repeat-clause-means : goal.returns-in-Repeat-clause-means
@@ -122,7 +122,7 @@ returns-in-Repeat-clause-means c =
     let w = a.world.now in
     carried _ _ c.entered-in-Repeat.result c.entered-in-Repeat.ensures.means (λ step g.
     moved items a.frames.now.items c.entered-in-Repeat.new.frames.items (statement_of items a.statement.now a.node a.place a.env)
-    (statement_of items (tree.Repeat m.block.now m.condition.now) a.node a.place a.env) w w c.entered-in-Repeat.new.world
+    (statement_of items (tree.Repeat m.block m.condition) a.node a.place a.env) w w c.entered-in-Repeat.new.world
     a.budget.now c.entered-in-Repeat.new.budget step
     (ap (λ (x : TerraStatement). statement_of items x a.node a.place a.env) m.is) refl g)
 
@@ -134,11 +134,11 @@ returns-in-If-clause-means c =
     let w = a.world.now in
     let left = a.budget.now in
     let ns = c.as_slice-in-If.result.now in
-    carried _ _ c.if_statement.result c.if_statement.ensures (λ step g.
+    carried _ _ c.if_statement.result c.if_statement.ensures.means (λ step g.
     moved items a.frames.now.items c.if_statement.new.frames.items (statement_of items a.statement.now a.node a.place a.env)
-    (if_plan items ns m.otherwise.now a.place a.env) w w w left left step
+    (if_plan items ns m.otherwise a.place a.env) w w w left left step
     (ap (λ (x : TerraStatement). statement_of items x a.node a.place a.env) m.is
-    ∙ ap (λ (l : List NodeId). if_plan items l m.otherwise.now a.place a.env) (sym c.as_slice-in-If.ensures)) refl (g left))
+    ∙ ap (λ (l : List NodeId). if_plan items l m.otherwise a.place a.env) (sym c.as_slice-in-If.ensures)) refl (g left))
 
 pub returns-in-For-clause-means : goal.returns-in-For-clause-means
 returns-in-For-clause-means c =
@@ -147,9 +147,9 @@ returns-in-For-clause-means c =
     let items = items_of a.tree.now in
     let w = a.world.now in
     let left = a.budget.now in
-    carried _ _ c.for_loop.result c.for_loop.ensures (λ step g.
+    carried _ _ c.for_loop.result c.for_loop.ensures.means (λ step g.
     moved items a.frames.now.items c.for_loop.new.frames.items (statement_of items a.statement.now a.node a.place a.env)
-    (statement_of items (tree.For m.name.now m.first.now m.limit.now m.step.now m.block.now) a.node a.place a.env) w w w left left step
+    (statement_of items (tree.For m.name m.first m.limit m.step m.block) a.node a.place a.env) w w w left left step
     (ap (λ (x : TerraStatement). statement_of items x a.node a.place a.env) m.is) refl (g left))
 
 pub returns-in-Var-clause-means : goal.returns-in-Var-clause-means
@@ -160,15 +160,15 @@ returns-in-Var-clause-means c =
     let w = a.world.now in
     let names = c.as_slice-in-Var.result in
     let values = c.as_slice-in-Var-2.result in
-    let none = c.new-in-Var.result in
+    let none = c.new.result in
     let f : VarFrame = record { rest = names; values = values; place = a.place; env = a.env; wanted = none } in
     carried _ _ c.variables.result c.variables.ensures.means (λ step g.
     moved items a.frames.now.items c.variables.new.frames.items (statement_of items a.statement.now a.node a.place a.env)
     (wanted_from items f names.now none) w w c.variables.new.world a.budget.now c.variables.new.budget step
     (ap (λ (x : TerraStatement). statement_of items x a.node a.place a.env) m.is
-    ∙ ap (λ (ns : List NodeId). var_plan items ns m.values.now a.place a.env) (sym c.as_slice-in-Var.ensures)
+    ∙ ap (λ (ns : List NodeId). var_plan items ns m.values a.place a.env) (sym c.as_slice-in-Var.ensures)
     ∙ ap (λ (es : List NodeId). var_plan items names.now es a.place a.env) (sym c.as_slice-in-Var-2.ensures)
-    ∙ ap (λ (ws : List Wanted). wanted_from items f names.now ws) (sym c.new-in-Var.ensures)) refl g)
+    ∙ ap (λ (ws : List Wanted). wanted_from items f names.now ws) (sym c.new.ensures)) refl g)
 
 pub returns-in-Return-clause-means : goal.returns-in-Return-clause-means
 returns-in-Return-clause-means c =

@@ -33,14 +33,14 @@ returns-in_ok-push-in-Some c =
           moved items a.frames.now.items c.push.new.self.items (plan (typing_at items a.node).type) (plan (Some of)) w w w left left
           (Stop (questions.Eval of f.env)) (ap plan (is ∙ c.in-Some.is)) refl
           (asks_value items a.frames.now.items c.push.new.self.items (of_value.EntryType a.node of f) (questions.Eval of f.env) w left
-          c.in_ok-push.ensures.items);
+          c.in_ok-push-in-Some.ensures.items);
     }
 
 pub returns-in_ok-push-in-None : goal.returns-in_ok-push-in-None
 returns-in_ok-push-in-None c =
     let a = c.args in
     let f = a.frame in
-    let next = c.in_ok-next.next in
+    let next = c.in_ok-next-in-None.next in
     record {
       means = λ items w left is.
           let plan : Option NodeId → SpecPlan = λ o. types.type_if_any items o f.env (λ t. Read (λ u.
@@ -51,7 +51,7 @@ returns-in_ok-push-in-None c =
           (Return end) (ap plan (is ∙ c.in-None.is)) refl
           (moved items a.frames.now.items c.push-in-None.new.self.items (waiting.entries_from items f f.rest.now (f.number + 1))
           (waiting.entries_from items next next.rest.now next.number) w w w left left (Return end)
-          (next_is items f next c.in_ok-next.ensures.rest c.in_ok-next.ensures.of c.in_ok-next.ensures.number c.in_ok-next.ensures.env c.in_ok-next.ensures.anonymous) refl
+          (next_is items f next c.in_ok-next-in-None.ensures.rest c.in_ok-next-in-None.ensures.of c.in_ok-next-in-None.ensures.number c.in_ok-next-in-None.ensures.env c.in_ok-next-in-None.ensures.anonymous) refl
           (bounces items a.frames.now.items c.push-in-None.new.self.items (frames.Next (of_next.Entries next)) end w left
           c.in_ok-push-in-None.ensures.items));
     }

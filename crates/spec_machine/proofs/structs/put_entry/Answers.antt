@@ -19,9 +19,9 @@ returns-clause-means c = λ rest f left later.
     let field = c.in_ok-field.field in
     let name = c.in_ok-written.written in
     let kind = c.in_ok-kind.kind in
-    let w1 = c.text-field.new.world in
-    let w2 = c.text-written.new.world in
-    let w3 = c.text-kind.new.world in
+    let w1 = c.text.new.world in
+    let w2 = c.text-2.new.world in
+    let w3 = c.text-3.new.world in
     let put : TextId → TextId → TextId → SpecPlan = λ x y z.
     Read (λ u. Write (with_heap u (structs.with_entry u.heap a.entries a.number x y z a.of)) rest) in
     c.in_ok-field.ensures.means f (λ x. plans.with_text_of a.bytes.now (λ y. plans.with_text_of (codes "type") (λ z. put x y z))) left later
@@ -34,8 +34,8 @@ returns-clause-means c = λ rest f left later.
 pub returns-clause-kept : goal.returns-clause-kept
 returns-clause-kept c =
     let w = c.args.world.now in
-    let w1 = c.text-field.new.world in
-    let w2 = c.text-written.new.world in
-    let w3 = c.text-kind.new.world in
+    let w1 = c.text.new.world in
+    let w2 = c.text-2.new.world in
+    let w3 = c.text-3.new.world in
     keeps_then w w1 _ c.in_ok-field.ensures.kept (keeps_then w1 w2 _ c.in_ok-written.ensures.kept (keeps_then w2 w3 _ c.in_ok-kind.ensures.kept
     (worlds.heap_kept w3 (the_view c.world.inside) _ c.world.view_is refl c.in_ok-put_fields.ensures.kept)))

@@ -23,7 +23,7 @@ returns-clause-means c = λ left.
     let w = a.world.now in
     let v = c.put_entry.new.world in
     let next = c.in_ok-next.next in
-    let bytes = c.as_bytes.result.now in
+    let bytes = c.as_bytes-bytes.result.now in
     let rest : SpecPlan = waiting.entries_from items f f.rest.now (f.number + 1) in
     let step = c.in_ok-step.step in
     let plan : TableId → List ℕ → SpecPlan = λ t bs. structs.entry t f.number bs a.of rest in
@@ -31,7 +31,7 @@ returns-clause-means c = λ left.
     moved items fs fs2 (plan (tables_of w f.of).entries name) (plan c.struct_tables.result.entries bytes) w w v left left step
     (ap (λ (t : _). plan t.entries name) (sym c.struct_tables.ensures)
     ∙ ap (λ (bs : List ℕ). plan c.struct_tables.result.entries bs)
-    (sym (c.as_bytes.ensures.value ∙ c.name.ensures ∙ ap (λ (n : NodeId). name_at items n) c.typing_at.ensures.name))) refl
+    (sym (c.as_bytes-bytes.ensures.value ∙ c.name.ensures ∙ ap (λ (n : NodeId). name_at items n) c.typing_at.ensures.name))) refl
     (λ later. ap (plug (waiting.spec_rules items) fs) (c.in_ok-put_entry.ensures.means rest (jobs_of items) left later)
     ∙ moved items fs fs2 rest (waiting.entries_from items next next.rest.now next.number) v v v left left step
     (next_is items f next c.in_ok-next.ensures.rest c.in_ok-next.ensures.of c.in_ok-next.ensures.number c.in_ok-next.ensures.env c.in_ok-next.ensures.anonymous) refl

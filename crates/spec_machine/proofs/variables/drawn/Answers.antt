@@ -4,7 +4,8 @@ use Rattle.spec_model.specs.Plans.{SpecPlan}
 use Rattle.spec_model.specs.Statements.{drawn}
 use Rattle.spec_machine.specs.Kept.{keeps_then}
 use Rattle.spec_machine.proofs.Reaching.{Passes, passes_then}
-use Rattle.spec_machine.proofs.Varying.{drawn_turn}
+use Rattle.spec_machine.proofs.Carrying.{carried}
+use Rattle.spec_machine.proofs.Varying.{drawn_turn, drawn_done}
 use Rattle.spec_machine.proofs.variables.drawn.Goals as goal
 
 pub variables-preserved : goal.variables-preserved
@@ -28,3 +29,10 @@ variables-preserved c =
           c.variables-test.true refl));
       kept = keeps_then w l.world u l.invariant.kept c.in_ok-name.ensures.kept;
     }
+
+pub returns-clause-means : goal.returns-clause-means
+returns-clause-means c =
+    let a = c.args in
+    let l = c.variables in
+    carried _ _ c.from_vec.result c.from_vec.ensures (λ names is.
+    drawn_done a.wanted.now l.variable-index a.env l.names.items names a.world.now l.world l.invariant.passes c.variables-test.false is)

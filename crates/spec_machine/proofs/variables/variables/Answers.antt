@@ -21,8 +21,8 @@ returns-in-None-clause-means c =
     (ap (λ (ns : List NodeId). wanted_from items f ns f.wanted) (none_is f.rest.now c.in-None.ensures.cases)) refl
     (g items a.budget.now))
 
-pub returns-in-Some-then-not-pay-clause-means : goal.returns-in-Some-then-not-pay-clause-means
-returns-in-Some-then-not-pay-clause-means c =
+pub returns-then-not-pay-clause-means : goal.returns-then-not-pay-clause-means
+returns-then-not-pay-clause-means c =
     let a = c.args in
     let f = a.frame in
     let items = items_of a.tree.now in
@@ -37,8 +37,8 @@ returns-in-Some-then-not-pay-clause-means c =
     (ap (λ (ns : List NodeId). wanted_from items f ns f.wanted) c.in-Some.ensures.cases.0) refl
     (unpaid_step items fs 1 (variable_plan items n g) w left after c.if-not-pay.ensures.short c.if-not-pay.ensures.refused)
 
-pub returns-in-Some-clause-means : goal.returns-in-Some-clause-means
-returns-in-Some-clause-means c =
+pub returns-else-not-pay-clause-means : goal.returns-else-not-pay-clause-means
+returns-else-not-pay-clause-means c =
     let a = c.args in
     let f = a.frame in
     let items = items_of a.tree.now in

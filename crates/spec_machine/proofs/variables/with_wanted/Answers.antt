@@ -9,8 +9,8 @@ use Rattle.spec_machine.specs.Variables.{wanted_at}
 use Rattle.spec_machine.proofs.Varying.{wanted_is}
 use Rattle.spec_machine.proofs.variables.with_wanted.Goals as goal
 
-pub returns-in_ok-wanted-clause-wanted : goal.returns-in_ok-wanted-clause-wanted
-returns-in_ok-wanted-clause-wanted c =
+pub returns-clause-wanted : goal.returns-clause-wanted
+returns-clause-wanted c =
     let a = c.args in
     let items = items_of a.tree.now in
     let at : c.place-at.result ≡ place_at items (typing_at items a.node).name =
