@@ -14,8 +14,8 @@ use Rattle.spec_machine.proofs.Doing.{moved, chosen}
 use Rattle.lua_value.specs.declared.kind.Kind.TheVariants.{TerraType}
 use Rattle.spec_machine.proofs.paths.struct_key.Goals as goal
 
-pub returns-then-is_struct-clause-means : goal.returns-then-is_struct-clause-means
-returns-then-is_struct-clause-means c =
+pub returns-in_ok-step-clause-means : goal.returns-in_ok-step-clause-means
+returns-in_ok-step-clause-means c =
     let a = c.args in
     let f = a.frame.now in
     let items = items_of a.tree.now in
@@ -31,8 +31,8 @@ returns-then-is_struct-clause-means c =
     a.budget.now c.at_target.new.budget c.in_ok-step.step (ap (λ (t : _). there t.methods) (sym c.struct_tables.ensures)) refl
     c.in_ok-step.ensures.means)
 
-pub returns-else-is_struct-clause-means : goal.returns-else-is_struct-clause-means
-returns-else-is_struct-clause-means c =
+pub returns-in_ok-step-2-clause-means : goal.returns-in_ok-step-2-clause-means
+returns-in_ok-step-2-clause-means c =
     let a = c.args in
     let f = a.frame.now in
     let items = items_of a.tree.now in
