@@ -179,15 +179,15 @@ last_method ns None e = refl
 last_method ns (Some m) e = absurd (cc e)
 
 pub not_last : (ns : List NodeId) (method : Option NodeId) → is_last ns method ≡ false → ns ≡ [] → method ≡ None → ⊥
-not_last ns None e none no = omega (arith, ap length none, some_more ns e)
-not_last ns (Some m) e none no = cc no
+not_last ns None e none nowhere = omega (arith, ap length none, some_more ns e)
+not_last ns (Some m) e none nowhere = cc nowhere
 
 pub targeted_only : (items : Items) (n : NodeId) (ns : List NodeId) (method : Option NodeId) (env : EnvId) (go : Go)
     → ns ≡ [] → method ≡ None
     → targeted items ((n ∷ ns) ++ if_any method) (is_any method) env go ≡ only_name (binder items n) (name_at items n) env go
-targeted_only items n ns method env go none no =
+targeted_only items n ns method env go none nowhere =
     ap (λ (l : List NodeId). targeted items ((n ∷ l) ++ if_any method) (is_any method) env go) none
-    ∙ ap (λ (m : Option NodeId). targeted items (n ∷ if_any m) (is_any m) env go) no
+    ∙ ap (λ (m : Option NodeId). targeted items (n ∷ if_any m) (is_any m) env go) nowhere
 
 -- more names stand behind the first one
 pub targeted_more : (items : Items) (n : NodeId) (ns : List NodeId) (method : Option NodeId) (env : EnvId) (go : Go)
@@ -203,9 +203,9 @@ pub steps_last : (items : Items) (n : NodeId) (ns : List NodeId) (method : Optio
     → ns ≡ [] → method ≡ None
     → steps items (is_any method) ((n ∷ ns) ++ if_any method) object go
     ≡ with_text_of (name_at items n) (λ name. key name object (place_at items n) go)
-steps_last items n ns method object go none no =
+steps_last items n ns method object go none nowhere =
     ap (λ (l : List NodeId). steps items (is_any method) ((n ∷ l) ++ if_any method) object go) none
-    ∙ ap (λ (m : Option NodeId). steps items (is_any m) (n ∷ if_any m) object go) no
+    ∙ ap (λ (m : Option NodeId). steps items (is_any m) (n ∷ if_any m) object go) nowhere
 
 pub steps_more : (items : Items) (n : NodeId) (ns : List NodeId) (method : Option NodeId) (object : Value) (go : Go)
     → (ns ≡ [] → method ≡ None → ⊥)

@@ -14,8 +14,8 @@ use Rattle.spec_machine.proofs.Doing.{moved, chosen}
 use Rattle.spec_machine.proofs.Made.{named}
 use Rattle.spec_machine.proofs.expressions.construct.Goals as goal
 
-pub returns-in_ok-step-clause-means : goal.returns-in_ok-step-clause-means
-returns-in_ok-step-clause-means c = λ left.
+pub returns-then-are_named-clause-means : goal.returns-then-are_named-clause-means
+returns-then-are_named-clause-means c = λ left.
     let a = c.args in
     let items = items_of a.tree.now in
     let fs = a.frames.now.items in
@@ -31,8 +31,8 @@ returns-in_ok-step-clause-means c = λ left.
     (ap (λ (xs : List TextId). plan xs []) (sym c.new-names.ensures) ∙ ap (plan c.new-names.result) (sym c.new-terms.ensures)) refl
     (c.in_ok-step.ensures.means left))
 
-pub returns-in_ok-step-2-clause-means : goal.returns-in_ok-step-2-clause-means
-returns-in_ok-step-2-clause-means c = λ left.
+pub returns-clause-means : goal.returns-clause-means
+returns-clause-means c = λ left.
     let a = c.args in
     let items = items_of a.tree.now in
     let fs = a.frames.now.items in

@@ -31,8 +31,8 @@ pub returns-in_ok-step-in-Made-clause-kept : goal.returns-in_ok-step-in-Made-cla
 returns-in_ok-step-in-Made-clause-kept c =
     keeps_then c.args.world.now c.type_of_term.new.world c.construct_reached-in-Made.new.world c.in_ok-reached-in-Made.ensures.kept c.in_ok-step-in-Made.ensures.kept
 
-pub returns : goal.returns
-returns c =
+pub returns-in_default : goal.returns-in_default
+returns-in_default c =
     let a = c.args in
     let items = items_of a.tree.now in
     let fs = a.frames.now.items in

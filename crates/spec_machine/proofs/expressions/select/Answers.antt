@@ -11,8 +11,8 @@ use Rattle.spec_machine.proofs.expressions.select.Goals as goal
 pub returns-in_ok-step-in-Made-clause-means : goal.returns-in_ok-step-in-Made-clause-means
 returns-in_ok-step-in-Made-clause-means c = rw c.in-Made.is (c.in_ok-step-in-Made.ensures.means c.args.budget.now)
 
-pub returns : goal.returns
-returns c =
+pub returns-in_default : goal.returns-in_default
+returns-in_default c =
     let a = c.args in
     let items = items_of a.tree.now in
     let fs = a.frames.now.items in

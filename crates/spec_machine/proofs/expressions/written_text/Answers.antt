@@ -23,8 +23,8 @@ returns-in-Value-clause-means c = λ items fs.
     (comes {X = TermId} items fs fs (plan bytes) go c.in_ok-reached.reached c.in-Value.term w v v a.budget.now left2 left2 (Return (ends.Made c.in-Value.term))
     c.in-Value.is c.in_ok-reached.ensures.means (returned items fs (ends.Made c.in-Value.term) v left2))
 
-pub returns-in-Left-clause-means : goal.returns-in-Left-clause-means
-returns-in-Left-clause-means c = λ items fs.
+pub returns-clause-means : goal.returns-clause-means
+returns-clause-means c = λ items fs.
     let a = c.args in
     let w = a.world.now in
     let v = c.literal.new.world in

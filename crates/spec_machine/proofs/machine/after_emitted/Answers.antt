@@ -19,8 +19,8 @@ returns-in_ok-step-in-Answered-clause-means c = λ items fs.
     a.budget.now c.splice_all.new.budget c.in_ok-step-in-Answered.step
     (ap (λ (r : End). waiting.on_answer r go) c.in-Answered.is ∙ ap go (sym c.as_slice.ensures)) refl (c.in_ok-step-in-Answered.ensures.means items fs)
 
-pub returns : goal.returns
-returns c =
+pub returns-in_default : goal.returns-in_default
+returns-in_default c =
     let a = c.args in
     record {
       means = λ items fs.

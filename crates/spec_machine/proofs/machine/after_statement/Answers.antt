@@ -25,8 +25,8 @@ returns-in_ok-step-in-Joined-clause-means c =
     ∙ ap go (sym (c.in_ok-append-in-Joined.ensures ∙ ap (λ (us : List TermId). f.terms ++ us) c.as_slice.ensures))) refl
     c.in_ok-step-in-Joined.ensures.means
 
-pub returns : goal.returns
-returns c =
+pub returns-in_default : goal.returns-in_default
+returns-in_default c =
     let a = c.args in
     let f = a.frame in
     let items = items_of a.tree.now in

@@ -9,8 +9,8 @@ use Rattle.spec_machine.proofs.Doing.{returns as returned, moved}
 use Rattle.spec_machine.proofs.Placing as placing
 use Rattle.spec_machine.proofs.machine.after_term.Goals as goal
 
-pub returns : goal.returns
-returns c =
+pub returns-in_default : goal.returns-in_default
+returns-in_default c =
     let a = c.args in
     let items = items_of a.tree.now in
     let fs = a.frames.now.items in

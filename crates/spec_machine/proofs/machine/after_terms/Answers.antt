@@ -16,8 +16,8 @@ returns-in_ok-step-in-Found-clause-means c = λ items. rw c.in-Found.is (c.in_ok
 pub returns-in_ok-step-in-Made-clause-means : goal.returns-in_ok-step-in-Made-clause-means
 returns-in_ok-step-in-Made-clause-means c = λ items. rw c.in-Made.is (c.in_ok-step-in-Made.ensures.means items c.args.budget.now)
 
-pub returns : goal.returns
-returns c =
+pub returns-in_default : goal.returns-in_default
+returns-in_default c =
     let a = c.args in
     let fs = a.frames.now.items in
     let d = c.in_default in

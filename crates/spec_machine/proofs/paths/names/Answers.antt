@@ -44,8 +44,8 @@ returns-in_ok-step-in-Some-clause-means c =
     (ap (λ (ns : List NodeId). plan ns f.method) (none_is f.rest.now c.in-None.ensures.cases) ∙ ap (λ (m : Option NodeId). plan [] m) c.in-Some.is) refl
     c.in_ok-step-in-Some.ensures.means
 
-pub returns-in_ok-step-then-is_last-clause-means : goal.returns-in_ok-step-then-is_last-clause-means
-returns-in_ok-step-then-is_last-clause-means c =
+pub returns-then-is_last-clause-means : goal.returns-then-is_last-clause-means
+returns-then-is_last-clause-means c =
     let a = c.args in
     let f = a.frame in
     let items = items_of a.tree.now in
@@ -63,8 +63,8 @@ returns-in_ok-step-then-is_last-clause-means c =
     ∙ placing.steps_last items n rest f.method a.object go (placing.last_names rest f.method last) (placing.last_method rest f.method last)) refl
     c.in_ok-step-then-is_last.ensures.means
 
-pub returns-in_ok-step-else-is_last-clause-means : goal.returns-in_ok-step-else-is_last-clause-means
-returns-in_ok-step-else-is_last-clause-means c =
+pub returns-else-is_last-clause-means : goal.returns-else-is_last-clause-means
+returns-else-is_last-clause-means c =
     let a = c.args in
     let f = a.frame in
     let items = items_of a.tree.now in
