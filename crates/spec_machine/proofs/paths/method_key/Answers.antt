@@ -9,6 +9,7 @@ use Rattle.exotype.specs.declared.fault.Fault.TheVariants as faults
 use Rattle.spec_model.specs.Plans as plans
 use Rattle.spec_model.specs.Plans.{SpecPlan}
 use Rattle.spec_model.specs.Definitions as definitions
+use Rattle.spec_machine.specs.Kept.{keeps_then}
 use Rattle.spec_machine.specs.Frames as waiting
 use Rattle.spec_machine.proofs.Doing.{moved, gets}
 use Rattle.spec_machine.proofs.Placing as placing
@@ -62,3 +63,11 @@ returns-in_ok-step-in_default-clause-means c =
     (placing.no_struct text a.object at go c.in_default.not-TerraType
     ∙ ap (λ (p : Place). refused p (kind_of a.object)) (sym c.place.ensures) ∙ ap (refused c.place.result) (sym c.kind.ensures)) refl
     (c.in_ok-step-in_default.ensures.means items fs)))
+
+pub returns-in_ok-step-in-TerraType-clause-kept : goal.returns-in_ok-step-in-TerraType-clause-kept
+returns-in_ok-step-in-TerraType-clause-kept c =
+    keeps_then c.args.world.now c.text.new.world c.struct_key.new.world c.in_ok-text.ensures.kept c.in_ok-step-in-TerraType.ensures.kept
+
+pub returns-in_ok-step-in_default-clause-kept : goal.returns-in_ok-step-in_default-clause-kept
+returns-in_ok-step-in_default-clause-kept c =
+    keeps_then c.args.world.now c.text.new.world c.raise.new.world c.in_ok-text.ensures.kept c.in_ok-step-in_default.ensures.kept
