@@ -11,6 +11,7 @@ use Rattle.spec_model.specs.declared.target.Target.TheVariants as targets
 use Rattle.spec_model.specs.Plans as plans
 use Rattle.spec_model.specs.Plans.{SpecPlan}
 use Rattle.spec_model.specs.Definitions as definitions
+use Rattle.spec_machine.specs.Kept.{keeps_then}
 use Rattle.spec_machine.specs.Frames as waiting
 use Rattle.spec_machine.proofs.Doing.{moved, gets}
 use Rattle.spec_machine.proofs.Placing as placing
@@ -57,3 +58,7 @@ returns-in_ok-step-in-None-clause-means c =
     ∙ ap (λ (bs : List ℕ). plans.with_text_of bs key) (sym (c.as_bytes.ensures.value ∙ c.name.ensures))) refl
     (gets {X = TextId} items fs fs2 (λ k. plans.with_text_of bytes k) key c.in_ok-text-in-None.text w c.text.new.world w2 a.budget.now left2
     c.in_ok-step-in-None.step c.in_ok-text-in-None.ensures.means c.in_ok-step-in-None.ensures.means)
+
+pub returns-in_ok-step-in-None-clause-kept : goal.returns-in_ok-step-in-None-clause-kept
+returns-in_ok-step-in-None-clause-kept c =
+    keeps_then c.args.world.now c.text.new.world c.at_target-in-None.new.world c.in_ok-text-in-None.ensures.kept c.in_ok-step-in-None.ensures.kept
