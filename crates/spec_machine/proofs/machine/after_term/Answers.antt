@@ -23,3 +23,9 @@ returns-in_default c =
           (returned items fs a.end a.world.now a.budget.now);
       kept = keeps_itself a.world.now;
     }
+
+pub returns-in_ok-step-in-Made-clause-means : goal.returns-in_ok-step-in-Made-clause-means
+returns-in_ok-step-in-Made-clause-means c = rw c.in-Made.is c.in_ok-step-in-Made.ensures.means
+
+pub returns-in_ok-step-in-Found-clause-means : goal.returns-in_ok-step-in-Found-clause-means
+returns-in_ok-step-in-Found-clause-means c = rw c.in-Found.is c.in_ok-step-in-Found.ensures.means

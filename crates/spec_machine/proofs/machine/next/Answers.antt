@@ -12,3 +12,9 @@ returns-in_ok-step-in-Entries c =
 
 pub returns-in_ok-step-in-Initials-clause-means : goal.returns-in_ok-step-in-Initials-clause-means
 returns-in_ok-step-in-Initials-clause-means c = rw c.in-Initials.is (c.in_ok-step-in-Initials.ensures.means c.args.budget.now)
+
+pub returns-in_ok-step-in-Var-clause-means : goal.returns-in_ok-step-in-Var-clause-means
+returns-in_ok-step-in-Var-clause-means c = rw c.in-Var.is c.in_ok-step-in-Var.ensures.means
+
+pub returns-in_ok-step-in-Parameters-clause-means : goal.returns-in_ok-step-in-Parameters-clause-means
+returns-in_ok-step-in-Parameters-clause-means c = rw c.in-Parameters.is c.in_ok-step-in-Parameters.ensures.means
