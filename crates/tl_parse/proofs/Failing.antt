@@ -42,3 +42,7 @@ fails_unexpected {A} p e r = subst (λ (x : SyntaxError). Fails {A = A} p (unexp
     go : (ts : List Token) → unexpected {A = A} ts ≡ Stop (blame_of ts) ts
     go [] = refl
     go (t ∷ ts) = refl
+
+pub ruleset failing = (fails_bind, fails_after)
+
+pub ruleset failing_same = (fails_bind, fails_after, fails_same)

@@ -279,3 +279,5 @@ finish_is p r h = go p.current.is_end (is_bad p.current.symbol) r.1 h
     go true b r h = r refl
     go false true r h = absurd cc
     go false false r h = absurd cc
+
+pub ruleset suffixes = (barred_suffix, free_suffix)

@@ -16,6 +16,7 @@ use Rattle.tl_parse.specs.declared.error.SyntaxError.{SyntaxError}
 use Rattle.tl_parse.specs.declared.error.SyntaxError.TheVariants as errors
 use Rattle.tl_parse.specs.declared.parser.Parser.{Parser}
 use Rattle.tl_parse.specs.declared.parser.Next as code
+use Rattle.tl_parse.proofs.Taking.{next_of, refused_there}
 
 -- ---- numerals where the grammar takes a number
 
@@ -59,3 +60,5 @@ too_large p h large = go p.current.is_end (is_bad p.current.symbol) h
 
 pub barred_number : (p : Parser) (e : SyntaxError) → begins (is symbols.Numeral) (tokens_left p) ≡ true → nat_lt largest_lua (value_of p.current.text.now) ≡ false → Barred false 0 Plain p e → Fails p (used (is symbols.Numeral) false 0 LuaNumber (tokens_left p)) e
 barred_number p e h small b = subst (λ (o : Outcome Token). Fails p o e) (sym (within p h small)) (b.fails (is symbols.Numeral) h)
+
+pub ruleset numbers = (taken_number, too_large, barred_number, refused_there, next_of)

@@ -10,6 +10,7 @@ use Rattle.tl_parse.specs.Using.{part_at}
 use Rattle.tl_parse.specs.Expressions.{arguments_at, expressions_at, more_expressions_at, unary_at, concatenation_at, chained_at, binary_at, inner_at, more_fields_at, fields_at}
 use Rattle.tl_parse.specs.declared.expressions.Precedence.TheVariants as precedences
 use Rattle.tl_parse.proofs.Agreeing.{unary_agrees, product_agrees, concatenation_agrees, comparison_agrees, conjunction_agrees, chained_agrees, field_agrees}
+use Rattle.tl_parse.proofs.Failing.{fails_after, fails_bind, fails_same}
 
 pub expression_part : (levels : ℕ) (m : Mode) (ts : List Token) → part_at levels (Expression m) ts ≡ (chained_at levels m ts >>= λ a rest. Took a.tree rest)
 unfolding part_at
@@ -51,3 +52,5 @@ inner_conjunction levels m left ts = comparison_agrees levels m left ts
 pub inner_disjunction : (levels : ℕ) (m : Mode) (left : ℕ) (ts : List Token) → inner_at levels precedences.Disjunction m left ts ≡ binary_at levels precedences.Conjunction m left ts
 unfolding inner_at
 inner_disjunction levels m left ts = conjunction_agrees levels m left ts
+
+pub ruleset inner = (fails_bind, fails_after, inner_product, inner_sum, inner_comparison, inner_conjunction, inner_disjunction, fails_same)

@@ -28,6 +28,8 @@ use Rattle.tl_parse.proofs.Agreeing.{name_agrees}
 use Rattle.tl_parse.proofs.Turns.{list_goes, list_ends, list_shorter}
 use Rattle.tl_parse.proofs.Paths.{path_turn}
 use Rattle.tl_parse.proofs.AgreeingStatements.{token_with, arm_turn, settle_goes, settle_ends, settle_refuses, variable_agrees, block_turn, parameter_turn, body_agrees}
+use Rattle.tl_parse.proofs.Failing.{fails_after, fails_bind, fails_from, fails_same, fails_unexpected}
+use Rattle.tl_parse.proofs.Taking.{next_of}
 
 -- ---- the next token
 
@@ -224,3 +226,17 @@ parameter_shorter x ts rest e =
 
 pub body_part : (levels : ℕ) (ts : List Token) → part_at levels FunctionBody ts ≡ body_at levels ts
 body_part levels ts = body_agrees levels ts
+
+pub ruleset names = (fails_bind, fails_after, fails_from, names_go, names_end, name_shorter)
+
+pub ruleset paths = (fails_bind, fails_after, fails_from, path_goes, path_ends, path_shorter)
+
+pub ruleset variables = (fails_bind, fails_after, fails_from, fails_unexpected, settles_on, settles, unsettled)
+
+pub ruleset targets = (fails_bind, fails_after, fails_from, targets_go, targets_end, target_shorter)
+
+pub ruleset arms = (fails_bind, fails_after, fails_from, arms_go, arms_end, arm_shorter)
+
+pub ruleset blocks = (fails_bind, fails_after, next_of, block_part, block_goes, block_ends, statement_shorter, fails_same, fails_from)
+
+pub ruleset parameters = (fails_bind, fails_after, fails_from, parameters_go, parameters_end, parameters_stop, parameter_shorter)

@@ -21,6 +21,7 @@ use Rattle.tl_parse.specs.declared.error.SyntaxError.{SyntaxError}
 use Rattle.tl_parse.specs.declared.error.SyntaxError.TheVariants as errors
 use Rattle.tl_parse.specs.declared.parser.Parser.{Parser}
 use Rattle.tl_parse.specs.declared.parser.Next as code
+use Rattle.tl_parse.proofs.Failing.{fails_after, fails_bind}
 
 used_took : (class : Token → Bool) (opens : Bool) (levels : ℕ) (extra : Extra) (t : Token) (ts : List Token) → is_of class t ≡ true → barred opens levels extra t ≡ None → used class opens levels extra (t ∷ ts) ≡ Took t ts
 unfolding used
@@ -166,3 +167,7 @@ calls_left opens levels left old new t h u = some_left-calls opens levels left (
 pub less : (n : ℕ) → down n ≡ n - 1
 less zero = refl
 less (suc n) = omega arith
+
+pub ruleset shorter = (fails_bind, fails_after, less)
+
+pub ruleset taking = (taken, barred_there, refused_there, next_of)

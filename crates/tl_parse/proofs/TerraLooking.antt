@@ -41,3 +41,5 @@ barred_terra_suffix p h = (suffix_by (begins (is symbols.OpenBracket) (tokens_le
 
 pub free_terra_suffix : (p : Parser) → (begins (is symbols.OpenBracket) (tokens_left p) && p.current.first_on_line) ≡ false → begins (among terra_suffix_symbols) (tokens_left p) ≡ begins (λ t. is_terra_suffix t) (tokens_left p)
 free_terra_suffix p h = (suffix_by (begins (is symbols.OpenBracket) (tokens_left p) && p.current.first_on_line) (begins (among terra_suffix_symbols) (tokens_left p)) (begins (λ t. is_terra_suffix t) (tokens_left p)) (begins_terra_suffix p)).1 h
+
+pub ruleset suffixes = (barred_terra_suffix, free_terra_suffix)

@@ -17,6 +17,7 @@ use Rattle.tl_parse.specs.declared.error.SyntaxError.{SyntaxError}
 use Rattle.tl_parse.specs.declared.error.SyntaxError.TheVariants as errors
 use Rattle.tl_parse.specs.declared.parser.Parser.{Parser}
 use Rattle.tl_parse.specs.declared.parser.Next as code
+use Rattle.tl_parse.proofs.Taking.{next_of, refused_there}
 
 -- a number that has 64 bits at most
 pub fits_above : (value n : ℕ) → Some value ≡ fitting n → value ≡ n
@@ -76,3 +77,7 @@ too_large_for_terra p h large = go p.current.is_end (is_bad p.current.symbol) h
 
 pub barred_terra_number : (p : Parser) (e : SyntaxError) → begins (among terra_numerals) (tokens_left p) ≡ true → nat_lt (largest_terra p.current.symbol) (value_of p.current.text.now) ≡ false → Barred false 0 Plain p e → Fails p (used (among terra_numerals) false 0 TerraNumber (tokens_left p)) e
 barred_terra_number p e h small b = subst (λ (o : Outcome Token). Fails p o e) (sym (within_terra p h small)) (b.fails (among terra_numerals) h)
+
+pub ruleset above = (fits_above, exceeds)
+
+pub ruleset numbers = (taken_terra_number, too_large_for_terra, barred_terra_number, refused_there, next_of)

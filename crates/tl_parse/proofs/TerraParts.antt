@@ -11,6 +11,7 @@ use Rattle.tl_parse.specs.Entries.{more_entries_at}
 use Rattle.tl_parse.specs.declared.terra_expressions.TerraPrecedence.{TerraPrecedence}
 use Rattle.tl_parse.specs.declared.terra_expressions.TerraPrecedence.TheVariants as precedences
 use Rattle.tl_parse.proofs.TerraAgreeing.{terra_exponent_agrees, terra_unary_agrees, terra_product_agrees, terra_sum_agrees, terra_shift_agrees, terra_comparison_agrees, terra_conjunction_agrees, terra_disjunction_agrees, initialisers_agree}
+use Rattle.tl_parse.proofs.Failing.{fails_after, fails_bind, fails_same}
 
 pub terra_expression_part : (levels : ℕ) (ts : List Token) → part_at levels TerraExpression ts ≡ (terra_binary_at levels precedences.Disjunction chain ts >>= λ a rest. Took a.tree rest)
 unfolding part_at
@@ -64,3 +65,5 @@ pub first_others : (p : TerraPrecedence) (levels left : ℕ) (ts : List Token) �
 unfolding terra_first_at
 first_others precedences.Power levels left ts h = absurd (h refl)
 first_others _ levels left ts h = refl
+
+pub ruleset inner = (fails_bind, fails_after, inner_power, inner_product, inner_sum, inner_shift, inner_comparison, inner_conjunction, inner_disjunction, fails_same)

@@ -22,6 +22,9 @@ use Rattle.tl_parse.proofs.Following.{sign_then}
 use Rattle.tl_parse.proofs.Turns.{list_goes, list_ends, list_shorter, used_here, used_use}
 use Rattle.tl_parse.proofs.TerraTurns.{terra_expressions_go, terra_expressions_end, terra_expression_shorter}
 use Rattle.tl_parse.proofs.TerraStatementAgreeing.{sign_give, terra_arm_agrees, terra_variable_agrees, terra_parameter_agrees, statement_opens, statement_by, ends_is}
+use Rattle.tl_parse.proofs.Failing.{fails_after, fails_bind, fails_from, fails_same}
+use Rattle.tl_parse.proofs.Taking.{next_of}
+use Rattle.tl_parse.proofs.TerraStatementParts.{terra_block_part}
 
 -- ---- arms
 
@@ -195,3 +198,15 @@ terra_block_ends levels tree ended ts h = ends levels (λ a t. terra_goes_on a.e
 pub terra_statement_shorter : (levels : ℕ) (ended : Bool) (x : Sequence) (ts rest : List Token) → begins (λ t. terra_goes_on ended t) ts ≡ true → next_terra_statement_at levels ts ≡ Took x rest → length rest < length ts
 terra_statement_shorter levels ended x ts rest h e =
     shorter_turn levels (λ t. terra_goes_on ended t) (λ t. Plain) (λ t. statement_opens t.symbol) (sample symbols.Break) (λ x. step_of x.0 x.1 Nothing) (next_terra_statement_at levels ts) (λ s. sequence (More Nothing s.statements) s.ended) x ts rest (block_turn levels Nothing ended ts h) e
+
+pub ruleset arms = (fails_bind, fails_after, fails_from, terra_arms_go, terra_arms_end, terra_arm_shorter)
+
+pub ruleset variables = (fails_bind, fails_after, fails_from, terra_variables_go, terra_variables_end, terra_variable_shorter)
+
+pub ruleset targets = (fails_bind, fails_after, fails_from, terra_targets_go, terra_targets_end, terra_target_shorter)
+
+pub ruleset going_on = (ended_stays, open_goes_on)
+
+pub ruleset blocks = (fails_bind, fails_after, next_of, terra_block_part, terra_block_goes, terra_block_ends, terra_statement_shorter, fails_same, fails_from)
+
+pub ruleset parameters = (fails_bind, fails_after, fails_from, terra_parameters_go, terra_parameters_end, terra_parameter_shorter)

@@ -25,6 +25,8 @@ use Rattle.tl_parse.proofs.Uses.{never, both, operator_with, opened_at, opens_an
 use Rattle.tl_parse.proofs.Following.{sign_then, open_then, then, either_is}
 use Rattle.tl_parse.proofs.TerraAgreeing.{terra_name_agrees, initialiser_agrees}
 use Rattle.tl_parse.proofs.Turns.{list_goes, list_ends, list_shorter, operators_goes, operators_turn, fields_turn, used_here, used_use, use_behind}
+use Rattle.tl_parse.proofs.Failing.{fails_after, fails_bind, fails_from, fails_same}
+use Rattle.tl_parse.proofs.TerraParts.{entries_part, initialisers_part}
 
 -- ---- lists
 
@@ -239,3 +241,13 @@ terra_suffix_shorter levels left x ts rest h e =
     let a : Chained = operand left Nothing in
     shorter_turn levels (λ t. terra.is_terra_suffix t) (λ t. lua.suffix_extra a t) (λ t. terra.terra_suffix_opens (terra.terra_suffix_of t.symbol)) (sample symbols.Dot) (λ x. terra.terra_suffix (terra.terra_suffix_of x.0.symbol) x.0 x.1 a)
     (terra_suffix_at levels left ts) (λ s. chained (terra_attached s Nothing) (down left) (terra_shape_of s)) x ts rest (suffix_turn levels a ts h) e
+
+pub ruleset entries = (fails_bind, fails_after, entries_part, fails_same, fails_from, entries_go, entries_end, entry_shorter)
+
+pub ruleset suffixes = (fails_bind, fails_after, fails_from, terra_suffixes_go, terra_suffixes_end, terra_suffix_shorter)
+
+pub ruleset operations = (fails_bind, fails_after, fails_from, terra_operations_go, terra_operations_end, terra_operation_shorter)
+
+pub ruleset expressions = (fails_bind, fails_after, fails_from, terra_expressions_go, terra_expressions_end, terra_expression_shorter)
+
+pub ruleset initialisers = (fails_bind, fails_after, initialisers_part, fails_same, fails_from, initialisers_go, initialisers_end, initialiser_shorter)

@@ -21,6 +21,8 @@ use Rattle.tl_tree.specs.Tree as trees
 use Rattle.tl_parse.specs.declared.expressions.Precedence.{Precedence}
 use Rattle.tl_parse.proofs.Uses.{never, both, operator_with, bind_same, opened_at, opens_any, token_is, plain_is, sign_is, repeats, ends, shorter_turn}
 use Rattle.tl_parse.proofs.Agreeing.{name_agrees, method_arguments_agree, field_agrees}
+use Rattle.tl_parse.proofs.Failing.{fails_after, fails_bind, fails_from, fails_same, fails_unexpected}
+use Rattle.tl_parse.proofs.Parts.{fields_part}
 
 -- ---- lists
 
@@ -244,3 +246,11 @@ suffix_shorter levels m left x ts rest h e =
     let a : Chained = operand left Nothing in
     shorter_turn levels (λ t. lua.is_suffix m t) (λ t. lua.suffix_extra a t) (λ t. lua.suffix_opens m (lua.suffix_of t.symbol)) (sample symbols.Dot) (λ x. lua.suffix m (lua.suffix_of x.0.symbol) x.0 x.1 a)
     (suffix_at levels m left ts) (λ s. chained (attached s Nothing) (down left) (shape_of s)) x ts rest (suffix_turn levels m a ts h) e
+
+pub ruleset expressions = (fails_bind, fails_after, fails_from, expressions_go, expressions_end, expression_shorter)
+
+pub ruleset suffixes = (fails_bind, fails_after, fails_from, fails_unexpected, suffixes_go, suffixes_end, suffix_shorter)
+
+pub ruleset operations = (fails_bind, fails_after, fails_from, operations_go, operations_end, operation_shorter)
+
+pub ruleset fields = (fails_bind, fails_after, fields_part, fails_same, fails_from, fields_go, fields_end, field_shorter)

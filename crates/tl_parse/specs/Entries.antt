@@ -13,17 +13,20 @@ use Rattle.tl_parse.specs.Expressions.{name_at, separators}
 
 -- a separator if one follows
 unfoldable pub separator_at : List Token → Outcome Tree
-separator_at ts = if begins (among separators) ts then (sign_among_at separators ts >>= λ y rest. Took Nothing rest) else Took Nothing ts
+separator_at ts = if begins (among separators) ts then (sign_among_at separators ts >>= λ y rest. Took Nothing rest)
+    else Took Nothing ts
 
 unfoldable pub entry_at : ℕ → Mode → List Token → Outcome Tree
 entry_at levels m ts =
-    name_at ts >>= λ n a. sign_at symbols.Colon a >>= λ y b. part_at levels (Expression m) b >>= λ e c. separator_at c >>= λ z rest. Took (Entry n e) rest
+    name_at ts >>= λ n a. sign_at symbols.Colon a >>= λ y b. part_at levels (Expression m) b >>= λ e c. separator_at c
+    >>= λ z rest. Took (Entry n e) rest
 
 -- entries behind a list of them
 abbrev pub entries_behind : Mode → Tree → Grammar Tree
 entries_behind m before =
     many (λ a t. is symbols.Name t) (λ a t. Plain) (λ a t. None)
-    (λ t x a. bind (sign symbols.Colon) λ y. bind (lua.expression m) λ e. bind separator λ z. give (More a (Entry (Name t.place t.offset t.text) e)))
+    (λ t x a. bind (sign symbols.Colon) λ y. bind (lua.expression m) λ e. bind separator λ z.
+    give (More a (Entry (Name t.place t.offset t.text) e)))
     before
 
 unfoldable pub more_entries_at : ℕ → Mode → Tree → List Token → Outcome Tree

@@ -9,12 +9,16 @@ use Rattle.tl_tree.specs.declared.mode.Mode.TheVariants as modes
 use Rattle.tl_tree.specs.declared.mode.Shape.{Shape}
 use Rattle.tl_tree.specs.declared.mode.Shape.TheVariants as shapes
 use Rattle.tl_tree.specs.Tokens.{Token, among, is}
-use Rattle.tl_tree.specs.Tree.{Tree, Nothing, More, Name, Numeral, Literal, Nil, False, True, Varargs, Function, Table, Unary, Paren, Index, Select, Call, Method, NamedField, KeyedField, Part, Expression, Operand, Concatenation, Arguments, Fields, FunctionBody}
+use Rattle.tl_tree.specs.Tree.{Tree, Nothing, More, Name, Numeral, Literal, Nil, False, True, Varargs, Function}
+use Rattle.tl_tree.specs.Tree.{Table, Unary, Paren, Index, Select, Call, Method, NamedField, KeyedField, Part}
+use Rattle.tl_tree.specs.Tree.{Expression, Operand, Concatenation, Arguments, Fields, FunctionBody}
 use Rattle.tl_tree.specs.Grammar.{Grammar, Outcome, Took, ◌>>=◌, begins, down, unexpected}
-use Rattle.tl_tree.specs.Forms.{listed_behind, separated_behind, Chained, chained, chain, operand, in_chain, unary_of, comparisons, additive, multiplicative, operators}
+use Rattle.tl_tree.specs.Forms.{listed_behind, separated_behind, Chained, chained, chain, operand, in_chain, unary_of}
+use Rattle.tl_tree.specs.Forms.{comparisons, additive, multiplicative, operators}
 use Rattle.tl_tree.specs.LuaExpressions as lua
 use Rattle.tl_tree.specs.LuaExpressions.{is_varargs}
-use Rattle.tl_parse.specs.Using.{reading, part_at, sign_at, open_at, prefix_at, operator_at, raise_at, call_at, number_at, sign_among_at}
+use Rattle.tl_parse.specs.Using.{reading, part_at, sign_at, open_at, prefix_at, operator_at, raise_at, call_at}
+use Rattle.tl_parse.specs.Using.{number_at, sign_among_at}
 use Rattle.tl_parse.specs.TerraCode.{terra_code_at}
 use Rattle.tl_parse.specs.declared.expressions.Precedence.{Precedence}
 use Rattle.tl_parse.specs.declared.expressions.Precedence.TheVariants as precedences
@@ -31,7 +35,8 @@ unfoldable pub next_expression_at : ℕ → Mode → List Token → Outcome Tree
 next_expression_at levels m ts = sign_at symbols.Comma ts >>= λ y mid. part_at levels (Expression m) mid
 
 unfoldable pub expressions_at : ℕ → Mode → List Token → Outcome Tree
-expressions_at levels m ts = part_at levels (Expression m) ts >>= λ e mid. more_expressions_at levels m (More Nothing e) mid
+expressions_at levels m ts = part_at levels (Expression m) ts >>= λ e mid.
+    more_expressions_at levels m (More Nothing e) mid
 
 unfoldable pub arguments_at : ℕ → Mode → List Token → Outcome Tree
 arguments_at levels m ts = if begins (is symbols.CloseParen) ts then Took Nothing ts else expressions_at levels m ts
@@ -40,12 +45,14 @@ arguments_at levels m ts = if begins (is symbols.CloseParen) ts then Took Nothin
 
 unfoldable pub paren_at : ℕ → Mode → List Token → Outcome Chained
 paren_at levels m ts =
-    open_at symbols.OpenParen levels ts >>= λ t a. part_at (levels - 1) (Expression m) a >>= λ x b. sign_at symbols.CloseParen b >>= λ y rest.
+    open_at symbols.OpenParen levels ts >>= λ t a. part_at (levels - 1) (Expression m) a >>= λ x b.
+    sign_at symbols.CloseParen b >>= λ y rest.
     Took (chained (Paren t.place x) chain shapes.Other) rest
 
 unfoldable pub base_at : ℕ → Mode → List Token → Outcome Chained
 base_at levels m ts =
-    if begins (is symbols.OpenParen) ts then paren_at levels m ts else (name_at ts >>= λ n rest. Took (chained n chain shapes.Name) rest)
+    if begins (is symbols.OpenParen) ts then paren_at levels m ts else (name_at ts
+    >>= λ n rest. Took (chained n chain shapes.Name) rest)
 
 -- a suffix without what is before it: the arguments of a call, a key, a name, a method's name and arguments, each with its place
 pub data Suffixed : Type 0 where
@@ -65,33 +72,42 @@ shape_of _ = shapes.Call
 
 unfoldable pub call_suffix_at : ℕ → Mode → ℕ → List Token → Outcome Suffixed
 call_suffix_at levels m left ts =
-    call_at levels left ts >>= λ t a. part_at (levels - 1) (Arguments m) a >>= λ x b. sign_at symbols.CloseParen b >>= λ y rest. Took (Calls t.place x) rest
+    call_at levels left ts >>= λ t a. part_at (levels - 1) (Arguments m) a >>= λ x b. sign_at symbols.CloseParen b
+    >>= λ y rest. Took (Calls t.place x) rest
 
 unfoldable pub index_suffix_at : ℕ → Mode → ℕ → List Token → Outcome Suffixed
 index_suffix_at levels m left ts =
-    raise_at symbols.OpenBracket levels left ts >>= λ t a. part_at (levels - 1) (Expression m) a >>= λ x b. sign_at symbols.CloseBracket b >>= λ y rest. Took (Indexes t.place x) rest
+    raise_at symbols.OpenBracket levels left ts >>= λ t a. part_at (levels - 1) (Expression m) a >>= λ x b.
+    sign_at symbols.CloseBracket b >>= λ y rest. Took (Indexes t.place x) rest
 
 unfoldable pub select_suffix_at : ℕ → List Token → Outcome Suffixed
-select_suffix_at left ts = operator_at (symbols.Dot ∷ []) left ts >>= λ t a. name_at a >>= λ n rest. Took (Selects t.place n) rest
+select_suffix_at left ts = operator_at (symbols.Dot ∷ []) left ts >>= λ t a. name_at a
+    >>= λ n rest. Took (Selects t.place n) rest
 
 -- the arguments behind a method's name
 unfoldable pub method_arguments_at : ℕ → Mode → List Token → Outcome Tree
 method_arguments_at levels m ts =
-    if begins (is symbols.OpenParen) ts then (open_at symbols.OpenParen levels ts >>= λ t a. part_at (levels - 1) (Arguments m) a >>= λ x b. sign_at symbols.CloseParen b >>= λ y rest. Took x rest)
-    else (if begins (is symbols.OpenBrace) ts then (open_at symbols.OpenBrace levels ts >>= λ t a. part_at (levels - 1) (Fields m) a >>= λ x b. sign_at symbols.CloseBrace b >>= λ y rest. Took (More Nothing (Table t.place x)) rest)
+    if begins (is symbols.OpenParen) ts then (open_at symbols.OpenParen levels ts >>= λ t a.
+    part_at (levels - 1) (Arguments m) a >>= λ x b. sign_at symbols.CloseParen b >>= λ y rest. Took x rest)
+    else (if begins (is symbols.OpenBrace) ts then (open_at symbols.OpenBrace levels ts >>= λ t a.
+    part_at (levels - 1) (Fields m) a >>= λ x b. sign_at symbols.CloseBrace b
+    >>= λ y rest. Took (More Nothing (Table t.place x)) rest)
     else (sign_at symbols.Literal ts >>= λ t rest. Took (More Nothing (Literal t.place t.text)) rest))
 
 unfoldable pub method_suffix_at : ℕ → Mode → ℕ → List Token → Outcome Suffixed
 method_suffix_at levels m left ts =
-    operator_at (symbols.Colon ∷ []) left ts >>= λ t a. name_at a >>= λ n b. method_arguments_at levels m b >>= λ x rest. Took (CallsMethod t.place n x) rest
+    operator_at (symbols.Colon ∷ []) left ts >>= λ t a. name_at a >>= λ n b. method_arguments_at levels m b
+    >>= λ x rest. Took (CallsMethod t.place n x) rest
 
 unfoldable pub table_suffix_at : ℕ → Mode → ℕ → List Token → Outcome Suffixed
 table_suffix_at levels m left ts =
-    raise_at symbols.OpenBrace levels left ts >>= λ t a. part_at (levels - 1) (Fields m) a >>= λ x b. sign_at symbols.CloseBrace b >>= λ y rest.
+    raise_at symbols.OpenBrace levels left ts >>= λ t a. part_at (levels - 1) (Fields m) a >>= λ x b.
+    sign_at symbols.CloseBrace b >>= λ y rest.
     Took (Calls t.place (More Nothing (Table t.place x))) rest
 
 unfoldable pub literal_suffix_at : ℕ → List Token → Outcome Suffixed
-literal_suffix_at left ts = operator_at (symbols.Literal ∷ []) left ts >>= λ t rest. Took (Calls t.place (More Nothing (Literal t.place t.text))) rest
+literal_suffix_at left ts = operator_at (symbols.Literal ∷ []) left ts
+    >>= λ t rest. Took (Calls t.place (More Nothing (Literal t.place t.text))) rest
 
 unfoldable pub suffix_at : ℕ → Mode → ℕ → List Token → Outcome Suffixed
 suffix_at levels m left ts =
@@ -113,7 +129,8 @@ is_other _ = false
 -- A prefix expression. Where it is to be a statement or a target, brackets alone are none.
 unfoldable pub applied_at : ℕ → Mode → Bool → List Token → Outcome Chained
 applied_at levels m bare ts =
-    base_at levels m ts >>= λ b rest. if bare && (is_other b.shape && not (begins (lua.is_suffix m) rest)) then unexpected rest else suffixes_at levels m b rest
+    base_at levels m ts >>= λ b rest. if bare && (is_other b.shape && not (begins (lua.is_suffix m) rest)) then
+    unexpected rest else suffixes_at levels m b rest
 
 unfoldable pub prefixed_at : ℕ → Mode → ℕ → List Token → Outcome Chained
 prefixed_at levels m left ts = applied_at levels m false ts >>= λ a rest. Took (in_chain left a) rest
@@ -138,11 +155,13 @@ constant_at s ts = sign_at s ts >>= λ t rest. Took (constant s t.place) rest
 
 unfoldable pub function_at : ℕ → List Token → Outcome Tree
 function_at levels ts =
-    sign_at symbols.Function ts >>= λ f a. open_at symbols.OpenParen levels a >>= λ t b. part_at (levels - 1) FunctionBody b >>= λ x rest. Took (Function f.place x) rest
+    sign_at symbols.Function ts >>= λ f a. open_at symbols.OpenParen levels a >>= λ t b.
+    part_at (levels - 1) FunctionBody b >>= λ x rest. Took (Function f.place x) rest
 
 unfoldable pub table_at : ℕ → Mode → List Token → Outcome Tree
 table_at levels m ts =
-    open_at symbols.OpenBrace levels ts >>= λ t a. part_at (levels - 1) (Fields m) a >>= λ x b. sign_at symbols.CloseBrace b >>= λ y rest. Took (Table t.place x) rest
+    open_at symbols.OpenBrace levels ts >>= λ t a. part_at (levels - 1) (Fields m) a >>= λ x b.
+    sign_at symbols.CloseBrace b >>= λ y rest. Took (Table t.place x) rest
 
 -- an operand that is no prefix expression
 unfoldable pub simple_at : ℕ → Mode → List Token → Outcome Tree
@@ -167,21 +186,24 @@ is_variadic _ = false
 
 -- the tokens that begin such an operand
 abbrev pub simple_symbols : List Symbol
-simple_symbols = symbols.Numeral ∷ symbols.Literal ∷ symbols.Nil ∷ symbols.False ∷ symbols.True ∷ symbols.Function ∷ symbols.OpenBrace ∷ symbols.Terra ∷ symbols.Struct ∷ symbols.Quote ∷ symbols.Backtick ∷ []
+simple_symbols = symbols.Numeral ∷ symbols.Literal ∷ symbols.Nil ∷ symbols.False ∷ symbols.True ∷ symbols.Function
+    ∷ symbols.OpenBrace ∷ symbols.Terra ∷ symbols.Struct ∷ symbols.Quote ∷ symbols.Backtick ∷ []
 
 unfoldable pub is_simple : Mode → List Token → Bool
 is_simple m ts = if begins (among simple_symbols) ts then true else begins (is_varargs m) ts
 
 unfoldable pub primary_at : ℕ → Mode → ℕ → List Token → Outcome Chained
 primary_at levels m left ts =
-    if is_simple m ts then (simple_at levels m ts >>= λ e rest. Took (operand left e) rest) else prefixed_at levels m left ts
+    if is_simple m ts then (simple_at levels m ts >>= λ e rest. Took (operand left e) rest)
+    else prefixed_at levels m left ts
 
 -- ---- operators
 
 -- an operator that groups to the right, behind an operand
 unfoldable pub right_at : ℕ → Symbol → Part → Chained → List Token → Outcome Chained
 right_at levels s part a ts =
-    if begins (is s) ts then (raise_at s levels a.left ts >>= λ t b. part_at (levels - 1) part b >>= λ x rest. Took (operand (down a.left) (lua.operation t a.tree x)) rest)
+    if begins (is s) ts then (raise_at s levels a.left ts >>= λ t b. part_at (levels - 1) part b
+    >>= λ x rest. Took (operand (down a.left) (lua.operation t a.tree x)) rest)
     else Took a ts
 
 unfoldable pub power_at : ℕ → Mode → ℕ → List Token → Outcome Chained
@@ -190,7 +212,8 @@ power_at levels m left ts = primary_at levels m left ts >>= λ a rest. right_at 
 unfoldable pub unary_at : ℕ → Mode → ℕ → List Token → Outcome Chained
 unary_at levels m left ts =
     if begins (among lua.prefix_symbols) ts then
-    (prefix_at lua.prefix_symbols levels ts >>= λ t a. part_at (levels - 1) (Operand m) a >>= λ x rest. Took (operand left (Unary t.place (unary_of t.symbol) x)) rest)
+    (prefix_at lua.prefix_symbols levels ts >>= λ t a. part_at (levels - 1) (Operand m) a
+    >>= λ x rest. Took (operand left (Unary t.place (unary_of t.symbol) x)) rest)
     else power_at levels m left ts
 
 -- the operators of a precedence
@@ -217,16 +240,19 @@ more_at levels p m a ts = reading levels (operators (symbols_of p) (λ left. inn
 
 -- an operator and its right operand
 unfoldable pub one_more_at : ℕ → Precedence → Mode → ℕ → List Token → Outcome (Token × Chained)
-one_more_at levels p m left ts = operator_at (symbols_of p) left ts >>= λ t a. inner_at levels p m (down left) a >>= λ b rest. Took (t, b) rest
+one_more_at levels p m left ts = operator_at (symbols_of p) left ts >>= λ t a. inner_at levels p m (down left) a
+    >>= λ b rest. Took (t, b) rest
 
 unfoldable pub binary_at : ℕ → Precedence → Mode → ℕ → List Token → Outcome Chained
 binary_at levels p m left ts = inner_at levels p m left ts >>= λ a rest. more_at levels p m a rest
 
 unfoldable pub concatenation_at : ℕ → Mode → ℕ → List Token → Outcome Chained
-concatenation_at levels m left ts = binary_at levels precedences.Sum m left ts >>= λ a rest. right_at levels symbols.DoubleDot (Concatenation m) a rest
+concatenation_at levels m left ts = binary_at levels precedences.Sum m left ts >>= λ a rest.
+    right_at levels symbols.DoubleDot (Concatenation m) a rest
 
 unfoldable pub chained_at : ℕ → Mode → List Token → Outcome Chained
-chained_at levels m ts = binary_at levels precedences.Disjunction m chain ts >>= λ a rest. right_at levels symbols.Arrow (Expression m) a rest
+chained_at levels m ts = binary_at levels precedences.Disjunction m chain ts >>= λ a rest.
+    right_at levels symbols.Arrow (Expression m) a rest
 
 -- ---- fields of tables
 
@@ -236,17 +262,20 @@ is_name _ = false
 
 unfoldable pub field_behind_at : ℕ → Mode → Chained → List Token → Outcome Tree
 field_behind_at levels m e ts =
-    if is_name e.shape then (if begins (is symbols.Equal) ts then (sign_at symbols.Equal ts >>= λ y a. part_at levels (Expression m) a >>= λ v rest. Took (NamedField e.tree v) rest) else Took e.tree ts)
+    if is_name e.shape then (if begins (is symbols.Equal) ts then (sign_at symbols.Equal ts >>= λ y a.
+    part_at levels (Expression m) a >>= λ v rest. Took (NamedField e.tree v) rest) else Took e.tree ts)
     else Took e.tree ts
 
 unfoldable pub keyed_field_at : ℕ → Mode → List Token → Outcome Tree
 keyed_field_at levels m ts =
-    open_at symbols.OpenBracket levels ts >>= λ t a. part_at (levels - 1) (Expression m) a >>= λ k b. sign_at symbols.CloseBracket b >>= λ y c. sign_at symbols.Equal c >>= λ z d.
+    open_at symbols.OpenBracket levels ts >>= λ t a. part_at (levels - 1) (Expression m) a >>= λ k b.
+    sign_at symbols.CloseBracket b >>= λ y c. sign_at symbols.Equal c >>= λ z d.
     part_at levels (Expression m) d >>= λ v rest. Took (KeyedField k v) rest
 
 unfoldable pub field_at : ℕ → Mode → List Token → Outcome Tree
 field_at levels m ts =
-    if begins (is symbols.OpenBracket) ts then keyed_field_at levels m ts else (chained_at levels m ts >>= λ e rest. field_behind_at levels m e rest)
+    if begins (is symbols.OpenBracket) ts then keyed_field_at levels m ts else (chained_at levels m ts >>= λ e rest.
+    field_behind_at levels m e rest)
 
 abbrev pub separators : List Symbol
 separators = symbols.Comma ∷ symbols.Semicolon ∷ []
@@ -257,7 +286,8 @@ more_fields_at levels m before ts = reading levels (separated_behind (lua.field 
 -- a separator, and a field if one follows
 unfoldable pub next_field_at : ℕ → Mode → List Token → Outcome (Option Tree)
 next_field_at levels m ts =
-    sign_among_at separators ts >>= λ y a. if begins (is symbols.CloseBrace) a then Took None a else (field_at levels m a >>= λ f rest. Took (Some f) rest)
+    sign_among_at separators ts >>= λ y a. if begins (is symbols.CloseBrace) a then Took None a
+    else (field_at levels m a >>= λ f rest. Took (Some f) rest)
 
 abbrev pub more_if : Tree → Option Tree → Tree
 more_if before None = before
@@ -265,4 +295,5 @@ more_if before (Some x) = More before x
 
 unfoldable pub fields_at : ℕ → Mode → List Token → Outcome Tree
 fields_at levels m ts =
-    if begins (is symbols.CloseBrace) ts then Took Nothing ts else (field_at levels m ts >>= λ f rest. more_fields_at levels m (More Nothing f) rest)
+    if begins (is symbols.CloseBrace) ts then Took Nothing ts else (field_at levels m ts >>= λ f rest.
+    more_fields_at levels m (More Nothing f) rest)

@@ -37,7 +37,8 @@ pub record TookSuffix (old new : Parser) (o : Outcome Suffixed) (a r : Operand) 
   pub ready : Ready new
   pub left : r.left ≡ down a.left
   pub shape : r.shape ≡ shape_of suffix
-  pub items : (tree : Tree) (before : List Item) → items_of old ≡ (laid tree before).items → a.node ≡ last_of (items_of old) → items_of new ≡ (laid (attached suffix tree) before).items
+  pub items : (tree : Tree) (before : List Item) → items_of old ≡ (laid tree before).items
+      → a.node ≡ last_of (items_of old) → items_of new ≡ (laid (attached suffix tree) before).items
   pub is_last : r.node ≡ last_of (items_of new)
 
 -- An operand and operators behind it are a tree so far, and the rest is read from here as from the beginning.
@@ -59,7 +60,8 @@ pub record Applying (levels : ℕ) (m : Mode) (start now : Parser) (o : Outcome 
   pub is_last : a.node ≡ last_of (items_of now)
 
 -- a list so far
-pub record Listing (start now : Parser) (o : Outcome Tree) (more : Tree → List Token → Outcome Tree) (numbers : List NodeId) : Type 0 where
+pub record Listing (start now : Parser) (o : Outcome Tree) (more : Tree → List Token
+    → Outcome Tree) (numbers : List NodeId) : Type 0 where
   pub tree : Tree
   pub goes_on : o ≡ more tree (tokens_left now)
   pub finish : end_of now ≡ end_of start
@@ -83,7 +85,8 @@ pub record TookNumeric (old new : Parser) (o : Outcome Numeric) (r : code_statem
   pub took : o ≡ Took trees (tokens_left new)
   pub finish : end_of new ≡ end_of old
   pub ready : Ready new
-  pub items : items_of new ≡ (laid trees.block (laid trees.step (laid trees.limit (laid trees.from (items_of old)).items).items).items).items
+  pub items : items_of new
+      ≡ (laid trees.block (laid trees.step (laid trees.limit (laid trees.from (items_of old)).items).items).items).items
   pub from_is : r.from ≡ last (laid trees.from (items_of old))
   pub limit_is : r.limit ≡ last (laid trees.limit (laid trees.from (items_of old)).items)
   pub step_is : r.step ≡ if_any (laid trees.step (laid trees.limit (laid trees.from (items_of old)).items).items)
@@ -127,9 +130,11 @@ pub record TookStatement (old new : Parser) (o : Outcome Sequence) (number : Nod
   pub is_last : number ≡ last_of (items_of new)
 
 -- the statements of a block so far
-pub record Sequencing (levels : ℕ) (c : Context) (start now : Parser) (o : Outcome Tree) (numbers : List NodeId) (ended : Bool) : Type 0 where
+pub record Sequencing (levels : ℕ) (c : Context) (start now : Parser) (o : Outcome Tree)
+    (numbers : List NodeId) (ended : Bool) : Type 0 where
   pub tree : Tree
-  pub goes_on : o ≡ (more_statements_at levels c tree ended (tokens_left now) >>= λ a rest. Took (Block a.statements) rest)
+  pub goes_on : o ≡ (more_statements_at levels c tree ended (tokens_left now)
+      >>= λ a rest. Took (Block a.statements) rest)
   pub finish : end_of now ≡ end_of start
   pub ready : Ready now
   pub items : items_of now ≡ (laid tree (items_of start)).items

@@ -10,7 +10,9 @@ use Rattle.tl_tree.specs.declared.mode.Extra.TheVariants.{Plain}
 use Rattle.tl_tree.specs.declared.mode.Shape.{Shape}
 use Rattle.tl_tree.specs.declared.mode.Shape.TheVariants as shapes
 use Rattle.tl_tree.specs.Tokens.{Token, among, is}
-use Rattle.tl_tree.specs.Tree.{Tree, Nothing, More, Just, Assign, Perform, Do, While, Repeat, If, NumericFor, GenericFor, DefineFunction, LocalFunction, Local, Emit, Return, Break, Block, Arm, Body, Expression, Statements, FunctionBody}
+use Rattle.tl_tree.specs.Tree.{Tree, Nothing, More, Just, Assign, Perform, Do, While, Repeat, If, NumericFor}
+use Rattle.tl_tree.specs.Tree.{GenericFor, DefineFunction, LocalFunction, Local, Emit, Return, Break, Block, Arm}
+use Rattle.tl_tree.specs.Tree.{Body, Expression, Statements, FunctionBody}
 use Rattle.tl_tree.specs.Grammar.{Grammar, give, bind, many, Outcome, Took, ◌>>=◌, begins}
 use Rattle.tl_tree.specs.Forms.{semicolon, listed_behind, Chained}
 use Rattle.tl_tree.specs.LuaStatements as lua
@@ -62,26 +64,32 @@ unfoldable pub call_or_assignment_at : ℕ → Mode → List Token → Outcome T
 call_or_assignment_at levels m ts =
     applied_at levels m true ts >>= λ a b.
     if is_call a.shape then Took (Perform (first_place ts) a.tree) b
-    else (more_targets_at levels m (More Nothing a.tree) b >>= λ targets c. values_at levels m c >>= λ es rest. Took (Assign (first_place ts) targets es) rest)
+    else (more_targets_at levels m (More Nothing a.tree) b >>= λ targets c. values_at levels m c
+    >>= λ es rest. Took (Assign (first_place ts) targets es) rest)
 
 -- ---- loops and choices
 
 unfoldable pub do_at : ℕ → Context → List Token → Outcome Tree
-do_at levels c ts = open_at symbols.Do levels ts >>= λ t a. part_at (levels - 1) (Statements c) a >>= λ x b. sign_at symbols.End b >>= λ y rest. Took (Do t.place x) rest
+do_at levels c ts = open_at symbols.Do levels ts >>= λ t a. part_at (levels - 1) (Statements c) a >>= λ x b.
+    sign_at symbols.End b >>= λ y rest. Took (Do t.place x) rest
 
 unfoldable pub loop_at : ℕ → Context → List Token → Outcome Tree
-loop_at levels c ts = open_at symbols.Do levels ts >>= λ t a. part_at (levels - 1) (Statements (looped c)) a >>= λ x b. sign_at symbols.End b >>= λ y rest. Took x rest
+loop_at levels c ts = open_at symbols.Do levels ts >>= λ t a. part_at (levels - 1) (Statements (looped c)) a >>= λ x b.
+    sign_at symbols.End b >>= λ y rest. Took x rest
 
 unfoldable pub while_at : ℕ → Context → List Token → Outcome Tree
-while_at levels c ts = sign_at symbols.While ts >>= λ t a. part_at levels (Expression c.mode) a >>= λ e b. loop_at levels c b >>= λ x rest. Took (While t.place e x) rest
+while_at levels c ts = sign_at symbols.While ts >>= λ t a. part_at levels (Expression c.mode) a >>= λ e b.
+    loop_at levels c b >>= λ x rest. Took (While t.place e x) rest
 
 unfoldable pub repeat_at : ℕ → Context → List Token → Outcome Tree
 repeat_at levels c ts =
-    open_at symbols.Repeat levels ts >>= λ t a. part_at (levels - 1) (Statements (looped c)) a >>= λ x b. sign_at symbols.Until b >>= λ y d. part_at levels (Expression c.mode) d >>= λ e rest.
+    open_at symbols.Repeat levels ts >>= λ t a. part_at (levels - 1) (Statements (looped c)) a >>= λ x b.
+    sign_at symbols.Until b >>= λ y d. part_at levels (Expression c.mode) d >>= λ e rest.
     Took (Repeat t.place x e) rest
 
 unfoldable pub arm_at : ℕ → Context → List Token → Outcome Tree
-arm_at levels c ts = part_at levels (Expression c.mode) ts >>= λ e a. open_at symbols.Then levels a >>= λ t b. part_at (levels - 1) (Statements c) b >>= λ x rest. Took (Arm e x) rest
+arm_at levels c ts = part_at levels (Expression c.mode) ts >>= λ e a. open_at symbols.Then levels a >>= λ t b.
+    part_at (levels - 1) (Statements c) b >>= λ x rest. Took (Arm e x) rest
 
 unfoldable pub more_arms_at : ℕ → Context → Tree → List Token → Outcome Tree
 more_arms_at levels c before ts = reading levels (lua.arms c before) ts
@@ -94,14 +102,17 @@ arms_at levels c ts = arm_at levels c ts >>= λ x a. more_arms_at levels c (More
 
 unfoldable pub otherwise_at : ℕ → Context → List Token → Outcome Tree
 otherwise_at levels c ts =
-    if begins (is symbols.Else) ts then (open_at symbols.Else levels ts >>= λ t a. part_at (levels - 1) (Statements c) a >>= λ x rest. Took (Just x) rest) else Took Nothing ts
+    if begins (is symbols.Else) ts then (open_at symbols.Else levels ts >>= λ t a. part_at (levels - 1) (Statements c) a
+    >>= λ x rest. Took (Just x) rest) else Took Nothing ts
 
 unfoldable pub if_at : ℕ → Context → List Token → Outcome Tree
 if_at levels c ts =
-    sign_at symbols.If ts >>= λ t a. arms_at levels c a >>= λ all b. otherwise_at levels c b >>= λ o d. sign_at symbols.End d >>= λ y rest. Took (If t.place all o) rest
+    sign_at symbols.If ts >>= λ t a. arms_at levels c a >>= λ all b. otherwise_at levels c b >>= λ o d.
+    sign_at symbols.End d >>= λ y rest. Took (If t.place all o) rest
 
 unfoldable pub step_at : ℕ → Mode → List Token → Outcome Tree
-step_at levels m ts = if begins (is symbols.Comma) ts then (sign_at symbols.Comma ts >>= λ y a. part_at levels (Expression m) a >>= λ e rest. Took (Just e) rest) else Took Nothing ts
+step_at levels m ts = if begins (is symbols.Comma) ts then (sign_at symbols.Comma ts >>= λ y a.
+    part_at levels (Expression m) a >>= λ e rest. Took (Just e) rest) else Took Nothing ts
 
 -- what a numeric `for` has behind its name
 pub record Numeric : Type 0 where
@@ -115,7 +126,8 @@ numeric a b s x = record { from = a; limit = b; step = s; block = x }
 
 unfoldable pub numeric_at : ℕ → Context → List Token → Outcome Numeric
 numeric_at levels c ts =
-    sign_at symbols.Equal ts >>= λ y a. part_at levels (Expression c.mode) a >>= λ from b. sign_at symbols.Comma b >>= λ z d. part_at levels (Expression c.mode) d >>= λ limit f. step_at levels c.mode f >>= λ s g.
+    sign_at symbols.Equal ts >>= λ y a. part_at levels (Expression c.mode) a >>= λ from b. sign_at symbols.Comma b
+    >>= λ z d. part_at levels (Expression c.mode) d >>= λ limit f. step_at levels c.mode f >>= λ s g.
     loop_at levels c g >>= λ x rest. Took (numeric from limit s x) rest
 
 -- what a generic `for` has behind its names
@@ -127,29 +139,35 @@ abbrev pub generic : Tree → Tree → Generic
 generic es x = record { values = es; block = x }
 
 unfoldable pub generic_at : ℕ → Context → List Token → Outcome Generic
-generic_at levels c ts = sign_at symbols.In ts >>= λ y a. expressions_at levels c.mode a >>= λ es b. loop_at levels c b >>= λ x rest. Took (generic es x) rest
+generic_at levels c ts = sign_at symbols.In ts >>= λ y a. expressions_at levels c.mode a >>= λ es b. loop_at levels c b
+    >>= λ x rest. Took (generic es x) rest
 
 unfoldable pub for_at : ℕ → Context → List Token → Outcome Tree
 for_at levels c ts =
     sign_at symbols.For ts >>= λ t a. name_at a >>= λ n b.
-    if begins (is symbols.Equal) b then (numeric_at levels c b >>= λ r rest. Took (NumericFor t.place n r.from r.limit r.step r.block) rest)
-    else (more_names_at levels (More Nothing n) b >>= λ ns d. generic_at levels c d >>= λ r rest. Took (GenericFor t.place ns r.values r.block) rest)
+    if begins (is symbols.Equal) b then (numeric_at levels c b
+    >>= λ r rest. Took (NumericFor t.place n r.from r.limit r.step r.block) rest)
+    else (more_names_at levels (More Nothing n) b >>= λ ns d. generic_at levels c d
+    >>= λ r rest. Took (GenericFor t.place ns r.values r.block) rest)
 
 -- ---- declarations
 
 unfoldable pub function_statement_at : ℕ → List Token → Outcome Tree
 function_statement_at levels ts =
-    sign_at symbols.Function ts >>= λ t a. path_at levels a >>= λ p b. open_at symbols.OpenParen levels b >>= λ z d. part_at (levels - 1) FunctionBody d >>= λ x rest. Took (DefineFunction t.place p x) rest
+    sign_at symbols.Function ts >>= λ t a. path_at levels a >>= λ p b. open_at symbols.OpenParen levels b >>= λ z d.
+    part_at (levels - 1) FunctionBody d >>= λ x rest. Took (DefineFunction t.place p x) rest
 
 unfoldable pub local_function_at : ℕ → Place → List Token → Outcome Tree
 local_function_at levels place ts =
-    sign_at symbols.Function ts >>= λ y a. name_at a >>= λ n b. open_at symbols.OpenParen levels b >>= λ z d. part_at (levels - 1) FunctionBody d >>= λ x rest. Took (LocalFunction place n x) rest
+    sign_at symbols.Function ts >>= λ y a. name_at a >>= λ n b. open_at symbols.OpenParen levels b >>= λ z d.
+    part_at (levels - 1) FunctionBody d >>= λ x rest. Took (LocalFunction place n x) rest
 
 unfoldable pub initial_values_at : ℕ → Mode → List Token → Outcome Tree
 initial_values_at levels m ts = if begins (is symbols.Equal) ts then values_at levels m ts else Took Nothing ts
 
 unfoldable pub local_names_at : ℕ → Mode → Place → List Token → Outcome Tree
-local_names_at levels m place ts = names_at levels ts >>= λ ns a. initial_values_at levels m a >>= λ es rest. Took (Local place ns es) rest
+local_names_at levels m place ts = names_at levels ts >>= λ ns a. initial_values_at levels m a
+    >>= λ es rest. Took (Local place ns es) rest
 
 -- the words of definitions of Terra code
 abbrev pub definition_symbols : List Symbol
@@ -158,26 +176,30 @@ definition_symbols = symbols.Terra ∷ symbols.Struct ∷ []
 unfoldable pub local_at : ℕ → Context → List Token → Outcome Tree
 local_at levels c ts =
     sign_at symbols.Local ts >>= λ t a. if begins (is symbols.Function) a then local_function_at levels t.place a
-    else (if begins (among definition_symbols) a then local_terra_at levels c.mode t.place a else local_names_at levels c.mode t.place a)
+    else (if begins (among definition_symbols) a then local_terra_at levels c.mode t.place a
+    else local_names_at levels c.mode t.place a)
 
 -- the tokens that begin an expression
 abbrev pub first_symbols : List Symbol
 first_symbols =
     symbols.Name ∷ symbols.Numeral ∷ symbols.Literal ∷ symbols.Nil ∷ symbols.False ∷ symbols.True ∷ symbols.Ellipsis ∷ symbols.Function
-    ∷ symbols.OpenParen ∷ symbols.OpenBrace ∷ symbols.Not ∷ symbols.Hash ∷ symbols.Minus ∷ symbols.Ampersand ∷ symbols.Terra ∷ symbols.Struct
+    ∷ symbols.OpenParen ∷ symbols.OpenBrace ∷ symbols.Not ∷ symbols.Hash ∷ symbols.Minus ∷ symbols.Ampersand
+    ∷ symbols.Terra ∷ symbols.Struct
     ∷ symbols.Quote ∷ symbols.Backtick ∷ []
 
 unfoldable pub returned_values_at : ℕ → Mode → List Token → Outcome Tree
 returned_values_at levels m ts = if begins (among first_symbols) ts then expressions_at levels m ts else Took Nothing ts
 
 unfoldable pub return_at : ℕ → Mode → List Token → Outcome Tree
-return_at levels m ts = sign_at symbols.Return ts >>= λ t a. returned_values_at levels m a >>= λ es rest. Took (Return t.place es) rest
+return_at levels m ts = sign_at symbols.Return ts >>= λ t a. returned_values_at levels m a
+    >>= λ es rest. Took (Return t.place es) rest
 
 unfoldable pub break_at : List Token → Outcome Tree
 break_at ts = sign_at symbols.Break ts >>= λ t rest. Took (Break t.place) rest
 
 unfoldable pub emit_at : ℕ → Mode → List Token → Outcome Tree
-emit_at levels m ts = sign_at symbols.Emit ts >>= λ t a. part_at levels (Expression m) a >>= λ e rest. Took (Emit t.place e) rest
+emit_at levels m ts = sign_at symbols.Emit ts >>= λ t a. part_at levels (Expression m) a
+    >>= λ e rest. Took (Emit t.place e) rest
 
 -- ---- statements and blocks
 
@@ -205,7 +227,9 @@ last_symbols = symbols.Return ∷ symbols.Break ∷ []
 unfoldable pub next_statement_at : ℕ → Context → List Token → Outcome Sequence
 next_statement_at levels c ts =
     statement_at levels c ts >>= λ s a.
-    if begins (is symbols.Semicolon) a then (sign_at symbols.Semicolon a >>= λ y rest. Took (sequence s (begins (among last_symbols) ts)) rest) else Took (sequence s (begins (among last_symbols) ts)) a
+    if begins (is symbols.Semicolon) a then (sign_at symbols.Semicolon a
+    >>= λ y rest. Took (sequence s (begins (among last_symbols) ts)) rest)
+    else Took (sequence s (begins (among last_symbols) ts)) a
 
 -- May a token be the first of one more statement of a block?
 abbrev pub goes_on : Context → Bool → Token → Bool
@@ -215,7 +239,8 @@ goes_on c ended t = lua.is_statement c t && not ended
 abbrev pub more_statements : Context → Sequence → Grammar Sequence
 more_statements c a =
     many (λ a t. goes_on c a.ended t) (λ a t. Plain) (λ a t. lua.statement_opens c (lua.statement_of t.symbol))
-    (λ t x a. bind (lua.statement c (lua.statement_of t.symbol) t x) λ s. bind semicolon λ y. give (sequence (More a.statements s) (lua.ends_block (lua.statement_of t.symbol)))) a
+    (λ t x a. bind (lua.statement c (lua.statement_of t.symbol) t x) λ s. bind semicolon λ y.
+    give (sequence (More a.statements s) (lua.ends_block (lua.statement_of t.symbol)))) a
 
 unfoldable pub more_statements_at : ℕ → Context → Tree → Bool → List Token → Outcome Sequence
 more_statements_at levels c tree ended ts = reading levels (more_statements c (sequence tree ended)) ts
@@ -227,7 +252,8 @@ block_at levels c ts = more_statements_at levels c Nothing false ts >>= λ a res
 
 -- a name, or nothing where it is `...`
 unfoldable pub parameter_at : List Token → Outcome (Option Tree)
-parameter_at ts = if begins (is symbols.Ellipsis) ts then (sign_at symbols.Ellipsis ts >>= λ y rest. Took None rest) else (name_at ts >>= λ n rest. Took (Some n) rest)
+parameter_at ts = if begins (is symbols.Ellipsis) ts then (sign_at symbols.Ellipsis ts >>= λ y rest. Took None rest)
+    else (name_at ts >>= λ n rest. Took (Some n) rest)
 
 abbrev pub with_parameter : Tree → Option Tree → Parameters
 with_parameter before None = parameters_of before true
@@ -235,7 +261,8 @@ with_parameter before (Some n) = parameters_of (More before n) false
 
 -- the parameters behind those so far
 abbrev pub more_parameters : Parameters → Grammar Parameters
-more_parameters p = many (λ a t. is symbols.Comma t && not a.variadic) (λ a t. Plain) (λ a t. None) (λ t x a. lua.parameter a.names) p
+more_parameters p = many (λ a t. is symbols.Comma t && not a.variadic) (λ a t. Plain) (λ a t. None) (λ t x a.
+    lua.parameter a.names) p
 
 unfoldable pub more_parameters_at : ℕ → Tree → Bool → List Token → Outcome Parameters
 more_parameters_at levels names variadic ts = reading levels (more_parameters (parameters_of names variadic)) ts
@@ -246,9 +273,11 @@ next_parameter_at ts = sign_at symbols.Comma ts >>= λ y a. parameter_at a
 unfoldable pub parameters_at : ℕ → List Token → Outcome Parameters
 parameters_at levels ts =
     if begins (is symbols.CloseParen) ts then Took (parameters_of Nothing false) ts
-    else (parameter_at ts >>= λ o rest. more_parameters_at levels (with_parameter Nothing o).names (with_parameter Nothing o).variadic rest)
+    else (parameter_at ts >>= λ o rest.
+    more_parameters_at levels (with_parameter Nothing o).names (with_parameter Nothing o).variadic rest)
 
 unfoldable pub body_at : ℕ → List Token → Outcome Tree
 body_at levels ts =
-    parameters_at levels ts >>= λ p a. sign_at symbols.CloseParen a >>= λ y b. part_at levels (Statements (fresh (body_mode p.variadic))) b >>= λ x d. sign_at symbols.End d >>= λ z rest.
+    parameters_at levels ts >>= λ p a. sign_at symbols.CloseParen a >>= λ y b.
+    part_at levels (Statements (fresh (body_mode p.variadic))) b >>= λ x d. sign_at symbols.End d >>= λ z rest.
     Took (Body p.names p.variadic x) rest

@@ -14,7 +14,8 @@ use Rattle.tl_parse.specs.declared.parser.Next as code
 -- what the limits say of a use of a token that is first on its line or isn't
 abbrev pub bar_of : Bool → ℕ → Extra → Bool → Option SyntaxKind
 bar_of opens levels extra first =
-    if (opens && (levels == 0)) || chain_too_long extra then Some why.TooDeep else (if calls extra && first then Some why.Ambiguous else None)
+    if (opens && (levels == 0)) || chain_too_long extra then Some why.TooDeep else (if calls extra && first then
+    Some why.Ambiguous else None)
 
 -- what the limits say of a use of the next token
 abbrev pub barred_next : Bool → ℕ → Extra → List Token → Option SyntaxKind
@@ -24,11 +25,13 @@ barred_next opens levels extra (t ∷ ts) = barred opens levels extra t
 -- The token was first, and the limits allow this use of it. So it is taken wherever it is of the class that is wanted.
 pub record Uses (opens : Bool) (levels : ℕ) (extra : Extra) (old new : Parser) (t : code.Next) : Type 0 where
   pub allowed : barred_next opens levels extra (tokens_left old) ≡ None
-  pub took : (class : Token → Bool) → begins class (tokens_left old) ≡ true → used class opens levels extra (tokens_left old) ≡ Took (token_of t) (tokens_left new)
+  pub took : (class : Token → Bool) → begins class (tokens_left old) ≡ true
+      → used class opens levels extra (tokens_left old) ≡ Took (token_of t) (tokens_left new)
   pub finish : end_of new ≡ end_of old
   pub ready : Ready new
   pub items : items_of new ≡ items_of old
 
 -- The limits refuse this use of the token, wherever it is of the class that is wanted.
 pub record Barred (opens : Bool) (levels : ℕ) (extra : Extra) (old : Parser) (e : SyntaxError) : Type 0 where
-  pub fails : (class : Token → Bool) → begins class (tokens_left old) ≡ true → Fails old (used class opens levels extra (tokens_left old)) e
+  pub fails : (class : Token → Bool) → begins class (tokens_left old) ≡ true
+      → Fails old (used class opens levels extra (tokens_left old)) e

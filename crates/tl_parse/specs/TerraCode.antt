@@ -4,28 +4,34 @@ use Rattle.std.specs.Prelude.{ℕ, ◌-◌, List, if◌then◌else◌}
 use Rattle.tl_tree.specs.declared.symbol.Symbol.TheVariants as symbols
 use Rattle.tl_tree.specs.declared.mode.Mode.{Mode}
 use Rattle.tl_tree.specs.Tokens.{Token, is}
-use Rattle.tl_tree.specs.Tree.{Tree, TerraFunction, Struct, Quote, Backtick, Entries, TerraFunctionBody, QuotedCode, TerraExpression}
+use Rattle.tl_tree.specs.Tree.{Tree, TerraFunction, Struct, Quote, Backtick, Entries, TerraFunctionBody, QuotedCode}
+use Rattle.tl_tree.specs.Tree.{TerraExpression}
 use Rattle.tl_tree.specs.Grammar.{Outcome, Took, ◌>>=◌, begins}
 use Rattle.tl_parse.specs.Using.{part_at, sign_at, open_at}
 
 unfoldable pub terra_function_at : ℕ → List Token → Outcome Tree
 terra_function_at levels ts =
-    sign_at symbols.Terra ts >>= λ t a. open_at symbols.OpenParen levels a >>= λ u b. part_at (levels - 1) (TerraFunctionBody u.place) b >>= λ x rest. Took (TerraFunction t.place x) rest
+    sign_at symbols.Terra ts >>= λ t a. open_at symbols.OpenParen levels a >>= λ u b.
+    part_at (levels - 1) (TerraFunctionBody u.place) b >>= λ x rest. Took (TerraFunction t.place x) rest
 
 -- the entries of a struct in their brackets
 unfoldable pub struct_body_at : ℕ → Mode → List Token → Outcome Tree
 struct_body_at levels m ts =
-    open_at symbols.OpenBrace levels ts >>= λ t a. part_at (levels - 1) (Entries m) a >>= λ x b. sign_at symbols.CloseBrace b >>= λ y rest. Took x rest
+    open_at symbols.OpenBrace levels ts >>= λ t a. part_at (levels - 1) (Entries m) a >>= λ x b.
+    sign_at symbols.CloseBrace b >>= λ y rest. Took x rest
 
 unfoldable pub struct_at : ℕ → Mode → List Token → Outcome Tree
-struct_at levels m ts = sign_at symbols.Struct ts >>= λ t a. struct_body_at levels m a >>= λ x rest. Took (Struct t.place x) rest
+struct_at levels m ts = sign_at symbols.Struct ts >>= λ t a. struct_body_at levels m a
+    >>= λ x rest. Took (Struct t.place x) rest
 
 unfoldable pub quote_at : ℕ → List Token → Outcome Tree
 quote_at levels ts =
-    open_at symbols.Quote levels ts >>= λ t a. part_at (levels - 1) QuotedCode a >>= λ x b. sign_at symbols.End b >>= λ y rest. Took (Quote t.place x) rest
+    open_at symbols.Quote levels ts >>= λ t a. part_at (levels - 1) QuotedCode a >>= λ x b. sign_at symbols.End b
+    >>= λ y rest. Took (Quote t.place x) rest
 
 unfoldable pub backtick_at : ℕ → List Token → Outcome Tree
-backtick_at levels ts = open_at symbols.Backtick levels ts >>= λ t a. part_at (levels - 1) TerraExpression a >>= λ x rest. Took (Backtick t.place x) rest
+backtick_at levels ts = open_at symbols.Backtick levels ts >>= λ t a. part_at (levels - 1) TerraExpression a
+    >>= λ x rest. Took (Backtick t.place x) rest
 
 unfoldable pub terra_code_at : ℕ → Mode → List Token → Outcome Tree
 terra_code_at levels m ts =

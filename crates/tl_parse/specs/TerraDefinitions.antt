@@ -4,7 +4,8 @@ use Rattle.tl_base.specs.declared.place.Place.{Place}
 use Rattle.tl_tree.specs.declared.symbol.Symbol.TheVariants as symbols
 use Rattle.tl_tree.specs.declared.mode.Mode.{Mode}
 use Rattle.tl_tree.specs.Tokens.{Token, is}
-use Rattle.tl_tree.specs.Tree.{Tree, Nothing, More, Path, DefineTerra, DeclareTerra, LocalTerra, LocalDeclareTerra, DefineStruct, LocalStruct, Expression, TerraFunctionBody}
+use Rattle.tl_tree.specs.Tree.{Tree, Nothing, More, Path, DefineTerra, DeclareTerra, LocalTerra, LocalDeclareTerra}
+use Rattle.tl_tree.specs.Tree.{DefineStruct, LocalStruct, Expression, TerraFunctionBody}
 use Rattle.tl_tree.specs.Grammar.{Outcome, Took, ◌>>=◌, begins}
 use Rattle.tl_parse.specs.Using.{part_at, sign_at, open_at}
 use Rattle.tl_parse.specs.Expressions.{name_at}
@@ -13,7 +14,8 @@ use Rattle.tl_parse.specs.TerraCode.{struct_body_at}
 
 -- the path of a struct, which has no method
 unfoldable pub struct_path_at : ℕ → List Token → Outcome Tree
-struct_path_at levels ts = name_at ts >>= λ n a. path_names_at levels (More Nothing n) a >>= λ ns rest. Took (Path ns Nothing) rest
+struct_path_at levels ts = name_at ts >>= λ n a. path_names_at levels (More Nothing n) a
+    >>= λ ns rest. Took (Path ns Nothing) rest
 
 -- ---- statements
 
@@ -21,22 +23,29 @@ struct_path_at levels ts = name_at ts >>= λ n a. path_names_at levels (More Not
 unfoldable pub define_terra_at : ℕ → Mode → List Token → Outcome Tree
 define_terra_at levels m ts =
     sign_at symbols.Terra ts >>= λ t a. path_at levels a >>= λ p b.
-    if begins (is symbols.DoubleColon) b then (sign_at symbols.DoubleColon b >>= λ y d. part_at levels (Expression m) d >>= λ e rest. Took (DeclareTerra t.place p e) rest)
-    else (open_at symbols.OpenParen levels b >>= λ y d. part_at (levels - 1) (TerraFunctionBody y.place) d >>= λ x rest. Took (DefineTerra t.place p x) rest)
+    if begins (is symbols.DoubleColon) b then (sign_at symbols.DoubleColon b >>= λ y d. part_at levels (Expression m) d
+    >>= λ e rest. Took (DeclareTerra t.place p e) rest)
+    else (open_at symbols.OpenParen levels b >>= λ y d. part_at (levels - 1) (TerraFunctionBody y.place) d
+    >>= λ x rest. Took (DefineTerra t.place p x) rest)
 
 -- the same of a local variable, behind `local` at a place
 unfoldable pub local_terra_function_at : ℕ → Mode → Place → List Token → Outcome Tree
 local_terra_function_at levels m place ts =
     sign_at symbols.Terra ts >>= λ t a. name_at a >>= λ n b.
-    if begins (is symbols.DoubleColon) b then (sign_at symbols.DoubleColon b >>= λ y d. part_at levels (Expression m) d >>= λ e rest. Took (LocalDeclareTerra place t.place n e) rest)
-    else (open_at symbols.OpenParen levels b >>= λ y d. part_at (levels - 1) (TerraFunctionBody y.place) d >>= λ x rest. Took (LocalTerra place t.place n x) rest)
+    if begins (is symbols.DoubleColon) b then (sign_at symbols.DoubleColon b >>= λ y d. part_at levels (Expression m) d
+    >>= λ e rest. Took (LocalDeclareTerra place t.place n e) rest)
+    else (open_at symbols.OpenParen levels b >>= λ y d. part_at (levels - 1) (TerraFunctionBody y.place) d
+    >>= λ x rest. Took (LocalTerra place t.place n x) rest)
 
 unfoldable pub local_struct_at : ℕ → Mode → Place → List Token → Outcome Tree
 local_struct_at levels m place ts =
-    sign_at symbols.Struct ts >>= λ t a. name_at a >>= λ n b. struct_body_at levels m b >>= λ es rest. Took (LocalStruct place t.place n es) rest
+    sign_at symbols.Struct ts >>= λ t a. name_at a >>= λ n b. struct_body_at levels m b
+    >>= λ es rest. Took (LocalStruct place t.place n es) rest
 
 unfoldable pub local_terra_at : ℕ → Mode → Place → List Token → Outcome Tree
-local_terra_at levels m place ts = if begins (is symbols.Struct) ts then local_struct_at levels m place ts else local_terra_function_at levels m place ts
+local_terra_at levels m place ts = if begins (is symbols.Struct) ts then local_struct_at levels m place ts
+    else local_terra_function_at levels m place ts
 
 unfoldable pub define_struct_at : ℕ → Mode → List Token → Outcome Tree
-define_struct_at levels m ts = sign_at symbols.Struct ts >>= λ t a. struct_path_at levels a >>= λ p b. struct_body_at levels m b >>= λ es rest. Took (DefineStruct t.place p es) rest
+define_struct_at levels m ts = sign_at symbols.Struct ts >>= λ t a. struct_path_at levels a >>= λ p b.
+    struct_body_at levels m b >>= λ es rest. Took (DefineStruct t.place p es) rest

@@ -9,12 +9,16 @@ use Rattle.tl_tree.specs.declared.mode.Extra.TheVariants.{TerraNumber}
 use Rattle.tl_tree.specs.declared.mode.Shape.{Shape}
 use Rattle.tl_tree.specs.declared.mode.Shape.TheVariants as shapes
 use Rattle.tl_tree.specs.Tokens.{Token, among, is}
-use Rattle.tl_tree.specs.Tree.{Tree, Nothing, More, Numeral, NamedField, TerraNil, TerraFalse, TerraTrue, TerraUnary, TerraParen, Escape, TerraIndex, TerraSelect, TerraCall, TerraMethod, Construct, Expression, TerraExpression, TerraOperand, TerraArguments, Initialisers}
+use Rattle.tl_tree.specs.Tree.{Tree, Nothing, More, Numeral, NamedField, TerraNil, TerraFalse, TerraTrue, TerraUnary}
+use Rattle.tl_tree.specs.Tree.{TerraParen, Escape, TerraIndex, TerraSelect, TerraCall, TerraMethod, Construct}
+use Rattle.tl_tree.specs.Tree.{Expression, TerraExpression, TerraOperand, TerraArguments, Initialisers}
 use Rattle.tl_tree.specs.Grammar.{Grammar, Outcome, Took, ◌>>=◌, begins, down}
-use Rattle.tl_tree.specs.Forms.{listed_behind, separated_behind, Chained, chained, chain, operand, in_chain, unary_of, comparisons, additive, multiplicative, operators}
+use Rattle.tl_tree.specs.Forms.{listed_behind, separated_behind, Chained, chained, chain, operand, in_chain, unary_of}
+use Rattle.tl_tree.specs.Forms.{comparisons, additive, multiplicative, operators}
 use Rattle.tl_tree.specs.TerraExpressions as terra
 use Rattle.tl_tree.specs.TerraExpressions.{terra_numerals, terra_prefix_symbols, shifts}
-use Rattle.tl_parse.specs.Using.{reading, part_at, used, sign_at, open_at, prefix_at, operator_at, raise_at, call_at, sign_among_at}
+use Rattle.tl_parse.specs.Using.{reading, part_at, used, sign_at, open_at, prefix_at, operator_at, raise_at, call_at}
+use Rattle.tl_parse.specs.Using.{sign_among_at}
 use Rattle.tl_parse.specs.Expressions.{name_at, literal_at, is_name, separators}
 use Rattle.tl_parse.specs.declared.terra_expressions.TerraPrecedence.{TerraPrecedence}
 use Rattle.tl_parse.specs.declared.terra_expressions.TerraPrecedence.TheVariants as precedences
@@ -23,7 +27,8 @@ use Rattle.tl_parse.specs.declared.terra_expressions.TerraPrecedence.TheVariants
 
 unfoldable pub escape_at : ℕ → List Token → Outcome Tree
 escape_at levels ts =
-    open_at symbols.OpenBracket levels ts >>= λ t a. part_at (levels - 1) (Expression modes.Plain) a >>= λ x b. sign_at symbols.CloseBracket b >>= λ y rest.
+    open_at symbols.OpenBracket levels ts >>= λ t a. part_at (levels - 1) (Expression modes.Plain) a >>= λ x b.
+    sign_at symbols.CloseBracket b >>= λ y rest.
     Took (Escape t.place x) rest
 
 unfoldable pub terra_name_at : ℕ → List Token → Outcome Tree
@@ -31,16 +36,19 @@ terra_name_at levels ts = if begins (is symbols.OpenBracket) ts then escape_at l
 
 unfoldable pub terra_paren_at : ℕ → List Token → Outcome Chained
 terra_paren_at levels ts =
-    open_at symbols.OpenParen levels ts >>= λ t a. part_at (levels - 1) TerraExpression a >>= λ x b. sign_at symbols.CloseParen b >>= λ y rest.
+    open_at symbols.OpenParen levels ts >>= λ t a. part_at (levels - 1) TerraExpression a >>= λ x b.
+    sign_at symbols.CloseParen b >>= λ y rest.
     Took (chained (TerraParen t.place x) chain shapes.Other) rest
 
 unfoldable pub terra_base_at : ℕ → List Token → Outcome Chained
 terra_base_at levels ts =
     if begins (is symbols.OpenParen) ts then terra_paren_at levels ts
-    else (if begins (is symbols.OpenBracket) ts then (escape_at levels ts >>= λ e rest. Took (chained e chain shapes.Escape) rest)
+    else (if begins (is symbols.OpenBracket) ts then (escape_at levels ts
+    >>= λ e rest. Took (chained e chain shapes.Escape) rest)
     else (name_at ts >>= λ n rest. Took (chained n chain shapes.Name) rest))
 
--- a suffix without what is before it: the arguments of a call, a key, a name, a method's name and arguments, or initialisers, each with its place
+-- a suffix without what is before it: the arguments of a call, a key, a name, a method's name and arguments, or
+-- initialisers, each with its place
 pub data TerraSuffixed : Type 0 where
   Calls Indexes Selects Constructs : Place → Tree → TerraSuffixed
   CallsMethod : Place → Tree → Tree → TerraSuffixed
@@ -60,23 +68,28 @@ terra_shape_of _ = shapes.Call
 
 unfoldable pub terra_call_suffix_at : ℕ → ℕ → List Token → Outcome TerraSuffixed
 terra_call_suffix_at levels left ts =
-    call_at levels left ts >>= λ t a. part_at (levels - 1) TerraArguments a >>= λ x b. sign_at symbols.CloseParen b >>= λ y rest. Took (Calls t.place x) rest
+    call_at levels left ts >>= λ t a. part_at (levels - 1) TerraArguments a >>= λ x b. sign_at symbols.CloseParen b
+    >>= λ y rest. Took (Calls t.place x) rest
 
 unfoldable pub terra_index_suffix_at : ℕ → ℕ → List Token → Outcome TerraSuffixed
 terra_index_suffix_at levels left ts =
-    raise_at symbols.OpenBracket levels left ts >>= λ t a. part_at (levels - 1) TerraExpression a >>= λ x b. sign_at symbols.CloseBracket b >>= λ y rest. Took (Indexes t.place x) rest
+    raise_at symbols.OpenBracket levels left ts >>= λ t a. part_at (levels - 1) TerraExpression a >>= λ x b.
+    sign_at symbols.CloseBracket b >>= λ y rest. Took (Indexes t.place x) rest
 
 unfoldable pub terra_select_suffix_at : ℕ → ℕ → List Token → Outcome TerraSuffixed
-terra_select_suffix_at levels left ts = operator_at (symbols.Dot ∷ []) left ts >>= λ t a. terra_name_at levels a >>= λ n rest. Took (Selects t.place n) rest
+terra_select_suffix_at levels left ts = operator_at (symbols.Dot ∷ []) left ts >>= λ t a. terra_name_at levels a
+    >>= λ n rest. Took (Selects t.place n) rest
 
 unfoldable pub terra_method_suffix_at : ℕ → ℕ → List Token → Outcome TerraSuffixed
 terra_method_suffix_at levels left ts =
-    operator_at (symbols.Colon ∷ []) left ts >>= λ t a. terra_name_at levels a >>= λ n b. open_at symbols.OpenParen levels b >>= λ u c. part_at (levels - 1) TerraArguments c >>= λ x d.
+    operator_at (symbols.Colon ∷ []) left ts >>= λ t a. terra_name_at levels a >>= λ n b.
+    open_at symbols.OpenParen levels b >>= λ u c. part_at (levels - 1) TerraArguments c >>= λ x d.
     sign_at symbols.CloseParen d >>= λ y rest. Took (CallsMethod t.place n x) rest
 
 unfoldable pub construct_suffix_at : ℕ → ℕ → List Token → Outcome TerraSuffixed
 construct_suffix_at levels left ts =
-    raise_at symbols.OpenBrace levels left ts >>= λ t a. part_at (levels - 1) Initialisers a >>= λ x b. sign_at symbols.CloseBrace b >>= λ y rest. Took (Constructs t.place x) rest
+    raise_at symbols.OpenBrace levels left ts >>= λ t a. part_at (levels - 1) Initialisers a >>= λ x b.
+    sign_at symbols.CloseBrace b >>= λ y rest. Took (Constructs t.place x) rest
 
 unfoldable pub terra_suffix_at : ℕ → ℕ → List Token → Outcome TerraSuffixed
 terra_suffix_at levels left ts =
@@ -135,11 +148,13 @@ terra_primary_at levels left ts =
 -- a prefix operator with its operand
 unfoldable pub terra_prefixed_at : ℕ → ℕ → List Token → Outcome Chained
 terra_prefixed_at levels left ts =
-    prefix_at terra_prefix_symbols levels ts >>= λ t a. part_at (levels - 1) TerraOperand a >>= λ x rest. Took (operand left (TerraUnary t.place (unary_of t.symbol) x)) rest
+    prefix_at terra_prefix_symbols levels ts >>= λ t a. part_at (levels - 1) TerraOperand a
+    >>= λ x rest. Took (operand left (TerraUnary t.place (unary_of t.symbol) x)) rest
 
 -- the right operand of `^`
 unfoldable pub terra_exponent_at : ℕ → ℕ → List Token → Outcome Chained
-terra_exponent_at levels left ts = if begins (among terra_prefix_symbols) ts then terra_prefixed_at levels left ts else terra_primary_at levels left ts
+terra_exponent_at levels left ts = if begins (among terra_prefix_symbols) ts then terra_prefixed_at levels left ts
+    else terra_primary_at levels left ts
 
 -- the operators of a precedence
 abbrev pub terra_symbols_of : TerraPrecedence → List Symbol
@@ -175,17 +190,20 @@ terra_first_at levels precedences.Conjunction left ts = terra_inner_at levels pr
 terra_first_at levels precedences.Disjunction left ts = terra_inner_at levels precedences.Disjunction left ts
 
 unfoldable pub terra_more_at : ℕ → TerraPrecedence → Chained → List Token → Outcome Chained
-terra_more_at levels p a ts = reading levels (operators (terra_symbols_of p) (λ left. terra_inner_of p left) terra.terra_operation a) ts
+terra_more_at levels p a ts = reading levels (operators (terra_symbols_of p) (λ left.
+    terra_inner_of p left) terra.terra_operation a) ts
 
 -- an operator and its right operand
 unfoldable pub terra_one_more_at : ℕ → TerraPrecedence → ℕ → List Token → Outcome (Token × Chained)
-terra_one_more_at levels p left ts = operator_at (terra_symbols_of p) left ts >>= λ t a. terra_inner_at levels p (down left) a >>= λ b rest. Took (t, b) rest
+terra_one_more_at levels p left ts = operator_at (terra_symbols_of p) left ts >>= λ t a.
+    terra_inner_at levels p (down left) a >>= λ b rest. Took (t, b) rest
 
 unfoldable pub terra_binary_at : ℕ → TerraPrecedence → ℕ → List Token → Outcome Chained
 terra_binary_at levels p left ts = terra_first_at levels p left ts >>= λ a rest. terra_more_at levels p a rest
 
 unfoldable pub terra_unary_at : ℕ → ℕ → List Token → Outcome Chained
-terra_unary_at levels left ts = if begins (among terra_prefix_symbols) ts then terra_prefixed_at levels left ts else terra_binary_at levels precedences.Power left ts
+terra_unary_at levels left ts = if begins (among terra_prefix_symbols) ts then terra_prefixed_at levels left ts
+    else terra_binary_at levels precedences.Power left ts
 
 -- ---- lists of expressions
 
@@ -196,15 +214,18 @@ unfoldable pub next_terra_expression_at : ℕ → List Token → Outcome Tree
 next_terra_expression_at levels ts = sign_at symbols.Comma ts >>= λ y mid. part_at levels TerraExpression mid
 
 unfoldable pub terra_expressions_at : ℕ → List Token → Outcome Tree
-terra_expressions_at levels ts = part_at levels TerraExpression ts >>= λ e mid. more_terra_expressions_at levels (More Nothing e) mid
+terra_expressions_at levels ts = part_at levels TerraExpression ts >>= λ e mid.
+    more_terra_expressions_at levels (More Nothing e) mid
 
 unfoldable pub terra_arguments_at : ℕ → List Token → Outcome Tree
-terra_arguments_at levels ts = if begins (is symbols.CloseParen) ts then Took Nothing ts else terra_expressions_at levels ts
+terra_arguments_at levels ts = if begins (is symbols.CloseParen) ts then Took Nothing ts
+    else terra_expressions_at levels ts
 
 -- ---- initialisers
 
 unfoldable pub named_initialiser_at : ℕ → List Token → Outcome Tree
-named_initialiser_at levels ts = name_at ts >>= λ n a. sign_at symbols.Equal a >>= λ y b. part_at levels TerraExpression b >>= λ v rest. Took (NamedField n v) rest
+named_initialiser_at levels ts = name_at ts >>= λ n a. sign_at symbols.Equal a >>= λ y b.
+    part_at levels TerraExpression b >>= λ v rest. Took (NamedField n v) rest
 
 -- initialisers behind the first, where they are named or aren't
 abbrev pub initialiser_of : Bool → Grammar Tree
@@ -220,17 +241,22 @@ more_initialisers_at levels named before ts = reading levels (separated_behind (
 -- a separator, and an initialiser if one follows
 unfoldable pub next_initialiser_at : ℕ → Bool → List Token → Outcome (Option Tree)
 next_initialiser_at levels named ts =
-    sign_among_at separators ts >>= λ y a. if begins (is symbols.CloseBrace) a then Took None a else (initialiser_at levels named a >>= λ f rest. Took (Some f) rest)
+    sign_among_at separators ts >>= λ y a. if begins (is symbols.CloseBrace) a then Took None a
+    else (initialiser_at levels named a >>= λ f rest. Took (Some f) rest)
 
 -- The first initialiser, and whether it is named: a name alone before "=" is.
 unfoldable pub initialiser_behind_at : ℕ → Chained → List Token → Outcome (Tree × Bool)
 initialiser_behind_at levels e ts =
-    if is_name e.shape then (if begins (is symbols.Equal) ts then (sign_at symbols.Equal ts >>= λ y a. part_at levels TerraExpression a >>= λ v rest. Took (NamedField e.tree v, true) rest) else Took (e.tree, false) ts)
+    if is_name e.shape then (if begins (is symbols.Equal) ts then (sign_at symbols.Equal ts >>= λ y a.
+    part_at levels TerraExpression a >>= λ v rest. Took (NamedField e.tree v, true) rest)
+    else Took (e.tree, false) ts)
     else Took (e.tree, false) ts
 
 unfoldable pub first_initialiser_at : ℕ → List Token → Outcome (Tree × Bool)
-first_initialiser_at levels ts = terra_binary_at levels precedences.Disjunction chain ts >>= λ e rest. initialiser_behind_at levels e rest
+first_initialiser_at levels ts = terra_binary_at levels precedences.Disjunction chain ts >>= λ e rest.
+    initialiser_behind_at levels e rest
 
 unfoldable pub initialisers_at : ℕ → List Token → Outcome Tree
 initialisers_at levels ts =
-    if begins (is symbols.CloseBrace) ts then Took Nothing ts else (first_initialiser_at levels ts >>= λ f rest. more_initialisers_at levels f.1 (More Nothing f.0) rest)
+    if begins (is symbols.CloseBrace) ts then Took Nothing ts else (first_initialiser_at levels ts >>= λ f rest.
+    more_initialisers_at levels f.1 (More Nothing f.0) rest)

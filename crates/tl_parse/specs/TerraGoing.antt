@@ -10,7 +10,8 @@ use Rattle.tl_tree.specs.Nodes.{laid, last_of}
 use Rattle.tl_tree.specs.Grammar.{Outcome, Took, down}
 use Rattle.tl_tree.specs.Forms.{Chained, chained, binary_of}
 use Rattle.tl_parse.specs.Parsing.{tokens_left, items_of, end_of, Ready, Pushed}
-use Rattle.tl_parse.specs.TerraExpressions.{TerraSuffixed, terra_attached, terra_shape_of, terra_suffixes_at, terra_more_at}
+use Rattle.tl_parse.specs.TerraExpressions.{TerraSuffixed, terra_attached, terra_shape_of, terra_suffixes_at}
+use Rattle.tl_parse.specs.TerraExpressions.{terra_more_at}
 use Rattle.tl_parse.specs.declared.terra_expressions.TerraPrecedence.{TerraPrecedence}
 use Rattle.tl_parse.specs.declared.terra_expressions.TerraPrecedence.TheVariants as precedences
 use Rattle.tl_parse.specs.declared.parser.Parser.{Parser}
@@ -31,7 +32,8 @@ pub record TookTerraSuffix (old new : Parser) (o : Outcome TerraSuffixed) (a r :
   pub ready : Ready new
   pub left : r.left ≡ down a.left
   pub shape : r.shape ≡ terra_shape_of suffix
-  pub items : (tree : Tree) (before : List Item) → items_of old ≡ (laid tree before).items → a.node ≡ last_of (items_of old) → items_of new ≡ (laid (terra_attached suffix tree) before).items
+  pub items : (tree : Tree) (before : List Item) → items_of old ≡ (laid tree before).items
+      → a.node ≡ last_of (items_of old) → items_of new ≡ (laid (terra_attached suffix tree) before).items
   pub is_last : r.node ≡ last_of (items_of new)
 
 -- An operand and operators behind it are a tree so far, and the rest is read from here as from the beginning.

@@ -11,7 +11,8 @@ use Rattle.tl_parse.specs.declared.parser.Parser.{Parser}
 -- the statements of a block so far
 pub record TerraSequencing (levels : ℕ) (start now : Parser) (o : Outcome Tree) (numbers : List NodeId) (ended : Bool) : Type 0 where
   pub tree : Tree
-  pub goes_on : o ≡ (more_terra_statements_at levels tree ended (tokens_left now) >>= λ a rest. Took (Block a.statements) rest)
+  pub goes_on : o ≡ (more_terra_statements_at levels tree ended (tokens_left now)
+      >>= λ a rest. Took (Block a.statements) rest)
   pub finish : end_of now ≡ end_of start
   pub ready : Ready now
   pub items : items_of now ≡ (laid tree (items_of start)).items

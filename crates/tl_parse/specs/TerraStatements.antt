@@ -8,27 +8,34 @@ use Rattle.tl_tree.specs.declared.mode.Extra.TheVariants.{Plain}
 use Rattle.tl_tree.specs.declared.mode.Shape.{Shape}
 use Rattle.tl_tree.specs.declared.mode.Shape.TheVariants as shapes
 use Rattle.tl_tree.specs.Tokens.{Token, among, is}
-use Rattle.tl_tree.specs.Tree.{Tree, Nothing, More, Just, Name, Escape, TerraAssign, TerraPerform, Splice, TerraDo, TerraWhile, TerraRepeat, TerraIf, TerraFor, Var, EscapeBlock, TerraReturn, TerraBreak, Block, Arm, Quoted, TerraBody, Parameter, SpliceParameter, Variable, Expression, Statements, TerraExpression, TerraStatements}
+use Rattle.tl_tree.specs.Tree.{Tree, Nothing, More, Just, Name, Escape, TerraAssign, TerraPerform, Splice, TerraDo}
+use Rattle.tl_tree.specs.Tree.{TerraWhile, TerraRepeat, TerraIf, TerraFor, Var, EscapeBlock, TerraReturn, TerraBreak}
+use Rattle.tl_tree.specs.Tree.{Block, Arm, Quoted, TerraBody, Parameter, SpliceParameter, Variable, Expression}
+use Rattle.tl_tree.specs.Tree.{Statements, TerraExpression, TerraStatements}
 use Rattle.tl_tree.specs.Grammar.{Grammar, give, bind, many, Outcome, Took, ◌>>=◌, begins}
 use Rattle.tl_tree.specs.Forms.{semicolon, listed_behind, Chained, chained, chain}
 use Rattle.tl_tree.specs.LuaStatements.{Sequence, sequence}
 use Rattle.tl_tree.specs.TerraStatements as terra
 use Rattle.tl_parse.specs.Using.{reading, part_at, sign_at, open_at}
 use Rattle.tl_parse.specs.Statements.{first_place, is_call, last_symbols}
-use Rattle.tl_parse.specs.TerraExpressions.{terra_name_at, terra_expressions_at, more_terra_expressions_at, terra_applied_at}
+use Rattle.tl_parse.specs.TerraExpressions.{terra_name_at, terra_expressions_at, more_terra_expressions_at}
+use Rattle.tl_parse.specs.TerraExpressions.{terra_applied_at}
 
 -- ---- parts of statements
 
 unfoldable pub written_type_at : ℕ → List Token → Outcome Tree
 written_type_at levels ts =
-    if begins (is symbols.Colon) ts then (sign_at symbols.Colon ts >>= λ y a. part_at levels (Expression modes.Types) a >>= λ e rest. Took (Just e) rest) else Took Nothing ts
+    if begins (is symbols.Colon) ts then (sign_at symbols.Colon ts >>= λ y a. part_at levels (Expression modes.Types) a
+    >>= λ e rest. Took (Just e) rest) else Took Nothing ts
 
 unfoldable pub terra_loop_at : ℕ → List Token → Outcome Tree
-terra_loop_at levels ts = open_at symbols.Do levels ts >>= λ t a. part_at (levels - 1) TerraStatements a >>= λ x b. sign_at symbols.End b >>= λ y rest. Took x rest
+terra_loop_at levels ts = open_at symbols.Do levels ts >>= λ t a. part_at (levels - 1) TerraStatements a >>= λ x b.
+    sign_at symbols.End b >>= λ y rest. Took x rest
 
 unfoldable pub terra_arm_at : ℕ → List Token → Outcome Tree
 terra_arm_at levels ts =
-    part_at levels TerraExpression ts >>= λ e a. open_at symbols.Then levels a >>= λ t b. part_at (levels - 1) TerraStatements b >>= λ x rest. Took (Arm e x) rest
+    part_at levels TerraExpression ts >>= λ e a. open_at symbols.Then levels a >>= λ t b.
+    part_at (levels - 1) TerraStatements b >>= λ x rest. Took (Arm e x) rest
 
 unfoldable pub next_terra_arm_at : ℕ → List Token → Outcome Tree
 next_terra_arm_at levels ts = sign_at symbols.Elseif ts >>= λ y a. terra_arm_at levels a
@@ -41,18 +48,22 @@ terra_arms_at levels ts = terra_arm_at levels ts >>= λ a rest. more_terra_arms_
 
 unfoldable pub terra_otherwise_at : ℕ → List Token → Outcome Tree
 terra_otherwise_at levels ts =
-    if begins (is symbols.Else) ts then (open_at symbols.Else levels ts >>= λ t a. part_at (levels - 1) TerraStatements a >>= λ x rest. Took (Just x) rest) else Took Nothing ts
+    if begins (is symbols.Else) ts then (open_at symbols.Else levels ts >>= λ t a.
+    part_at (levels - 1) TerraStatements a >>= λ x rest. Took (Just x) rest) else Took Nothing ts
 
 unfoldable pub terra_step_at : ℕ → List Token → Outcome Tree
 terra_step_at levels ts =
-    if begins (is symbols.Comma) ts then (sign_at symbols.Comma ts >>= λ y a. part_at levels TerraExpression a >>= λ e rest. Took (Just e) rest) else Took Nothing ts
+    if begins (is symbols.Comma) ts then (sign_at symbols.Comma ts >>= λ y a. part_at levels TerraExpression a
+    >>= λ e rest. Took (Just e) rest) else Took Nothing ts
 
 unfoldable pub terra_variable_at : ℕ → List Token → Outcome Tree
 terra_variable_at levels ts =
     if begins (is symbols.OpenBracket) ts then
-    (open_at symbols.OpenBracket levels ts >>= λ t a. part_at (levels - 1) (Expression modes.Plain) a >>= λ x b. sign_at symbols.CloseBracket b >>= λ y d.
+    (open_at symbols.OpenBracket levels ts >>= λ t a. part_at (levels - 1) (Expression modes.Plain) a >>= λ x b.
+    sign_at symbols.CloseBracket b >>= λ y d.
     written_type_at levels d >>= λ e rest. Took (Variable t.place (Escape t.place x) e) rest)
-    else (sign_at symbols.Name ts >>= λ n a. written_type_at levels a >>= λ e rest. Took (Variable n.place (Name n.place n.offset n.text) e) rest)
+    else (sign_at symbols.Name ts >>= λ n a. written_type_at levels a
+    >>= λ e rest. Took (Variable n.place (Name n.place n.offset n.text) e) rest)
 
 unfoldable pub next_terra_variable_at : ℕ → List Token → Outcome Tree
 next_terra_variable_at levels ts = sign_at symbols.Comma ts >>= λ y a. terra_variable_at levels a
@@ -61,14 +72,17 @@ unfoldable pub more_terra_variables_at : ℕ → Tree → List Token → Outcome
 more_terra_variables_at levels before ts = reading levels (listed_behind terra.terra_variable before) ts
 
 unfoldable pub terra_variables_at : ℕ → List Token → Outcome Tree
-terra_variables_at levels ts = terra_variable_at levels ts >>= λ v rest. more_terra_variables_at levels (More Nothing v) rest
+terra_variables_at levels ts = terra_variable_at levels ts >>= λ v rest.
+    more_terra_variables_at levels (More Nothing v) rest
 
 unfoldable pub terra_initial_values_at : ℕ → List Token → Outcome Tree
 terra_initial_values_at levels ts =
-    if begins (is symbols.Equal) ts then (sign_at symbols.Equal ts >>= λ y a. terra_expressions_at levels a) else Took Nothing ts
+    if begins (is symbols.Equal) ts then (sign_at symbols.Equal ts >>= λ y a. terra_expressions_at levels a)
+    else Took Nothing ts
 
 unfoldable pub terra_returned_values_at : ℕ → List Token → Outcome Tree
-terra_returned_values_at levels ts = if begins (among terra.terra_expression_symbols) ts then terra_expressions_at levels ts else Took Nothing ts
+terra_returned_values_at levels ts = if begins (among terra.terra_expression_symbols) ts then
+    terra_expressions_at levels ts else Took Nothing ts
 
 -- ---- assignments, calls and splices
 
@@ -79,12 +93,14 @@ is_escape _ = false
 -- the first expression of a statement that no word begins
 unfoldable pub terra_target_at : ℕ → List Token → Outcome Chained
 terra_target_at levels ts =
-    if begins (is symbols.At) ts then (part_at levels TerraExpression ts >>= λ e rest. Took (chained e chain shapes.Other) rest) else terra_applied_at levels ts
+    if begins (is symbols.At) ts then (part_at levels TerraExpression ts
+    >>= λ e rest. Took (chained e chain shapes.Other) rest) else terra_applied_at levels ts
 
 -- more targets and the values behind a list of targets
 unfoldable pub terra_assignment_at : ℕ → Place → Tree → List Token → Outcome Tree
 terra_assignment_at levels place before ts =
-    more_terra_expressions_at levels before ts >>= λ targets a. sign_at symbols.Equal a >>= λ y b. terra_expressions_at levels b >>= λ es rest.
+    more_terra_expressions_at levels before ts >>= λ targets a. sign_at symbols.Equal a >>= λ y b.
+    terra_expressions_at levels b >>= λ es rest.
     Took (TerraAssign place targets es) rest
 
 abbrev pub assignment_symbols : List Symbol
@@ -97,44 +113,54 @@ terra_statement_behind_at levels place a ts =
     else terra_assignment_at levels place (More Nothing a.tree) ts)
 
 unfoldable pub terra_simple_statement_at : ℕ → List Token → Outcome Tree
-terra_simple_statement_at levels ts = terra_target_at levels ts >>= λ a rest. terra_statement_behind_at levels (first_place ts) a rest
+terra_simple_statement_at levels ts = terra_target_at levels ts >>= λ a rest.
+    terra_statement_behind_at levels (first_place ts) a rest
 
 -- ---- statements that a word begins
 
 unfoldable pub terra_do_at : ℕ → List Token → Outcome Tree
 terra_do_at levels ts =
-    open_at symbols.Do levels ts >>= λ t a. part_at (levels - 1) TerraStatements a >>= λ x b. sign_at symbols.End b >>= λ y rest. Took (TerraDo t.place x) rest
+    open_at symbols.Do levels ts >>= λ t a. part_at (levels - 1) TerraStatements a >>= λ x b. sign_at symbols.End b
+    >>= λ y rest. Took (TerraDo t.place x) rest
 
 unfoldable pub terra_while_at : ℕ → List Token → Outcome Tree
-terra_while_at levels ts = sign_at symbols.While ts >>= λ t a. part_at levels TerraExpression a >>= λ e b. terra_loop_at levels b >>= λ x rest. Took (TerraWhile t.place e x) rest
+terra_while_at levels ts = sign_at symbols.While ts >>= λ t a. part_at levels TerraExpression a >>= λ e b.
+    terra_loop_at levels b >>= λ x rest. Took (TerraWhile t.place e x) rest
 
 unfoldable pub terra_repeat_at : ℕ → List Token → Outcome Tree
 terra_repeat_at levels ts =
-    open_at symbols.Repeat levels ts >>= λ t a. part_at (levels - 1) TerraStatements a >>= λ x b. sign_at symbols.Until b >>= λ y d.
+    open_at symbols.Repeat levels ts >>= λ t a. part_at (levels - 1) TerraStatements a >>= λ x b.
+    sign_at symbols.Until b >>= λ y d.
     part_at levels TerraExpression d >>= λ e rest. Took (TerraRepeat t.place x e) rest
 
 unfoldable pub terra_if_at : ℕ → List Token → Outcome Tree
 terra_if_at levels ts =
-    sign_at symbols.If ts >>= λ t a. terra_arms_at levels a >>= λ all b. terra_otherwise_at levels b >>= λ o d. sign_at symbols.End d >>= λ y rest.
+    sign_at symbols.If ts >>= λ t a. terra_arms_at levels a >>= λ all b. terra_otherwise_at levels b >>= λ o d.
+    sign_at symbols.End d >>= λ y rest.
     Took (TerraIf t.place all o) rest
 
 unfoldable pub terra_for_at : ℕ → List Token → Outcome Tree
 terra_for_at levels ts =
-    sign_at symbols.For ts >>= λ t a. terra_name_at levels a >>= λ n b. sign_at symbols.Equal b >>= λ y d. part_at levels TerraExpression d >>= λ first e.
-    sign_at symbols.Comma e >>= λ z f. part_at levels TerraExpression f >>= λ limit g. terra_step_at levels g >>= λ s h. terra_loop_at levels h >>= λ x rest.
+    sign_at symbols.For ts >>= λ t a. terra_name_at levels a >>= λ n b. sign_at symbols.Equal b >>= λ y d.
+    part_at levels TerraExpression d >>= λ first e.
+    sign_at symbols.Comma e >>= λ z f. part_at levels TerraExpression f >>= λ limit g. terra_step_at levels g >>= λ s h.
+    terra_loop_at levels h >>= λ x rest.
     Took (TerraFor t.place n first limit s x) rest
 
 unfoldable pub terra_var_at : ℕ → List Token → Outcome Tree
 terra_var_at levels ts =
-    sign_at symbols.Var ts >>= λ t a. terra_variables_at levels a >>= λ vs b. terra_initial_values_at levels b >>= λ es rest. Took (Var t.place vs es) rest
+    sign_at symbols.Var ts >>= λ t a. terra_variables_at levels a >>= λ vs b. terra_initial_values_at levels b
+    >>= λ es rest. Took (Var t.place vs es) rest
 
 unfoldable pub escape_block_at : ℕ → List Token → Outcome Tree
 escape_block_at levels ts =
-    open_at symbols.Escape levels ts >>= λ t a. part_at (levels - 1) (Statements terra.emitting) a >>= λ x b. sign_at symbols.End b >>= λ y rest.
+    open_at symbols.Escape levels ts >>= λ t a. part_at (levels - 1) (Statements terra.emitting) a >>= λ x b.
+    sign_at symbols.End b >>= λ y rest.
     Took (EscapeBlock t.place x) rest
 
 unfoldable pub terra_return_at : ℕ → List Token → Outcome Tree
-terra_return_at levels ts = sign_at symbols.Return ts >>= λ t a. terra_returned_values_at levels a >>= λ es rest. Took (TerraReturn t.place es) rest
+terra_return_at levels ts = sign_at symbols.Return ts >>= λ t a. terra_returned_values_at levels a
+    >>= λ es rest. Took (TerraReturn t.place es) rest
 
 unfoldable pub terra_break_at : List Token → Outcome Tree
 terra_break_at ts = sign_at symbols.Break ts >>= λ t rest. Took (TerraBreak t.place) rest
@@ -158,7 +184,9 @@ terra_statement_at levels ts =
 unfoldable pub next_terra_statement_at : ℕ → List Token → Outcome Sequence
 next_terra_statement_at levels ts =
     terra_statement_at levels ts >>= λ s a.
-    if begins (is symbols.Semicolon) a then (sign_at symbols.Semicolon a >>= λ y rest. Took (sequence s (begins (among last_symbols) ts)) rest) else Took (sequence s (begins (among last_symbols) ts)) a
+    if begins (is symbols.Semicolon) a then (sign_at symbols.Semicolon a
+    >>= λ y rest. Took (sequence s (begins (among last_symbols) ts)) rest)
+    else Took (sequence s (begins (among last_symbols) ts)) a
 
 -- May a token be the first of one more statement of a block?
 abbrev pub terra_goes_on : Bool → Token → Bool
@@ -167,8 +195,10 @@ terra_goes_on ended t = among terra.terra_statement_symbols t && not ended
 -- the statements behind those so far
 abbrev pub more_terra_statements : Sequence → Grammar Sequence
 more_terra_statements a =
-    many (λ a t. terra_goes_on a.ended t) (λ a t. Plain) (λ a t. terra.terra_statement_opens (terra.terra_statement_of t.symbol))
-    (λ t x a. bind (terra.terra_statement (terra.terra_statement_of t.symbol) t x) λ s. bind semicolon λ y. give (sequence (More a.statements s) (terra.ends_terra_block (terra.terra_statement_of t.symbol)))) a
+    many (λ a t. terra_goes_on a.ended t) (λ a t. Plain) (λ a t.
+    terra.terra_statement_opens (terra.terra_statement_of t.symbol))
+    (λ t x a. bind (terra.terra_statement (terra.terra_statement_of t.symbol) t x) λ s. bind semicolon λ y.
+    give (sequence (More a.statements s) (terra.ends_terra_block (terra.terra_statement_of t.symbol)))) a
 
 unfoldable pub more_terra_statements_at : ℕ → Tree → Bool → List Token → Outcome Sequence
 more_terra_statements_at levels tree ended ts = reading levels (more_terra_statements (sequence tree ended)) ts
@@ -181,10 +211,12 @@ terra_block_at levels ts = more_terra_statements_at levels Nothing false ts >>= 
 unfoldable pub terra_parameter_at : ℕ → List Token → Outcome Tree
 terra_parameter_at levels ts =
     if begins (is symbols.OpenBracket) ts then
-    (open_at symbols.OpenBracket levels ts >>= λ t a. part_at (levels - 1) (Expression modes.Plain) a >>= λ x b. sign_at symbols.CloseBracket b >>= λ y rest.
+    (open_at symbols.OpenBracket levels ts >>= λ t a. part_at (levels - 1) (Expression modes.Plain) a >>= λ x b.
+    sign_at symbols.CloseBracket b >>= λ y rest.
     Took (SpliceParameter t.place (Escape t.place x)) rest)
     else
-    (sign_at symbols.Name ts >>= λ n a. sign_at symbols.Colon a >>= λ y b. part_at levels (Expression modes.Types) b >>= λ e rest.
+    (sign_at symbols.Name ts >>= λ n a. sign_at symbols.Colon a >>= λ y b. part_at levels (Expression modes.Types) b
+    >>= λ e rest.
     Took (Parameter n.place (Name n.place n.offset n.text) e) rest)
 
 unfoldable pub next_terra_parameter_at : ℕ → List Token → Outcome Tree
@@ -195,17 +227,21 @@ more_terra_parameters_at levels before ts = reading levels (listed_behind terra.
 
 unfoldable pub terra_parameters_at : ℕ → List Token → Outcome Tree
 terra_parameters_at levels ts =
-    if begins (is symbols.CloseParen) ts then Took Nothing ts else (terra_parameter_at levels ts >>= λ p rest. more_terra_parameters_at levels (More Nothing p) rest)
+    if begins (is symbols.CloseParen) ts then Took Nothing ts else (terra_parameter_at levels ts >>= λ p rest.
+    more_terra_parameters_at levels (More Nothing p) rest)
 
 -- behind a "(" at this place
 unfoldable pub terra_function_body_at : ℕ → Place → List Token → Outcome Tree
 terra_function_body_at levels place ts =
-    terra_parameters_at levels ts >>= λ ps a. sign_at symbols.CloseParen a >>= λ y b. written_type_at levels b >>= λ r d. part_at levels TerraStatements d >>= λ x e.
+    terra_parameters_at levels ts >>= λ ps a. sign_at symbols.CloseParen a >>= λ y b. written_type_at levels b
+    >>= λ r d. part_at levels TerraStatements d >>= λ x e.
     sign_at symbols.End e >>= λ z rest. Took (TerraBody place ps r x) rest
 
 unfoldable pub quoted_expression_at : ℕ → List Token → Outcome Tree
 quoted_expression_at levels ts =
-    if begins (is symbols.In) ts then (sign_at symbols.In ts >>= λ y a. part_at levels TerraExpression a >>= λ e rest. Took (Just e) rest) else Took Nothing ts
+    if begins (is symbols.In) ts then (sign_at symbols.In ts >>= λ y a. part_at levels TerraExpression a
+    >>= λ e rest. Took (Just e) rest) else Took Nothing ts
 
 unfoldable pub quoted_code_at : ℕ → List Token → Outcome Tree
-quoted_code_at levels ts = part_at levels TerraStatements ts >>= λ x a. quoted_expression_at levels a >>= λ e rest. Took (Quoted x e) rest
+quoted_code_at levels ts = part_at levels TerraStatements ts >>= λ x a. quoted_expression_at levels a
+    >>= λ e rest. Took (Quoted x e) rest

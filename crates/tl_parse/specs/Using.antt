@@ -21,12 +21,18 @@ part_at levels part ts = reading levels (syntax_of part) ts
 
 -- the limits on a token that opens a level or doesn't
 abbrev pub barred : Bool → ℕ → Extra → Token → Option SyntaxKind
-barred opens levels extra t = bar (record { opens = if opens then Some FunctionBody else None; levels = levels; extra = extra }) t
+barred opens levels extra t = bar (record {
+  opens = if opens then Some FunctionBody
+      else None;
+  levels = levels;
+  extra = extra;
+}) t
 
 -- A token of a class, which may open a level where so many are left, and what else it does.
 unfoldable pub used : (Token → Bool) → Bool → ℕ → Extra → List Token → Outcome Token
 used class opens levels extra [] = Stop why.Unexpected []
-used class opens levels extra (t ∷ ts) = if is_of class t then unless (barred opens levels extra t) (t ∷ ts) (Took t ts) else Stop (blame t.symbol) (t ∷ ts)
+used class opens levels extra (t ∷ ts) = if is_of class t then unless (barred opens levels extra t) (t ∷ ts) (Took t ts)
+    else Stop (blame t.symbol) (t ∷ ts)
 
 -- a token with this symbol
 unfoldable pub sign_at : Symbol → List Token → Outcome Token

@@ -16,7 +16,8 @@ use tl_tree::{Context, Mode, Tree};
 /// The levels of nesting of a text.
 const LEVELS: u32 = 100;
 
-/// The tree of a text of Lua and Terra code (Lua 5.1 manual, section 8, and the grammar of `tl_tree`), or the refusal of its first token with
+/// The tree of a text of Lua and Terra code (Lua 5.1 manual, section 8, and the grammar of `tl_tree`), or the refusal
+/// of its first token with
 /// which no such text goes on.
 ///
 /// A text has exactly one tree or exactly one refusal (`tl_tree::laws::one_answer_of_text`). That is the result, unless memory runs

@@ -6,9 +6,18 @@ ghost use Rattle.tl_tree.specs.LuaExpressions as lua;
 ghost use Rattle.tl_tree.specs.Tokens.{among};
 ghost use Rattle.tl_tree.specs.Tree as parts;
 ghost use Rattle.tl_tree.specs.Grammar.{begins};
-ghost use Rattle.tl_parse.specs.Parsing.{tokens_left, Ready, Fails, TookToken, TookTree, TookOperand, TookList, TookMaybe};
+ghost use Rattle.tl_parse.specs.Parsing.{tokens_left, Ready, Fails, TookToken, TookTree, TookOperand, TookList};
+ghost use Rattle.tl_parse.specs.Parsing.{TookMaybe};
 ghost use Rattle.tl_parse.specs.Using.{part_at, number_at};
-ghost use Rattle.tl_parse.specs.Expressions.{name_at, expressions_at, next_expression_at, arguments_at, paren_at, base_at, call_suffix_at, index_suffix_at, select_suffix_at, method_arguments_at, method_suffix_at, table_suffix_at, literal_suffix_at, suffix_at, applied_at, prefixed_at, number_tree_at, literal_at, constant, constant_at, function_at, table_at, simple_at, is_simple, primary_at, power_at, unary_at, symbols_of, inner_at, one_more_at, binary_at, concatenation_at, chained_at, is_name, is_other, field_behind_at, keyed_field_at, field_at, next_field_at, fields_at, simple_symbols, separators};
+ghost use Rattle.tl_parse.specs.Expressions.{name_at, expressions_at, next_expression_at, arguments_at, paren_at};
+ghost use Rattle.tl_parse.specs.Expressions.{base_at, call_suffix_at, index_suffix_at, select_suffix_at};
+ghost use Rattle.tl_parse.specs.Expressions.{method_arguments_at, method_suffix_at, table_suffix_at};
+ghost use Rattle.tl_parse.specs.Expressions.{literal_suffix_at, suffix_at, applied_at, prefixed_at, number_tree_at};
+ghost use Rattle.tl_parse.specs.Expressions.{literal_at, constant, constant_at, function_at, table_at, simple_at};
+ghost use Rattle.tl_parse.specs.Expressions.{is_simple, primary_at, power_at, unary_at, symbols_of, inner_at};
+ghost use Rattle.tl_parse.specs.Expressions.{one_more_at, binary_at, concatenation_at, chained_at, is_name, is_other};
+ghost use Rattle.tl_parse.specs.Expressions.{field_behind_at, keyed_field_at, field_at, next_field_at, fields_at};
+ghost use Rattle.tl_parse.specs.Expressions.{simple_symbols, separators};
 ghost use Rattle.tl_parse.specs.Going.{TookOperation, TookSuffix};
 
 use crate::error::SyntaxError;
@@ -105,7 +114,7 @@ fn is_other(shape: Shape) -> bool
 
 impl<'a> Parser<'a> {
     /// Name
-    #[tactic(auto, using(crate::proofs::Failing::fails_bind, crate::proofs::Failing::fails_after), unfolding(crate::specs::Expressions::name_at))]
+    #[tactic(auto, using(crate::proofs::Failing::failing), unfolding(crate::specs::Expressions::name_at))]
     pub(crate) fn name(&mut self) -> Result<NodeId, SyntaxError>
         requires { Ready self.old }
         ensures ok { IfOk result (λ r. TookTree self.old self.new (name_at (tokens_left self.old)) r) }
@@ -116,7 +125,7 @@ impl<'a> Parser<'a> {
     }
 
     /// Numeral, of Lua code
-    #[tactic(auto, using(crate::proofs::Failing::fails_bind, crate::proofs::Failing::fails_after), unfolding(crate::specs::Expressions::number_tree_at))]
+    #[tactic(auto, using(crate::proofs::Failing::failing), unfolding(crate::specs::Expressions::number_tree_at))]
     pub(crate) fn number(&mut self) -> Result<NodeId, SyntaxError>
         requires { Ready self.old }
         ensures ok { IfOk result (λ r. TookTree self.old self.new (number_tree_at (tokens_left self.old)) r) }
@@ -127,7 +136,7 @@ impl<'a> Parser<'a> {
     }
 
     /// Text
-    #[tactic(auto, using(crate::proofs::Failing::fails_bind, crate::proofs::Failing::fails_after), unfolding(crate::specs::Expressions::literal_at))]
+    #[tactic(auto, using(crate::proofs::Failing::failing), unfolding(crate::specs::Expressions::literal_at))]
     pub(crate) fn literal(&mut self) -> Result<NodeId, SyntaxError>
         requires { Ready self.old }
         ensures ok { IfOk result (λ r. TookTree self.old self.new (literal_at (tokens_left self.old)) r) }
@@ -138,7 +147,7 @@ impl<'a> Parser<'a> {
     }
 
     /// "nil"
-    #[tactic(auto, using(crate::proofs::Failing::fails_bind, crate::proofs::Failing::fails_after), unfolding(crate::specs::Expressions::constant_at))]
+    #[tactic(auto, using(crate::proofs::Failing::failing), unfolding(crate::specs::Expressions::constant_at))]
     fn nil(&mut self) -> Result<NodeId, SyntaxError>
         requires { Ready self.old }
         ensures ok { IfOk result (λ r. TookTree self.old self.new (constant_at Symbol.Nil (tokens_left self.old)) r) }
@@ -149,7 +158,7 @@ impl<'a> Parser<'a> {
     }
 
     /// "false"
-    #[tactic(auto, using(crate::proofs::Failing::fails_bind, crate::proofs::Failing::fails_after), unfolding(crate::specs::Expressions::constant_at))]
+    #[tactic(auto, using(crate::proofs::Failing::failing), unfolding(crate::specs::Expressions::constant_at))]
     fn false_constant(&mut self) -> Result<NodeId, SyntaxError>
         requires { Ready self.old }
         ensures ok { IfOk result (λ r. TookTree self.old self.new (constant_at Symbol.False (tokens_left self.old)) r) }
@@ -160,7 +169,7 @@ impl<'a> Parser<'a> {
     }
 
     /// "true"
-    #[tactic(auto, using(crate::proofs::Failing::fails_bind, crate::proofs::Failing::fails_after), unfolding(crate::specs::Expressions::constant_at))]
+    #[tactic(auto, using(crate::proofs::Failing::failing), unfolding(crate::specs::Expressions::constant_at))]
     fn true_constant(&mut self) -> Result<NodeId, SyntaxError>
         requires { Ready self.old }
         ensures ok { IfOk result (λ r. TookTree self.old self.new (constant_at Symbol.True (tokens_left self.old)) r) }
@@ -171,7 +180,7 @@ impl<'a> Parser<'a> {
     }
 
     /// "..."
-    #[tactic(auto, using(crate::proofs::Failing::fails_bind, crate::proofs::Failing::fails_after), unfolding(crate::specs::Expressions::constant_at))]
+    #[tactic(auto, using(crate::proofs::Failing::failing), unfolding(crate::specs::Expressions::constant_at))]
     fn varargs(&mut self) -> Result<NodeId, SyntaxError>
         requires { Ready self.old }
         ensures ok { IfOk result (λ r. TookTree self.old self.new (constant_at Symbol.Ellipsis (tokens_left self.old)) r) }
@@ -183,7 +192,7 @@ impl<'a> Parser<'a> {
 
     /// exp
     #[cycle(parser)]
-    #[tactic(auto, using(crate::proofs::Failing::fails_bind, crate::proofs::Failing::fails_after, crate::proofs::Parts::expression_part, crate::proofs::Failing::fails_same))]
+    #[tactic(auto, using(crate::proofs::Failing::failing_same, crate::proofs::Parts::expression_part))]
     pub(crate) fn expression(&mut self, mode: Mode, levels: u32) -> Result<NodeId, SyntaxError>
         requires { Ready self.old }
         ensures ok { IfOk result (λ r. TookTree self.old self.new (part_at levels (parts.Expression mode) (tokens_left self.old)) r) }
@@ -195,7 +204,7 @@ impl<'a> Parser<'a> {
 
     /// exp = .. operator exp: the operand of a prefix operator, and the right operand of "^"
     #[cycle(parser)]
-    #[tactic(auto, using(crate::proofs::Failing::fails_bind, crate::proofs::Failing::fails_after, crate::proofs::Parts::operand_part, crate::proofs::Failing::fails_same))]
+    #[tactic(auto, using(crate::proofs::Failing::failing_same, crate::proofs::Parts::operand_part))]
     fn operand(&mut self, mode: Mode, levels: u32) -> Result<NodeId, SyntaxError>
         requires { Ready self.old }
         ensures ok { IfOk result (λ r. TookTree self.old self.new (part_at levels (parts.Operand mode) (tokens_left self.old)) r) }
@@ -207,7 +216,7 @@ impl<'a> Parser<'a> {
 
     /// exp = exp ".." exp: its right operand
     #[cycle(parser)]
-    #[tactic(auto, using(crate::proofs::Failing::fails_bind, crate::proofs::Failing::fails_after, crate::proofs::Parts::concatenation_part, crate::proofs::Failing::fails_same))]
+    #[tactic(auto, using(crate::proofs::Failing::failing_same, crate::proofs::Parts::concatenation_part))]
     fn concatenated(&mut self, mode: Mode, levels: u32) -> Result<NodeId, SyntaxError>
         requires { Ready self.old }
         ensures ok { IfOk result (λ r. TookTree self.old self.new (part_at levels (parts.Concatenation mode) (tokens_left self.old)) r) }
@@ -219,7 +228,7 @@ impl<'a> Parser<'a> {
 
     /// [exps], up to a ")"
     #[cycle(parser)]
-    #[tactic(auto, using(crate::proofs::Failing::fails_bind, crate::proofs::Failing::fails_after, crate::proofs::Parts::arguments_part, crate::proofs::Failing::fails_same), unfolding(crate::specs::Expressions::arguments_at))]
+    #[tactic(auto, using(crate::proofs::Failing::failing_same, crate::proofs::Parts::arguments_part), unfolding(crate::specs::Expressions::arguments_at))]
     fn arguments(&mut self, mode: Mode, levels: u32) -> Result<NodeList, SyntaxError>
         requires { Ready self.old }
         ensures ok { IfOk result (λ r. TookList self.old self.new (part_at levels (parts.Arguments mode) (tokens_left self.old)) r) }
@@ -233,7 +242,7 @@ impl<'a> Parser<'a> {
 
     /// "," exp
     #[cycle(parser)]
-    #[tactic(auto, using(crate::proofs::Failing::fails_bind, crate::proofs::Failing::fails_after), unfolding(crate::specs::Expressions::next_expression_at))]
+    #[tactic(auto, using(crate::proofs::Failing::failing), unfolding(crate::specs::Expressions::next_expression_at))]
     fn next_expression(&mut self, mode: Mode, levels: u32) -> Result<NodeId, SyntaxError>
         requires { Ready self.old }
         ensures ok { IfOk result (λ r. TookTree self.old self.new (next_expression_at levels mode (tokens_left self.old)) r) }
@@ -245,7 +254,7 @@ impl<'a> Parser<'a> {
 
     /// exps = exp {"," exp}
     #[cycle(parser)]
-    #[tactic(auto, using(crate::proofs::Failing::fails_bind, crate::proofs::Failing::fails_after, crate::proofs::Failing::fails_from, crate::proofs::Turns::expressions_go, crate::proofs::Turns::expressions_end, crate::proofs::Turns::expression_shorter), unfolding(crate::specs::Expressions::expressions_at))]
+    #[tactic(auto, using(crate::proofs::Turns::expressions), unfolding(crate::specs::Expressions::expressions_at))]
     pub(crate) fn expressions(&mut self, mode: Mode, levels: u32) -> Result<NodeList, SyntaxError>
         requires { Ready self.old }
         ensures ok { IfOk result (λ r. TookList self.old self.new (expressions_at levels mode (tokens_left self.old)) r) }
@@ -263,7 +272,7 @@ impl<'a> Parser<'a> {
 
     /// "(" exp ")"
     #[cycle(parser)]
-    #[tactic(auto, using(crate::proofs::Failing::fails_bind, crate::proofs::Failing::fails_after), unfolding(crate::specs::Expressions::paren_at))]
+    #[tactic(auto, using(crate::proofs::Failing::failing), unfolding(crate::specs::Expressions::paren_at))]
     fn paren(&mut self, mode: Mode, levels: u32) -> Result<Operand, SyntaxError>
         requires { Ready self.old }
         ensures ok { IfOk result (λ r. TookOperand self.old self.new (paren_at levels mode (tokens_left self.old)) r) }
@@ -282,7 +291,7 @@ impl<'a> Parser<'a> {
 
     /// Name | "(" exp ")"
     #[cycle(parser)]
-    #[tactic(auto, using(crate::proofs::Failing::fails_bind, crate::proofs::Failing::fails_after), unfolding(crate::specs::Expressions::base_at))]
+    #[tactic(auto, using(crate::proofs::Failing::failing), unfolding(crate::specs::Expressions::base_at))]
     pub(crate) fn base(&mut self, mode: Mode, levels: u32) -> Result<Operand, SyntaxError>
         requires { Ready self.old }
         ensures ok { IfOk result (λ r. TookOperand self.old self.new (base_at levels mode (tokens_left self.old)) r) }
@@ -301,7 +310,7 @@ impl<'a> Parser<'a> {
 
     /// args = "(" [exps] ")"
     #[cycle(parser)]
-    #[tactic(auto, using(crate::proofs::Failing::fails_bind, crate::proofs::Failing::fails_after, crate::proofs::Taking::less), unfolding(crate::specs::Expressions::call_suffix_at))]
+    #[tactic(auto, using(crate::proofs::Taking::shorter), unfolding(crate::specs::Expressions::call_suffix_at))]
     fn call_suffix(&mut self, mode: Mode, levels: u32, a: Operand) -> Result<Operand, SyntaxError>
         requires { Ready self.old }
         ensures ok { IfOk result (λ r. TookSuffix self.old self.new (call_suffix_at levels mode a.left (tokens_left self.old)) a r) }
@@ -323,7 +332,7 @@ impl<'a> Parser<'a> {
 
     /// "[" exp "]"
     #[cycle(parser)]
-    #[tactic(auto, using(crate::proofs::Failing::fails_bind, crate::proofs::Failing::fails_after, crate::proofs::Taking::less), unfolding(crate::specs::Expressions::index_suffix_at))]
+    #[tactic(auto, using(crate::proofs::Taking::shorter), unfolding(crate::specs::Expressions::index_suffix_at))]
     fn index_suffix(&mut self, mode: Mode, levels: u32, a: Operand) -> Result<Operand, SyntaxError>
         requires { Ready self.old }
         ensures ok { IfOk result (λ r. TookSuffix self.old self.new (index_suffix_at levels mode a.left (tokens_left self.old)) a r) }
@@ -341,7 +350,7 @@ impl<'a> Parser<'a> {
     }
 
     /// "." Name
-    #[tactic(auto, using(crate::proofs::Failing::fails_bind, crate::proofs::Failing::fails_after, crate::proofs::Taking::less), unfolding(crate::specs::Expressions::select_suffix_at))]
+    #[tactic(auto, using(crate::proofs::Taking::shorter), unfolding(crate::specs::Expressions::select_suffix_at))]
     fn select_suffix(&mut self, a: Operand) -> Result<Operand, SyntaxError>
         requires { Ready self.old }
         ensures ok { IfOk result (λ r. TookSuffix self.old self.new (select_suffix_at a.left (tokens_left self.old)) a r) }
@@ -362,7 +371,7 @@ impl<'a> Parser<'a> {
 
     /// ":" Name args
     #[cycle(parser)]
-    #[tactic(auto, using(crate::proofs::Failing::fails_bind, crate::proofs::Failing::fails_after, crate::proofs::Taking::less), unfolding(crate::specs::Expressions::method_suffix_at))]
+    #[tactic(auto, using(crate::proofs::Taking::shorter), unfolding(crate::specs::Expressions::method_suffix_at))]
     fn method_suffix(&mut self, mode: Mode, levels: u32, a: Operand) -> Result<Operand, SyntaxError>
         requires { Ready self.old }
         ensures ok { IfOk result (λ r. TookSuffix self.old self.new (method_suffix_at levels mode a.left (tokens_left self.old)) a r) }
@@ -384,7 +393,7 @@ impl<'a> Parser<'a> {
 
     /// args = table
     #[cycle(parser)]
-    #[tactic(auto, using(crate::proofs::Failing::fails_bind, crate::proofs::Failing::fails_after, crate::proofs::Taking::less), unfolding(crate::specs::Expressions::table_suffix_at))]
+    #[tactic(auto, using(crate::proofs::Taking::shorter), unfolding(crate::specs::Expressions::table_suffix_at))]
     fn table_suffix(&mut self, mode: Mode, levels: u32, a: Operand) -> Result<Operand, SyntaxError>
         requires { Ready self.old }
         ensures ok { IfOk result (λ r. TookSuffix self.old self.new (table_suffix_at levels mode a.left (tokens_left self.old)) a r) }
@@ -407,7 +416,7 @@ impl<'a> Parser<'a> {
     }
 
     /// args = Text
-    #[tactic(auto, using(crate::proofs::Failing::fails_bind, crate::proofs::Failing::fails_after, crate::proofs::Taking::less), unfolding(crate::specs::Expressions::literal_suffix_at))]
+    #[tactic(auto, using(crate::proofs::Taking::shorter), unfolding(crate::specs::Expressions::literal_suffix_at))]
     fn literal_suffix(&mut self, a: Operand) -> Result<Operand, SyntaxError>
         requires { Ready self.old }
         ensures ok { IfOk result (λ r. TookSuffix self.old self.new (literal_suffix_at a.left (tokens_left self.old)) a r) }
@@ -429,7 +438,7 @@ impl<'a> Parser<'a> {
 
     /// args = "(" [exps] ")" | table | Text
     #[cycle(parser)]
-    #[tactic(auto, using(crate::proofs::Failing::fails_bind, crate::proofs::Failing::fails_after), unfolding(crate::specs::Expressions::method_arguments_at))]
+    #[tactic(auto, using(crate::proofs::Failing::failing), unfolding(crate::specs::Expressions::method_arguments_at))]
     fn method_arguments(&mut self, mode: Mode, levels: u32) -> Result<NodeList, SyntaxError>
         requires { Ready self.old }
         ensures ok { IfOk result (λ r. TookList self.old self.new (method_arguments_at levels mode (tokens_left self.old)) r) }
@@ -455,7 +464,7 @@ impl<'a> Parser<'a> {
 
     /// args | "[" exp "]" | "." Name | ":" Name args
     #[cycle(parser)]
-    #[tactic(auto, using(crate::proofs::Failing::fails_bind, crate::proofs::Failing::fails_after), unfolding(crate::specs::Expressions::suffix_at))]
+    #[tactic(auto, using(crate::proofs::Failing::failing), unfolding(crate::specs::Expressions::suffix_at))]
     pub(crate) fn suffix(
         &mut self,
         mode: Mode,
@@ -486,7 +495,7 @@ impl<'a> Parser<'a> {
 
     /// prefix = var | call | "(" exp ")"; where it is to be `bare`, brackets alone are none
     #[cycle(parser)]
-    #[tactic(auto, using(crate::proofs::Failing::fails_bind, crate::proofs::Failing::fails_after, crate::proofs::Failing::fails_from, crate::proofs::Failing::fails_unexpected, crate::proofs::Turns::suffixes_go, crate::proofs::Turns::suffixes_end, crate::proofs::Turns::suffix_shorter), unfolding(crate::specs::Expressions::applied_at))]
+    #[tactic(auto, using(crate::proofs::Turns::suffixes), unfolding(crate::specs::Expressions::applied_at))]
     pub(crate) fn applied(
         &mut self,
         mode: Mode,
@@ -509,7 +518,7 @@ impl<'a> Parser<'a> {
 
     /// prefix, as an operand
     #[cycle(parser)]
-    #[tactic(auto, using(crate::proofs::Failing::fails_bind, crate::proofs::Failing::fails_after), unfolding(crate::specs::Expressions::prefixed_at))]
+    #[tactic(auto, using(crate::proofs::Failing::failing), unfolding(crate::specs::Expressions::prefixed_at))]
     fn prefixed(&mut self, mode: Mode, levels: u32, left: u32) -> Result<Operand, SyntaxError>
         requires { Ready self.old }
         ensures ok { IfOk result (λ r. TookOperand self.old self.new (prefixed_at levels mode left (tokens_left self.old)) r) }
@@ -525,7 +534,7 @@ impl<'a> Parser<'a> {
 
     /// "function" body
     #[cycle(parser)]
-    #[tactic(auto, using(crate::proofs::Failing::fails_bind, crate::proofs::Failing::fails_after), unfolding(crate::specs::Expressions::function_at))]
+    #[tactic(auto, using(crate::proofs::Failing::failing), unfolding(crate::specs::Expressions::function_at))]
     fn function(&mut self, levels: u32) -> Result<NodeId, SyntaxError>
         requires { Ready self.old }
         ensures ok { IfOk result (λ r. TookTree self.old self.new (function_at levels (tokens_left self.old)) r) }
@@ -539,7 +548,7 @@ impl<'a> Parser<'a> {
 
     /// "nil" | "false" | "true" | Numeral | Text | "..." | "function" body | table | Terra code
     #[cycle(parser)]
-    #[tactic(auto, using(crate::proofs::Failing::fails_bind, crate::proofs::Failing::fails_after), unfolding(crate::specs::Expressions::simple_at))]
+    #[tactic(auto, using(crate::proofs::Failing::failing), unfolding(crate::specs::Expressions::simple_at))]
     fn simple(&mut self, mode: Mode, levels: u32) -> Result<NodeId, SyntaxError>
         requires { Ready self.old }
         ensures ok { IfOk result (λ r. TookTree self.old self.new (simple_at levels mode (tokens_left self.old)) r) }
@@ -574,7 +583,7 @@ impl<'a> Parser<'a> {
 
     /// exp, without operators
     #[cycle(parser)]
-    #[tactic(auto, using(crate::proofs::Failing::fails_bind, crate::proofs::Failing::fails_after), unfolding(crate::specs::Expressions::primary_at))]
+    #[tactic(auto, using(crate::proofs::Failing::failing), unfolding(crate::specs::Expressions::primary_at))]
     fn primary(&mut self, mode: Mode, levels: u32, left: u32) -> Result<Operand, SyntaxError>
         requires { Ready self.old }
         ensures ok { IfOk result (λ r. TookOperand self.old self.new (primary_at levels mode left (tokens_left self.old)) r) }
@@ -593,7 +602,7 @@ impl<'a> Parser<'a> {
 
     /// exp "^" exp
     #[cycle(parser)]
-    #[tactic(auto, using(crate::proofs::Failing::fails_bind, crate::proofs::Failing::fails_after, crate::proofs::Taking::less), unfolding(crate::specs::Expressions::power_at, crate::specs::Expressions::right_at))]
+    #[tactic(auto, using(crate::proofs::Taking::shorter), unfolding(crate::specs::Expressions::power_at, crate::specs::Expressions::right_at))]
     fn power(&mut self, mode: Mode, levels: u32, left: u32) -> Result<Operand, SyntaxError>
         requires { Ready self.old }
         ensures ok { IfOk result (λ r. TookOperand self.old self.new (power_at levels mode left (tokens_left self.old)) r) }
@@ -610,7 +619,7 @@ impl<'a> Parser<'a> {
 
     /// operator exp
     #[cycle(parser)]
-    #[tactic(auto, using(crate::proofs::Failing::fails_bind, crate::proofs::Failing::fails_after), unfolding(crate::specs::Expressions::unary_at))]
+    #[tactic(auto, using(crate::proofs::Failing::failing), unfolding(crate::specs::Expressions::unary_at))]
     fn unary(&mut self, mode: Mode, levels: u32, left: u32) -> Result<Operand, SyntaxError>
         requires { Ready self.old }
         ensures ok { IfOk result (λ r. TookOperand self.old self.new (unary_at levels mode left (tokens_left self.old)) r) }
@@ -634,7 +643,7 @@ impl<'a> Parser<'a> {
 
     /// the operand of a precedence
     #[cycle(parser)]
-    #[tactic(auto, using(crate::proofs::Failing::fails_bind, crate::proofs::Failing::fails_after, crate::proofs::Parts::inner_product, crate::proofs::Parts::inner_sum, crate::proofs::Parts::inner_comparison, crate::proofs::Parts::inner_conjunction, crate::proofs::Parts::inner_disjunction, crate::proofs::Failing::fails_same))]
+    #[tactic(auto, using(crate::proofs::Parts::inner))]
     fn inner(
         &mut self,
         precedence: Precedence,
@@ -657,7 +666,7 @@ impl<'a> Parser<'a> {
 
     /// operator exp, of a precedence
     #[cycle(parser)]
-    #[tactic(auto, using(crate::proofs::Failing::fails_bind, crate::proofs::Failing::fails_after, crate::proofs::Taking::less), unfolding(crate::specs::Expressions::one_more_at))]
+    #[tactic(auto, using(crate::proofs::Taking::shorter), unfolding(crate::specs::Expressions::one_more_at))]
     fn one_more(
         &mut self,
         precedence: Precedence,
@@ -676,7 +685,7 @@ impl<'a> Parser<'a> {
 
     /// exp {operator exp}, of a precedence
     #[cycle(parser)]
-    #[tactic(auto, using(crate::proofs::Failing::fails_bind, crate::proofs::Failing::fails_after, crate::proofs::Failing::fails_from, crate::proofs::Turns::operations_go, crate::proofs::Turns::operations_end, crate::proofs::Turns::operation_shorter), unfolding(crate::specs::Expressions::binary_at))]
+    #[tactic(auto, using(crate::proofs::Turns::operations), unfolding(crate::specs::Expressions::binary_at))]
     fn binary(
         &mut self,
         precedence: Precedence,
@@ -699,7 +708,7 @@ impl<'a> Parser<'a> {
 
     /// exp {".." exp}
     #[cycle(parser)]
-    #[tactic(auto, using(crate::proofs::Failing::fails_bind, crate::proofs::Failing::fails_after, crate::proofs::Taking::less), unfolding(crate::specs::Expressions::concatenation_at, crate::specs::Expressions::right_at))]
+    #[tactic(auto, using(crate::proofs::Taking::shorter), unfolding(crate::specs::Expressions::concatenation_at, crate::specs::Expressions::right_at))]
     fn concatenation(&mut self, mode: Mode, levels: u32, left: u32) -> Result<Operand, SyntaxError>
         requires { Ready self.old }
         ensures ok { IfOk result (λ r. TookOperand self.old self.new (concatenation_at levels mode left (tokens_left self.old)) r) }
@@ -716,7 +725,7 @@ impl<'a> Parser<'a> {
 
     /// exp {"->" exp}, with what it is
     #[cycle(parser)]
-    #[tactic(auto, using(crate::proofs::Failing::fails_bind, crate::proofs::Failing::fails_after, crate::proofs::Taking::less), unfolding(crate::specs::Expressions::chained_at, crate::specs::Expressions::right_at))]
+    #[tactic(auto, using(crate::proofs::Taking::shorter), unfolding(crate::specs::Expressions::chained_at, crate::specs::Expressions::right_at))]
     pub(crate) fn chained(&mut self, mode: Mode, levels: u32) -> Result<Operand, SyntaxError>
         requires { Ready self.old }
         ensures ok { IfOk result (λ r. TookOperand self.old self.new (chained_at levels mode (tokens_left self.old)) r) }

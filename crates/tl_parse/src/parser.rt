@@ -1,5 +1,6 @@
 // The parser: the token before it, and the nodes that it made.
-ghost use Rattle.std.specs.Prelude.{◌≡◌, ℕ, ◌+◌, ◌-◌, ◌<◌, ◌≤◌, length, true, false, List, [], ◌∷◌, ◌++◌, ◌&&◌, map, IfOk, IfErr};
+ghost use Rattle.std.specs.Prelude.{◌≡◌, ℕ, ◌+◌, ◌-◌, ◌<◌, ◌≤◌, length, true, false, List, [], ◌∷◌, ◌++◌, ◌&&◌, map};
+ghost use Rattle.std.specs.Prelude.{IfOk, IfErr};
 ghost use Rattle.tl_tree.specs.Nodes.{item_of};
 ghost use Rattle.tl_tree.specs.declared.symbol.Symbol.TheVariants as symbols;
 ghost use Rattle.tl_tree.specs.Forms as forms;
@@ -16,8 +17,10 @@ ghost use Rattle.tl_tree.specs.Symbols.{number_of, is_bad, has};
 ghost use Rattle.tl_tree.specs.Tokens.{Token, among, is, tokens_in};
 ghost use Rattle.tl_tree.specs.Grammar.{begins, blame, calls, chain_too_long};
 ghost use Rattle.tl_parse.specs.Looking.{is_end, IsNext, BeginsAt, Advanced};
-ghost use Rattle.tl_parse.specs.Parsing.{tokens_left, end_of, Ready, items_of, Refuses, Pushed, HasNext, Fails, TookToken, token_of, with_token};
-ghost use Rattle.tl_parse.specs.Using.{is_number, sign_at, open_at, sign_among_at, prefix_at, operator_at, raise_at, call_at, number_at};
+ghost use Rattle.tl_parse.specs.Parsing.{tokens_left, end_of, Ready, items_of, Refuses, Pushed, HasNext, Fails};
+ghost use Rattle.tl_parse.specs.Parsing.{TookToken, token_of, with_token};
+ghost use Rattle.tl_parse.specs.Using.{is_number, sign_at, open_at, sign_among_at, prefix_at, operator_at, raise_at};
+ghost use Rattle.tl_parse.specs.Using.{call_at, number_at};
 ghost use Rattle.tl_parse.specs.Taking.{bar_of, Uses, Barred};
 
 use crate::error::SyntaxError;
@@ -324,7 +327,7 @@ impl<'a> Parser<'a> {
     }
 
     /// Takes this token, which has no other use.
-    #[tactic(auto, using(crate::proofs::Taking::taken, crate::proofs::Taking::barred_there, crate::proofs::Taking::refused_there, crate::proofs::Taking::next_of), unfolding(crate::specs::Using::sign_at))]
+    #[tactic(auto, using(crate::proofs::Taking::taking), unfolding(crate::specs::Using::sign_at))]
     pub(crate) fn take(&mut self, symbol: Symbol) -> Result<Next<'a>, SyntaxError>
         requires first { is_bad symbol ≡ false }
         requires ready { Ready self.old }
@@ -339,7 +342,7 @@ impl<'a> Parser<'a> {
     }
 
     /// Takes this token, which opens a level of nesting where so many are left.
-    #[tactic(auto, using(crate::proofs::Taking::taken, crate::proofs::Taking::barred_there, crate::proofs::Taking::refused_there, crate::proofs::Taking::next_of, crate::proofs::Taking::level_left), unfolding(crate::specs::Using::open_at))]
+    #[tactic(auto, using(crate::proofs::Taking::taking, crate::proofs::Taking::level_left), unfolding(crate::specs::Using::open_at))]
     pub(crate) fn open(&mut self, symbol: Symbol, levels: u32) -> Result<Next<'a>, SyntaxError>
         requires first { is_bad symbol ≡ false }
         requires ready { Ready self.old }
@@ -355,7 +358,7 @@ impl<'a> Parser<'a> {
     }
 
     /// Takes one of these tokens, which has no other use.
-    #[tactic(auto, using(crate::proofs::Taking::taken, crate::proofs::Taking::barred_there, crate::proofs::Taking::refused_there, crate::proofs::Taking::next_of), unfolding(crate::specs::Using::sign_among_at))]
+    #[tactic(auto, using(crate::proofs::Taking::taking), unfolding(crate::specs::Using::sign_among_at))]
     pub(crate) fn take_among(&mut self, symbols: &[Symbol]) -> Result<Next<'a>, SyntaxError>
         requires first { has symbols.now 65 ≡ false }
         requires ready { Ready self.old }
@@ -370,7 +373,7 @@ impl<'a> Parser<'a> {
     }
 
     /// Takes one of these tokens, which opens a level of nesting where so many are left.
-    #[tactic(auto, using(crate::proofs::Taking::taken, crate::proofs::Taking::barred_there, crate::proofs::Taking::refused_there, crate::proofs::Taking::next_of, crate::proofs::Taking::level_left), unfolding(crate::specs::Using::prefix_at))]
+    #[tactic(auto, using(crate::proofs::Taking::taking, crate::proofs::Taking::level_left), unfolding(crate::specs::Using::prefix_at))]
     pub(crate) fn open_among(
         &mut self,
         symbols: &[Symbol],
@@ -390,7 +393,7 @@ impl<'a> Parser<'a> {
     }
 
     /// Takes one of these tokens, which continues a chain that so many may continue.
-    #[tactic(auto, using(crate::proofs::Taking::taken, crate::proofs::Taking::barred_there, crate::proofs::Taking::refused_there, crate::proofs::Taking::next_of, crate::proofs::Taking::chain_left), unfolding(crate::specs::Using::operator_at))]
+    #[tactic(auto, using(crate::proofs::Taking::taking, crate::proofs::Taking::chain_left), unfolding(crate::specs::Using::operator_at))]
     pub(crate) fn operator(
         &mut self,
         symbols: &[Symbol],
@@ -410,7 +413,7 @@ impl<'a> Parser<'a> {
     }
 
     /// Takes this token, which opens a level and continues a chain.
-    #[tactic(auto, using(crate::proofs::Taking::taken, crate::proofs::Taking::barred_there, crate::proofs::Taking::refused_there, crate::proofs::Taking::next_of, crate::proofs::Taking::level_left, crate::proofs::Taking::chain_left), unfolding(crate::specs::Using::raise_at))]
+    #[tactic(auto, using(crate::proofs::Taking::taking, crate::proofs::Taking::level_left, crate::proofs::Taking::chain_left), unfolding(crate::specs::Using::raise_at))]
     pub(crate) fn raise(
         &mut self,
         symbol: Symbol,
@@ -432,7 +435,7 @@ impl<'a> Parser<'a> {
     }
 
     /// Takes the bracket that calls what is before it.
-    #[tactic(auto, using(crate::proofs::Taking::taken, crate::proofs::Taking::barred_there, crate::proofs::Taking::refused_there, crate::proofs::Taking::next_of, crate::proofs::Taking::level_left, crate::proofs::Taking::calls_left), unfolding(crate::specs::Using::call_at))]
+    #[tactic(auto, using(crate::proofs::Taking::taking, crate::proofs::Taking::level_left, crate::proofs::Taking::calls_left), unfolding(crate::specs::Using::call_at))]
     pub(crate) fn open_call(&mut self, levels: u32, left: u32) -> Result<Next<'a>, SyntaxError>
         requires ready { Ready self.old }
         ensures ok { IfOk result (λ t. TookToken self.old self.new (call_at levels left (tokens_left self.old)) t) }
@@ -448,7 +451,7 @@ impl<'a> Parser<'a> {
     }
 
     /// Takes a number of Lua code.
-    #[tactic(auto, using(crate::proofs::Numbers::taken_number, crate::proofs::Numbers::too_large, crate::proofs::Numbers::barred_number, crate::proofs::Taking::refused_there, crate::proofs::Taking::next_of), unfolding(crate::specs::Using::number_at))]
+    #[tactic(auto, using(crate::proofs::Numbers::numbers), unfolding(crate::specs::Using::number_at))]
     pub(crate) fn take_number(&mut self) -> Result<Next<'a>, SyntaxError>
         requires ready { Ready self.old }
         ensures ok { IfOk result (λ t. TookToken self.old self.new (number_at (tokens_left self.old)) t) }
@@ -467,7 +470,7 @@ impl<'a> Parser<'a> {
     }
 
     /// Takes a number of Terra code.
-    #[tactic(auto, using(crate::proofs::TerraNumbers::taken_terra_number, crate::proofs::TerraNumbers::too_large_for_terra, crate::proofs::TerraNumbers::barred_terra_number, crate::proofs::Taking::refused_there, crate::proofs::Taking::next_of), unfolding(crate::specs::TerraExpressions::terra_number_at))]
+    #[tactic(auto, using(crate::proofs::TerraNumbers::numbers), unfolding(crate::specs::TerraExpressions::terra_number_at))]
     pub(crate) fn take_terra_number(&mut self) -> Result<Next<'a>, SyntaxError>
         requires { Ready self.old }
         ensures ok { IfOk result (λ t. TookToken self.old self.new (terra_number_at (tokens_left self.old)) t) }
@@ -486,7 +489,7 @@ impl<'a> Parser<'a> {
     }
 
     /// Does the next token follow a prefix expression of Terra code, and belong to it?
-    #[tactic(auto, using(crate::proofs::TerraLooking::barred_terra_suffix, crate::proofs::TerraLooking::free_terra_suffix))]
+    #[tactic(auto, using(crate::proofs::TerraLooking::suffixes))]
     pub(crate) fn next_is_terra_suffix(&self) -> bool
         ensures { result ≡ begins (λ t. terra.is_terra_suffix t) (tokens_left self.now) }
     {
@@ -504,7 +507,7 @@ impl<'a> Parser<'a> {
     }
 
     /// Does the next token follow a prefix expression, and belong to it?
-    #[tactic(auto, using(crate::proofs::Looking::barred_suffix, crate::proofs::Looking::free_suffix))]
+    #[tactic(auto, using(crate::proofs::Looking::suffixes))]
     pub(crate) fn next_is_suffix(&self, mode: Mode) -> bool
         ensures { result ≡ begins (λ t. lua.is_suffix mode t) (tokens_left self.now) }
     {

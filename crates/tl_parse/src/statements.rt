@@ -8,7 +8,14 @@ ghost use Rattle.tl_tree.specs.Grammar.{begins};
 ghost use Rattle.tl_tree.specs.Tokens.{among};
 ghost use Rattle.tl_parse.specs.Parsing.{tokens_left, Ready, Fails, HasNext, TookTree, TookList, TookOption, TookMaybe};
 ghost use Rattle.tl_parse.specs.Using.{part_at};
-ghost use Rattle.tl_parse.specs.Statements.{first_place, is_unsettled, variable_at, next_target_at, is_call, values_at, call_or_assignment_at, do_at, loop_at, while_at, repeat_at, arm_at, next_arm_at, arms_at, otherwise_at, if_at, step_at, numeric_at, generic_at, for_at, function_statement_at, local_function_at, initial_values_at, local_names_at, local_at, returned_values_at, return_at, break_at, emit_at, statement_at, last_symbols, next_statement_at, goes_on, parameter_at, next_parameter_at, parameters_at};
+ghost use Rattle.tl_parse.specs.Statements.{first_place, is_unsettled, variable_at, next_target_at, is_call};
+ghost use Rattle.tl_parse.specs.Statements.{values_at, call_or_assignment_at, do_at, loop_at, while_at, repeat_at};
+ghost use Rattle.tl_parse.specs.Statements.{arm_at, next_arm_at, arms_at, otherwise_at, if_at, step_at, numeric_at};
+ghost use Rattle.tl_parse.specs.Statements.{generic_at, for_at, function_statement_at, local_function_at};
+ghost use Rattle.tl_parse.specs.Statements.{initial_values_at, local_names_at, local_at, returned_values_at};
+ghost use Rattle.tl_parse.specs.Statements.{return_at, break_at, emit_at, statement_at, last_symbols};
+ghost use Rattle.tl_parse.specs.Statements.{next_statement_at, goes_on, parameter_at, next_parameter_at};
+ghost use Rattle.tl_parse.specs.Statements.{parameters_at};
 ghost use Rattle.tl_parse.specs.Paths.{names_at, next_name_at, behind_sign_at, path_method_at, path_at};
 ghost use Rattle.tl_parse.specs.Going.{TookNumeric, TookGeneric, TookParameters, TookStatement};
 
@@ -103,7 +110,7 @@ fn fresh(variadic: bool) -> Context
 
 impl<'a> Parser<'a> {
     /// "," Name
-    #[tactic(auto, using(crate::proofs::Failing::fails_bind, crate::proofs::Failing::fails_after), unfolding(crate::specs::Paths::next_name_at))]
+    #[tactic(auto, using(crate::proofs::Failing::failing), unfolding(crate::specs::Paths::next_name_at))]
     fn next_name(&mut self) -> Result<NodeId, SyntaxError>
         requires { Ready self.old }
         ensures ok { IfOk result (λ r. TookTree self.old self.new (next_name_at (tokens_left self.old)) r) }
@@ -114,7 +121,7 @@ impl<'a> Parser<'a> {
     }
 
     /// names = Name {"," Name}
-    #[tactic(auto, using(crate::proofs::Failing::fails_bind, crate::proofs::Failing::fails_after, crate::proofs::Failing::fails_from, crate::proofs::StatementTurns::names_go, crate::proofs::StatementTurns::names_end, crate::proofs::StatementTurns::name_shorter), unfolding(crate::specs::Paths::names_at))]
+    #[tactic(auto, using(crate::proofs::StatementTurns::names), unfolding(crate::specs::Paths::names_at))]
     fn names(&mut self, levels: u32) -> Result<NodeList, SyntaxError>
         requires { Ready self.old }
         ensures ok { IfOk result (λ r. TookList self.old self.new (names_at levels (tokens_left self.old)) r) }
@@ -131,7 +138,7 @@ impl<'a> Parser<'a> {
     }
 
     /// "." Name, or ":" Name, with the place of the sign
-    #[tactic(auto, using(crate::proofs::Failing::fails_bind, crate::proofs::Failing::fails_after), unfolding(crate::specs::Paths::behind_sign_at))]
+    #[tactic(auto, using(crate::proofs::Failing::failing), unfolding(crate::specs::Paths::behind_sign_at))]
     pub(crate) fn behind_sign(&mut self, symbol: Symbol) -> Result<NodeId, SyntaxError>
         requires first { is_bad symbol ≡ false }
         requires ready { Ready self.old }
@@ -144,7 +151,7 @@ impl<'a> Parser<'a> {
     }
 
     /// [":" Name]
-    #[tactic(auto, using(crate::proofs::Failing::fails_bind, crate::proofs::Failing::fails_after), unfolding(crate::specs::Paths::path_method_at))]
+    #[tactic(auto, using(crate::proofs::Failing::failing), unfolding(crate::specs::Paths::path_method_at))]
     fn path_method(&mut self) -> Result<Option<NodeId>, SyntaxError>
         requires { Ready self.old }
         ensures ok { IfOk result (λ r. TookOption self.old self.new (path_method_at (tokens_left self.old)) r) }
@@ -158,7 +165,7 @@ impl<'a> Parser<'a> {
     }
 
     /// path = Name {"." Name} [":" Name]
-    #[tactic(auto, using(crate::proofs::Failing::fails_bind, crate::proofs::Failing::fails_after, crate::proofs::Failing::fails_from, crate::proofs::StatementTurns::path_goes, crate::proofs::StatementTurns::path_ends, crate::proofs::StatementTurns::path_shorter), unfolding(crate::specs::Paths::path_at))]
+    #[tactic(auto, using(crate::proofs::StatementTurns::paths), unfolding(crate::specs::Paths::path_at))]
     pub(crate) fn path(&mut self, levels: u32) -> Result<NodeId, SyntaxError>
         requires { Ready self.old }
         ensures ok { IfOk result (λ r. TookTree self.old self.new (path_at levels (tokens_left self.old)) r) }
@@ -177,7 +184,7 @@ impl<'a> Parser<'a> {
 
     /// var = Name | prefix "[" exp "]" | prefix "." Name
     #[cycle(parser)]
-    #[tactic(auto, using(crate::proofs::Failing::fails_bind, crate::proofs::Failing::fails_after, crate::proofs::Failing::fails_from, crate::proofs::Failing::fails_unexpected, crate::proofs::StatementTurns::settles_on, crate::proofs::StatementTurns::settles, crate::proofs::StatementTurns::unsettled), unfolding(crate::specs::Statements::variable_at))]
+    #[tactic(auto, using(crate::proofs::StatementTurns::variables), unfolding(crate::specs::Statements::variable_at))]
     fn variable(&mut self, mode: Mode, levels: u32) -> Result<NodeId, SyntaxError>
         requires { Ready self.old }
         ensures ok { IfOk result (λ r. TookTree self.old self.new (variable_at levels mode (tokens_left self.old)) r) }
@@ -195,7 +202,7 @@ impl<'a> Parser<'a> {
 
     /// "," var
     #[cycle(parser)]
-    #[tactic(auto, using(crate::proofs::Failing::fails_bind, crate::proofs::Failing::fails_after), unfolding(crate::specs::Statements::next_target_at))]
+    #[tactic(auto, using(crate::proofs::Failing::failing), unfolding(crate::specs::Statements::next_target_at))]
     fn next_target(&mut self, mode: Mode, levels: u32) -> Result<NodeId, SyntaxError>
         requires { Ready self.old }
         ensures ok { IfOk result (λ r. TookTree self.old self.new (next_target_at levels mode (tokens_left self.old)) r) }
@@ -207,7 +214,7 @@ impl<'a> Parser<'a> {
 
     /// "=" exps
     #[cycle(parser)]
-    #[tactic(auto, using(crate::proofs::Failing::fails_bind, crate::proofs::Failing::fails_after), unfolding(crate::specs::Statements::values_at))]
+    #[tactic(auto, using(crate::proofs::Failing::failing), unfolding(crate::specs::Statements::values_at))]
     fn values(&mut self, mode: Mode, levels: u32) -> Result<NodeList, SyntaxError>
         requires { Ready self.old }
         ensures ok { IfOk result (λ r. TookList self.old self.new (values_at levels mode (tokens_left self.old)) r) }
@@ -219,7 +226,7 @@ impl<'a> Parser<'a> {
 
     /// stat = var {"," var} "=" exps | call
     #[cycle(parser)]
-    #[tactic(auto, using(crate::proofs::Failing::fails_bind, crate::proofs::Failing::fails_after, crate::proofs::Failing::fails_from, crate::proofs::StatementTurns::targets_go, crate::proofs::StatementTurns::targets_end, crate::proofs::StatementTurns::target_shorter), unfolding(crate::specs::Statements::call_or_assignment_at))]
+    #[tactic(auto, using(crate::proofs::StatementTurns::targets), unfolding(crate::specs::Statements::call_or_assignment_at))]
     fn call_or_assignment(&mut self, mode: Mode, levels: u32) -> Result<NodeId, SyntaxError>
         requires next { HasNext (tokens_left self.old) }
         requires ready { Ready self.old }
@@ -243,7 +250,7 @@ impl<'a> Parser<'a> {
 
     /// stat = "do" block "end"
     #[cycle(parser)]
-    #[tactic(auto, using(crate::proofs::Failing::fails_bind, crate::proofs::Failing::fails_after), unfolding(crate::specs::Statements::do_at))]
+    #[tactic(auto, using(crate::proofs::Failing::failing), unfolding(crate::specs::Statements::do_at))]
     fn do_statement(&mut self, context: Context, levels: u32) -> Result<NodeId, SyntaxError>
         requires { Ready self.old }
         ensures ok { IfOk result (λ r. TookTree self.old self.new (do_at levels context (tokens_left self.old)) r) }
@@ -257,7 +264,7 @@ impl<'a> Parser<'a> {
 
     /// "do" block "end", of a loop
     #[cycle(parser)]
-    #[tactic(auto, using(crate::proofs::Failing::fails_bind, crate::proofs::Failing::fails_after), unfolding(crate::specs::Statements::loop_at))]
+    #[tactic(auto, using(crate::proofs::Failing::failing), unfolding(crate::specs::Statements::loop_at))]
     fn loop_block(&mut self, context: Context, levels: u32) -> Result<NodeId, SyntaxError>
         requires { Ready self.old }
         ensures ok { IfOk result (λ r. TookTree self.old self.new (loop_at levels context (tokens_left self.old)) r) }
@@ -271,7 +278,7 @@ impl<'a> Parser<'a> {
 
     /// stat = "while" exp "do" block "end"
     #[cycle(parser)]
-    #[tactic(auto, using(crate::proofs::Failing::fails_bind, crate::proofs::Failing::fails_after), unfolding(crate::specs::Statements::while_at))]
+    #[tactic(auto, using(crate::proofs::Failing::failing), unfolding(crate::specs::Statements::while_at))]
     fn while_statement(&mut self, context: Context, levels: u32) -> Result<NodeId, SyntaxError>
         requires { Ready self.old }
         ensures ok { IfOk result (λ r. TookTree self.old self.new (while_at levels context (tokens_left self.old)) r) }
@@ -285,7 +292,7 @@ impl<'a> Parser<'a> {
 
     /// stat = "repeat" block "until" exp
     #[cycle(parser)]
-    #[tactic(auto, using(crate::proofs::Failing::fails_bind, crate::proofs::Failing::fails_after), unfolding(crate::specs::Statements::repeat_at))]
+    #[tactic(auto, using(crate::proofs::Failing::failing), unfolding(crate::specs::Statements::repeat_at))]
     fn repeat_statement(&mut self, context: Context, levels: u32) -> Result<NodeId, SyntaxError>
         requires { Ready self.old }
         ensures ok { IfOk result (λ r. TookTree self.old self.new (repeat_at levels context (tokens_left self.old)) r) }
@@ -300,7 +307,7 @@ impl<'a> Parser<'a> {
 
     /// exp "then" block
     #[cycle(parser)]
-    #[tactic(auto, using(crate::proofs::Failing::fails_bind, crate::proofs::Failing::fails_after), unfolding(crate::specs::Statements::arm_at))]
+    #[tactic(auto, using(crate::proofs::Failing::failing), unfolding(crate::specs::Statements::arm_at))]
     fn arm(&mut self, context: Context, levels: u32) -> Result<NodeId, SyntaxError>
         requires { Ready self.old }
         ensures ok { IfOk result (λ r. TookTree self.old self.new (arm_at levels context (tokens_left self.old)) r) }
@@ -314,7 +321,7 @@ impl<'a> Parser<'a> {
 
     /// "elseif" exp "then" block
     #[cycle(parser)]
-    #[tactic(auto, using(crate::proofs::Failing::fails_bind, crate::proofs::Failing::fails_after), unfolding(crate::specs::Statements::next_arm_at))]
+    #[tactic(auto, using(crate::proofs::Failing::failing), unfolding(crate::specs::Statements::next_arm_at))]
     fn next_arm(&mut self, context: Context, levels: u32) -> Result<NodeId, SyntaxError>
         requires { Ready self.old }
         ensures ok { IfOk result (λ r. TookTree self.old self.new (next_arm_at levels context (tokens_left self.old)) r) }
@@ -326,7 +333,7 @@ impl<'a> Parser<'a> {
 
     /// exp "then" block {"elseif" exp "then" block}
     #[cycle(parser)]
-    #[tactic(auto, using(crate::proofs::Failing::fails_bind, crate::proofs::Failing::fails_after, crate::proofs::Failing::fails_from, crate::proofs::StatementTurns::arms_go, crate::proofs::StatementTurns::arms_end, crate::proofs::StatementTurns::arm_shorter), unfolding(crate::specs::Statements::arms_at))]
+    #[tactic(auto, using(crate::proofs::StatementTurns::arms), unfolding(crate::specs::Statements::arms_at))]
     fn arms(&mut self, context: Context, levels: u32) -> Result<NodeList, SyntaxError>
         requires { Ready self.old }
         ensures ok { IfOk result (λ r. TookList self.old self.new (arms_at levels context (tokens_left self.old)) r) }
@@ -344,7 +351,7 @@ impl<'a> Parser<'a> {
 
     /// ["else" block]
     #[cycle(parser)]
-    #[tactic(auto, using(crate::proofs::Failing::fails_bind, crate::proofs::Failing::fails_after), unfolding(crate::specs::Statements::otherwise_at))]
+    #[tactic(auto, using(crate::proofs::Failing::failing), unfolding(crate::specs::Statements::otherwise_at))]
     fn otherwise(&mut self, context: Context, levels: u32) -> Result<Option<NodeId>, SyntaxError>
         requires { Ready self.old }
         ensures ok { IfOk result (λ r. TookOption self.old self.new (otherwise_at levels context (tokens_left self.old)) r) }
@@ -360,7 +367,7 @@ impl<'a> Parser<'a> {
 
     /// stat = "if" exp "then" block {"elseif" exp "then" block} ["else" block] "end"
     #[cycle(parser)]
-    #[tactic(auto, using(crate::proofs::Failing::fails_bind, crate::proofs::Failing::fails_after), unfolding(crate::specs::Statements::if_at))]
+    #[tactic(auto, using(crate::proofs::Failing::failing), unfolding(crate::specs::Statements::if_at))]
     fn if_statement(&mut self, context: Context, levels: u32) -> Result<NodeId, SyntaxError>
         requires { Ready self.old }
         ensures ok { IfOk result (λ r. TookTree self.old self.new (if_at levels context (tokens_left self.old)) r) }
@@ -375,7 +382,7 @@ impl<'a> Parser<'a> {
 
     /// ["," exp]
     #[cycle(parser)]
-    #[tactic(auto, using(crate::proofs::Failing::fails_bind, crate::proofs::Failing::fails_after), unfolding(crate::specs::Statements::step_at))]
+    #[tactic(auto, using(crate::proofs::Failing::failing), unfolding(crate::specs::Statements::step_at))]
     fn step(&mut self, mode: Mode, levels: u32) -> Result<Option<NodeId>, SyntaxError>
         requires { Ready self.old }
         ensures ok { IfOk result (λ r. TookOption self.old self.new (step_at levels mode (tokens_left self.old)) r) }
@@ -391,7 +398,7 @@ impl<'a> Parser<'a> {
 
     /// "=" exp "," exp ["," exp] "do" block "end", behind "for" Name
     #[cycle(parser)]
-    #[tactic(auto, using(crate::proofs::Failing::fails_bind, crate::proofs::Failing::fails_after), unfolding(crate::specs::Statements::numeric_at))]
+    #[tactic(auto, using(crate::proofs::Failing::failing), unfolding(crate::specs::Statements::numeric_at))]
     fn numeric(&mut self, context: Context, levels: u32) -> Result<Numeric, SyntaxError>
         requires { Ready self.old }
         ensures ok { IfOk result (λ r. TookNumeric self.old self.new (numeric_at levels context (tokens_left self.old)) r) }
@@ -413,7 +420,7 @@ impl<'a> Parser<'a> {
 
     /// "in" exps "do" block "end", behind "for" names
     #[cycle(parser)]
-    #[tactic(auto, using(crate::proofs::Failing::fails_bind, crate::proofs::Failing::fails_after), unfolding(crate::specs::Statements::generic_at))]
+    #[tactic(auto, using(crate::proofs::Failing::failing), unfolding(crate::specs::Statements::generic_at))]
     fn generic(&mut self, context: Context, levels: u32) -> Result<(NodeList, NodeId), SyntaxError>
         requires { Ready self.old }
         ensures ok { IfOk result (λ r. TookGeneric self.old self.new (generic_at levels context (tokens_left self.old)) r.0 r.1) }
@@ -427,7 +434,7 @@ impl<'a> Parser<'a> {
 
     /// stat = "for" Name "=" .. | "for" names "in" ..
     #[cycle(parser)]
-    #[tactic(auto, using(crate::proofs::Failing::fails_bind, crate::proofs::Failing::fails_after, crate::proofs::Failing::fails_from, crate::proofs::StatementTurns::names_go, crate::proofs::StatementTurns::names_end, crate::proofs::StatementTurns::name_shorter), unfolding(crate::specs::Statements::for_at))]
+    #[tactic(auto, using(crate::proofs::StatementTurns::names), unfolding(crate::specs::Statements::for_at))]
     fn for_statement(&mut self, context: Context, levels: u32) -> Result<NodeId, SyntaxError>
         requires { Ready self.old }
         ensures ok { IfOk result (λ r. TookTree self.old self.new (for_at levels context (tokens_left self.old)) r) }
@@ -454,7 +461,7 @@ impl<'a> Parser<'a> {
 
     /// stat = "function" path body
     #[cycle(parser)]
-    #[tactic(auto, using(crate::proofs::Failing::fails_bind, crate::proofs::Failing::fails_after), unfolding(crate::specs::Statements::function_statement_at))]
+    #[tactic(auto, using(crate::proofs::Failing::failing), unfolding(crate::specs::Statements::function_statement_at))]
     fn function_statement(&mut self, levels: u32) -> Result<NodeId, SyntaxError>
         requires { Ready self.old }
         ensures ok { IfOk result (λ r. TookTree self.old self.new (function_statement_at levels (tokens_left self.old)) r) }
@@ -469,7 +476,7 @@ impl<'a> Parser<'a> {
 
     /// stat = "local" "function" Name body, behind "local"
     #[cycle(parser)]
-    #[tactic(auto, using(crate::proofs::Failing::fails_bind, crate::proofs::Failing::fails_after), unfolding(crate::specs::Statements::local_function_at))]
+    #[tactic(auto, using(crate::proofs::Failing::failing), unfolding(crate::specs::Statements::local_function_at))]
     fn local_function(&mut self, levels: u32, place: Place) -> Result<NodeId, SyntaxError>
         requires { Ready self.old }
         ensures ok { IfOk result (λ r. TookTree self.old self.new (local_function_at levels place (tokens_left self.old)) r) }
@@ -484,7 +491,7 @@ impl<'a> Parser<'a> {
 
     /// ["=" exps]
     #[cycle(parser)]
-    #[tactic(auto, using(crate::proofs::Failing::fails_bind, crate::proofs::Failing::fails_after), unfolding(crate::specs::Statements::initial_values_at))]
+    #[tactic(auto, using(crate::proofs::Failing::failing), unfolding(crate::specs::Statements::initial_values_at))]
     fn initial_values(&mut self, mode: Mode, levels: u32) -> Result<NodeList, SyntaxError>
         requires { Ready self.old }
         ensures ok { IfOk result (λ r. TookList self.old self.new (initial_values_at levels mode (tokens_left self.old)) r) }
@@ -498,7 +505,7 @@ impl<'a> Parser<'a> {
 
     /// stat = "local" names ["=" exps], behind "local"
     #[cycle(parser)]
-    #[tactic(auto, using(crate::proofs::Failing::fails_bind, crate::proofs::Failing::fails_after), unfolding(crate::specs::Statements::local_names_at))]
+    #[tactic(auto, using(crate::proofs::Failing::failing), unfolding(crate::specs::Statements::local_names_at))]
     fn local_names(&mut self, mode: Mode, levels: u32, place: Place) -> Result<NodeId, SyntaxError>
         requires { Ready self.old }
         ensures ok { IfOk result (λ r. TookTree self.old self.new (local_names_at levels mode place (tokens_left self.old)) r) }
@@ -511,7 +518,7 @@ impl<'a> Parser<'a> {
 
     /// stat = "local" ("function" .. | "terra" .. | "struct" .. | names ..)
     #[cycle(parser)]
-    #[tactic(auto, using(crate::proofs::Failing::fails_bind, crate::proofs::Failing::fails_after), unfolding(crate::specs::Statements::local_at))]
+    #[tactic(auto, using(crate::proofs::Failing::failing), unfolding(crate::specs::Statements::local_at))]
     fn local_statement(&mut self, context: Context, levels: u32) -> Result<NodeId, SyntaxError>
         requires { Ready self.old }
         ensures ok { IfOk result (λ r. TookTree self.old self.new (local_at levels context (tokens_left self.old)) r) }
@@ -529,7 +536,7 @@ impl<'a> Parser<'a> {
 
     /// [exps], behind "return"
     #[cycle(parser)]
-    #[tactic(auto, using(crate::proofs::Failing::fails_bind, crate::proofs::Failing::fails_after), unfolding(crate::specs::Statements::returned_values_at))]
+    #[tactic(auto, using(crate::proofs::Failing::failing), unfolding(crate::specs::Statements::returned_values_at))]
     fn returned_values(&mut self, mode: Mode, levels: u32) -> Result<NodeList, SyntaxError>
         requires { Ready self.old }
         ensures ok { IfOk result (λ r. TookList self.old self.new (returned_values_at levels mode (tokens_left self.old)) r) }
@@ -543,7 +550,7 @@ impl<'a> Parser<'a> {
 
     /// "return" [exps]
     #[cycle(parser)]
-    #[tactic(auto, using(crate::proofs::Failing::fails_bind, crate::proofs::Failing::fails_after), unfolding(crate::specs::Statements::return_at))]
+    #[tactic(auto, using(crate::proofs::Failing::failing), unfolding(crate::specs::Statements::return_at))]
     fn return_statement(&mut self, mode: Mode, levels: u32) -> Result<NodeId, SyntaxError>
         requires { Ready self.old }
         ensures ok { IfOk result (λ r. TookTree self.old self.new (return_at levels mode (tokens_left self.old)) r) }
@@ -555,7 +562,7 @@ impl<'a> Parser<'a> {
     }
 
     /// "break"
-    #[tactic(auto, using(crate::proofs::Failing::fails_bind, crate::proofs::Failing::fails_after), unfolding(crate::specs::Statements::break_at))]
+    #[tactic(auto, using(crate::proofs::Failing::failing), unfolding(crate::specs::Statements::break_at))]
     fn break_statement(&mut self) -> Result<NodeId, SyntaxError>
         requires { Ready self.old }
         ensures ok { IfOk result (λ r. TookTree self.old self.new (break_at (tokens_left self.old)) r) }
@@ -567,7 +574,7 @@ impl<'a> Parser<'a> {
 
     /// stat = "emit" exp
     #[cycle(parser)]
-    #[tactic(auto, using(crate::proofs::Failing::fails_bind, crate::proofs::Failing::fails_after), unfolding(crate::specs::Statements::emit_at))]
+    #[tactic(auto, using(crate::proofs::Failing::failing), unfolding(crate::specs::Statements::emit_at))]
     fn emit_statement(&mut self, mode: Mode, levels: u32) -> Result<NodeId, SyntaxError>
         requires { Ready self.old }
         ensures ok { IfOk result (λ r. TookTree self.old self.new (emit_at levels mode (tokens_left self.old)) r) }
@@ -580,7 +587,7 @@ impl<'a> Parser<'a> {
 
     /// stat, "return" [exps] or "break"
     #[cycle(parser)]
-    #[tactic(auto, using(crate::proofs::Failing::fails_bind, crate::proofs::Failing::fails_after), unfolding(crate::specs::Statements::statement_at))]
+    #[tactic(auto, using(crate::proofs::Failing::failing), unfolding(crate::specs::Statements::statement_at))]
     fn statement(&mut self, context: Context, levels: u32) -> Result<NodeId, SyntaxError>
         requires next { HasNext (tokens_left self.old) }
         requires ready { Ready self.old }
@@ -628,7 +635,7 @@ impl<'a> Parser<'a> {
 
     /// stat [";"], and whether it ends its block
     #[cycle(parser)]
-    #[tactic(auto, using(crate::proofs::Failing::fails_bind, crate::proofs::Failing::fails_after), unfolding(crate::specs::Statements::next_statement_at))]
+    #[tactic(auto, using(crate::proofs::Failing::failing), unfolding(crate::specs::Statements::next_statement_at))]
     fn next_statement(
         &mut self,
         context: Context,
@@ -650,7 +657,7 @@ impl<'a> Parser<'a> {
 
     /// block = { stat [";"] } [ ("return" [exps] | "break") [";"] ]
     #[cycle(parser)]
-    #[tactic(auto, using(crate::proofs::Failing::fails_bind, crate::proofs::Failing::fails_after, crate::proofs::Taking::next_of, crate::proofs::StatementTurns::block_part, crate::proofs::StatementTurns::block_goes, crate::proofs::StatementTurns::block_ends, crate::proofs::StatementTurns::statement_shorter, crate::proofs::Failing::fails_same, crate::proofs::Failing::fails_from), unfolding(crate::specs::Statements::block_at))]
+    #[tactic(auto, using(crate::proofs::StatementTurns::blocks), unfolding(crate::specs::Statements::block_at))]
     pub(crate) fn block(&mut self, context: Context, levels: u32) -> Result<NodeId, SyntaxError>
         requires { Ready self.old }
         ensures ok { IfOk result (λ r. TookTree self.old self.new (part_at levels (parts.Statements context) (tokens_left self.old)) r) }
@@ -667,7 +674,7 @@ impl<'a> Parser<'a> {
     }
 
     /// Name | "..."
-    #[tactic(auto, using(crate::proofs::Failing::fails_bind, crate::proofs::Failing::fails_after), unfolding(crate::specs::Statements::parameter_at))]
+    #[tactic(auto, using(crate::proofs::Failing::failing), unfolding(crate::specs::Statements::parameter_at))]
     fn parameter(&mut self) -> Result<Option<NodeId>, SyntaxError>
         requires { Ready self.old }
         ensures ok { IfOk result (λ r. TookMaybe self.old self.new (parameter_at (tokens_left self.old)) r) }
@@ -682,7 +689,7 @@ impl<'a> Parser<'a> {
     }
 
     /// "," (Name | "...")
-    #[tactic(auto, using(crate::proofs::Failing::fails_bind, crate::proofs::Failing::fails_after), unfolding(crate::specs::Statements::next_parameter_at))]
+    #[tactic(auto, using(crate::proofs::Failing::failing), unfolding(crate::specs::Statements::next_parameter_at))]
     fn next_parameter(&mut self) -> Result<Option<NodeId>, SyntaxError>
         requires { Ready self.old }
         ensures ok { IfOk result (λ r. TookMaybe self.old self.new (next_parameter_at (tokens_left self.old)) r) }
@@ -693,7 +700,7 @@ impl<'a> Parser<'a> {
     }
 
     /// [names ["," "..."] | "..."], up to a ")"
-    #[tactic(auto, using(crate::proofs::Failing::fails_bind, crate::proofs::Failing::fails_after, crate::proofs::Failing::fails_from, crate::proofs::StatementTurns::parameters_go, crate::proofs::StatementTurns::parameters_end, crate::proofs::StatementTurns::parameters_stop, crate::proofs::StatementTurns::parameter_shorter), unfolding(crate::specs::Statements::parameters_at))]
+    #[tactic(auto, using(crate::proofs::StatementTurns::parameters), unfolding(crate::specs::Statements::parameters_at))]
     fn parameters(&mut self, levels: u32) -> Result<(NodeList, bool), SyntaxError>
         requires { Ready self.old }
         ensures ok { IfOk result (λ r. TookParameters self.old self.new (parameters_at levels (tokens_left self.old)) r.0 r.1) }
@@ -727,7 +734,7 @@ impl<'a> Parser<'a> {
 
     /// body = "(" [names ["," "..."] | "..."] ")" block "end", behind its "("
     #[cycle(parser)]
-    #[tactic(auto, using(crate::proofs::Failing::fails_bind, crate::proofs::Failing::fails_after, crate::proofs::StatementTurns::body_part, crate::proofs::Failing::fails_same), unfolding(crate::specs::Statements::body_at))]
+    #[tactic(auto, using(crate::proofs::Failing::failing_same, crate::proofs::StatementTurns::body_part), unfolding(crate::specs::Statements::body_at))]
     pub(crate) fn function_body(&mut self, levels: u32) -> Result<NodeId, SyntaxError>
         requires { Ready self.old }
         ensures ok { IfOk result (λ r. TookTree self.old self.new (part_at levels parts.FunctionBody (tokens_left self.old)) r) }

@@ -16,7 +16,7 @@ static SEPARATOR: [Symbol; 2] = [Symbol::Comma, Symbol::Semicolon];
 impl<'a> Parser<'a> {
     /// table = "{" [field {("," | ";") field} ["," | ";"]] "}"
     #[cycle(parser)]
-    #[tactic(auto, using(crate::proofs::Failing::fails_bind, crate::proofs::Failing::fails_after), unfolding(crate::specs::Expressions::table_at))]
+    #[tactic(auto, using(crate::proofs::Failing::failing), unfolding(crate::specs::Expressions::table_at))]
     pub(crate) fn table(&mut self, mode: Mode, levels: u32) -> Result<NodeId, SyntaxError>
         requires { Ready self.old }
         ensures ok { IfOk result (λ r. TookTree self.old self.new (table_at levels mode (tokens_left self.old)) r) }
@@ -30,7 +30,7 @@ impl<'a> Parser<'a> {
 
     /// "[" exp "]" "=" exp
     #[cycle(parser)]
-    #[tactic(auto, using(crate::proofs::Failing::fails_bind, crate::proofs::Failing::fails_after), unfolding(crate::specs::Expressions::keyed_field_at))]
+    #[tactic(auto, using(crate::proofs::Failing::failing), unfolding(crate::specs::Expressions::keyed_field_at))]
     fn keyed_field(&mut self, mode: Mode, levels: u32) -> Result<NodeId, SyntaxError>
         requires { Ready self.old }
         ensures ok { IfOk result (λ r. TookTree self.old self.new (keyed_field_at levels mode (tokens_left self.old)) r) }
@@ -46,7 +46,7 @@ impl<'a> Parser<'a> {
 
     /// field = "[" exp "]" "=" exp | Name "=" exp | exp
     #[cycle(parser)]
-    #[tactic(auto, using(crate::proofs::Failing::fails_bind, crate::proofs::Failing::fails_after), unfolding(crate::specs::Expressions::field_at, crate::specs::Expressions::field_behind_at))]
+    #[tactic(auto, using(crate::proofs::Failing::failing), unfolding(crate::specs::Expressions::field_at, crate::specs::Expressions::field_behind_at))]
     fn field(&mut self, mode: Mode, levels: u32) -> Result<NodeId, SyntaxError>
         requires { Ready self.old }
         ensures ok { IfOk result (λ r. TookTree self.old self.new (field_at levels mode (tokens_left self.old)) r) }
@@ -68,7 +68,7 @@ impl<'a> Parser<'a> {
 
     /// ("," | ";") [field]
     #[cycle(parser)]
-    #[tactic(auto, using(crate::proofs::Failing::fails_bind, crate::proofs::Failing::fails_after), unfolding(crate::specs::Expressions::next_field_at))]
+    #[tactic(auto, using(crate::proofs::Failing::failing), unfolding(crate::specs::Expressions::next_field_at))]
     fn next_field(&mut self, mode: Mode, levels: u32) -> Result<Option<NodeId>, SyntaxError>
         requires { Ready self.old }
         ensures ok { IfOk result (λ r. TookMaybe self.old self.new (next_field_at levels mode (tokens_left self.old)) r) }
@@ -84,7 +84,7 @@ impl<'a> Parser<'a> {
 
     /// [field {("," | ";") field} ["," | ";"]], up to a "}"
     #[cycle(parser)]
-    #[tactic(auto, using(crate::proofs::Failing::fails_bind, crate::proofs::Failing::fails_after, crate::proofs::Parts::fields_part, crate::proofs::Failing::fails_same, crate::proofs::Failing::fails_from, crate::proofs::Turns::fields_go, crate::proofs::Turns::fields_end, crate::proofs::Turns::field_shorter), unfolding(crate::specs::Expressions::fields_at))]
+    #[tactic(auto, using(crate::proofs::Turns::fields), unfolding(crate::specs::Expressions::fields_at))]
     pub(crate) fn fields(&mut self, mode: Mode, levels: u32) -> Result<NodeList, SyntaxError>
         requires { Ready self.old }
         ensures ok { IfOk result (λ r. TookList self.old self.new (part_at levels (parts.Fields mode) (tokens_left self.old)) r) }

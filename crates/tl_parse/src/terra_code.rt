@@ -3,7 +3,8 @@ ghost use Rattle.std.specs.Prelude.{◌≡◌, ◌<◌, ◌≤◌, ◌-◌, ℕ,
 ghost use Rattle.tl_tree.specs.Tree as parts;
 ghost use Rattle.tl_parse.specs.Parsing.{tokens_left, Ready, Fails, TookTree, TookList};
 ghost use Rattle.tl_parse.specs.Using.{part_at};
-ghost use Rattle.tl_parse.specs.TerraCode.{terra_function_at, struct_body_at, struct_at, quote_at, backtick_at, terra_code_at};
+ghost use Rattle.tl_parse.specs.TerraCode.{terra_function_at, struct_body_at, struct_at, quote_at, backtick_at};
+ghost use Rattle.tl_parse.specs.TerraCode.{terra_code_at};
 ghost use Rattle.tl_parse.specs.Entries.{separator_at, entry_at};
 ghost use Rattle.tl_parse.specs.TerraGoing.{TookNothing};
 
@@ -17,7 +18,7 @@ static SEPARATOR: [Symbol; 2] = [Symbol::Comma, Symbol::Semicolon];
 impl<'a> Parser<'a> {
     /// exp = "terra" tbody
     #[cycle(parser)]
-    #[tactic(auto, using(crate::proofs::Failing::fails_bind, crate::proofs::Failing::fails_after), unfolding(crate::specs::TerraCode::terra_function_at))]
+    #[tactic(auto, using(crate::proofs::Failing::failing), unfolding(crate::specs::TerraCode::terra_function_at))]
     fn terra_function(&mut self, levels: u32) -> Result<NodeId, SyntaxError>
         requires { Ready self.old }
         ensures ok { IfOk result (λ r. TookTree self.old self.new (terra_function_at levels (tokens_left self.old)) r) }
@@ -31,7 +32,7 @@ impl<'a> Parser<'a> {
 
     /// sbody = "{" {Name ":" exp ["," | ";"]} "}"
     #[cycle(parser)]
-    #[tactic(auto, using(crate::proofs::Failing::fails_bind, crate::proofs::Failing::fails_after), unfolding(crate::specs::TerraCode::struct_body_at))]
+    #[tactic(auto, using(crate::proofs::Failing::failing), unfolding(crate::specs::TerraCode::struct_body_at))]
     pub(crate) fn struct_body(&mut self, mode: Mode, levels: u32) -> Result<NodeList, SyntaxError>
         requires { Ready self.old }
         ensures ok { IfOk result (λ r. TookList self.old self.new (struct_body_at levels mode (tokens_left self.old)) r) }
@@ -45,7 +46,7 @@ impl<'a> Parser<'a> {
 
     /// exp = "struct" sbody
     #[cycle(parser)]
-    #[tactic(auto, using(crate::proofs::Failing::fails_bind, crate::proofs::Failing::fails_after), unfolding(crate::specs::TerraCode::struct_at))]
+    #[tactic(auto, using(crate::proofs::Failing::failing), unfolding(crate::specs::TerraCode::struct_at))]
     fn struct_type(&mut self, mode: Mode, levels: u32) -> Result<NodeId, SyntaxError>
         requires { Ready self.old }
         ensures ok { IfOk result (λ r. TookTree self.old self.new (struct_at levels mode (tokens_left self.old)) r) }
@@ -58,7 +59,7 @@ impl<'a> Parser<'a> {
 
     /// exp = "quote" tblock ["in" texp] "end"
     #[cycle(parser)]
-    #[tactic(auto, using(crate::proofs::Failing::fails_bind, crate::proofs::Failing::fails_after), unfolding(crate::specs::TerraCode::quote_at))]
+    #[tactic(auto, using(crate::proofs::Failing::failing), unfolding(crate::specs::TerraCode::quote_at))]
     fn quote(&mut self, levels: u32) -> Result<NodeId, SyntaxError>
         requires { Ready self.old }
         ensures ok { IfOk result (λ r. TookTree self.old self.new (quote_at levels (tokens_left self.old)) r) }
@@ -72,7 +73,7 @@ impl<'a> Parser<'a> {
 
     /// exp = "`" texp
     #[cycle(parser)]
-    #[tactic(auto, using(crate::proofs::Failing::fails_bind, crate::proofs::Failing::fails_after), unfolding(crate::specs::TerraCode::backtick_at))]
+    #[tactic(auto, using(crate::proofs::Failing::failing), unfolding(crate::specs::TerraCode::backtick_at))]
     fn backtick(&mut self, levels: u32) -> Result<NodeId, SyntaxError>
         requires { Ready self.old }
         ensures ok { IfOk result (λ r. TookTree self.old self.new (backtick_at levels (tokens_left self.old)) r) }
@@ -85,7 +86,7 @@ impl<'a> Parser<'a> {
 
     /// "terra" tbody | "struct" sbody | "quote" .. "end" | "`" texp
     #[cycle(parser)]
-    #[tactic(auto, using(crate::proofs::Failing::fails_bind, crate::proofs::Failing::fails_after), unfolding(crate::specs::TerraCode::terra_code_at))]
+    #[tactic(auto, using(crate::proofs::Failing::failing), unfolding(crate::specs::TerraCode::terra_code_at))]
     pub(crate) fn terra_code(&mut self, mode: Mode, levels: u32) -> Result<NodeId, SyntaxError>
         requires { Ready self.old }
         ensures ok { IfOk result (λ r. TookTree self.old self.new (terra_code_at levels mode (tokens_left self.old)) r) }
@@ -104,7 +105,7 @@ impl<'a> Parser<'a> {
     }
 
     /// ["," | ";"]
-    #[tactic(auto, using(crate::proofs::Failing::fails_bind, crate::proofs::Failing::fails_after), unfolding(crate::specs::Entries::separator_at))]
+    #[tactic(auto, using(crate::proofs::Failing::failing), unfolding(crate::specs::Entries::separator_at))]
     fn separator(&mut self) -> Result<(), SyntaxError>
         requires { Ready self.old }
         ensures ok { IfOk result (λ r. TookNothing self.old self.new (separator_at (tokens_left self.old))) }
@@ -118,7 +119,7 @@ impl<'a> Parser<'a> {
 
     /// Name ":" exp ["," | ";"]
     #[cycle(parser)]
-    #[tactic(auto, using(crate::proofs::Failing::fails_bind, crate::proofs::Failing::fails_after), unfolding(crate::specs::Entries::entry_at))]
+    #[tactic(auto, using(crate::proofs::Failing::failing), unfolding(crate::specs::Entries::entry_at))]
     fn entry(&mut self, mode: Mode, levels: u32) -> Result<NodeId, SyntaxError>
         requires { Ready self.old }
         ensures ok { IfOk result (λ r. TookTree self.old self.new (entry_at levels mode (tokens_left self.old)) r) }
@@ -133,7 +134,7 @@ impl<'a> Parser<'a> {
 
     /// {Name ":" exp ["," | ";"]}, up to a "}"
     #[cycle(parser)]
-    #[tactic(auto, using(crate::proofs::Failing::fails_bind, crate::proofs::Failing::fails_after, crate::proofs::TerraParts::entries_part, crate::proofs::Failing::fails_same, crate::proofs::Failing::fails_from, crate::proofs::TerraTurns::entries_go, crate::proofs::TerraTurns::entries_end, crate::proofs::TerraTurns::entry_shorter))]
+    #[tactic(auto, using(crate::proofs::TerraTurns::entries))]
     fn entries(&mut self, mode: Mode, levels: u32) -> Result<NodeList, SyntaxError>
         requires { Ready self.old }
         ensures ok { IfOk result (λ r. TookList self.old self.new (part_at levels (parts.Entries mode) (tokens_left self.old)) r) }

@@ -5,10 +5,22 @@ ghost use Rattle.tl_tree.specs.Tokens.{among};
 ghost use Rattle.tl_tree.specs.Tree as parts;
 ghost use Rattle.tl_tree.specs.Grammar.{begins};
 ghost use Rattle.tl_tree.specs.TerraExpressions as terra;
-ghost use Rattle.tl_parse.specs.Parsing.{tokens_left, Ready, Fails, TookToken, TookTree, TookOperand, TookList, TookMaybe};
+ghost use Rattle.tl_parse.specs.Parsing.{tokens_left, Ready, Fails, TookToken, TookTree, TookOperand, TookList};
+ghost use Rattle.tl_parse.specs.Parsing.{TookMaybe};
 ghost use Rattle.tl_parse.specs.Using.{part_at};
 ghost use Rattle.tl_parse.specs.Going.{TookOperation};
-ghost use Rattle.tl_parse.specs.TerraExpressions.{escape_at, terra_name_at, terra_paren_at, terra_base_at, terra_call_suffix_at, terra_index_suffix_at, terra_select_suffix_at, terra_method_suffix_at, construct_suffix_at, terra_suffix_at, terra_applied_at, terra_number_at, terra_number_tree_at, terra_constant_at, terra_simple_at, terra_simple_symbols, terra_primary_at, terra_prefixed_at, terra_exponent_at, terra_unary_at, terra_symbols_of, terra_inner_at, terra_first_at, terra_one_more_at, terra_binary_at, next_terra_expression_at, terra_expressions_at, terra_arguments_at, named_initialiser_at, initialiser_at, first_initialiser_at, next_initialiser_at, initialisers_at};
+ghost use Rattle.tl_parse.specs.TerraExpressions.{escape_at, terra_name_at, terra_paren_at, terra_base_at};
+ghost use Rattle.tl_parse.specs.TerraExpressions.{terra_call_suffix_at, terra_index_suffix_at};
+ghost use Rattle.tl_parse.specs.TerraExpressions.{terra_select_suffix_at, terra_method_suffix_at};
+ghost use Rattle.tl_parse.specs.TerraExpressions.{construct_suffix_at, terra_suffix_at, terra_applied_at};
+ghost use Rattle.tl_parse.specs.TerraExpressions.{terra_number_at, terra_number_tree_at, terra_constant_at};
+ghost use Rattle.tl_parse.specs.TerraExpressions.{terra_simple_at, terra_simple_symbols, terra_primary_at};
+ghost use Rattle.tl_parse.specs.TerraExpressions.{terra_prefixed_at, terra_exponent_at, terra_unary_at};
+ghost use Rattle.tl_parse.specs.TerraExpressions.{terra_symbols_of, terra_inner_at, terra_first_at};
+ghost use Rattle.tl_parse.specs.TerraExpressions.{terra_one_more_at, terra_binary_at, next_terra_expression_at};
+ghost use Rattle.tl_parse.specs.TerraExpressions.{terra_expressions_at, terra_arguments_at, named_initialiser_at};
+ghost use Rattle.tl_parse.specs.TerraExpressions.{initialiser_at, first_initialiser_at, next_initialiser_at};
+ghost use Rattle.tl_parse.specs.TerraExpressions.{initialisers_at};
 ghost use Rattle.tl_parse.specs.TerraGoing.{TerraJoined, TookTerraSuffix, TookInitialiser};
 
 use crate::error::SyntaxError;
@@ -92,7 +104,7 @@ fn terra_symbols_of(precedence: TerraPrecedence) -> &'static [Symbol]
 
 impl<'a> Parser<'a> {
     /// Numeral, of Terra code
-    #[tactic(auto, using(crate::proofs::Failing::fails_bind, crate::proofs::Failing::fails_after), unfolding(crate::specs::TerraExpressions::terra_number_tree_at))]
+    #[tactic(auto, using(crate::proofs::Failing::failing), unfolding(crate::specs::TerraExpressions::terra_number_tree_at))]
     fn terra_number(&mut self) -> Result<NodeId, SyntaxError>
         requires { Ready self.old }
         ensures ok { IfOk result (λ r. TookTree self.old self.new (terra_number_tree_at (tokens_left self.old)) r) }
@@ -103,7 +115,7 @@ impl<'a> Parser<'a> {
     }
 
     /// "nil"
-    #[tactic(auto, using(crate::proofs::Failing::fails_bind, crate::proofs::Failing::fails_after), unfolding(crate::specs::TerraExpressions::terra_constant_at))]
+    #[tactic(auto, using(crate::proofs::Failing::failing), unfolding(crate::specs::TerraExpressions::terra_constant_at))]
     fn terra_nil(&mut self) -> Result<NodeId, SyntaxError>
         requires { Ready self.old }
         ensures ok { IfOk result (λ r. TookTree self.old self.new (terra_constant_at Symbol.Nil (tokens_left self.old)) r) }
@@ -114,7 +126,7 @@ impl<'a> Parser<'a> {
     }
 
     /// "false"
-    #[tactic(auto, using(crate::proofs::Failing::fails_bind, crate::proofs::Failing::fails_after), unfolding(crate::specs::TerraExpressions::terra_constant_at))]
+    #[tactic(auto, using(crate::proofs::Failing::failing), unfolding(crate::specs::TerraExpressions::terra_constant_at))]
     fn terra_false(&mut self) -> Result<NodeId, SyntaxError>
         requires { Ready self.old }
         ensures ok { IfOk result (λ r. TookTree self.old self.new (terra_constant_at Symbol.False (tokens_left self.old)) r) }
@@ -125,7 +137,7 @@ impl<'a> Parser<'a> {
     }
 
     /// "true"
-    #[tactic(auto, using(crate::proofs::Failing::fails_bind, crate::proofs::Failing::fails_after), unfolding(crate::specs::TerraExpressions::terra_constant_at))]
+    #[tactic(auto, using(crate::proofs::Failing::failing), unfolding(crate::specs::TerraExpressions::terra_constant_at))]
     fn terra_true(&mut self) -> Result<NodeId, SyntaxError>
         requires { Ready self.old }
         ensures ok { IfOk result (λ r. TookTree self.old self.new (terra_constant_at Symbol.True (tokens_left self.old)) r) }
@@ -136,7 +148,7 @@ impl<'a> Parser<'a> {
     }
 
     /// "nil" | "false" | "true" | Numeral | Text
-    #[tactic(auto, using(crate::proofs::Failing::fails_bind, crate::proofs::Failing::fails_after), unfolding(crate::specs::TerraExpressions::terra_simple_at))]
+    #[tactic(auto, using(crate::proofs::Failing::failing), unfolding(crate::specs::TerraExpressions::terra_simple_at))]
     fn terra_simple(&mut self) -> Result<NodeId, SyntaxError>
         requires { Ready self.old }
         ensures ok { IfOk result (λ r. TookTree self.old self.new (terra_simple_at (tokens_left self.old)) r) }
@@ -181,7 +193,7 @@ impl<'a> Parser<'a> {
 
     /// "[" exp "]", where an expression stands and where a name does
     #[cycle(parser)]
-    #[tactic(auto, using(crate::proofs::Failing::fails_bind, crate::proofs::Failing::fails_after), unfolding(crate::specs::TerraExpressions::escape_at))]
+    #[tactic(auto, using(crate::proofs::Failing::failing), unfolding(crate::specs::TerraExpressions::escape_at))]
     pub(crate) fn escape(&mut self, levels: u32) -> Result<NodeId, SyntaxError>
         requires { Ready self.old }
         ensures ok { IfOk result (λ r. TookTree self.old self.new (escape_at levels (tokens_left self.old)) r) }
@@ -195,7 +207,7 @@ impl<'a> Parser<'a> {
 
     /// tname = Name | "[" exp "]"
     #[cycle(parser)]
-    #[tactic(auto, using(crate::proofs::Failing::fails_bind, crate::proofs::Failing::fails_after), unfolding(crate::specs::TerraExpressions::terra_name_at))]
+    #[tactic(auto, using(crate::proofs::Failing::failing), unfolding(crate::specs::TerraExpressions::terra_name_at))]
     pub(crate) fn terra_name(&mut self, levels: u32) -> Result<NodeId, SyntaxError>
         requires { Ready self.old }
         ensures ok { IfOk result (λ r. TookTree self.old self.new (terra_name_at levels (tokens_left self.old)) r) }
@@ -209,7 +221,7 @@ impl<'a> Parser<'a> {
 
     /// "(" texp ")"
     #[cycle(parser)]
-    #[tactic(auto, using(crate::proofs::Failing::fails_bind, crate::proofs::Failing::fails_after), unfolding(crate::specs::TerraExpressions::terra_paren_at))]
+    #[tactic(auto, using(crate::proofs::Failing::failing), unfolding(crate::specs::TerraExpressions::terra_paren_at))]
     fn terra_paren(&mut self, levels: u32) -> Result<Operand, SyntaxError>
         requires { Ready self.old }
         ensures ok { IfOk result (λ r. TookOperand self.old self.new (terra_paren_at levels (tokens_left self.old)) r) }
@@ -231,7 +243,7 @@ impl<'a> Parser<'a> {
 
     /// Name | "[" exp "]" | "(" texp ")"
     #[cycle(parser)]
-    #[tactic(auto, using(crate::proofs::Failing::fails_bind, crate::proofs::Failing::fails_after), unfolding(crate::specs::TerraExpressions::terra_base_at))]
+    #[tactic(auto, using(crate::proofs::Failing::failing), unfolding(crate::specs::TerraExpressions::terra_base_at))]
     fn terra_base(&mut self, levels: u32) -> Result<Operand, SyntaxError>
         requires { Ready self.old }
         ensures ok { IfOk result (λ r. TookOperand self.old self.new (terra_base_at levels (tokens_left self.old)) r) }
@@ -258,7 +270,7 @@ impl<'a> Parser<'a> {
 
     /// "(" [texps] ")"
     #[cycle(parser)]
-    #[tactic(auto, using(crate::proofs::Failing::fails_bind, crate::proofs::Failing::fails_after, crate::proofs::Taking::less), unfolding(crate::specs::TerraExpressions::terra_call_suffix_at))]
+    #[tactic(auto, using(crate::proofs::Taking::shorter), unfolding(crate::specs::TerraExpressions::terra_call_suffix_at))]
     fn terra_call_suffix(&mut self, levels: u32, a: Operand) -> Result<Operand, SyntaxError>
         requires { Ready self.old }
         ensures ok { IfOk result (λ r. TookTerraSuffix self.old self.new (terra_call_suffix_at levels a.left (tokens_left self.old)) a r) }
@@ -280,7 +292,7 @@ impl<'a> Parser<'a> {
 
     /// "[" texp "]"
     #[cycle(parser)]
-    #[tactic(auto, using(crate::proofs::Failing::fails_bind, crate::proofs::Failing::fails_after, crate::proofs::Taking::less), unfolding(crate::specs::TerraExpressions::terra_index_suffix_at))]
+    #[tactic(auto, using(crate::proofs::Taking::shorter), unfolding(crate::specs::TerraExpressions::terra_index_suffix_at))]
     fn terra_index_suffix(&mut self, levels: u32, a: Operand) -> Result<Operand, SyntaxError>
         requires { Ready self.old }
         ensures ok { IfOk result (λ r. TookTerraSuffix self.old self.new (terra_index_suffix_at levels a.left (tokens_left self.old)) a r) }
@@ -302,7 +314,7 @@ impl<'a> Parser<'a> {
 
     /// "." tname
     #[cycle(parser)]
-    #[tactic(auto, using(crate::proofs::Failing::fails_bind, crate::proofs::Failing::fails_after, crate::proofs::Taking::less), unfolding(crate::specs::TerraExpressions::terra_select_suffix_at))]
+    #[tactic(auto, using(crate::proofs::Taking::shorter), unfolding(crate::specs::TerraExpressions::terra_select_suffix_at))]
     fn terra_select_suffix(&mut self, levels: u32, a: Operand) -> Result<Operand, SyntaxError>
         requires { Ready self.old }
         ensures ok { IfOk result (λ r. TookTerraSuffix self.old self.new (terra_select_suffix_at levels a.left (tokens_left self.old)) a r) }
@@ -323,7 +335,7 @@ impl<'a> Parser<'a> {
 
     /// ":" tname "(" [texps] ")"
     #[cycle(parser)]
-    #[tactic(auto, using(crate::proofs::Failing::fails_bind, crate::proofs::Failing::fails_after, crate::proofs::Taking::less), unfolding(crate::specs::TerraExpressions::terra_method_suffix_at))]
+    #[tactic(auto, using(crate::proofs::Taking::shorter), unfolding(crate::specs::TerraExpressions::terra_method_suffix_at))]
     fn terra_method_suffix(&mut self, levels: u32, a: Operand) -> Result<Operand, SyntaxError>
         requires { Ready self.old }
         ensures ok { IfOk result (λ r. TookTerraSuffix self.old self.new (terra_method_suffix_at levels a.left (tokens_left self.old)) a r) }
@@ -347,7 +359,7 @@ impl<'a> Parser<'a> {
 
     /// "{" [init {("," | ";") init} ["," | ";"]] "}"
     #[cycle(parser)]
-    #[tactic(auto, using(crate::proofs::Failing::fails_bind, crate::proofs::Failing::fails_after, crate::proofs::Taking::less), unfolding(crate::specs::TerraExpressions::construct_suffix_at))]
+    #[tactic(auto, using(crate::proofs::Taking::shorter), unfolding(crate::specs::TerraExpressions::construct_suffix_at))]
     fn construct_suffix(&mut self, levels: u32, a: Operand) -> Result<Operand, SyntaxError>
         requires { Ready self.old }
         ensures ok { IfOk result (λ r. TookTerraSuffix self.old self.new (construct_suffix_at levels a.left (tokens_left self.old)) a r) }
@@ -369,7 +381,7 @@ impl<'a> Parser<'a> {
 
     /// "(" [texps] ")" | "[" texp "]" | "." tname | ":" tname "(" [texps] ")" | "{" .. "}"
     #[cycle(parser)]
-    #[tactic(auto, using(crate::proofs::Failing::fails_bind, crate::proofs::Failing::fails_after), unfolding(crate::specs::TerraExpressions::terra_suffix_at))]
+    #[tactic(auto, using(crate::proofs::Failing::failing), unfolding(crate::specs::TerraExpressions::terra_suffix_at))]
     fn terra_suffix(&mut self, levels: u32, a: Operand) -> Result<Operand, SyntaxError>
         requires { Ready self.old }
         ensures ok { IfOk result (λ r. TookTerraSuffix self.old self.new (terra_suffix_at levels a.left (tokens_left self.old)) a r) }
@@ -392,7 +404,7 @@ impl<'a> Parser<'a> {
 
     /// tsuf
     #[cycle(parser)]
-    #[tactic(auto, using(crate::proofs::Failing::fails_bind, crate::proofs::Failing::fails_after, crate::proofs::Failing::fails_from, crate::proofs::TerraTurns::terra_suffixes_go, crate::proofs::TerraTurns::terra_suffixes_end, crate::proofs::TerraTurns::terra_suffix_shorter), unfolding(crate::specs::TerraExpressions::terra_applied_at))]
+    #[tactic(auto, using(crate::proofs::TerraTurns::suffixes), unfolding(crate::specs::TerraExpressions::terra_applied_at))]
     pub(crate) fn terra_applied(&mut self, levels: u32) -> Result<Operand, SyntaxError>
         requires { Ready self.old }
         ensures ok { IfOk result (λ r. TookOperand self.old self.new (terra_applied_at levels (tokens_left self.old)) r) }
@@ -407,7 +419,7 @@ impl<'a> Parser<'a> {
 
     /// texp, without operators
     #[cycle(parser)]
-    #[tactic(auto, using(crate::proofs::Failing::fails_bind, crate::proofs::Failing::fails_after), unfolding(crate::specs::TerraExpressions::terra_primary_at))]
+    #[tactic(auto, using(crate::proofs::Failing::failing), unfolding(crate::specs::TerraExpressions::terra_primary_at))]
     fn terra_primary(&mut self, levels: u32, left: u32) -> Result<Operand, SyntaxError>
         requires { Ready self.old }
         ensures ok { IfOk result (λ r. TookOperand self.old self.new (terra_primary_at levels left (tokens_left self.old)) r) }
@@ -431,7 +443,7 @@ impl<'a> Parser<'a> {
 
     /// operator texp
     #[cycle(parser)]
-    #[tactic(auto, using(crate::proofs::Failing::fails_bind, crate::proofs::Failing::fails_after), unfolding(crate::specs::TerraExpressions::terra_prefixed_at))]
+    #[tactic(auto, using(crate::proofs::Failing::failing), unfolding(crate::specs::TerraExpressions::terra_prefixed_at))]
     fn terra_prefixed(&mut self, levels: u32, left: u32) -> Result<Operand, SyntaxError>
         requires { Ready self.old }
         ensures ok { IfOk result (λ r. TookOperand self.old self.new (terra_prefixed_at levels left (tokens_left self.old)) r) }
@@ -452,7 +464,7 @@ impl<'a> Parser<'a> {
 
     /// texp "^" texp: its right operand
     #[cycle(parser)]
-    #[tactic(auto, using(crate::proofs::Failing::fails_bind, crate::proofs::Failing::fails_after), unfolding(crate::specs::TerraExpressions::terra_exponent_at))]
+    #[tactic(auto, using(crate::proofs::Failing::failing), unfolding(crate::specs::TerraExpressions::terra_exponent_at))]
     fn terra_exponent(&mut self, levels: u32, left: u32) -> Result<Operand, SyntaxError>
         requires { Ready self.old }
         ensures ok { IfOk result (λ r. TookOperand self.old self.new (terra_exponent_at levels left (tokens_left self.old)) r) }
@@ -466,7 +478,7 @@ impl<'a> Parser<'a> {
 
     /// operator texp | texp "^" texp
     #[cycle(parser)]
-    #[tactic(auto, using(crate::proofs::Failing::fails_bind, crate::proofs::Failing::fails_after), unfolding(crate::specs::TerraExpressions::terra_unary_at))]
+    #[tactic(auto, using(crate::proofs::Failing::failing), unfolding(crate::specs::TerraExpressions::terra_unary_at))]
     fn terra_unary(&mut self, levels: u32, left: u32) -> Result<Operand, SyntaxError>
         requires { Ready self.old }
         ensures ok { IfOk result (λ r. TookOperand self.old self.new (terra_unary_at levels left (tokens_left self.old)) r) }
@@ -480,7 +492,7 @@ impl<'a> Parser<'a> {
 
     /// the right operand of a precedence
     #[cycle(parser)]
-    #[tactic(auto, using(crate::proofs::Failing::fails_bind, crate::proofs::Failing::fails_after, crate::proofs::TerraParts::inner_power, crate::proofs::TerraParts::inner_product, crate::proofs::TerraParts::inner_sum, crate::proofs::TerraParts::inner_shift, crate::proofs::TerraParts::inner_comparison, crate::proofs::TerraParts::inner_conjunction, crate::proofs::TerraParts::inner_disjunction, crate::proofs::Failing::fails_same))]
+    #[tactic(auto, using(crate::proofs::TerraParts::inner))]
     fn terra_inner(
         &mut self,
         precedence: TerraPrecedence,
@@ -512,7 +524,7 @@ impl<'a> Parser<'a> {
 
     /// the first operand of a precedence
     #[cycle(parser)]
-    #[tactic(auto, using(crate::proofs::Failing::fails_bind, crate::proofs::Failing::fails_after, crate::proofs::TerraParts::first_others, crate::proofs::Failing::fails_same), unfolding(crate::specs::TerraExpressions::terra_first_at))]
+    #[tactic(auto, using(crate::proofs::Failing::failing_same, crate::proofs::TerraParts::first_others), unfolding(crate::specs::TerraExpressions::terra_first_at))]
     fn terra_first(
         &mut self,
         precedence: TerraPrecedence,
@@ -531,7 +543,7 @@ impl<'a> Parser<'a> {
 
     /// operator texp, of a precedence
     #[cycle(parser)]
-    #[tactic(auto, using(crate::proofs::Failing::fails_bind, crate::proofs::Failing::fails_after, crate::proofs::Taking::less), unfolding(crate::specs::TerraExpressions::terra_one_more_at))]
+    #[tactic(auto, using(crate::proofs::Taking::shorter), unfolding(crate::specs::TerraExpressions::terra_one_more_at))]
     fn terra_one_more(
         &mut self,
         precedence: TerraPrecedence,
@@ -549,7 +561,7 @@ impl<'a> Parser<'a> {
 
     /// texp {operator texp}, of a precedence
     #[cycle(parser)]
-    #[tactic(auto, using(crate::proofs::Failing::fails_bind, crate::proofs::Failing::fails_after, crate::proofs::Failing::fails_from, crate::proofs::TerraTurns::terra_operations_go, crate::proofs::TerraTurns::terra_operations_end, crate::proofs::TerraTurns::terra_operation_shorter), unfolding(crate::specs::TerraExpressions::terra_binary_at))]
+    #[tactic(auto, using(crate::proofs::TerraTurns::operations), unfolding(crate::specs::TerraExpressions::terra_binary_at))]
     fn terra_binary(
         &mut self,
         precedence: TerraPrecedence,
@@ -571,7 +583,7 @@ impl<'a> Parser<'a> {
 
     /// the operand of a prefix operator
     #[cycle(parser)]
-    #[tactic(auto, using(crate::proofs::Failing::fails_bind, crate::proofs::Failing::fails_after, crate::proofs::TerraParts::terra_operand_part, crate::proofs::Failing::fails_same))]
+    #[tactic(auto, using(crate::proofs::Failing::failing_same, crate::proofs::TerraParts::terra_operand_part))]
     fn terra_operand(&mut self, levels: u32) -> Result<NodeId, SyntaxError>
         requires { Ready self.old }
         ensures ok { IfOk result (λ r. TookTree self.old self.new (part_at levels parts.TerraOperand (tokens_left self.old)) r) }
@@ -583,7 +595,7 @@ impl<'a> Parser<'a> {
 
     /// texp
     #[cycle(parser)]
-    #[tactic(auto, using(crate::proofs::Failing::fails_bind, crate::proofs::Failing::fails_after, crate::proofs::TerraParts::terra_expression_part, crate::proofs::Failing::fails_same))]
+    #[tactic(auto, using(crate::proofs::Failing::failing_same, crate::proofs::TerraParts::terra_expression_part))]
     pub(crate) fn terra_expression(&mut self, levels: u32) -> Result<NodeId, SyntaxError>
         requires { Ready self.old }
         ensures ok { IfOk result (λ r. TookTree self.old self.new (part_at levels parts.TerraExpression (tokens_left self.old)) r) }
@@ -595,7 +607,7 @@ impl<'a> Parser<'a> {
 
     /// "," texp
     #[cycle(parser)]
-    #[tactic(auto, using(crate::proofs::Failing::fails_bind, crate::proofs::Failing::fails_after), unfolding(crate::specs::TerraExpressions::next_terra_expression_at))]
+    #[tactic(auto, using(crate::proofs::Failing::failing), unfolding(crate::specs::TerraExpressions::next_terra_expression_at))]
     pub(crate) fn next_terra_expression(&mut self, levels: u32) -> Result<NodeId, SyntaxError>
         requires { Ready self.old }
         ensures ok { IfOk result (λ r. TookTree self.old self.new (next_terra_expression_at levels (tokens_left self.old)) r) }
@@ -607,7 +619,7 @@ impl<'a> Parser<'a> {
 
     /// texps = texp {"," texp}
     #[cycle(parser)]
-    #[tactic(auto, using(crate::proofs::Failing::fails_bind, crate::proofs::Failing::fails_after, crate::proofs::Failing::fails_from, crate::proofs::TerraTurns::terra_expressions_go, crate::proofs::TerraTurns::terra_expressions_end, crate::proofs::TerraTurns::terra_expression_shorter), unfolding(crate::specs::TerraExpressions::terra_expressions_at))]
+    #[tactic(auto, using(crate::proofs::TerraTurns::expressions), unfolding(crate::specs::TerraExpressions::terra_expressions_at))]
     pub(crate) fn terra_expressions(&mut self, levels: u32) -> Result<NodeList, SyntaxError>
         requires { Ready self.old }
         ensures ok { IfOk result (λ r. TookList self.old self.new (terra_expressions_at levels (tokens_left self.old)) r) }
@@ -625,7 +637,7 @@ impl<'a> Parser<'a> {
 
     /// [texps], up to a ")"
     #[cycle(parser)]
-    #[tactic(auto, using(crate::proofs::Failing::fails_bind, crate::proofs::Failing::fails_after, crate::proofs::TerraParts::terra_arguments_part, crate::proofs::Failing::fails_same), unfolding(crate::specs::TerraExpressions::terra_arguments_at))]
+    #[tactic(auto, using(crate::proofs::Failing::failing_same, crate::proofs::TerraParts::terra_arguments_part), unfolding(crate::specs::TerraExpressions::terra_arguments_at))]
     fn terra_arguments(&mut self, levels: u32) -> Result<NodeList, SyntaxError>
         requires { Ready self.old }
         ensures ok { IfOk result (λ r. TookList self.old self.new (part_at levels parts.TerraArguments (tokens_left self.old)) r) }
@@ -639,7 +651,7 @@ impl<'a> Parser<'a> {
 
     /// init = Name "=" texp
     #[cycle(parser)]
-    #[tactic(auto, using(crate::proofs::Failing::fails_bind, crate::proofs::Failing::fails_after), unfolding(crate::specs::TerraExpressions::named_initialiser_at))]
+    #[tactic(auto, using(crate::proofs::Failing::failing), unfolding(crate::specs::TerraExpressions::named_initialiser_at))]
     fn named_initialiser(&mut self, levels: u32) -> Result<NodeId, SyntaxError>
         requires { Ready self.old }
         ensures ok { IfOk result (λ r. TookTree self.old self.new (named_initialiser_at levels (tokens_left self.old)) r) }
@@ -653,7 +665,7 @@ impl<'a> Parser<'a> {
 
     /// init, where all are named or none is
     #[cycle(parser)]
-    #[tactic(auto, using(crate::proofs::Failing::fails_bind, crate::proofs::Failing::fails_after), unfolding(crate::specs::TerraExpressions::initialiser_at))]
+    #[tactic(auto, using(crate::proofs::Failing::failing), unfolding(crate::specs::TerraExpressions::initialiser_at))]
     fn initialiser(&mut self, named: bool, levels: u32) -> Result<NodeId, SyntaxError>
         requires { Ready self.old }
         ensures ok { IfOk result (λ r. TookTree self.old self.new (initialiser_at levels named (tokens_left self.old)) r) }
@@ -667,7 +679,7 @@ impl<'a> Parser<'a> {
 
     /// init, the first one, and whether it is named
     #[cycle(parser)]
-    #[tactic(auto, using(crate::proofs::Failing::fails_bind, crate::proofs::Failing::fails_after), unfolding(crate::specs::TerraExpressions::first_initialiser_at, crate::specs::TerraExpressions::initialiser_behind_at))]
+    #[tactic(auto, using(crate::proofs::Failing::failing), unfolding(crate::specs::TerraExpressions::first_initialiser_at, crate::specs::TerraExpressions::initialiser_behind_at))]
     fn first_initialiser(&mut self, levels: u32) -> Result<(NodeId, bool), SyntaxError>
         requires { Ready self.old }
         ensures ok { IfOk result (λ r. TookInitialiser self.old self.new (first_initialiser_at levels (tokens_left self.old)) r.0 r.1) }
@@ -687,7 +699,7 @@ impl<'a> Parser<'a> {
 
     /// ("," | ";") [init]
     #[cycle(parser)]
-    #[tactic(auto, using(crate::proofs::Failing::fails_bind, crate::proofs::Failing::fails_after), unfolding(crate::specs::TerraExpressions::next_initialiser_at))]
+    #[tactic(auto, using(crate::proofs::Failing::failing), unfolding(crate::specs::TerraExpressions::next_initialiser_at))]
     fn next_initialiser(&mut self, named: bool, levels: u32) -> Result<Option<NodeId>, SyntaxError>
         requires { Ready self.old }
         ensures ok { IfOk result (λ r. TookMaybe self.old self.new (next_initialiser_at levels named (tokens_left self.old)) r) }
@@ -703,7 +715,7 @@ impl<'a> Parser<'a> {
 
     /// [init {("," | ";") init} ["," | ";"]], up to a "}"
     #[cycle(parser)]
-    #[tactic(auto, using(crate::proofs::Failing::fails_bind, crate::proofs::Failing::fails_after, crate::proofs::TerraParts::initialisers_part, crate::proofs::Failing::fails_same, crate::proofs::Failing::fails_from, crate::proofs::TerraTurns::initialisers_go, crate::proofs::TerraTurns::initialisers_end, crate::proofs::TerraTurns::initialiser_shorter), unfolding(crate::specs::TerraExpressions::initialisers_at))]
+    #[tactic(auto, using(crate::proofs::TerraTurns::initialisers), unfolding(crate::specs::TerraExpressions::initialisers_at))]
     fn initialisers(&mut self, levels: u32) -> Result<NodeList, SyntaxError>
         requires { Ready self.old }
         ensures ok { IfOk result (λ r. TookList self.old self.new (part_at levels parts.Initialisers (tokens_left self.old)) r) }

@@ -3,11 +3,21 @@ ghost use Rattle.std.specs.Prelude.{◌≡◌, length, true, false, IfOk, IfErr,
 ghost use Rattle.tl_tree.specs.TerraStatements as terra;
 ghost use Rattle.tl_tree.specs.Tree as parts;
 ghost use Rattle.tl_tree.specs.Grammar.{begins};
-ghost use Rattle.tl_parse.specs.Parsing.{tokens_left, Ready, HasNext, Fails, TookTree, TookOperand, TookList, TookOption};
+ghost use Rattle.tl_parse.specs.Parsing.{tokens_left, Ready, HasNext, Fails, TookTree, TookOperand, TookList};
+ghost use Rattle.tl_parse.specs.Parsing.{TookOption};
 ghost use Rattle.tl_parse.specs.Using.{part_at};
 ghost use Rattle.tl_parse.specs.Going.{TookStatement};
 ghost use Rattle.tl_parse.specs.Statements.{is_call};
-ghost use Rattle.tl_parse.specs.TerraStatements.{written_type_at, terra_loop_at, terra_arm_at, next_terra_arm_at, terra_arms_at, terra_otherwise_at, terra_step_at, terra_variable_at, next_terra_variable_at, terra_variables_at, terra_initial_values_at, terra_returned_values_at, terra_target_at, terra_simple_statement_at, is_escape, terra_goes_on, terra_function_body_at, quoted_expression_at, quoted_code_at, terra_do_at, terra_while_at, terra_repeat_at, terra_if_at, terra_for_at, terra_var_at, escape_block_at, terra_return_at, terra_break_at, terra_statement_at, next_terra_statement_at, terra_parameter_at, next_terra_parameter_at, terra_parameters_at};
+ghost use Rattle.tl_parse.specs.TerraStatements.{written_type_at, terra_loop_at, terra_arm_at, next_terra_arm_at};
+ghost use Rattle.tl_parse.specs.TerraStatements.{terra_arms_at, terra_otherwise_at, terra_step_at, terra_variable_at};
+ghost use Rattle.tl_parse.specs.TerraStatements.{next_terra_variable_at, terra_variables_at, terra_initial_values_at};
+ghost use Rattle.tl_parse.specs.TerraStatements.{terra_returned_values_at, terra_target_at};
+ghost use Rattle.tl_parse.specs.TerraStatements.{terra_simple_statement_at, is_escape, terra_goes_on};
+ghost use Rattle.tl_parse.specs.TerraStatements.{terra_function_body_at, quoted_expression_at, quoted_code_at};
+ghost use Rattle.tl_parse.specs.TerraStatements.{terra_do_at, terra_while_at, terra_repeat_at, terra_if_at};
+ghost use Rattle.tl_parse.specs.TerraStatements.{terra_for_at, terra_var_at, escape_block_at, terra_return_at};
+ghost use Rattle.tl_parse.specs.TerraStatements.{terra_break_at, terra_statement_at, next_terra_statement_at};
+ghost use Rattle.tl_parse.specs.TerraStatements.{terra_parameter_at, next_terra_parameter_at, terra_parameters_at};
 
 use crate::error::SyntaxError;
 use crate::parser::{CHAIN, Operand, Parser, add};
@@ -73,7 +83,7 @@ fn is_escape(shape: Shape) -> bool
 impl<'a> Parser<'a> {
     /// [":" exp]
     #[cycle(parser)]
-    #[tactic(auto, using(crate::proofs::Failing::fails_bind, crate::proofs::Failing::fails_after), unfolding(crate::specs::TerraStatements::written_type_at))]
+    #[tactic(auto, using(crate::proofs::Failing::failing), unfolding(crate::specs::TerraStatements::written_type_at))]
     fn written_type(&mut self, levels: u32) -> Result<Option<NodeId>, SyntaxError>
         requires { Ready self.old }
         ensures ok { IfOk result (λ r. TookOption self.old self.new (written_type_at levels (tokens_left self.old)) r) }
@@ -89,7 +99,7 @@ impl<'a> Parser<'a> {
 
     /// "do" tblock "end"
     #[cycle(parser)]
-    #[tactic(auto, using(crate::proofs::Failing::fails_bind, crate::proofs::Failing::fails_after), unfolding(crate::specs::TerraStatements::terra_loop_at))]
+    #[tactic(auto, using(crate::proofs::Failing::failing), unfolding(crate::specs::TerraStatements::terra_loop_at))]
     fn terra_loop(&mut self, levels: u32) -> Result<NodeId, SyntaxError>
         requires { Ready self.old }
         ensures ok { IfOk result (λ r. TookTree self.old self.new (terra_loop_at levels (tokens_left self.old)) r) }
@@ -103,7 +113,7 @@ impl<'a> Parser<'a> {
 
     /// texp "then" tblock
     #[cycle(parser)]
-    #[tactic(auto, using(crate::proofs::Failing::fails_bind, crate::proofs::Failing::fails_after), unfolding(crate::specs::TerraStatements::terra_arm_at))]
+    #[tactic(auto, using(crate::proofs::Failing::failing), unfolding(crate::specs::TerraStatements::terra_arm_at))]
     fn terra_arm(&mut self, levels: u32) -> Result<NodeId, SyntaxError>
         requires { Ready self.old }
         ensures ok { IfOk result (λ r. TookTree self.old self.new (terra_arm_at levels (tokens_left self.old)) r) }
@@ -117,7 +127,7 @@ impl<'a> Parser<'a> {
 
     /// "elseif" texp "then" tblock
     #[cycle(parser)]
-    #[tactic(auto, using(crate::proofs::Failing::fails_bind, crate::proofs::Failing::fails_after), unfolding(crate::specs::TerraStatements::next_terra_arm_at))]
+    #[tactic(auto, using(crate::proofs::Failing::failing), unfolding(crate::specs::TerraStatements::next_terra_arm_at))]
     fn next_terra_arm(&mut self, levels: u32) -> Result<NodeId, SyntaxError>
         requires { Ready self.old }
         ensures ok { IfOk result (λ r. TookTree self.old self.new (next_terra_arm_at levels (tokens_left self.old)) r) }
@@ -129,7 +139,7 @@ impl<'a> Parser<'a> {
 
     /// texp "then" tblock {"elseif" texp "then" tblock}
     #[cycle(parser)]
-    #[tactic(auto, using(crate::proofs::Failing::fails_bind, crate::proofs::Failing::fails_after, crate::proofs::Failing::fails_from, crate::proofs::TerraStatementTurns::terra_arms_go, crate::proofs::TerraStatementTurns::terra_arms_end, crate::proofs::TerraStatementTurns::terra_arm_shorter), unfolding(crate::specs::TerraStatements::terra_arms_at))]
+    #[tactic(auto, using(crate::proofs::TerraStatementTurns::arms), unfolding(crate::specs::TerraStatements::terra_arms_at))]
     fn terra_arms(&mut self, levels: u32) -> Result<NodeList, SyntaxError>
         requires { Ready self.old }
         ensures ok { IfOk result (λ r. TookList self.old self.new (terra_arms_at levels (tokens_left self.old)) r) }
@@ -147,7 +157,7 @@ impl<'a> Parser<'a> {
 
     /// ["else" tblock]
     #[cycle(parser)]
-    #[tactic(auto, using(crate::proofs::Failing::fails_bind, crate::proofs::Failing::fails_after), unfolding(crate::specs::TerraStatements::terra_otherwise_at))]
+    #[tactic(auto, using(crate::proofs::Failing::failing), unfolding(crate::specs::TerraStatements::terra_otherwise_at))]
     fn terra_otherwise(&mut self, levels: u32) -> Result<Option<NodeId>, SyntaxError>
         requires { Ready self.old }
         ensures ok { IfOk result (λ r. TookOption self.old self.new (terra_otherwise_at levels (tokens_left self.old)) r) }
@@ -163,7 +173,7 @@ impl<'a> Parser<'a> {
 
     /// ["," texp]
     #[cycle(parser)]
-    #[tactic(auto, using(crate::proofs::Failing::fails_bind, crate::proofs::Failing::fails_after), unfolding(crate::specs::TerraStatements::terra_step_at))]
+    #[tactic(auto, using(crate::proofs::Failing::failing), unfolding(crate::specs::TerraStatements::terra_step_at))]
     fn terra_step(&mut self, levels: u32) -> Result<Option<NodeId>, SyntaxError>
         requires { Ready self.old }
         ensures ok { IfOk result (λ r. TookOption self.old self.new (terra_step_at levels (tokens_left self.old)) r) }
@@ -179,7 +189,7 @@ impl<'a> Parser<'a> {
 
     /// tvar = tname [":" exp]
     #[cycle(parser)]
-    #[tactic(auto, using(crate::proofs::Failing::fails_bind, crate::proofs::Failing::fails_after), unfolding(crate::specs::TerraStatements::terra_variable_at))]
+    #[tactic(auto, using(crate::proofs::Failing::failing), unfolding(crate::specs::TerraStatements::terra_variable_at))]
     fn terra_variable(&mut self, levels: u32) -> Result<NodeId, SyntaxError>
         requires { Ready self.old }
         ensures ok { IfOk result (λ r. TookTree self.old self.new (terra_variable_at levels (tokens_left self.old)) r) }
@@ -202,7 +212,7 @@ impl<'a> Parser<'a> {
 
     /// "," tvar
     #[cycle(parser)]
-    #[tactic(auto, using(crate::proofs::Failing::fails_bind, crate::proofs::Failing::fails_after), unfolding(crate::specs::TerraStatements::next_terra_variable_at))]
+    #[tactic(auto, using(crate::proofs::Failing::failing), unfolding(crate::specs::TerraStatements::next_terra_variable_at))]
     fn next_terra_variable(&mut self, levels: u32) -> Result<NodeId, SyntaxError>
         requires { Ready self.old }
         ensures ok { IfOk result (λ r. TookTree self.old self.new (next_terra_variable_at levels (tokens_left self.old)) r) }
@@ -214,7 +224,7 @@ impl<'a> Parser<'a> {
 
     /// tvar {"," tvar}
     #[cycle(parser)]
-    #[tactic(auto, using(crate::proofs::Failing::fails_bind, crate::proofs::Failing::fails_after, crate::proofs::Failing::fails_from, crate::proofs::TerraStatementTurns::terra_variables_go, crate::proofs::TerraStatementTurns::terra_variables_end, crate::proofs::TerraStatementTurns::terra_variable_shorter), unfolding(crate::specs::TerraStatements::terra_variables_at))]
+    #[tactic(auto, using(crate::proofs::TerraStatementTurns::variables), unfolding(crate::specs::TerraStatements::terra_variables_at))]
     fn terra_variables(&mut self, levels: u32) -> Result<NodeList, SyntaxError>
         requires { Ready self.old }
         ensures ok { IfOk result (λ r. TookList self.old self.new (terra_variables_at levels (tokens_left self.old)) r) }
@@ -232,7 +242,7 @@ impl<'a> Parser<'a> {
 
     /// ["=" texps]
     #[cycle(parser)]
-    #[tactic(auto, using(crate::proofs::Failing::fails_bind, crate::proofs::Failing::fails_after), unfolding(crate::specs::TerraStatements::terra_initial_values_at))]
+    #[tactic(auto, using(crate::proofs::Failing::failing), unfolding(crate::specs::TerraStatements::terra_initial_values_at))]
     fn terra_initial_values(&mut self, levels: u32) -> Result<NodeList, SyntaxError>
         requires { Ready self.old }
         ensures ok { IfOk result (λ r. TookList self.old self.new (terra_initial_values_at levels (tokens_left self.old)) r) }
@@ -247,7 +257,7 @@ impl<'a> Parser<'a> {
 
     /// [texps], behind "return"
     #[cycle(parser)]
-    #[tactic(auto, using(crate::proofs::Failing::fails_bind, crate::proofs::Failing::fails_after), unfolding(crate::specs::TerraStatements::terra_returned_values_at))]
+    #[tactic(auto, using(crate::proofs::Failing::failing), unfolding(crate::specs::TerraStatements::terra_returned_values_at))]
     fn terra_returned_values(&mut self, levels: u32) -> Result<NodeList, SyntaxError>
         requires { Ready self.old }
         ensures ok { IfOk result (λ r. TookList self.old self.new (terra_returned_values_at levels (tokens_left self.old)) r) }
@@ -261,7 +271,7 @@ impl<'a> Parser<'a> {
 
     /// the first texp of a statement that no word begins
     #[cycle(parser)]
-    #[tactic(auto, using(crate::proofs::Failing::fails_bind, crate::proofs::Failing::fails_after), unfolding(crate::specs::TerraStatements::terra_target_at))]
+    #[tactic(auto, using(crate::proofs::Failing::failing), unfolding(crate::specs::TerraStatements::terra_target_at))]
     fn terra_target(&mut self, levels: u32) -> Result<Operand, SyntaxError>
         requires { Ready self.old }
         ensures ok { IfOk result (λ r. TookOperand self.old self.new (terra_target_at levels (tokens_left self.old)) r) }
@@ -280,7 +290,7 @@ impl<'a> Parser<'a> {
 
     /// tstat = texp {"," texp} "=" texps | tcall | "[" exp "]"
     #[cycle(parser)]
-    #[tactic(auto, using(crate::proofs::Failing::fails_bind, crate::proofs::Failing::fails_after, crate::proofs::Failing::fails_from, crate::proofs::TerraStatementTurns::terra_targets_go, crate::proofs::TerraStatementTurns::terra_targets_end, crate::proofs::TerraStatementTurns::terra_target_shorter), unfolding(crate::specs::TerraStatements::terra_simple_statement_at, crate::specs::TerraStatements::terra_statement_behind_at, crate::specs::TerraStatements::terra_assignment_at))]
+    #[tactic(auto, using(crate::proofs::TerraStatementTurns::targets), unfolding(crate::specs::TerraStatements::terra_simple_statement_at, crate::specs::TerraStatements::terra_statement_behind_at, crate::specs::TerraStatements::terra_assignment_at))]
     fn terra_simple_statement(&mut self, levels: u32) -> Result<NodeId, SyntaxError>
         requires ready { Ready self.old }
         requires next { HasNext (tokens_left self.old) }
@@ -308,7 +318,7 @@ impl<'a> Parser<'a> {
 
     /// tstat = "do" tblock "end"
     #[cycle(parser)]
-    #[tactic(auto, using(crate::proofs::Failing::fails_bind, crate::proofs::Failing::fails_after), unfolding(crate::specs::TerraStatements::terra_do_at))]
+    #[tactic(auto, using(crate::proofs::Failing::failing), unfolding(crate::specs::TerraStatements::terra_do_at))]
     fn terra_do(&mut self, levels: u32) -> Result<NodeId, SyntaxError>
         requires { Ready self.old }
         ensures ok { IfOk result (λ r. TookTree self.old self.new (terra_do_at levels (tokens_left self.old)) r) }
@@ -322,7 +332,7 @@ impl<'a> Parser<'a> {
 
     /// tstat = "while" texp "do" tblock "end"
     #[cycle(parser)]
-    #[tactic(auto, using(crate::proofs::Failing::fails_bind, crate::proofs::Failing::fails_after), unfolding(crate::specs::TerraStatements::terra_while_at))]
+    #[tactic(auto, using(crate::proofs::Failing::failing), unfolding(crate::specs::TerraStatements::terra_while_at))]
     fn terra_while(&mut self, levels: u32) -> Result<NodeId, SyntaxError>
         requires { Ready self.old }
         ensures ok { IfOk result (λ r. TookTree self.old self.new (terra_while_at levels (tokens_left self.old)) r) }
@@ -336,7 +346,7 @@ impl<'a> Parser<'a> {
 
     /// tstat = "repeat" tblock "until" texp; the condition is read at the level of the statement
     #[cycle(parser)]
-    #[tactic(auto, using(crate::proofs::Failing::fails_bind, crate::proofs::Failing::fails_after), unfolding(crate::specs::TerraStatements::terra_repeat_at))]
+    #[tactic(auto, using(crate::proofs::Failing::failing), unfolding(crate::specs::TerraStatements::terra_repeat_at))]
     fn terra_repeat(&mut self, levels: u32) -> Result<NodeId, SyntaxError>
         requires { Ready self.old }
         ensures ok { IfOk result (λ r. TookTree self.old self.new (terra_repeat_at levels (tokens_left self.old)) r) }
@@ -351,7 +361,7 @@ impl<'a> Parser<'a> {
 
     /// tstat = "if" texp "then" tblock {"elseif" texp "then" tblock} ["else" tblock] "end"
     #[cycle(parser)]
-    #[tactic(auto, using(crate::proofs::Failing::fails_bind, crate::proofs::Failing::fails_after), unfolding(crate::specs::TerraStatements::terra_if_at))]
+    #[tactic(auto, using(crate::proofs::Failing::failing), unfolding(crate::specs::TerraStatements::terra_if_at))]
     fn terra_if(&mut self, levels: u32) -> Result<NodeId, SyntaxError>
         requires { Ready self.old }
         ensures ok { IfOk result (λ r. TookTree self.old self.new (terra_if_at levels (tokens_left self.old)) r) }
@@ -366,7 +376,7 @@ impl<'a> Parser<'a> {
 
     /// tstat = "for" tname "=" texp "," texp ["," texp] "do" tblock "end"
     #[cycle(parser)]
-    #[tactic(auto, using(crate::proofs::Failing::fails_bind, crate::proofs::Failing::fails_after), unfolding(crate::specs::TerraStatements::terra_for_at))]
+    #[tactic(auto, using(crate::proofs::Failing::failing), unfolding(crate::specs::TerraStatements::terra_for_at))]
     fn terra_for(&mut self, levels: u32) -> Result<NodeId, SyntaxError>
         requires { Ready self.old }
         ensures ok { IfOk result (λ r. TookTree self.old self.new (terra_for_at levels (tokens_left self.old)) r) }
@@ -388,7 +398,7 @@ impl<'a> Parser<'a> {
 
     /// tstat = "var" tvar {"," tvar} ["=" texps]
     #[cycle(parser)]
-    #[tactic(auto, using(crate::proofs::Failing::fails_bind, crate::proofs::Failing::fails_after), unfolding(crate::specs::TerraStatements::terra_var_at))]
+    #[tactic(auto, using(crate::proofs::Failing::failing), unfolding(crate::specs::TerraStatements::terra_var_at))]
     fn terra_var(&mut self, levels: u32) -> Result<NodeId, SyntaxError>
         requires { Ready self.old }
         ensures ok { IfOk result (λ r. TookTree self.old self.new (terra_var_at levels (tokens_left self.old)) r) }
@@ -402,7 +412,7 @@ impl<'a> Parser<'a> {
 
     /// tstat = "escape" block "end"
     #[cycle(parser)]
-    #[tactic(auto, using(crate::proofs::Failing::fails_bind, crate::proofs::Failing::fails_after), unfolding(crate::specs::TerraStatements::escape_block_at))]
+    #[tactic(auto, using(crate::proofs::Failing::failing), unfolding(crate::specs::TerraStatements::escape_block_at))]
     fn escape_block(&mut self, levels: u32) -> Result<NodeId, SyntaxError>
         requires { Ready self.old }
         ensures ok { IfOk result (λ r. TookTree self.old self.new (escape_block_at levels (tokens_left self.old)) r) }
@@ -416,7 +426,7 @@ impl<'a> Parser<'a> {
 
     /// "return" [texps]
     #[cycle(parser)]
-    #[tactic(auto, using(crate::proofs::Failing::fails_bind, crate::proofs::Failing::fails_after), unfolding(crate::specs::TerraStatements::terra_return_at))]
+    #[tactic(auto, using(crate::proofs::Failing::failing), unfolding(crate::specs::TerraStatements::terra_return_at))]
     fn terra_return(&mut self, levels: u32) -> Result<NodeId, SyntaxError>
         requires { Ready self.old }
         ensures ok { IfOk result (λ r. TookTree self.old self.new (terra_return_at levels (tokens_left self.old)) r) }
@@ -428,7 +438,7 @@ impl<'a> Parser<'a> {
     }
 
     /// "break"
-    #[tactic(auto, using(crate::proofs::Failing::fails_bind, crate::proofs::Failing::fails_after), unfolding(crate::specs::TerraStatements::terra_break_at))]
+    #[tactic(auto, using(crate::proofs::Failing::failing), unfolding(crate::specs::TerraStatements::terra_break_at))]
     fn terra_break(&mut self) -> Result<NodeId, SyntaxError>
         requires { Ready self.old }
         ensures ok { IfOk result (λ r. TookTree self.old self.new (terra_break_at (tokens_left self.old)) r) }
@@ -440,7 +450,7 @@ impl<'a> Parser<'a> {
 
     /// tstat, "return" [texps] or "break"
     #[cycle(parser)]
-    #[tactic(auto, using(crate::proofs::Failing::fails_bind, crate::proofs::Failing::fails_after), unfolding(crate::specs::TerraStatements::terra_statement_at))]
+    #[tactic(auto, using(crate::proofs::Failing::failing), unfolding(crate::specs::TerraStatements::terra_statement_at))]
     fn terra_statement(&mut self, levels: u32) -> Result<NodeId, SyntaxError>
         requires ready { Ready self.old }
         requires next { HasNext (tokens_left self.old) }
@@ -479,7 +489,7 @@ impl<'a> Parser<'a> {
 
     /// tstat [";"], and whether it ends its block
     #[cycle(parser)]
-    #[tactic(auto, using(crate::proofs::Failing::fails_bind, crate::proofs::Failing::fails_after), unfolding(crate::specs::TerraStatements::next_terra_statement_at))]
+    #[tactic(auto, using(crate::proofs::Failing::failing), unfolding(crate::specs::TerraStatements::next_terra_statement_at))]
     fn next_terra_statement(&mut self, levels: u32) -> Result<(NodeId, bool), SyntaxError>
         requires next { HasNext (tokens_left self.old) }
         requires ready { Ready self.old }
@@ -496,7 +506,7 @@ impl<'a> Parser<'a> {
     }
 
     /// May the next token begin one more statement of a block, which has ended or hasn't?
-    #[tactic(auto, using(crate::proofs::TerraStatementTurns::ended_stays, crate::proofs::TerraStatementTurns::open_goes_on))]
+    #[tactic(auto, using(crate::proofs::TerraStatementTurns::going_on))]
     fn next_goes_on_with_terra(&self, ended: bool) -> bool
         ensures { result ≡ begins (λ t. terra_goes_on ended t) (tokens_left self.now) }
     {
@@ -508,7 +518,7 @@ impl<'a> Parser<'a> {
 
     /// tblock = { tstat [";"] } [ ("return" [texps] | "break") [";"] ]
     #[cycle(parser)]
-    #[tactic(auto, using(crate::proofs::Failing::fails_bind, crate::proofs::Failing::fails_after, crate::proofs::Taking::next_of, crate::proofs::TerraStatementParts::terra_block_part, crate::proofs::TerraStatementTurns::terra_block_goes, crate::proofs::TerraStatementTurns::terra_block_ends, crate::proofs::TerraStatementTurns::terra_statement_shorter, crate::proofs::Failing::fails_same, crate::proofs::Failing::fails_from), unfolding(crate::specs::TerraStatements::terra_block_at))]
+    #[tactic(auto, using(crate::proofs::TerraStatementTurns::blocks), unfolding(crate::specs::TerraStatements::terra_block_at))]
     pub(crate) fn terra_block(&mut self, levels: u32) -> Result<NodeId, SyntaxError>
         requires { Ready self.old }
         ensures ok { IfOk result (λ r. TookTree self.old self.new (part_at levels parts.TerraStatements (tokens_left self.old)) r) }
@@ -526,7 +536,7 @@ impl<'a> Parser<'a> {
 
     /// param = Name ":" exp | "[" exp "]"
     #[cycle(parser)]
-    #[tactic(auto, using(crate::proofs::Failing::fails_bind, crate::proofs::Failing::fails_after), unfolding(crate::specs::TerraStatements::terra_parameter_at))]
+    #[tactic(auto, using(crate::proofs::Failing::failing), unfolding(crate::specs::TerraStatements::terra_parameter_at))]
     fn terra_parameter(&mut self, levels: u32) -> Result<NodeId, SyntaxError>
         requires { Ready self.old }
         ensures ok { IfOk result (λ r. TookTree self.old self.new (terra_parameter_at levels (tokens_left self.old)) r) }
@@ -549,7 +559,7 @@ impl<'a> Parser<'a> {
 
     /// "," param
     #[cycle(parser)]
-    #[tactic(auto, using(crate::proofs::Failing::fails_bind, crate::proofs::Failing::fails_after), unfolding(crate::specs::TerraStatements::next_terra_parameter_at))]
+    #[tactic(auto, using(crate::proofs::Failing::failing), unfolding(crate::specs::TerraStatements::next_terra_parameter_at))]
     fn next_terra_parameter(&mut self, levels: u32) -> Result<NodeId, SyntaxError>
         requires { Ready self.old }
         ensures ok { IfOk result (λ r. TookTree self.old self.new (next_terra_parameter_at levels (tokens_left self.old)) r) }
@@ -561,7 +571,7 @@ impl<'a> Parser<'a> {
 
     /// [param {"," param}], up to a ")"
     #[cycle(parser)]
-    #[tactic(auto, using(crate::proofs::Failing::fails_bind, crate::proofs::Failing::fails_after, crate::proofs::Failing::fails_from, crate::proofs::TerraStatementTurns::terra_parameters_go, crate::proofs::TerraStatementTurns::terra_parameters_end, crate::proofs::TerraStatementTurns::terra_parameter_shorter), unfolding(crate::specs::TerraStatements::terra_parameters_at))]
+    #[tactic(auto, using(crate::proofs::TerraStatementTurns::parameters), unfolding(crate::specs::TerraStatements::terra_parameters_at))]
     fn terra_parameters(&mut self, levels: u32) -> Result<NodeList, SyntaxError>
         requires { Ready self.old }
         ensures ok { IfOk result (λ r. TookList self.old self.new (terra_parameters_at levels (tokens_left self.old)) r) }
@@ -582,7 +592,7 @@ impl<'a> Parser<'a> {
 
     /// tbody = "(" [param {"," param}] ")" [":" exp] tblock "end", behind its "(" at this place
     #[cycle(parser)]
-    #[tactic(auto, using(crate::proofs::Failing::fails_bind, crate::proofs::Failing::fails_after), unfolding(crate::specs::TerraStatements::terra_function_body_at))]
+    #[tactic(auto, using(crate::proofs::Failing::failing), unfolding(crate::specs::TerraStatements::terra_function_body_at))]
     fn terra_body(&mut self, place: Place, levels: u32) -> Result<NodeId, SyntaxError>
         requires { Ready self.old }
         ensures ok { IfOk result (λ r. TookTree self.old self.new (terra_function_body_at levels place (tokens_left self.old)) r) }
@@ -613,7 +623,7 @@ impl<'a> Parser<'a> {
 
     /// ["in" texp]
     #[cycle(parser)]
-    #[tactic(auto, using(crate::proofs::Failing::fails_bind, crate::proofs::Failing::fails_after), unfolding(crate::specs::TerraStatements::quoted_expression_at))]
+    #[tactic(auto, using(crate::proofs::Failing::failing), unfolding(crate::specs::TerraStatements::quoted_expression_at))]
     fn quoted_expression(&mut self, levels: u32) -> Result<Option<NodeId>, SyntaxError>
         requires { Ready self.old }
         ensures ok { IfOk result (λ r. TookOption self.old self.new (quoted_expression_at levels (tokens_left self.old)) r) }
@@ -629,7 +639,7 @@ impl<'a> Parser<'a> {
 
     /// tblock ["in" texp], behind "quote"
     #[cycle(parser)]
-    #[tactic(auto, using(crate::proofs::Failing::fails_bind, crate::proofs::Failing::fails_after, crate::proofs::TerraStatementParts::quoted_code_part, crate::proofs::Failing::fails_same), unfolding(crate::specs::TerraStatements::quoted_code_at))]
+    #[tactic(auto, using(crate::proofs::Failing::failing_same, crate::proofs::TerraStatementParts::quoted_code_part), unfolding(crate::specs::TerraStatements::quoted_code_at))]
     pub(crate) fn quoted_code(&mut self, levels: u32) -> Result<NodeId, SyntaxError>
         requires { Ready self.old }
         ensures ok { IfOk result (λ r. TookTree self.old self.new (part_at levels parts.QuotedCode (tokens_left self.old)) r) }
