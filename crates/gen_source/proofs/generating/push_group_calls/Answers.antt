@@ -1,0 +1,10 @@
+use Rattle.std.proofs.Common.{◌+◌}
+use Rattle.std.specs.String.{string_bytes}
+use Rattle.gen_source.specs.Generated.{group_call}
+use Rattle.gen_source.proofs.Growing.{each-step}
+use Rattle.gen_source.proofs.generating.push_group_calls.Goals as goal
+
+pub loop-before-preserved : goal.loop-before-preserved
+loop-before-preserved c =
+    each-step (λ before. group_call (before + 1)) c.loop-before.before (string_bytes c.args.out.now) (string_bytes c.loop-before.out)
+    (string_bytes c.push_group_call.new.out) c.loop-before.invariant c.in_ok-push_group_call.ensures

@@ -1,0 +1,2 @@
+-- The promise: the text that is generated.
+pub mod Generated
