@@ -3,7 +3,9 @@
 ghost use Rattle.std.specs.Prelude.{◌≡◌, ◌++◌, ◌<◌, ◌≤◌, ◌+◌, ◌*◌, ◌^◌, IfOk, OnOk};
 ghost use Rattle.std.specs.Int.{div_ceil};
 ghost use Rattle.std.specs.String.{string_bytes};
-ghost use Rattle.gen_source.specs.Generated.{generated, function_line, function_lines, field_line, quote_line, loop_line, mutual_line, step_line, step_lines, group_lines, all_groups, group_call, group_calls};
+ghost use Rattle.gen_source.specs.Generated.{generated, function_line, function_lines, field_line, quote_line};
+ghost use Rattle.gen_source.specs.Generated.{loop_line, mutual_line, step_line, step_lines, group_lines, all_groups};
+ghost use Rattle.gen_source.specs.Generated.{group_call, group_calls};
 
 use std::alloc::Global;
 use tl_base::NoMemory;
