@@ -14,6 +14,8 @@ use Rattle.terra_memory.specs.Numbers.{number_of}
 use Rattle.terra_memory.specs.Region.{Contents, aligned, alloc_of, first_address, heap_limit}
 use Rattle.terra_words.specs.Words.{signed}
 use Rattle.tac_form.specs.declared.tac.Operand.{Operand}
+use Rattle.tac_form.specs.declared.tac.Instruction.TheVariants as instructions
+use Rattle.tac_form.specs.Weights.{operand_words, words_of}
 use Rattle.rv_machine.specs.Word.{low, difference}
 use Rattle.rv_machine.specs.Arithmetic.{shifted_left, shifted_right}
 use Rattle.rv_machine.specs.Machine.{GoesOn, State, act, at_with, fetch, run_of}
@@ -27,7 +29,7 @@ use Rattle.rv_select.proofs.Claims.{with_region}
 use Rattle.rv_select.proofs.Straight.{Loads, behind-both, loads-five, low-below, low-small, written-elsewhere}
 use Rattle.rv_select.proofs.Numbers.{immediate-is}
 use Rattle.rv_select.proofs.Ways.{Near, Way, at_pc, near-both, near-same, scratch-near, stands-back, stands-front, step-way, straight-way, way-both, way-none}
-use Rattle.rv_select.proofs.Homes.{take-operand, taken-count}
+use Rattle.rv_select.proofs.Homes.{operand-count, take-operand}
 use Rattle.rv_select.proofs.Faults.{branch-way}
 use Rattle.rv_select.proofs.Moves.{keeps-both, lasts-not, near-holds, near-keeps, then-put, value-small}
 
@@ -317,10 +319,10 @@ body home =
 body-count : (home : Home) → length (body home) ≡ 13 + length (put_to home)
 body-count home = omega arith
 
-alloc-ends : (y : Layout) (d v : ℕ) (Used Next : ℕ → Type 0) (w : World) (base : ℕ) (A : List Instr) (program : List (Option Instr)) (m : State) (l : Loads 5 A m v) → v < 2 ^ 64 → length A ≤ 8 →
+alloc-ends : (y : Layout) (d v weight : ℕ) (Used Next : ℕ → Type 0) (w : World) (base : ℕ) (A : List Instr) (program : List (Option Instr)) (m : State) (l : Loads 5 A m v) → v < 2 ^ 64 → length A + 16 ≤ weight →
     Holds y Used w base m → Housed y Used → Housed y Next → Next d → Follows Used Next d → Stands program m.pc (A ++ body (home_of y d)) →
-    Comes y program Next (with_temp (with_region w (alloc_of w.region (signed v)).1) d (alloc_of w.region (signed v)).0) base 29 (behind m (A ++ body (home_of y d))) [] m
-alloc-ends y d v Used Next w base A program m l small few p h h' u follows stands =
+    Comes y program Next (with_temp (with_region w (alloc_of w.region (signed v)).1) d (alloc_of w.region (signed v)).0) base weight (behind m (A ++ body (home_of y d))) [] m
+alloc-ends y d v weight Used Next w base A program m l small few p h h' u follows stands =
     let t : State = l.after in
     let r : Contents = w.region in
     let put : List Instr = put_to (home_of y d) in
@@ -342,8 +344,8 @@ alloc-ends y d v Used Next w base A program m l small few p h h' u follows stand
     (λ many.
     let e : alloc_of r (signed v) ≡ (0, r) = alloc-full r v (omega arith) in
     let g = refuses program t put v r.heap size l.gives q.heap q.limit small sized most p.lawful.begun limited there many in
-    subst (λ x. Comes y program Next (with_temp (with_region w x.1) d x.0) base 29 target [] m) (sym e)
-    (then-put y Used Next w base d 0 (length A + 10) 29 target program m g.0 p h h' u follows (way-both program (length A) 10 m t g.0 first g.1) (near-both m t g.0 near g.4)
+    subst (λ x. Comes y program Next (with_temp (with_region w x.1) d x.0) base weight target [] m) (sym e)
+    (then-put y Used Next w base d 0 (length A + 10) weight target program m g.0 p h h' u follows (way-both program (length A) 10 m t g.0 first g.1) (near-both m t g.0 near g.4)
     (subst (λ z. z < 2 ^ 64) (sym g.5) (low-below _)) g.2 (omega arith) (omega arith) g.3
     (ap (λ z. low (z + 4 * length put)) g.5 ∙ (pc-all t.pc (length put) ∙ to))))
     (λ enough.
@@ -352,8 +354,8 @@ alloc-ends y d v Used Next w base A program m l small few p h h' u follows stand
     let pc-g : g.0.pc < 2 ^ 64 = subst (λ z. z < 2 ^ 64) (sym g.8) (low-below _) in
     let now : World = with_region w (record r { heap = start + v }) in
     let s : Holds y Used now base g.0 = heap-holds y Used w base (start + v) t g.0 q h g.5 g.6 g.7 g.3 (omega (arith, p.lawful.begun)) (omega arith) pc-g in
-    subst (λ x. Comes y program Next (with_temp (with_region w x.1) d x.0) base 29 target [] m) (sym e)
-    (earlier y program Next (with_temp now d start) base (length A + 12) 3 29 target [] m g.0 (way-both program (length A) 12 m t g.0 first g.1)
+    subst (λ x. Comes y program Next (with_temp (with_region w x.1) d x.0) base weight target [] m) (sym e)
+    (earlier y program Next (with_temp now d start) base (length A + 12) 3 weight target [] m g.0 (way-both program (length A) 12 m t g.0 first g.1)
     (keeps-both y base m t g.0 (near-keeps y base m t near) (heap-keeps y base t g.0 g.5 g.7))
     (then-put y Used Next now base d start 0 3 target program g.0 g.0 s h h' u follows (way-none program g.0) (near-same g.0) pc-g g.2 (omega arith) (omega arith) g.4
     (ap (λ z. low (z + 4 * length put)) g.8 ∙ (pc-all t.pc (length put) ∙ to))) (omega arith)))
@@ -361,8 +363,10 @@ alloc-ends y d v Used Next w base A program m l small few p h h' u follows stand
 
 pub allocs : (y : Layout) (d : ℕ) (a : Operand) (Used Next : ℕ → Type 0) (w : World) (base : ℕ) (program : List (Option Instr)) (m : State) →
     Stands program m.pc (allocated y d a) → Holds y Used w base m → Housed y Used → Housed y Next → IsRead Used a → Next d → Follows Used Next d →
-    Comes y program Next (with_temp (with_region w (alloc_of w.region (signed (value_in w.temps a))).1) d (alloc_of w.region (signed (value_in w.temps a))).0) base 29
+    Comes y program Next (with_temp (with_region w (alloc_of w.region (signed (value_in w.temps a))).1) d (alloc_of w.region (signed (value_in w.temps a))).0) base
+    (words_of (instructions.Alloc d a))
     (behind m (allocated y d a)) [] m
 allocs y d a Used Next w base program m stands p h h' ra u follows =
-    alloc-ends y d (value_in w.temps a) Used Next w base (taken y x5 a) program m (take-operand y x5 Used w base m a (λ e. omega (arith, e)) p h ra) (value-small Used y w base m a p ra) (taken-count y x5 a)
+    alloc-ends y d (value_in w.temps a) (words_of (instructions.Alloc d a)) Used Next w base (taken y x5 a) program m (take-operand y x5 Used w base m a (λ e. omega (arith, e)) p h ra) (value-small Used y w base m a p ra)
+    (omega (arith, operand-count y x5 a))
     p h h' u follows stands

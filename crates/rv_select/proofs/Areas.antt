@@ -15,8 +15,9 @@ use Rattle.tac_form.specs.declared.tac.Number.{Number}
 use Rattle.tac_form.specs.declared.tac.Size.{Size}
 use Rattle.tac_form.specs.declared.tac.Operand.{Operand}
 use Rattle.tac_form.specs.declared.tac.Spot.TheVariants as spots
+use Rattle.tac_form.specs.declared.tac.Instruction.TheVariants as instructions
 use Rattle.tac_form.specs.Flow.{bytes_of, put, width_of}
-use Rattle.tac_form.specs.Weights.{most_moved}
+use Rattle.tac_form.specs.Weights.{most_moved, operand_words, words_of}
 use Rattle.rv_machine.specs.Word.{low}
 use Rattle.rv_machine.specs.Memory.{load_value, load_width, place_of, store_width}
 use Rattle.rv_machine.specs.Machine.{State, GoesOn, act, at_with, loads, loads_from, stores, stores_to}
@@ -35,7 +36,7 @@ use Rattle.rv_select.proofs.Small.{wrapped-small}
 use Rattle.rv_select.proofs.Straight.{Loads, Scratch, behind-both, goes-both, loads-five, loads-six, low-below, low-first}
 use Rattle.rv_select.proofs.Frames.{Reach, before-scratch, framed-count, framed-loads, framed-some, reach}
 use Rattle.rv_select.proofs.Ways.{Way, straight-way}
-use Rattle.rv_select.proofs.Homes.{region-small, take-operand, taken-count}
+use Rattle.rv_select.proofs.Homes.{operand-count, region-small, take-operand}
 use Rattle.rv_select.proofs.Moves.{lasts-not, scratch-holds, straight-put, wide-size}
 
 -- an area lies within the frame, and near enough
@@ -258,7 +259,8 @@ area-written y Used w base n offset bs code m s p h l k are =
 pub area-stores : (y : Layout) (size : Size) (n offset : ℕ) (b : Operand) (Used Next : ℕ → Type 0) (w : World) (base : ℕ) (program : List (Option Instr)) (m : State) →
     Stands program m.pc (stored y (spots.Area n offset) size b) → n < y.areas → offset ≤ length (w.areas n) → offset + bytes_of size ≤ most_moved → IsRead Used b →
     Holds y Used w base m → Housed y Used → AreFewer Used Next →
-    Comes y program Next (with_area w n (overwritten (w.areas n) offset (low_bytes (bytes_of size) (value_in w.temps b)))) base 12
+    Comes y program Next (with_area w n (overwritten (w.areas n) offset (low_bytes (bytes_of size) (value_in w.temps b)))) base
+    (words_of (instructions.Store (spots.Area n offset) size b))
     (behind m (stored y (spots.Area n offset) size b)) [] m
 area-stores y size n offset b Used Next w base program m stands there within most r p h f =
     let A : List Instr = taken y x6 b in
@@ -270,10 +272,10 @@ area-stores y size n offset b Used Next w base program m stands there within mos
     let s : Saves (A ++ B) m (base + (area_offset y n + offset)) bs =
     then-saves A B m l.after (base + (area_offset y n + offset)) bs (loads-six A m v l) (area-save y Used w base n offset v size l.after q there most l.gives) in
     let count : length bs ≡ bytes_of size = length-low_bytes (bytes_of size) v in
-    let few-a : length A ≤ 8 = taken-count y x6 b in
+    let few-a : length A ≤ operand_words b = operand-count y x6 b in
     let few-b : length B ≤ 3 = framed-count (λ r far. Store (store_of size) r x6 far) (area_offset y n + offset) in
     let some-b : 1 ≤ length B = framed-some (λ r far. Store (store_of size) r x6 far) (area_offset y n + offset) in
     let all : length (A ++ B) ≡ length A + length B = length-append A B in
-    area-comes y Used Next w base n (length (A ++ B)) 12 (behind m (A ++ B)) (overwritten (w.areas n) offset bs) program m s.after
+    area-comes y Used Next w base n (length (A ++ B)) (words_of (instructions.Store (spots.Area n offset) size b)) (behind m (A ++ B)) (overwritten (w.areas n) offset bs) program m s.after
     (straight-way program (A ++ B) m s.after stands s.straight s.goes) s.behind (subst (λ z. z < 2 ^ 64) (sym s.behind) (low-below (m.pc + 4 * length (A ++ B))))
     (area-written y Used w base n offset bs (A ++ B) m s p there within (omega (arith, count)) (low-are-bytes (bytes_of size) v)) p h f there (omega arith) (omega arith)

@@ -336,7 +336,7 @@ carry-area-load p code homes d form n offset s program base m x =
 
 carry-area-store : (p : Program) (code : Tac) (homes : List (Option Home)) (size : Size) (n offset : ℕ) (b : Operand) (s : tac.State) (program : List (Option Instr)) (base : ℕ) (m : State) →
     StandsBefore p code homes (Store (spots.Area n offset) size b) s program base m →
-    Carried (layout_of code homes) (graph_of code) program base 12 (shape_of (layout_of code homes) (Store (spots.Area n offset) size b)) s m (step p s)
+    Carried (layout_of code homes) (graph_of code) program base (words_of (Store (spots.Area n offset) size b)) (shape_of (layout_of code homes) (Store (spots.Area n offset) size b)) s m (step p s)
 carry-area-store p code homes size n offset b s program base m x =
     let fit = both-true (spot_fits code (bytes_of size) (spots.Area n offset)) (operand_fits code b) x.fits in
     let spot = area-spot code n offset (bytes_of size) fit.0 x.areas in
@@ -345,7 +345,7 @@ carry-area-store p code homes size n offset b s program base m x =
     let e2 = x.in_function in
     let e3 = x.in_block in
     rw (e1, e2, e3)
-    (by-test (λ moved. Carried (layout_of code homes) (graph_of code) program base 12 (shape_of (layout_of code homes) (Store (spots.Area n offset) size b)) s m moved)
+    (by-test (λ moved. Carried (layout_of code homes) (graph_of code) program base (words_of (Store (spots.Area n offset) size b)) (shape_of (layout_of code homes) (Store (spots.Area n offset) size b)) s m moved)
     (nat_le offset (length (s.here.areas n))) _ _
     (λ h. (
       [],
@@ -375,7 +375,7 @@ carry-clear p code homes n size s program base m most x =
 
 carry-byte : (p : Program) (code : Tac) (homes : List (Option Home)) (a : Operand) (s : tac.State) (program : List (Option Instr)) (base : ℕ) (m : State) →
     StandsBefore p code homes (PutByte a) s program base m →
-    Carried (layout_of code homes) (graph_of code) program base 14 (shape_of (layout_of code homes) (PutByte a)) s m (step p s)
+    Carried (layout_of code homes) (graph_of code) program base 11 (shape_of (layout_of code homes) (PutByte a)) s m (step p s)
 carry-byte p code homes a s program base m x =
     let i : Instruction = PutByte a in
     let e1 = x.function in
@@ -390,7 +390,7 @@ carry-byte p code homes a s program base m x =
 
 carry-alloc : (p : Program) (code : Tac) (homes : List (Option Home)) (d : ℕ) (a : Operand) (s : tac.State) (program : List (Option Instr)) (base : ℕ) (m : State) →
     StandsBefore p code homes (Alloc d a) s program base m →
-    Carried (layout_of code homes) (graph_of code) program base 29 (shape_of (layout_of code homes) (Alloc d a)) s m (step p s)
+    Carried (layout_of code homes) (graph_of code) program base (words_of (Alloc d a)) (shape_of (layout_of code homes) (Alloc d a)) s m (step p s)
 carry-alloc p code homes d a s program base m x =
     let fit = both-true (nat_lt d code.temps) (operand_fits code a) x.fits in
     let i : Instruction = Alloc d a in
@@ -415,7 +415,7 @@ module _ (p : Program) (code : Tac) (homes : List (Option Home)) (at : Place) (a
   abbrev vb : ℕ
   vb = value_in s.here.temps b
 
-  range-result : RangeWritten (layout_of code homes) program (next code s) (world_of s) base va vb (behind m (range_written (layout_of code homes) at a b)) at m
+  range-result : RangeWritten (layout_of code homes) program (next code s) (world_of s) base (words_of (Write at a b)) va vb (behind m (range_written (layout_of code homes) at a b)) at m
   range-result =
       let fit = both-true (place_fits at && operand_fits code a) (operand_fits code b) x.fits in
       let fit-a = both-true (place_fits at) (operand_fits code a) fit.0 in
@@ -425,24 +425,24 @@ module _ (p : Program) (code : Tac) (homes : List (Option Home)) (at : Place) (a
       (operand-read code (used code s) b fit.1 (λ t u. reads p code homes i s program base m x t (has-right (operand_reads a) (operand_reads b) t u)))
       x.holds (housed code homes s.here.block s.here.at x.right) (fewer p code homes i s program base m x refl)
 
-  write-goes : (bs : List ℕ) → range_of s.region va vb ≡ Some bs → Comes (layout_of code homes) program (next code s) (world_of s) base 40 (behind m (range_written (layout_of code homes) at a b)) bs m
+  write-goes : (bs : List ℕ) → range_of s.region va vb ≡ Some bs → Comes (layout_of code homes) program (next code s) (world_of s) base (words_of (Write at a b)) (behind m (range_written (layout_of code homes) at a b)) bs m
   write-goes bs e =
       ⊎_elim
       (λ none.
       let q : range_of s.region va vb ≡ Some [] = range-none s.region va vb none in
       let same : [] ≡ bs = cc in
-      subst (λ z. Comes (layout_of code homes) program (next code s) (world_of s) base 40 (behind m (range_written (layout_of code homes) at a b)) z m) same (range-result.nothing none))
+      subst (λ z. Comes (layout_of code homes) program (next code s) (world_of s) base (words_of (Write at a b)) (behind m (range_written (layout_of code homes) at a b)) z m) same (range-result.nothing none))
       (λ many.
       ⊎_elim
       (λ i.
       let q : range_of s.region va vb ≡ Some (part s.region.bytes (va - first_address) vb) = range-inside s.region va vb many i.0 i.1 in
       let same : part s.region.bytes (va - first_address) vb ≡ bs = cc in
-      subst (λ z. Comes (layout_of code homes) program (next code s) (world_of s) base 40 (behind m (range_written (layout_of code homes) at a b)) z m) same (range-result.inside many i.0 i.1))
+      subst (λ z. Comes (layout_of code homes) program (next code s) (world_of s) base (words_of (Write at a b)) (behind m (range_written (layout_of code homes) at a b)) z m) same (range-result.inside many i.0 i.1))
       (λ o. let q : range_of s.region va vb ≡ None = range-outside s.region va vb many o in let none : Some bs ≡ None = sym e ∙ q in cc)
       (insides s.region va vb))
       (cases_eq vb 0)
 
-  write-none : range_of s.region va vb ≡ None → Ends program BadAddress at 40 m
+  write-none : range_of s.region va vb ≡ None → Ends program BadAddress at (words_of (Write at a b)) m
   write-none e =
       ⊎_elim (λ none. let q : range_of s.region va vb ≡ Some [] = range-none s.region va vb none in let no : Some [] ≡ None = sym q ∙ e in cc)
       (λ many.
@@ -453,7 +453,7 @@ module _ (p : Program) (code : Tac) (homes : List (Option Home)) (at : Place) (a
       (λ o. range-result.outside many o) (insides s.region va vb))
       (cases_eq vb 0)
 
-  write-below : is_negative vb ≡ true → Ends program BadAddress at 40 m
+  write-below : is_negative vb ≡ true → Ends program BadAddress at (words_of (Write at a b)) m
   write-below h =
       let large : 2 ^ 63 ≤ vb = leb-true (2 ^ 63) vb h in
       let most : length s.region.bytes ≤ 67108864 = x.holds.lawful.sized.2 in
@@ -461,52 +461,52 @@ module _ (p : Program) (code : Tac) (homes : List (Option Home)) (at : Place) (a
 
 write-step : (p : Program) (code : Tac) (homes : List (Option Home)) (at : Place) (a b : Operand) (s : tac.State) (program : List (Option Instr)) (base : ℕ) (m : State) →
     StandsBefore p code homes (Write at a b) s program base m →
-    (is_negative (value_in s.here.temps b) ≡ true → Ends program BadAddress at 40 m) →
-    (range_of s.region (value_in s.here.temps a) (value_in s.here.temps b) ≡ None → Ends program BadAddress at 40 m) →
+    (is_negative (value_in s.here.temps b) ≡ true → Ends program BadAddress at (words_of (Write at a b)) m) →
+    (range_of s.region (value_in s.here.temps a) (value_in s.here.temps b) ≡ None → Ends program BadAddress at (words_of (Write at a b)) m) →
     ((bs : List ℕ) → range_of s.region (value_in s.here.temps a) (value_in s.here.temps b) ≡ Some bs →
-    Comes (layout_of code homes) program (next code s) (world_of s) base 40 (behind m (range_written (layout_of code homes) at a b)) bs m) →
+    Comes (layout_of code homes) program (next code s) (world_of s) base (words_of (Write at a b)) (behind m (range_written (layout_of code homes) at a b)) bs m) →
     (range_of s.region (value_in s.here.temps a) (value_in s.here.temps b) ≡ None) ⊎ ((bs : List ℕ) × (range_of s.region (value_in s.here.temps a) (value_in s.here.temps b) ≡ Some bs)) →
-    Carried (layout_of code homes) (graph_of code) program base 40 (shape_of (layout_of code homes) (Write at a b)) s m (step p s)
+    Carried (layout_of code homes) (graph_of code) program base (words_of (Write at a b)) (shape_of (layout_of code homes) (Write at a b)) s m (step p s)
 write-step p code homes at (Temp t) (Temp u) s program base m x below none goes o =
     let e1 = x.function in
     let e2 = x.in_function in
     let e3 = x.in_block in
     ⊎_elim
-    (λ e4. rw (e1, e2, e3) (rw e4 (by-test (λ moved. Carried (layout_of code homes) (graph_of code) program base 40 (shape_of (layout_of code homes) (Write at (Temp t) (Temp u))) s m moved) (is_negative (s.here.temps u)) _ _ (λ h. (refl, below h)) (λ h. (refl, none e4)))))
+    (λ e4. rw (e1, e2, e3) (rw e4 (by-test (λ moved. Carried (layout_of code homes) (graph_of code) program base (words_of (Write at (Temp t) (Temp u))) (shape_of (layout_of code homes) (Write at (Temp t) (Temp u))) s m moved) (is_negative (s.here.temps u)) _ _ (λ h. (refl, below h)) (λ h. (refl, none e4)))))
     (λ q.
     let e4 = q.1 in
-    rw (e1, e2, e3) (rw e4 (by-test (λ moved. Carried (layout_of code homes) (graph_of code) program base 40 (shape_of (layout_of code homes) (Write at (Temp t) (Temp u))) s m moved) (is_negative (s.here.temps u)) _ _ (λ h. (refl, below h)) (λ h. (q.0, refl, goes q.0 e4))))) o
+    rw (e1, e2, e3) (rw e4 (by-test (λ moved. Carried (layout_of code homes) (graph_of code) program base (words_of (Write at (Temp t) (Temp u))) (shape_of (layout_of code homes) (Write at (Temp t) (Temp u))) s m moved) (is_negative (s.here.temps u)) _ _ (λ h. (refl, below h)) (λ h. (q.0, refl, goes q.0 e4))))) o
 write-step p code homes at (Temp t) (Constant e) s program base m x below none goes o =
     let e1 = x.function in
     let e2 = x.in_function in
     let e3 = x.in_block in
     ⊎_elim
-    (λ e4. rw (e1, e2, e3) (rw e4 (by-test (λ moved. Carried (layout_of code homes) (graph_of code) program base 40 (shape_of (layout_of code homes) (Write at (Temp t) (Constant e))) s m moved) (is_negative e) _ _ (λ h. (refl, below h)) (λ h. (refl, none e4)))))
+    (λ e4. rw (e1, e2, e3) (rw e4 (by-test (λ moved. Carried (layout_of code homes) (graph_of code) program base (words_of (Write at (Temp t) (Constant e))) (shape_of (layout_of code homes) (Write at (Temp t) (Constant e))) s m moved) (is_negative e) _ _ (λ h. (refl, below h)) (λ h. (refl, none e4)))))
     (λ q.
     let e4 = q.1 in
-    rw (e1, e2, e3) (rw e4 (by-test (λ moved. Carried (layout_of code homes) (graph_of code) program base 40 (shape_of (layout_of code homes) (Write at (Temp t) (Constant e))) s m moved) (is_negative e) _ _ (λ h. (refl, below h)) (λ h. (q.0, refl, goes q.0 e4))))) o
+    rw (e1, e2, e3) (rw e4 (by-test (λ moved. Carried (layout_of code homes) (graph_of code) program base (words_of (Write at (Temp t) (Constant e))) (shape_of (layout_of code homes) (Write at (Temp t) (Constant e))) s m moved) (is_negative e) _ _ (λ h. (refl, below h)) (λ h. (q.0, refl, goes q.0 e4))))) o
 write-step p code homes at (Constant c) (Temp u) s program base m x below none goes o =
     let e1 = x.function in
     let e2 = x.in_function in
     let e3 = x.in_block in
     ⊎_elim
-    (λ e4. rw (e1, e2, e3) (rw e4 (by-test (λ moved. Carried (layout_of code homes) (graph_of code) program base 40 (shape_of (layout_of code homes) (Write at (Constant c) (Temp u))) s m moved) (is_negative (s.here.temps u)) _ _ (λ h. (refl, below h)) (λ h. (refl, none e4)))))
+    (λ e4. rw (e1, e2, e3) (rw e4 (by-test (λ moved. Carried (layout_of code homes) (graph_of code) program base (words_of (Write at (Constant c) (Temp u))) (shape_of (layout_of code homes) (Write at (Constant c) (Temp u))) s m moved) (is_negative (s.here.temps u)) _ _ (λ h. (refl, below h)) (λ h. (refl, none e4)))))
     (λ q.
     let e4 = q.1 in
-    rw (e1, e2, e3) (rw e4 (by-test (λ moved. Carried (layout_of code homes) (graph_of code) program base 40 (shape_of (layout_of code homes) (Write at (Constant c) (Temp u))) s m moved) (is_negative (s.here.temps u)) _ _ (λ h. (refl, below h)) (λ h. (q.0, refl, goes q.0 e4))))) o
+    rw (e1, e2, e3) (rw e4 (by-test (λ moved. Carried (layout_of code homes) (graph_of code) program base (words_of (Write at (Constant c) (Temp u))) (shape_of (layout_of code homes) (Write at (Constant c) (Temp u))) s m moved) (is_negative (s.here.temps u)) _ _ (λ h. (refl, below h)) (λ h. (q.0, refl, goes q.0 e4))))) o
 write-step p code homes at (Constant c) (Constant e) s program base m x below none goes o =
     let e1 = x.function in
     let e2 = x.in_function in
     let e3 = x.in_block in
     ⊎_elim
-    (λ e4. rw (e1, e2, e3) (rw e4 (by-test (λ moved. Carried (layout_of code homes) (graph_of code) program base 40 (shape_of (layout_of code homes) (Write at (Constant c) (Constant e))) s m moved) (is_negative e) _ _ (λ h. (refl, below h)) (λ h. (refl, none e4)))))
+    (λ e4. rw (e1, e2, e3) (rw e4 (by-test (λ moved. Carried (layout_of code homes) (graph_of code) program base (words_of (Write at (Constant c) (Constant e))) (shape_of (layout_of code homes) (Write at (Constant c) (Constant e))) s m moved) (is_negative e) _ _ (λ h. (refl, below h)) (λ h. (refl, none e4)))))
     (λ q.
     let e4 = q.1 in
-    rw (e1, e2, e3) (rw e4 (by-test (λ moved. Carried (layout_of code homes) (graph_of code) program base 40 (shape_of (layout_of code homes) (Write at (Constant c) (Constant e))) s m moved) (is_negative e) _ _ (λ h. (refl, below h)) (λ h. (q.0, refl, goes q.0 e4))))) o
+    rw (e1, e2, e3) (rw e4 (by-test (λ moved. Carried (layout_of code homes) (graph_of code) program base (words_of (Write at (Constant c) (Constant e))) (shape_of (layout_of code homes) (Write at (Constant c) (Constant e))) s m moved) (is_negative e) _ _ (λ h. (refl, below h)) (λ h. (q.0, refl, goes q.0 e4))))) o
 
 carry-write : (p : Program) (code : Tac) (homes : List (Option Home)) (at : Place) (a b : Operand) (s : tac.State) (program : List (Option Instr)) (base : ℕ) (m : State) →
     StandsBefore p code homes (Write at a b) s program base m →
-    Carried (layout_of code homes) (graph_of code) program base 40 (shape_of (layout_of code homes) (Write at a b)) s m (step p s)
+    Carried (layout_of code homes) (graph_of code) program base (words_of (Write at a b)) (shape_of (layout_of code homes) (Write at a b)) s m (step p s)
 carry-write p code homes at a b s program base m x =
     write-step p code homes at a b s program base m x (write-below p code homes at a b s program base m x) (write-none p code homes at a b s program base m x)
     (write-goes p code homes at a b s program base m x) (some-or-none (range_of s.region (value_in s.here.temps a) (value_in s.here.temps b)))

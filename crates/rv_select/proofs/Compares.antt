@@ -29,6 +29,8 @@ use Rattle.terra_words.specs.Runs.{Stuck}
 use Rattle.tac_form.specs.Graph.{block_of, exit_next, graph_of, instruction_reads, operand_reads, step_of}
 use Rattle.tac_form.specs.Live.{InUse, IsLive, has, read_within}
 use Rattle.tac_form.specs.Fits.{operand_fits}
+use Rattle.tac_form.specs.Weights as weights
+use Rattle.tac_form.specs.Weights.{exit_words, words_of}
 use Rattle.rv_operators.specs.Codes.{is_comparison, x5, x6}
 use Rattle.rv_operators.specs.Runs.{Stands}
 use Rattle.rv_operators.proofs.Values.{signed-less}
@@ -38,7 +40,7 @@ use Rattle.rv_select.specs.Compared.{ComparesAreCarried, ComparesKeepWithin, Sta
 use Rattle.rv_select.specs.Steps.{AreFewer, Comes, Left, with_temp, world_of}
 use Rattle.rv_select.proofs.Straight.{Loads, Scratch, loads-five, loads-six, scratch-both}
 use Rattle.rv_select.proofs.Ways.{Near, Way, at_pc, near-both, near-pc, scratch-near, stands-back, stands-front, straight-way, way-both}
-use Rattle.rv_select.proofs.Homes.{take-operand, taken-count}
+use Rattle.rv_select.proofs.Homes.{operand-count, take-operand, taken-count}
 use Rattle.rv_select.proofs.Moves.{scratch-holds, value-small}
 use Rattle.rv_select.proofs.Numbers.{pushed_words}
 use Rattle.rv_select.proofs.Faults.{branch-way}
@@ -167,6 +169,9 @@ module _ (p : Program) (code : Tac) (homes : List (Option Home)) (d : ℕ) (op :
   abbrev A : List Instr
   A = operands_taken y a b
 
+  abbrev weight : ℕ
+  weight = words_of (Compute d op form a b) + exit_words (Branch (Temp d) e f)
+
   all-housed : Housed y used
   all-housed = housed code homes s.here.block s.here.at x.right
 
@@ -200,15 +205,17 @@ module _ (p : Program) (code : Tac) (homes : List (Option Home)) (d : ℕ) (op :
   read-b = operand-read code used b fits-both.1 (λ t u. reads-here t (has-right (operand_reads a) (operand_reads b) t u))
 
   compare-comes : (taken_it : Bool) (c : ℕ) → not (nat_eq result 0) ≡ taken_it → (if taken_it then e.block else f.block) ≡ c → (IsLive (graph_of code) c 0 d → ⊥) →
-      ((q : ℕ → Bool) → q c ≡ true → list_any q (exit_next (Branch (Temp d) e f)) ≡ true) → Comes y program (InUse (graph_of code) c 0) (world_of after_it) base 42 (starts c) [] m
+      ((q : ℕ → Bool) → q c ≡ true → list_any q (exit_next (Branch (Temp d) e f)) ≡ true) → Comes y program (InUse (graph_of code) c 0) (world_of after_it) base weight (starts c) [] m
   compare-comes taken_it c is block unread h =
       let l : Loads 5 (taken y x5 a) m va = take-operand y x5 used (world_of s) base m a (λ q. omega (arith, q)) x.holds all-housed read-a in
       let q : Holds y used (world_of s) base l.after = scratch-holds y used (world_of s) base (taken y x5 a) m l.after x.holds all-housed (loads-five (taken y x5 a) m va l) in
       let k : Loads 6 (taken y x6 b) l.after vb = take-operand y x6 used (world_of s) base l.after b (λ i. omega (arith, i)) q all-housed read-b in
       let five : k.after.registers 5 ≡ va = k.keeps 5 (λ i. omega (arith, i)) (λ i. omega (arith, i)) ∙ l.gives in
       let both : Scratch A m k.after = scratch-both (taken y x5 a) (taken y x6 b) m l.after k.after (loads-five (taken y x5 a) m va l) (loads-six (taken y x6 b) l.after vb k) in
+      let count : length A ≤ weights.operand_words a + weights.operand_words b =
+      omega (arith, length-append (taken y x5 a) (taken y x6 b), operand-count y x5 a, operand-count y x6 b) in
       let few : length A ≤ 16 = omega (arith, length-append (taken y x5 a) (taken y x6 b), taken-count y x5 a, taken-count y x6 b) in
-      chosen-comes y (without used d) (InUse (graph_of code) c 0) (world_of after_it) base (starts e.block) (starts f.block) (starts c) 42 (condition_of form.signed op) (left_of op) (right_of op) taken_it A program m k.after
+      chosen-comes y (without used d) (InUse (graph_of code) c 0) (world_of after_it) base (starts e.block) (starts f.block) (starts c) weight (condition_of form.signed op) (left_of op) (right_of op) taken_it A program m k.after
       both (unread-holds y used (world_of s) base d result m x.holds) (record { homes = λ t u. all-housed.homes t u.0; apart = λ t u i j g. all-housed.apart t u i.0 j.0 g }) (next-here c unread h)
       (omega arith) few x.near (x.blocks e.block) (x.blocks f.block) x.stands
       (compare-is (width_of form) op va vb x.compares (value-small used y (world_of s) base m a x.holds read-a) (value-small used y (world_of s) base m b x.holds read-b) k.after five k.gives ∙ is)
@@ -218,11 +225,11 @@ module _ (p : Program) (code : Tac) (homes : List (Option Home)) (d : ℕ) (op :
       chosen-start true c i = ap starts i
       chosen-start false c i = ap starts i
 
-  pub carry-leave : Left y (graph_of code) program base 42 starts s m (step p after_it)
+  pub carry-leave : Left y (graph_of code) program base weight starts s m (step p after_it)
   carry-leave =
-      let first : result ≢ 0 → Comes y program (InUse (graph_of code) e.block 0) (world_of after_it) base 42 (starts e.block) [] m =
+      let first : result ≢ 0 → Comes y program (InUse (graph_of code) e.block 0) (world_of after_it) base weight (starts e.block) [] m =
       λ n. compare-comes true e.block (ap not (ne_eqb result 0 n)) refl x.first_unread (λ q g. or-left (q e.block) (q f.block || false) g) in
-      let second : result ≡ 0 → Comes y program (InUse (graph_of code) f.block 0) (world_of after_it) base 42 (starts f.block) [] m =
+      let second : result ≡ 0 → Comes y program (InUse (graph_of code) f.block 0) (world_of after_it) base weight (starts f.block) [] m =
       λ n. compare-comes false f.block (ap not (eq-eqb result 0 n)) refl x.second_unread (λ q g. or-second (q e.block) (q f.block || false) (or-left (q f.block) false g)) in
       let same : tac.operand after_it (Temp d) ≡ result = ap (λ t. if t then result else s.here.temps d) (eq-eqb d d refl) in
       let e1 = x.function in
@@ -230,14 +237,14 @@ module _ (p : Program) (code : Tac) (homes : List (Option Home)) (d : ℕ) (op :
       let e3 = x.last in
       let e4 = x.is in
       rw (e1, e2, e3) (rw e4 (rw same
-      (by-test (λ moved. Left y (graph_of code) program base 42 starts s m moved) (nat_eq result 0) _ _
+      (by-test (λ moved. Left y (graph_of code) program base weight starts s m moved) (nat_eq result 0) _ _
       (λ z.
       let comes = second (eqb-true result 0 z) in
-      by-test (λ moved. Left y (graph_of code) program base 42 starts s m moved) f.counts _ _
+      by-test (λ moved. Left y (graph_of code) program base weight starts s m moved) f.counts _ _
       (λ c. ⊎_elim (λ k. rw k tt) (λ k. let q = k.1 in rw q (refl, comes)) (zero-or-more s.left)) (λ c. (refl, comes)))
       (λ z.
       let comes = first (λ o. let t : nat_eq result 0 ≡ true = eq-eqb result 0 o in let none : true ≡ false = sym t ∙ z in cc) in
-      by-test (λ moved. Left y (graph_of code) program base 42 starts s m moved) e.counts _ _
+      by-test (λ moved. Left y (graph_of code) program base weight starts s m moved) e.counts _ _
       (λ c. ⊎_elim (λ k. rw k tt) (λ k. let q = k.1 in rw q (refl, comes)) (zero-or-more s.left)) (λ c. (refl, comes))))))
 
 pub compares : ComparesAreCarried
@@ -248,16 +255,17 @@ compares p code homes d op form a b e f starts s program base m x =
     let e3 = x.in_block in
     let zero : Bool = divides op && nat_eq (tac.operand s b) 0 in
     let first : step p s ≡ (if zero then tac.stop s Stuck else Goes (tac.ahead (tac.set_temp d (applied (width_of form) op (tac.operand s a) (tac.operand s b)) s))) = rw (e1, e2, e3) refl in
-    subst (λ moved. Left (layout_of code homes) (graph_of code) program base 42 starts s m (steps p 1 moved)) (sym first)
-    (by-test (λ moved. Left (layout_of code homes) (graph_of code) program base 42 starts s m (steps p 1 moved)) zero _ _ (λ h. tt) (λ h. leave))
+    subst (λ moved. Left (layout_of code homes) (graph_of code) program base (words_of (Compute d op form a b) + exit_words (Branch (Temp d) e f)) starts s m (steps p 1 moved)) (sym first)
+    (by-test (λ moved. Left (layout_of code homes) (graph_of code) program base (words_of (Compute d op form a b) + exit_words (Branch (Temp d) e f)) starts s m (steps p 1 moved)) zero _ _ (λ h. tt) (λ h. leave))
 
 -- how many words there are
 compared-count : (y : Layout) (signed : Bool) (op : BinaryOperator) (a b : Operand) (at first second : ℕ) → length (operands_taken y a b ++ compared signed op at first second) ≡ length (operands_taken y a b) + 5
 compared-count y signed op a b at first second = length-append (operands_taken y a b) (compared signed op at first second)
 
 pub compares-within : ComparesKeepWithin
-compares-within y op form a b e f at other starts others = (
+compares-within y d op form a b e f at other starts others = (
   omega (arith, compared-count y form.signed op a b (at + 4 * length (operands_taken y a b)) (starts e.block) (starts f.block), length-append (taken y x5 a) (taken y x6 b), taken-count y x5 a, taken-count y x6 b),
+  omega (arith, compared-count y form.signed op a b (at + 4 * length (operands_taken y a b)) (starts e.block) (starts f.block), length-append (taken y x5 a) (taken y x6 b), operand-count y x5 a, operand-count y x6 b),
   compared-count y form.signed op a b (at + 4 * length (operands_taken y a b)) (starts e.block) (starts f.block)
       ∙ sym (compared-count y form.signed op a b (other + 4 * length (operands_taken y a b)) (others e.block) (others f.block)),
 )

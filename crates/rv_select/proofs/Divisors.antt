@@ -12,6 +12,8 @@ use Rattle.rv_isa.specs.declared.operation.BranchCondition.TheVariants.{Ne}
 use Rattle.rv_machine.specs.Word.{low}
 use Rattle.rv_machine.specs.Machine.{State, GoesOn, at_with}
 use Rattle.terra_words.specs.declared.words.FaultKind.TheVariants.{DivZero}
+use Rattle.tac_form.specs.declared.tac.Instruction.TheVariants.{TestDivisor}
+use Rattle.tac_form.specs.Weights.{operand_words, words_of}
 use Rattle.rv_operators.specs.Codes.{x0, x5}
 use Rattle.rv_operators.specs.Runs.{Stands}
 use Rattle.rv_select.specs.Places.{World, Holds, Housed, Layout, value_in}
@@ -22,7 +24,7 @@ use Rattle.rv_select.proofs.Claims.{AddressesAreCarried, DivisorsAreTested}
 use Rattle.rv_select.proofs.Straight.{Loads, behind-both, loads-both, loads-five, loads-one, low-below, low-small}
 use Rattle.rv_select.proofs.Numbers.{constant-count, constant-loads, immediate-is}
 use Rattle.rv_select.proofs.Ways.{Near, Way, at_pc, near-both, near-pc, scratch-near, stands-back, stands-front, straight-way, way-both}
-use Rattle.rv_select.proofs.Homes.{take-operand, taken-count}
+use Rattle.rv_select.proofs.Homes.{operand-count, take-operand}
 use Rattle.rv_select.proofs.Faults.{branch-way, failed-count, fails, later-ends}
 use Rattle.rv_select.proofs.Moves.{fewer-holds, near-holds, near-keeps, straight-put}
 
@@ -46,11 +48,11 @@ unfolding low
 over-low p n = omega arith
 
 -- the test, over an operand that stands in x5
-tests : (y : Layout) (Used Next : ℕ → Type 0) (w : World) (base v : ℕ) (at : Place) (A F : List Instr) (program : List (Option Instr)) (m : State) (l : Loads 5 A m v) →
-    F ≡ failed DivZero at → length A ≤ 8 → length F ≤ 11 → Stands program m.pc (A ++ (Branch Ne x5 x0 (over F) ∷ F)) → IsPlace at → Holds y Used w base m → Housed y Used →
+tests : (y : Layout) (Used Next : ℕ → Type 0) (w : World) (base v most weight : ℕ) (at : Place) (A F : List Instr) (program : List (Option Instr)) (m : State) (l : Loads 5 A m v) →
+    F ≡ failed DivZero at → length A ≤ most → most + 12 ≤ weight → length F ≤ 11 → Stands program m.pc (A ++ (Branch Ne x5 x0 (over F) ∷ F)) → IsPlace at → Holds y Used w base m → Housed y Used →
     AreFewer Used Next →
-    (v ≢ 0 → Comes y program Next w base 20 (behind m (A ++ (Branch Ne x5 x0 (over F) ∷ F))) [] m) × (v ≡ 0 → Ends program DivZero at 20 m)
-tests y Used Next w base v at A F program m l is fa ff stands place p h f =
+    (v ≢ 0 → Comes y program Next w base weight (behind m (A ++ (Branch Ne x5 x0 (over F) ∷ F))) [] m) × (v ≡ 0 → Ends program DivZero at weight m)
+tests y Used Next w base v most weight at A F program m l is fa enough ff stands place p h f =
     let first : Way program (length A) m l.after = straight-way program A m l.after (stands-front program m.pc A (Branch Ne x5 x0 (over F) ∷ F) stands) l.straight l.goes in
     let rest : Stands program l.after.pc (Branch Ne x5 x0 (over F) ∷ F) =
     subst (λ z. Stands program z (Branch Ne x5 x0 (over F) ∷ F)) (sym l.behind) (stands-back program m.pc A (Branch Ne x5 x0 (over F) ∷ F) p.pc stands) in
@@ -61,13 +63,13 @@ tests y Used Next w base v at A F program m l is fa ff stands place p h f =
           let way : Way program (length A + 1) m (at_pc l.after t) =
           way-both program (length A) 1 m l.after (at_pc l.after t) first
           (branch-way program Ne x5 x0 (4 * (length F + 1)) l.after true (omega arith) (omega arith) rest.0 (ap not e)) in
-          stays y Used Next w base (length A + 1) 20 (behind m (A ++ (Branch Ne x5 x0 (over F) ∷ F))) program m (at_pc l.after t) p h f way
+          stays y Used Next w base (length A + 1) weight (behind m (A ++ (Branch Ne x5 x0 (over F) ∷ F))) program m (at_pc l.after t) p h f way
           (near-both m l.after (at_pc l.after t) near (near-pc l.after t)) (low-below (l.after.pc + 4 * (length F + 1))) (omega arith) (omega arith)
           (over-low l.after.pc (length F) ∙ behind-both A (Branch Ne x5 x0 (over F) ∷ F) m.pc l.after.pc (low (l.after.pc + 4 * suc (length F))) l.behind refl),
       λ z.
           let t : ℕ = low (l.after.pc + 4) in
           let e : nat_eq (l.after.registers 5) 0 ≡ true = ap (λ x. nat_eq x 0) l.gives ∙ eq-eqb v 0 z in
-          later-ends program DivZero at (length A + 1) 11 20 m (at_pc l.after t)
+          later-ends program DivZero at (length A + 1) 11 weight m (at_pc l.after t)
           (way-both program (length A) 1 m l.after (at_pc l.after t) first
           (branch-way program Ne x5 x0 (4 * (length F + 1)) l.after false (omega arith) (omega arith) rest.0 (ap not e)))
           (fails program (at_pc l.after t) DivZero at (low-below (l.after.pc + 4)) place (omega arith) (omega arith) (subst (λ c. Stands program t c) is rest.1)) (omega arith),
@@ -75,8 +77,8 @@ tests y Used Next w base v at A F program m l is fa ff stands place p h f =
 
 pub divisors : DivisorsAreTested
 divisors y at a Used Next w base program m stands place p h r f =
-    tests y Used Next w base (value_in w.temps a) at (taken y x5 a) (failed DivZero at) program m (take-operand y x5 Used w base m a (λ e. omega (arith, e)) p h r)
-    refl (taken-count y x5 a) (failed-count DivZero at) stands place p h f
+    tests y Used Next w base (value_in w.temps a) (operand_words a) (words_of (TestDivisor at a)) at (taken y x5 a) (failed DivZero at) program m (take-operand y x5 Used w base m a (λ e. omega (arith, e)) p h r)
+    refl (operand-count y x5 a) (omega arith) (failed-count DivZero at) stands place p h f
 
 -- x5 gets the address of an offset of the frame in the region
 near-located : (m : State) (placed offset : ℕ) → m.registers 8 ≡ placed → placed + offset < 2 ^ 64 → offset < 2048 →

@@ -1,7 +1,7 @@
 -- Words at homes.
-use Rattle.std.proofs.Common.{◌≡◌, ◌≢◌, ℕ, ◌+◌, ◌*◌, ◌^◌, ◌<◌, ◌≤◌, List, [], ◌∷◌, length, take, drop, refl, sym, ap, ◌∙◌, subst, ⊎_elim, inl, inr, arith}
-use Rattle.std.specs.Prelude.{◌⊎◌}
-use Rattle.std.proofs.lemmas.Bool.{cases_lt}
+use Rattle.std.proofs.Common.{◌≡◌, ◌≢◌, ℕ, ◌+◌, ◌*◌, ◌^◌, ◌<◌, ◌≤◌, List, [], ◌∷◌, Bool, true, false, length, take, drop, refl, sym, ap, ◌∙◌, subst, ⊎_elim, inl, inr, arith}
+use Rattle.std.specs.Prelude.{◌⊎◌, nat_lt, if◌then◌else◌}
+use Rattle.std.proofs.lemmas.Bool.{cases_lt, ltb-true}
 use Rattle.rv_isa.specs.declared.instr.Instr.{Instr}
 use Rattle.rv_isa.specs.declared.instr.Instr.TheVariants.{Load, Store}
 use Rattle.rv_isa.specs.declared.operation.LoadOp.TheVariants.{Ld}
@@ -15,15 +15,16 @@ use Rattle.rv_machine.specs.Memory.{place_of}
 use Rattle.rv_machine.specs.Machine.{State, GoesOn, act, at_with, value_at, loads, loads_from, stores, stores_to}
 use Rattle.tac_form.specs.declared.tac.Operand.{Operand}
 use Rattle.tac_form.specs.declared.tac.Operand.TheVariants.{Temp, Constant}
+use Rattle.tac_form.specs.Weights.{constant_words, operand_words}
 use Rattle.rv_operators.specs.Claims.{acts, then_on}
 use Rattle.rv_operators.specs.Codes.{x5}
 use Rattle.rv_operators.specs.Runs.{AreStraight}
 use Rattle.rv_operators.proofs.Runs.{straight-both}
 use Rattle.rv_select.specs.Places.{AreBytes, Layout, World, HasFrame, Holds, Housed, IsHome, IsRead, home_of, private_word, slot_offset, value_in, word_at}
-use Rattle.rv_select.specs.Numbers.{register_of}
+use Rattle.rv_select.specs.Numbers.{constant, register_of}
 use Rattle.rv_select.specs.Shapes.{moved, put_to, taken, taken_from}
 use Rattle.rv_select.proofs.Bytes.{other-than-word, private-place, stored-length, stored-word}
-use Rattle.rv_select.proofs.Numbers.{constant-count, constant-loads, register-is}
+use Rattle.rv_select.proofs.Numbers.{constant-count, constant-loads, one-count, register-is, small-count}
 use Rattle.rv_select.proofs.Straight.{Loads, behind-both, goes-both, loads-one, low-first, low-small, register-value, written-elsewhere, written-there}
 use Rattle.rv_select.proofs.Words.{low-are-bytes, overwritten-bytes}
 use Rattle.rv_select.proofs.Frames.{Reach, framed-count, framed-loads, reach}
@@ -82,6 +83,20 @@ home-count d (homes.Slot k) = framed-count (λ r offset. Load Ld d r offset) (sl
 pub taken-count : (y : Layout) (d : Register) (a : Operand) → length (taken y d a) ≤ 8
 taken-count y d (Temp t) = let h : length (taken_from d (home_of y t)) ≤ 3 = home-count d (home_of y t) in omega arith
 taken-count y d (Constant k) = constant-count d k
+
+-- by its weight
+constant-weight : (d : Register) (c : ℕ) → length (constant d c) ≤ constant_words c
+constant-weight d c = either (nat_lt c 2048) (nat_lt c (2 ^ 31)) refl refl
+  where
+    either : (short two : Bool) → nat_lt c 2048 ≡ short → nat_lt c (2 ^ 31) ≡ two →
+        length (constant d c) ≤ (if short then 1 else if two then 2 else 8)
+    either true two e g = one-count d c (ltb-true c 2048 e)
+    either false true e g = small-count d c (ltb-true c (2 ^ 31) g)
+    either false false e g = constant-count d c
+
+pub operand-count : (y : Layout) (d : Register) (a : Operand) → length (taken y d a) ≤ operand_words a
+operand-count y d (Temp t) = home-count d (home_of y t)
+operand-count y d (Constant c) = constant-weight d c
 
 pub put-count : (h : Home) → length (put_to h) ≤ 3
 put-count (homes.Register x) = omega arith

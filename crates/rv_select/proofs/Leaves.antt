@@ -25,6 +25,7 @@ use Rattle.tac_form.specs.Flow.{Program, step}
 use Rattle.tac_form.specs.Graph.{block_of, exit_next, exit_reads, graph_of, step_of}
 use Rattle.tac_form.specs.Live.{InUse, IsLive, at_place, at_step, has, read_within}
 use Rattle.tac_form.specs.Fits.{edge_fits, operand_fits}
+use Rattle.tac_form.specs.Weights.{exit_words}
 use Rattle.rv_operators.specs.Codes.{x0, x5}
 use Rattle.rv_operators.specs.Runs.{Stands}
 use Rattle.rv_select.specs.Places.{Holds, Housed, Layout, World, layout_of, value_in}
@@ -32,7 +33,7 @@ use Rattle.rv_select.specs.Shapes.{branch_jumps, jump, taken}
 use Rattle.rv_select.specs.Steps.{AreFewer, Comes, ExitsAreCarried, Left, StandsAtExit, world_of}
 use Rattle.rv_select.proofs.Straight.{Loads, loads-five}
 use Rattle.rv_select.proofs.Ways.{Near, Way, at_pc, near-both, near-pc, near-same, scratch-near, stands-back, stands-front, straight-way, way-both, way-none}
-use Rattle.rv_select.proofs.Homes.{take-operand, taken-count}
+use Rattle.rv_select.proofs.Homes.{operand-count, take-operand, taken-count}
 use Rattle.rv_select.proofs.Faults.{branch-way, fails}
 use Rattle.rv_select.proofs.Divisors.{stays}
 use Rattle.rv_select.proofs.Lives.{housed}
@@ -90,11 +91,11 @@ pub low-near : (n : ℕ) → n < 2 ^ 30 → low n ≡ n
 unfolding low
 low-near n h = omega arith
 
-branch-comes : (y : Layout) (Used Next : ℕ → Type 0) (w : World) (base v first second to : ℕ) (taken_it : Bool) (A : List Instr) (starts : ℕ → ℕ) (program : List (Option Instr)) (m : State)
-    (l : Loads 5 A m v) → Holds y Used w base m → Housed y Used → AreFewer Used Next → length A ≤ 8 → m.pc + 256 ≤ 2 ^ 30 →
+branch-comes : (y : Layout) (Used Next : ℕ → Type 0) (w : World) (base weight v first second to : ℕ) (taken_it : Bool) (A : List Instr) (starts : ℕ → ℕ) (program : List (Option Instr)) (m : State)
+    (l : Loads 5 A m v) → Holds y Used w base m → Housed y Used → AreFewer Used Next → length A + 3 ≤ weight → length A ≤ 8 → m.pc + 256 ≤ 2 ^ 30 →
     ((b : ℕ) → (starts b < 2 ^ 30) × (starts b % 2 ≡ 0)) → Stands program m.pc (A ++ branch_jumps (m.pc + 4 * length A) starts first second) →
-    not (nat_eq v 0) ≡ taken_it → (if taken_it then starts first else starts second) ≡ to → Comes y program Next w base 19 to [] m
-branch-comes y Used Next w base v first second to taken_it A starts program m l p h f short near blocks there e is =
+    not (nat_eq v 0) ≡ taken_it → (if taken_it then starts first else starts second) ≡ to → Comes y program Next w base weight to [] m
+branch-comes y Used Next w base weight v first second to taken_it A starts program m l p h f enough short near blocks there e is =
     let at : ℕ = m.pc + 4 * length A in
     let at-is : l.after.pc ≡ at = l.behind ∙ low-near at (omega arith) in
     let B : List Instr = branch_jumps at starts first second in
@@ -119,13 +120,13 @@ branch-comes y Used Next w base v first second to taken_it A starts program m l 
     choose : (b : Bool) (n : State) → Near m n → Way program (length A + 1) m n → low (l.after.pc + 4) ≡ m.pc + 4 * length A + 4 → low (l.after.pc + 12) ≡ m.pc + 4 * length A + 12 →
         Stands program (m.pc + 4 * length A + 4) (jump (m.pc + 4 * length A + 4) (starts second)) →
         Stands program (m.pc + 4 * length A + 12) (jump (m.pc + 4 * length A + 12) (starts first)) →
-        (if b then starts first else starts second) ≡ to → n.pc ≡ (if b then low (l.after.pc + 12) else low (l.after.pc + 4)) → Comes y program Next w base 19 to [] m
+        (if b then starts first else starts second) ≡ to → n.pc ≡ (if b then low (l.after.pc + 12) else low (l.after.pc + 4)) → Comes y program Next w base weight to [] m
     choose true n around way a b c d is pc =
-        subst (λ q. Comes y program Next w base 19 q [] m) is
-        (jump-comes y Used Next w base (length A + 1) 19 (m.pc + 4 * length A + 12) (starts first) program m n p h f way around (pc ∙ b) (omega arith) (blocks first).0 (blocks first).1 d (omega arith))
+        subst (λ q. Comes y program Next w base weight q [] m) is
+        (jump-comes y Used Next w base (length A + 1) weight (m.pc + 4 * length A + 12) (starts first) program m n p h f way around (pc ∙ b) (omega arith) (blocks first).0 (blocks first).1 d (omega arith))
     choose false n around way a b c d is pc =
-        subst (λ q. Comes y program Next w base 19 q [] m) is
-        (jump-comes y Used Next w base (length A + 1) 19 (m.pc + 4 * length A + 4) (starts second) program m n p h f way around (pc ∙ a) (omega arith) (blocks second).0 (blocks second).1 c (omega arith))
+        subst (λ q. Comes y program Next w base weight q [] m) is
+        (jump-comes y Used Next w base (length A + 1) weight (m.pc + 4 * length A + 4) (starts second) program m n p h f way around (pc ∙ a) (omega arith) (blocks second).0 (blocks second).1 c (omega arith))
 
 pub zero-or-more : (n : ℕ) → (n ≡ 0) ⊎ ((k : ℕ) × (n ≡ suc k))
 zero-or-more zero = inl refl
@@ -155,11 +156,11 @@ module _ (p : Program) (code : Tac) (homes : List (Option Home)) (exit : Exit) (
   where-housed = housed code homes s.here.block s.here.at x.right
 
 carry-jump : (p : Program) (code : Tac) (homes : List (Option Home)) (e : Edge) (starts : ℕ → ℕ) (s : tac.State) (program : List (Option Instr)) (base : ℕ) (m : State) →
-    StandsAtExit p code homes (Jump e) starts s program base m → Left (layout_of code homes) (graph_of code) program base 5 starts s m (step p s)
+    StandsAtExit p code homes (Jump e) starts s program base m → Left (layout_of code homes) (graph_of code) program base 2 starts s m (step p s)
 carry-jump p code homes e starts s program base m x =
     let y : Layout = layout_of code homes in
-    let comes : Comes y program (InUse (graph_of code) e.block 0) (world_of s) base 5 (starts e.block) [] m =
-    jump-comes y (InUse (graph_of code) s.here.block s.here.at) (InUse (graph_of code) e.block 0) (world_of s) base 0 5 m.pc (starts e.block) program m m x.holds
+    let comes : Comes y program (InUse (graph_of code) e.block 0) (world_of s) base 2 (starts e.block) [] m =
+    jump-comes y (InUse (graph_of code) s.here.block s.here.at) (InUse (graph_of code) e.block 0) (world_of s) base 0 2 m.pc (starts e.block) program m m x.holds
     (where-housed p code homes (Jump e) starts s program base m x)
     (next-here p code homes (Jump e) starts s program base m x e.block (λ q h. or-left (q e.block) false h)) (way-none program m) (near-same m) refl (omega (arith, x.near))
     (x.blocks e.block).0 (x.blocks e.block).1 x.stands (omega arith) in
@@ -168,7 +169,7 @@ carry-jump p code homes e starts s program base m x =
     let e3 = x.in_block in
     let e4 = x.is in
     rw (e1, e2, e3) (rw e4
-    (by-test (λ moved. Left (layout_of code homes) (graph_of code) program base 5 starts s m moved) e.counts _ _
+    (by-test (λ moved. Left (layout_of code homes) (graph_of code) program base 2 starts s m moved) e.counts _ _
     (λ h. ⊎_elim (λ z. rw z tt) (λ z. let q = z.1 in rw q (refl, comes)) (zero-or-more s.left)) (λ h. (refl, comes))))
 
 carry-fail : (p : Program) (code : Tac) (homes : List (Option Home)) (kind : FaultKind) (at : Place) (starts : ℕ → ℕ) (s : tac.State) (program : List (Option Instr)) (base : ℕ) (m : State) →
@@ -190,37 +191,39 @@ carry-fail p code homes kind at starts s program base m few x =
     some BadCall = omega arith
 
 carry-branch : (p : Program) (code : Tac) (homes : List (Option Home)) (a : Operand) (e f : Edge) (starts : ℕ → ℕ) (s : tac.State) (program : List (Option Instr)) (base : ℕ) (m : State) →
-    StandsAtExit p code homes (Branch a e f) starts s program base m → Left (layout_of code homes) (graph_of code) program base 19 starts s m (step p s)
+    StandsAtExit p code homes (Branch a e f) starts s program base m →
+    Left (layout_of code homes) (graph_of code) program base (exit_words (Branch a e f)) starts s m (step p s)
 carry-branch p code homes a e f starts s program base m x =
     let y : Layout = layout_of code homes in
     let used : ℕ → Type 0 = InUse (graph_of code) s.here.block s.here.at in
     let v : ℕ = value_in s.here.temps a in
+    let few : length (taken y x5 a) + 3 ≤ exit_words (Branch a e f) = omega (arith, operand-count y x5 a) in
     let fit = both-true (operand_fits code a && edge_fits code e) (edge_fits code f) x.fits in
     let fit-a = both-true (operand_fits code a) (edge_fits code e) fit.0 in
     let h : Housed y used = where-housed p code homes (Branch a e f) starts s program base m x in
     let l : Loads 5 (taken y x5 a) m v =
     take-operand y x5 used (world_of s) base m a (λ q. omega (arith, q)) x.holds h (operand-read code used a fit-a.0 (reads-here p code homes (Branch a e f) starts s program base m x)) in
-    let first : v ≢ 0 → Comes y program (InUse (graph_of code) e.block 0) (world_of s) base 19 (starts e.block) [] m =
-    λ n. branch-comes y used (InUse (graph_of code) e.block 0) (world_of s) base v e.block f.block (starts e.block) true (taken y x5 a) starts program m l x.holds h
-    (next-here p code homes (Branch a e f) starts s program base m x e.block (λ q g. or-left (q e.block) (q f.block || false) g)) (taken-count y x5 a) x.near x.blocks x.stands
+    let first : v ≢ 0 → Comes y program (InUse (graph_of code) e.block 0) (world_of s) base (exit_words (Branch a e f)) (starts e.block) [] m =
+    λ n. branch-comes y used (InUse (graph_of code) e.block 0) (world_of s) base (exit_words (Branch a e f)) v e.block f.block (starts e.block) true (taken y x5 a) starts program m l x.holds h
+    (next-here p code homes (Branch a e f) starts s program base m x e.block (λ q g. or-left (q e.block) (q f.block || false) g)) few (taken-count y x5 a) x.near x.blocks x.stands
     (ap not (ne_eqb v 0 n)) refl in
-    let second : v ≡ 0 → Comes y program (InUse (graph_of code) f.block 0) (world_of s) base 19 (starts f.block) [] m =
-    λ z. branch-comes y used (InUse (graph_of code) f.block 0) (world_of s) base v e.block f.block (starts f.block) false (taken y x5 a) starts program m l x.holds h
-    (next-here p code homes (Branch a e f) starts s program base m x f.block (λ q g. or-second (q e.block) (q f.block || false) (or-left (q f.block) false g))) (taken-count y x5 a) x.near x.blocks x.stands
+    let second : v ≡ 0 → Comes y program (InUse (graph_of code) f.block 0) (world_of s) base (exit_words (Branch a e f)) (starts f.block) [] m =
+    λ z. branch-comes y used (InUse (graph_of code) f.block 0) (world_of s) base (exit_words (Branch a e f)) v e.block f.block (starts f.block) false (taken y x5 a) starts program m l x.holds h
+    (next-here p code homes (Branch a e f) starts s program base m x f.block (λ q g. or-second (q e.block) (q f.block || false) (or-left (q f.block) false g))) few (taken-count y x5 a) x.near x.blocks x.stands
     (ap not (eq-eqb v 0 z)) refl in
     let e1 = x.function in
     let e2 = x.in_function in
     let e3 = x.in_block in
     let e4 = x.is in
     rw (e1, e2, e3) (rw e4
-    (by-test (λ moved. Left (layout_of code homes) (graph_of code) program base 19 starts s m moved) (nat_eq (value_in s.here.temps a) 0) _ _
+    (by-test (λ moved. Left (layout_of code homes) (graph_of code) program base (exit_words (Branch a e f)) starts s m moved) (nat_eq (value_in s.here.temps a) 0) _ _
     (λ z.
     let comes = second (eqb-true (value_in s.here.temps a) 0 z) in
-    by-test (λ moved. Left (layout_of code homes) (graph_of code) program base 19 starts s m moved) f.counts _ _
+    by-test (λ moved. Left (layout_of code homes) (graph_of code) program base (exit_words (Branch a e f)) starts s m moved) f.counts _ _
     (λ c. ⊎_elim (λ k. rw k tt) (λ k. let q = k.1 in rw q (refl, comes)) (zero-or-more s.left)) (λ c. (refl, comes)))
     (λ z.
     let comes = first (λ o. let t : nat_eq (value_in s.here.temps a) 0 ≡ true = eq-eqb (value_in s.here.temps a) 0 o in let none : true ≡ false = sym t ∙ z in cc) in
-    by-test (λ moved. Left (layout_of code homes) (graph_of code) program base 19 starts s m moved) e.counts _ _
+    by-test (λ moved. Left (layout_of code homes) (graph_of code) program base (exit_words (Branch a e f)) starts s m moved) e.counts _ _
     (λ c. ⊎_elim (λ k. rw k tt) (λ k. let q = k.1 in rw q (refl, comes)) (zero-or-more s.left)) (λ c. (refl, comes)))))
 
 pub exits : ExitsAreCarried

@@ -8,6 +8,7 @@ pub mod Homes
 pub mod Small
 pub mod Words
 pub mod Claims
+pub mod Sequences
 pub mod Moves
 pub mod Faults
 pub mod Divisors

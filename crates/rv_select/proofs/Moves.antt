@@ -18,7 +18,9 @@ use Rattle.tac_form.specs.declared.tac.Size.{Size}
 use Rattle.tac_form.specs.declared.tac.Size.TheVariants.{One, Two, Four, Eight}
 use Rattle.tac_form.specs.declared.tac.Operand.{Operand}
 use Rattle.tac_form.specs.declared.tac.Operand.TheVariants.{Temp, Constant}
+use Rattle.tac_form.specs.declared.tac.Instruction.TheVariants.{Compute, Copy}
 use Rattle.tac_form.specs.Flow.{put, bytes_of, width_of}
+use Rattle.tac_form.specs.Weights.{operand_words, operator_words, words_of}
 use Rattle.rv_operators.specs.Claims.{Leads}
 use Rattle.rv_operators.specs.Codes.{x5, x6, code_of, is_width}
 use Rattle.rv_operators.specs.Runs.{Stands}
@@ -31,7 +33,8 @@ use Rattle.rv_select.proofs.Claims.{CopiesAreCarried, OperatorsAreCarried}
 use Rattle.rv_select.proofs.Straight.{Loads, Scratch, behind-both, leads-scratch, loads-five, loads-six, low-below, scratch-both}
 use Rattle.rv_select.proofs.Ways.{Near, Way, scratch-near, stands-back, stands-front, straight-way, way-both}
 use Rattle.rv_select.proofs.Frames.{framed-some}
-use Rattle.rv_select.proofs.Homes.{Puts, put-count, put-home, region-small, take-operand, taken-count}
+use Rattle.rv_select.proofs.Homes.{Puts, operand-count, put-count, put-home, region-small, take-operand}
+use Rattle.rv_select.proofs.Sequences.{operator-count}
 use Rattle.rv_select.proofs.Small.{applied-small}
 
 -- a word at a home depends on neither scratch registers nor the region
@@ -215,23 +218,23 @@ value-small Used y w base m (Constant c) p r = r
 pub copies : CopiesAreCarried
 copies y d a Used Next w base program m stands p h h' r u follows =
     let l : Loads 5 (taken y x5 a) m (value_in w.temps a) = take-operand y x5 Used w base m a (λ e. omega (arith, e)) p h r in
-    straight-put y Used Next w base d (value_in w.temps a) 11 (taken y x5 a) program m l.after p h h' u follows (loads-five (taken y x5 a) m (value_in w.temps a) l) l.gives
-    (value-small Used y w base m a p r) (omega (arith, taken-count y x5 a)) stands
+    straight-put y Used Next w base d (value_in w.temps a) (words_of (Copy d a)) (taken y x5 a) program m l.after p h h' u follows (loads-five (taken y x5 a) m (value_in w.temps a) l) l.gives
+    (value-small Used y w base m a p r) (omega (arith, operand-count y x5 a)) stands
 
 -- an operator over operands that stand in x5 and x6
-computes : (y : Layout) (Used Next : ℕ → Type 0) (w : World) (base d va vb : ℕ) (op : BinaryOperator) (wide : Width) (A B : List Instr)
+computes : (y : Layout) (Used Next : ℕ → Type 0) (w : World) (base d va vb na nb : ℕ) (op : BinaryOperator) (wide : Width) (A B : List Instr)
     (program : List (Option Instr)) (m : State) → is_width wide.bits ≡ true → (divides op ≡ true → vb ≢ 0) → va < 2 ^ 64 → vb < 2 ^ 64 →
-    (l : Loads 5 A m va) → (k : Loads 6 B l.after vb) → length A ≤ 8 → length B ≤ 8 →
+    (l : Loads 5 A m va) → (k : Loads 6 B l.after vb) → length A ≤ na → length B ≤ nb →
     Holds y Used w base m → Housed y Used → Housed y Next → Next d → Follows Used Next d →
     Stands program m.pc ((A ++ (B ++ code_of wide op)) ++ put_to (home_of y d)) →
-    Comes y program Next (with_temp w d (applied wide op va vb)) base 23 (behind m ((A ++ (B ++ code_of wide op)) ++ put_to (home_of y d))) [] m
-computes y Used Next w base d va vb op wide A B program m is divisor sa sb l k fa fb p h h' u follows stands =
+    Comes y program Next (with_temp w d (applied wide op va vb)) base (na + nb + operator_words op + 3) (behind m ((A ++ (B ++ code_of wide op)) ++ put_to (home_of y d))) [] m
+computes y Used Next w base d va vb na nb op wide A B program m is divisor sa sb l k fa fb p h h' u follows stands =
     let n : State = k.after in
     let five : n.registers 5 ≡ va = k.keeps 5 (λ e. omega (arith, e)) (λ e. omega (arith, e)) ∙ l.gives in
     let o : Leads (code_of wide op) n (applied wide op (n.registers 5) (n.registers 6)) =
     operator-computes wide op is n (subst (λ x. x < 2 ^ 64) (sym five) sa) (subst (λ x. x < 2 ^ 64) (sym k.gives) sb)
     (λ e z. divisor e (sym k.gives ∙ z)) in
-    let short : length (code_of wide op) ≤ 4 = (code-short wide op).short in
+    let short : length (code_of wide op) ≤ operator_words op = operator-count wide op in
     let s : Scratch (A ++ (B ++ code_of wide op)) m o.after =
     scratch-both A (B ++ code_of wide op) m l.after o.after (loads-five A m va l)
     (scratch-both B (code_of wide op) l.after n o.after (loads-six B l.after vb k) (leads-scratch (code_of wide op) n _ o (code-short wide op).straight)) in
@@ -239,7 +242,7 @@ computes y Used Next w base d va vb op wide A B program m is divisor sa sb l k f
     o.gives ∙ (ap (λ x. applied wide op x (n.registers 6)) five ∙ ap (λ x. applied wide op va x) k.gives) in
     let count : length (A ++ (B ++ code_of wide op)) ≡ length A + (length B + length (code_of wide op)) =
     length-append A (B ++ code_of wide op) ∙ ap (λ x. length A + x) (length-append B (code_of wide op)) in
-    straight-put y Used Next w base d (applied wide op va vb) 23 (A ++ (B ++ code_of wide op)) program m o.after p h h' u follows s gives
+    straight-put y Used Next w base d (applied wide op va vb) (na + nb + operator_words op + 3) (A ++ (B ++ code_of wide op)) program m o.after p h h' u follows s gives
     (applied-small wide op va vb is) (omega (arith, count, short, fa, fb)) stands
 
 -- the parts one after the other
@@ -263,7 +266,7 @@ operators y d op form a b Used Next w base program m stands divisor p h h' ra rb
     let k : Loads 6 (taken y x6 b) l.after vb = take-operand y x6 Used w base l.after b (λ e. omega (arith, e)) q h rb in
     let whole : (taken y x5 a ++ (taken y x6 b ++ code_of wide op)) ++ put_to (home_of y d) ≡ computed y d op wide a b =
     in-row (taken y x5 a) (taken y x6 b) (code_of wide op) (put_to (home_of y d)) in
-    subst (λ x. Comes y program Next (with_temp w d (applied wide op va vb)) base 23 (behind m x) [] m) whole
-    (computes y Used Next w base d va vb op wide (taken y x5 a) (taken y x6 b) program m (wide-size form.size) divisor
-    (value-small Used y w base m a p ra) (value-small Used y w base m b p rb) l k (taken-count y x5 a) (taken-count y x6 b) p h h' u follows
+    subst (λ x. Comes y program Next (with_temp w d (applied wide op va vb)) base (words_of (Compute d op form a b)) (behind m x) [] m) whole
+    (computes y Used Next w base d va vb (operand_words a) (operand_words b) op wide (taken y x5 a) (taken y x6 b) program m (wide-size form.size) divisor
+    (value-small Used y w base m a p ra) (value-small Used y w base m b p rb) l k (operand-count y x5 a) (operand-count y x6 b) p h h' u follows
     (subst (λ x. Stands program m.pc x) (sym whole) stands))

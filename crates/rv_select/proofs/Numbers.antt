@@ -240,6 +240,13 @@ pub small-count : (d : Register) (n : ℕ) → n < 2 ^ 31 → length (constant d
 small-count d n h =
     subst (λ b. length (if b then short_constant d n else long_constant d n) ≤ 2) (sym (eq-eqb (extended_word n) n (extended-small n h))) (short-count d n)
 
+-- one of twelve bits takes one
+pub one-count : (d : Register) (n : ℕ) → n < 2048 → length (constant d n) ≤ 1
+one-count d n h =
+    let zero : upper_number n ≡ 0 = omega (arith, h) in
+    subst (λ b. length (if b then short_constant d n else long_constant d n) ≤ 1) (sym (eq-eqb (extended_word n) n (extended-small n (omega (arith, h)))))
+    (subst (λ b. length (if b then Addiw d x0 (lower_of n) ∷ [] else Lui d (upper_of n) ∷ Addiw d d (lower_of n) ∷ []) ≤ 1) (sym (eq-eqb (upper_number n) 0 zero)) (omega arith))
+
 -- how many words were added
 pub pushed_words : (old : List ℕ) (code : List Instr) → length (old ++ map word_of code) ≡ length old + length code
 pushed_words old code = length-append old (map word_of code) ∙ ap (λ n. length old + n) (length-map code word_of)

@@ -162,15 +162,15 @@ byte-count y (Constant c) = let few : length (constant x5 (c % 256)) ≤ 2 = sma
 -- the state after a byte, and a way before it
 byte-ends : (y : Layout) (Used Next : ℕ → Type 0) (w : World) (base v x : ℕ) (A : List Instr) (program : List (Option Instr)) (m t z : State) →
     Holds y Used w base m → Housed y Used → AreFewer Used Next → length A ≤ 3 → Way program (length A) m t → Calm m t → t.pc ≡ low (m.pc + 4 * length A) → v % 256 ≡ x % 256 →
-    Wrote program 8 (v % 256 ∷ []) t z → Calm t z → z.pc ≡ low (t.pc + 4 * 8) → Comes y program Next w base 14 (behind m (A ++ byte_written)) (x % 256 ∷ []) m
+    Wrote program 8 (v % 256 ∷ []) t z → Calm t z → z.pc ≡ low (t.pc + 4 * 8) → Comes y program Next w base 11 (behind m (A ++ byte_written)) (x % 256 ∷ []) m
 byte-ends y Used Next w base v x A program m t z p h f few first calm to same second calm' pc =
-    calm-comes y Used Next w base (length A + 8) 14 (behind m (A ++ byte_written)) (x % 256 ∷ []) program m z p h f
+    calm-comes y Used Next w base (length A + 8) 11 (behind m (A ++ byte_written)) (x % 256 ∷ []) program m z p h f
     (subst (λ b. Wrote program (length A + 8) (b ∷ []) m z) same (then-wrote program (length A) 8 (v % 256 ∷ []) m t z first second))
     (calm-both m t z calm calm') (subst (λ q. q < 2 ^ 64) (sym pc) (low-below (t.pc + 4 * 8))) (omega arith) (omega arith) (behind-both A byte_written m.pc t.pc z.pc to pc)
 
 byte-comes : (y : Layout) (Used Next : ℕ → Type 0) (w : World) (base v x : ℕ) (A : List Instr) (program : List (Option Instr)) (m : State) (l : Loads 5 A m v) →
     Holds y Used w base m → Housed y Used → AreFewer Used Next → length A ≤ 3 → v % 256 ≡ x % 256 → Stands program m.pc (A ++ byte_written) →
-    Comes y program Next w base 14 (behind m (A ++ byte_written)) (x % 256 ∷ []) m
+    Comes y program Next w base 11 (behind m (A ++ byte_written)) (x % 256 ∷ []) m
 byte-comes y Used Next w base v x A program m l p h f few same stands =
     let t : State = l.after in
     let g =
@@ -183,7 +183,7 @@ byte-comes y Used Next w base v x A program m l p h f few same stands =
 
 pub byte-puts : (y : Layout) (a : Operand) (Used Next : ℕ → Type 0) (w : World) (base : ℕ) (program : List (Option Instr)) (m : State) →
     Stands program m.pc (byte_put y a) → Holds y Used w base m → Housed y Used → IsRead Used a → AreFewer Used Next →
-    Comes y program Next w base 14 (behind m (byte_put y a)) (value_in w.temps a % 256 ∷ []) m
+    Comes y program Next w base 11 (behind m (byte_put y a)) (value_in w.temps a % 256 ∷ []) m
 byte-puts y a Used Next w base program m stands p h r f =
     let g = byte-loads y Used w base m a p h r in
     byte-comes y Used Next w base g.0 (value_in w.temps a) (byte_taken y x5 a) program m g.1 p h f (byte-count y a) g.2 stands

@@ -13,6 +13,8 @@ use Rattle.terra_memory.specs.Numbers.{part}
 use Rattle.terra_memory.specs.Region.{Contents, end_address, first_address, is_inside, range_of}
 use Rattle.terra_words.specs.declared.words.FaultKind.TheVariants.{BadAddress}
 use Rattle.tac_form.specs.declared.tac.Operand.{Operand}
+use Rattle.tac_form.specs.declared.tac.Instruction.TheVariants as instructions
+use Rattle.tac_form.specs.Weights.{operand_words, words_of}
 use Rattle.rv_machine.specs.declared.memory.Place.TheVariants as places
 use Rattle.rv_machine.specs.Word.{low, difference}
 use Rattle.rv_machine.specs.Memory.{place_of}
@@ -25,7 +27,7 @@ use Rattle.rv_select.specs.Shapes.{failed, offset_of, over, range_tested, range_
 use Rattle.rv_select.specs.Steps.{AreFewer, Comes, Ends, IsPlace, behind}
 use Rattle.rv_select.proofs.Straight.{Loads, behind-both, low-below, written-elsewhere}
 use Rattle.rv_select.proofs.Ways.{Way, at_pc, near-pc, stands-back, stands-front, step-way, straight-way, way-both, way-none}
-use Rattle.rv_select.proofs.Homes.{take-operand, taken-count}
+use Rattle.rv_select.proofs.Homes.{operand-count, take-operand}
 use Rattle.rv_select.proofs.Faults.{branch-way, failed-count, fails, later-ends, small-load}
 use Rattle.rv_select.proofs.Regions.{end-small, inside-true, outside-false, region-place}
 use Rattle.rv_select.proofs.Calm.{Calm, Wrote, calm-both, calm-comes, calm-holds, calm-loads, held-not, near-calm, then-wrote, way-wrote, write-act, wrote}
@@ -220,15 +222,15 @@ tail-count : (at : Place) → length (tail at) ≡ suc (suc (suc (suc (suc (suc 
 tail-count at = ap (λ n. suc (suc (suc (suc (suc (suc n)))))) (length-append (failed BadAddress at) write_call)
 
 -- Bytes of the region are written: none, or some that lie in it; and where one doesn't, the run ends by a fault.
-pub record RangeWritten (y : Layout) (program : List (Option Instr)) (Next : ℕ → Type 0) (w : World) (base va vb target : ℕ) (at : Place) (m : State) : Type 0 where
-  pub nothing : vb ≡ 0 → Comes y program Next w base 40 target [] m
-  pub inside : vb ≢ 0 → first_address ≤ va → va + vb ≤ end_address w.region → Comes y program Next w base 40 target (part w.region.bytes (va - first_address) vb) m
-  pub outside : vb ≢ 0 → (va < first_address) ⊎ ((first_address ≤ va) × (end_address w.region < va + vb)) → Ends program BadAddress at 40 m
+pub record RangeWritten (y : Layout) (program : List (Option Instr)) (Next : ℕ → Type 0) (w : World) (base weight va vb target : ℕ) (at : Place) (m : State) : Type 0 where
+  pub nothing : vb ≡ 0 → Comes y program Next w base weight target [] m
+  pub inside : vb ≢ 0 → first_address ≤ va → va + vb ≤ end_address w.region → Comes y program Next w base weight target (part w.region.bytes (va - first_address) vb) m
+  pub outside : vb ≢ 0 → (va < first_address) ⊎ ((first_address ≤ va) × (end_address w.region < va + vb)) → Ends program BadAddress at weight m
 
-range-ends : (y : Layout) (Used Next : ℕ → Type 0) (w : World) (base va vb : ℕ) (at : Place) (A : List Instr) (program : List (Option Instr)) (m t : State) →
-    Holds y Used w base m → Housed y Used → AreFewer Used Next → IsPlace at → length A ≤ 16 → Way program (length A) m t → Calm m t → t.pc ≡ low (m.pc + 4 * length A) → t.pc < 2 ^ 64 →
-    t.registers 11 ≡ va → t.registers 12 ≡ vb → Stands program t.pc (tail at) → RangeWritten y program Next w base va vb (behind m (A ++ tail at)) at m
-range-ends y Used Next w base va vb at A program m t p h f place few first calm to small eleven twelve there =
+range-ends : (y : Layout) (Used Next : ℕ → Type 0) (w : World) (base weight va vb : ℕ) (at : Place) (A : List Instr) (program : List (Option Instr)) (m t : State) →
+    Holds y Used w base m → Housed y Used → AreFewer Used Next → IsPlace at → length A + 17 ≤ weight → Way program (length A) m t → Calm m t → t.pc ≡ low (m.pc + 4 * length A) → t.pc < 2 ^ 64 →
+    t.registers 11 ≡ va → t.registers 12 ≡ vb → Stands program t.pc (tail at) → RangeWritten y program Next w base weight va vb (behind m (A ++ tail at)) at m
+range-ends y Used Next w base weight va vb at A program m t p h f place few first calm to small eleven twelve there =
     let e = end-small y Used w base m p in
     let most : length w.region.bytes ≤ 67108864 = p.lawful.sized.2 in
     let four : t.registers 4 ≡ end_address w.region = calm.keeps 4 refl ∙ p.limit in
@@ -239,7 +241,7 @@ range-ends y Used Next w base va vb at A program m t p h f place few first calm 
           let n : ℕ = length (range_tested at ++ write_call) in
           let z : State = at_pc t (low (t.pc + 4 * (n + 1))) in
           let count : n ≡ suc (suc (suc (suc (suc (length (failed BadAddress at) + 3))))) = ap (λ n. suc (suc (suc (suc (suc n))))) (length-append (failed BadAddress at) write_call) in
-          calm-comes y Used Next w base (length A + 1) 40 (behind m (A ++ tail at)) [] program m z p h f
+          calm-comes y Used Next w base (length A + 1) weight (behind m (A ++ tail at)) [] program m z p h f
           (way-wrote program (length A + 1) m z
           (way-both program (length A) 1 m t z first
           (branch-way program Eq x12 x0 (4 * (n + 1)) t true (omega (arith, count)) (omega arith) there.0 (ap (λ x. nat_eq x 0) twelve ∙ eq-eqb vb 0 none))))
@@ -248,18 +250,18 @@ range-ends y Used Next w base va vb at A program m t p h f place few first calm 
       inside = λ many i j.
           let g =
           range-goes program t at (failed BadAddress at) va vb (end_address w.region) eleven twelve four (omega arith) many short there w.region.bytes region refl i j in
-          calm-comes y Used Next w base (length A + 9) 40 (behind m (A ++ tail at)) (part w.region.bytes (va - first_address) vb) program m g.0 p h f
+          calm-comes y Used Next w base (length A + 9) weight (behind m (A ++ tail at)) (part w.region.bytes (va - first_address) vb) program m g.0 p h f
           (then-wrote program (length A) 9 (part w.region.bytes (va - first_address) vb) m t g.0 first g.1) (calm-both m t g.0 calm g.2)
           (subst (λ q. q < 2 ^ 64) (sym g.3) (low-below _)) (omega arith) (omega arith)
           (behind-both A (tail at) m.pc t.pc g.0.pc to (g.3 ∙ ap (λ n. low (t.pc + 4 * n)) (sym (tail-count at))));
       outside = λ many o.
-          later-ends program BadAddress at (length A) 17 40 m t first
+          later-ends program BadAddress at (length A) 17 weight m t first
           (outside program t at (failed BadAddress at) va vb (end_address w.region) eleven twelve four (omega arith) many short there refl place o) (omega arith);
     }
 
 pub ranges : (y : Layout) (at : Place) (a b : Operand) (Used Next : ℕ → Type 0) (w : World) (base : ℕ) (program : List (Option Instr)) (m : State) →
     Stands program m.pc (range_written y at a b) → IsPlace at → IsRead Used a → IsRead Used b → Holds y Used w base m → Housed y Used → AreFewer Used Next →
-    RangeWritten y program Next w base (value_in w.temps a) (value_in w.temps b) (behind m (range_written y at a b)) at m
+    RangeWritten y program Next w base (words_of (instructions.Write at a b)) (value_in w.temps a) (value_in w.temps b) (behind m (range_written y at a b)) at m
 ranges y at a b Used Next w base program m stands place ra rb p h f =
     let A : List Instr = taken y x11 a in
     let B : List Instr = taken y x12 b in
@@ -278,10 +280,10 @@ ranges y at a b Used Next w base program m stands place ra rb p h f =
     way-both program (length A) (length B) m l.after k.after (straight-way program A m l.after (stands-front program m.pc A (B ++ tail at) stands) l.straight l.goes)
     (straight-way program B l.after k.after (stands-front program l.after.pc B (tail at) rest) k.straight k.goes) in
     let count : length (A ++ B) ≡ length A + length B = length-append A B in
-    let few-a : length A ≤ 8 = taken-count y x11 a in
-    let few-b : length B ≤ 8 = taken-count y x12 b in
-    subst (λ code. RangeWritten y program Next w base va vb (behind m code) at m) (append_assoc A B (tail at))
-    (range-ends y Used Next w base va vb at (A ++ B) program m k.after p h f place (omega (arith, count)) (subst (λ n. Way program n m k.after) (sym count) way)
+    let few-a : length A ≤ operand_words a = operand-count y x11 a in
+    let few-b : length B ≤ operand_words b = operand-count y x12 b in
+    subst (λ code. RangeWritten y program Next w base (words_of (instructions.Write at a b)) va vb (behind m code) at m) (append_assoc A B (tail at))
+    (range-ends y Used Next w base (words_of (instructions.Write at a b)) va vb at (A ++ B) program m k.after p h f place (omega (arith, count)) (subst (λ n. Way program n m k.after) (sym count) way)
     (calm-both m l.after k.after calm-l calm-k) (behind-both A B m.pc l.after.pc k.after.pc l.behind k.behind) pc-k
     (k.keeps 11 (λ e. omega (arith, e)) (λ e. omega (arith, e)) ∙ l.gives) k.gives last)
 

@@ -19,7 +19,10 @@ use Rattle.terra_words.specs.Words.{wrapped}
 use Rattle.tac_form.specs.declared.tac.Number.{Number}
 use Rattle.tac_form.specs.declared.tac.Operand.{Operand}
 use Rattle.tac_form.specs.declared.tac.Address.TheVariants.{Word, Frame}
+use Rattle.tac_form.specs.declared.tac.Spot.TheVariants as spots
+use Rattle.tac_form.specs.declared.tac.Instruction.TheVariants as instructions
 use Rattle.tac_form.specs.Flow.{bytes_of, width_of}
+use Rattle.tac_form.specs.Weights.{operand_words, words_of}
 use Rattle.rv_operators.specs.Codes.{x5, x6, zero_immediate}
 use Rattle.rv_operators.specs.Runs.{Stands}
 use Rattle.rv_select.specs.Places.{AreBytes, World, Holds, Housed, IsRead, Layout, home_of, value_in}
@@ -30,7 +33,7 @@ use Rattle.rv_select.specs.Steps.{Comes, Ends, Follows, IsPlace, behind, with_te
 use Rattle.rv_select.proofs.Straight.{Loads, behind-both, loads-five, low-below, low-small, written-elsewhere, written-there}
 use Rattle.rv_select.proofs.Numbers.{below-is}
 use Rattle.rv_select.proofs.Ways.{Near, Way, at_pc, near-both, near-pc, scratch-near, stands-back, stands-front, step-way, straight-way, way-both}
-use Rattle.rv_select.proofs.Homes.{take-operand, taken-count}
+use Rattle.rv_select.proofs.Homes.{operand-count, take-operand}
 use Rattle.rv_select.proofs.Words.{load-bytes, load-is, size-range, take-bytes, drop-bytes}
 use Rattle.rv_select.proofs.Claims.{RegionLoadsAreCarried}
 use Rattle.rv_select.proofs.Small.{wrapped-small}
@@ -157,9 +160,9 @@ end-small y Used w base m h =
     (omega arith, omega arith)
 
 -- first one piece of code, and then another
-pub reached-both : (program : List (Option Instr)) (a b : List Instr) (m n : State) (v most : ℕ) → Way program (length a) m n → Near m n → n.pc ≡ low (m.pc + 4 * length a) →
-    length a ≤ 8 → Reached program b n v most → Reached program (a ++ b) m v (8 + most)
-reached-both program a b m n v most way near pc short r = record {
+pub reached-both : (program : List (Option Instr)) (a b : List Instr) (m n : State) (v first most : ℕ) → Way program (length a) m n → Near m n → n.pc ≡ low (m.pc + 4 * length a) →
+    length a ≤ first → Reached program b n v most → Reached program (a ++ b) m v (first + most)
+reached-both program a b m n v first most way near pc short r = record {
   steps = length a + r.steps;
   after = r.after;
   way = way-both program (length a) r.steps m n r.after way r.way;
@@ -185,23 +188,23 @@ module _ (y : Layout) (Used : ℕ → Type 0) (w : World) (base : ℕ) (program 
   taken-four : (l : Loads 5 (taken y x5 a) m (value_in w.temps a)) → l.after.registers 4 ≡ end_address w.region
   taken-four l = l.keeps 4 (λ e. omega (arith, e)) (λ e. omega (arith, e)) ∙ p.limit
 
-  pub word-inside : first_address ≤ value_in w.temps a → value_in w.temps a + size ≤ end_address w.region → Reached program (taken y x5 a ++ bounds_tested at size) m (value_in w.temps a) 12
+  pub word-inside : first_address ≤ value_in w.temps a → value_in w.temps a + size ≤ end_address w.region → Reached program (taken y x5 a ++ bounds_tested at size) m (value_in w.temps a) (operand_words a + 4)
   word-inside i j =
       let l : Loads 5 (taken y x5 a) m (value_in w.temps a) = taken-load in
       let e = end-small y Used w base m p in
-      reached-both program (taken y x5 a) (bounds_tested at size) m l.after (value_in w.temps a) 4 (taken-way l)
-      (scratch-near (taken y x5 a) m l.after (loads-five (taken y x5 a) m (value_in w.temps a) l)) l.behind (taken-count y x5 a)
+      reached-both program (taken y x5 a) (bounds_tested at size) m l.after (value_in w.temps a) (operand_words a) 4 (taken-way l)
+      (scratch-near (taken y x5 a) m l.after (loads-five (taken y x5 a) m (value_in w.temps a) l)) l.behind (operand-count y x5 a)
       (passes program l.after at (failed BadAddress at) (value_in w.temps a) (end_address w.region) size l.gives (taken-four l) e.0 some few (omega (arith, e.1))
       (failed-count BadAddress at) (taken-rest l) i j)
 
   pub word-outside : IsPlace at → (value_in w.temps a < first_address) ⊎ ((first_address ≤ value_in w.temps a) × (end_address w.region < value_in w.temps a + size)) →
-      Ends program BadAddress at 23 m
+      Ends program BadAddress at (operand_words a + 15) m
   word-outside place o =
       let l : Loads 5 (taken y x5 a) m (value_in w.temps a) = taken-load in
       let e = end-small y Used w base m p in
-      later-ends program BadAddress at (length (taken y x5 a)) 15 23 m l.after (taken-way l)
+      later-ends program BadAddress at (length (taken y x5 a)) 15 (operand_words a + 15) m l.after (taken-way l)
       (outside program l.after at (failed BadAddress at) (value_in w.temps a) (end_address w.region) size l.gives (taken-four l) e.0 some few (omega (arith, e.1))
-      (failed-count BadAddress at) (taken-rest l) refl place o) (omega (arith, taken-count y x5 a))
+      (failed-count BadAddress at) (taken-rest l) refl place o) (omega (arith, operand-count y x5 a))
 
 -- an address of the frame
 pub frame-reached : (y : Layout) (Used : ℕ → Type 0) (w : World) (base : ℕ) (program : List (Option Instr)) (m : State) (offset : ℕ) → Holds y Used w base m → w.placed + offset < 2 ^ 64 →
@@ -360,14 +363,14 @@ region-loads y d form at (Word a) Used Next w base program m there place r p h h
     let some : 1 ≤ bytes_of form.size = (size-range form.size).0 in
     let few : bytes_of form.size ≤ 8 = (size-range form.size).1 in
     let front : Stands program m.pc code = stands-front program m.pc code rest there in
-    load-cases y d form at Next w base 29 (behind m (code ++ rest)) v program m
+    load-cases y d form at Next w base (words_of (instructions.Load d form (spots.Region at (Word a)))) (behind m (code ++ rest)) v program m
     (λ i.
-    weaker y program Next _ base 16 29 (behind m (code ++ rest)) [] m (omega arith)
-    (load-ends y d form Used Next w base 12 v code program m
+    weaker y program Next _ base (operand_words a + 4 + 4) (words_of (instructions.Load d form (spots.Region at (Word a)))) (behind m (code ++ rest)) [] m (omega arith)
+    (load-ends y d form Used Next w base (operand_words a + 4) v code program m
     (word-inside y Used w base program m at a (bytes_of form.size) p h r some (omega arith) front i.0 i.1)
     p h h' u follows (value-small Used y w base m a p r) i.0 i.1 (wrapped-small (width_of form) _ (wide-size form.size)) there))
     (λ o.
-    weaker-ends program at 23 29 m (omega arith) (word-outside y Used w base program m at a (bytes_of form.size) p h r some (omega arith) front place o))
+    weaker-ends program at (operand_words a + 15) (words_of (instructions.Load d form (spots.Region at (Word a)))) m (omega arith) (word-outside y Used w base program m at a (bytes_of form.size) p h r some (omega arith) front place o))
 region-loads y d form at (Frame offset) Used Next w base program m there place r p h h' u follows =
     let code : List Instr = located offset in
     let rest : List Instr = Load (load_of form.signed form.size) x5 x5 zero_immediate ∷ put_to (home_of y d) in

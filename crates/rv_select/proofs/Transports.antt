@@ -24,7 +24,7 @@ use Rattle.tac_form.specs.declared.tac.Address.TheVariants.{Word, Frame}
 use Rattle.tac_form.specs.declared.tac.Spot.{Spot}
 use Rattle.tac_form.specs.declared.tac.Spot.TheVariants as spots
 use Rattle.tac_form.specs.declared.tac.Instruction.TheVariants.{Move}
-use Rattle.tac_form.specs.Weights.{words_of}
+use Rattle.tac_form.specs.Weights.{operand_words, words_of}
 use Rattle.rv_operators.specs.Codes.{x0, x5, x6}
 use Rattle.rv_operators.specs.Runs.{Stands}
 use Rattle.rv_operators.proofs.Runs.{straight-both}
@@ -376,12 +376,13 @@ region-moves y n offset at (Word a) size Used Next w base program m there place 
     let F : List Instr = taken y x5 a ++ bounds_tested at size in
     let T : List Instr = to_area y n offset size in
     let v : ℕ = value_in w.temps a in
+    let weight : ℕ = words_of (Move (spots.Area n offset) (spots.Region at (Word a)) size) in
     let front : Stands program m.pc F = stands-front program m.pc F T there in
-    range-cases w.region v size (λ bs. offset ≤ length (w.areas n) → Comes y program Next (with_area w n (overwritten (w.areas n) offset bs)) base 63 (behind m (F ++ T)) [] m) (Ends program BadAddress at 63 m) some
+    range-cases w.region v size (λ bs. offset ≤ length (w.areas n) → Comes y program Next (with_area w n (overwritten (w.areas n) offset bs)) base weight (behind m (F ++ T)) [] m) (Ends program BadAddress at weight m) some
     (λ i within.
-    weaker y program Next _ base 51 63 (behind m (F ++ T)) [] m (omega arith)
-    (to-area y n offset size Used Next w base 12 v F program m (word-inside y Used w base program m at a size p h r some (omega arith) front i.0 i.1) there area within few i.0 i.1 p h f))
-    (λ o. weaker-ends program at 23 63 m (omega arith) (word-outside y Used w base program m at a size p h r some (omega arith) front place o))
+    weaker y program Next _ base (operand_words a + 4 + 39) weight (behind m (F ++ T)) [] m (omega arith)
+    (to-area y n offset size Used Next w base (operand_words a + 4) v F program m (word-inside y Used w base program m at a size p h r some (omega arith) front i.0 i.1) there area within few i.0 i.1 p h f))
+    (λ o. weaker-ends program at (operand_words a + 15) weight m (omega arith) (word-outside y Used w base program m at a size p h r some (omega arith) front place o))
 region-moves y n offset at (Frame far) size Used Next w base program m there place r some area few p h f =
     let F : List Instr = located far in
     let T : List Instr = to_area y n offset size in
@@ -403,14 +404,15 @@ stores-moved y at (Word a) n offset size Used Next w base program m there place 
     let F : List Instr = taken y x5 a ++ bounds_tested at size in
     let T : List Instr = from_area y n offset size in
     let v : ℕ = value_in w.temps a in
+    let weight : ℕ = words_of (Move (spots.Region at (Word a)) (spots.Area n offset) size) in
     let X : List ℕ = part (w.areas n) offset size in
     let short : length (w.areas n) ≤ 128 = p.short n area in
     let front : Stands program m.pc F = stands-front program m.pc F T there in
-    put-cases w.region v size X (λ c. Comes y program Next (with_region w c) base 63 (behind m (F ++ T)) [] m) (Ends program BadAddress at 63 m) some (part-length (w.areas n) offset size source)
+    put-cases w.region v size X (λ c. Comes y program Next (with_region w c) base weight (behind m (F ++ T)) [] m) (Ends program BadAddress at weight m) some (part-length (w.areas n) offset size source)
     (λ i.
-    weaker y program Next _ base 51 63 (behind m (F ++ T)) [] m (omega arith)
-    (from-area y n offset size Used Next w base 12 v F program m (word-inside y Used w base program m at a size p h r some (omega arith) front i.0 i.1) there area source i.0 i.1 p h f))
-    (λ o. weaker-ends program at 23 63 m (omega arith) (word-outside y Used w base program m at a size p h r some (omega arith) front place o))
+    weaker y program Next _ base (operand_words a + 4 + 39) weight (behind m (F ++ T)) [] m (omega arith)
+    (from-area y n offset size Used Next w base (operand_words a + 4) v F program m (word-inside y Used w base program m at a size p h r some (omega arith) front i.0 i.1) there area source i.0 i.1 p h f))
+    (λ o. weaker-ends program at (operand_words a + 15) weight m (omega arith) (word-outside y Used w base program m at a size p h r some (omega arith) front place o))
 stores-moved y at (Frame far) n offset size Used Next w base program m there place r some area source p h f =
     let F : List Instr = located far in
     let T : List Instr = from_area y n offset size in

@@ -100,9 +100,10 @@ ComparesAreCarried =
     StandsAtCompare p code homes d op form a b e f starts s program base m →
     Left (layout_of code homes) (graph_of code) program base (words_of (Compute d op form a b) + exit_words (Branch (Temp d) e f)) starts s m (steps p 2 (Goes s))
 
--- It has fewer words than the two, and as many wherever it and the blocks stand.
+-- It has at most 21 words, fewer than the two weigh, and as many wherever it and the blocks stand.
 abbrev pub ComparesKeepWithin : Type 0
 ComparesKeepWithin =
-    (y : Layout) (op : BinaryOperator) (form : Number) (a b : Operand) (e f : Edge) (at other : ℕ) (starts others : ℕ → ℕ) →
+    (y : Layout) (d : ℕ) (op : BinaryOperator) (form : Number) (a b : Operand) (e f : Edge) (at other : ℕ) (starts others : ℕ → ℕ) →
     (length (compared_shape y at starts op form a b e f) ≤ 21)
+    × (length (compared_shape y at starts op form a b e f) < words_of (Compute d op form a b) + exit_words (Branch (Temp d) e f))
     × (length (compared_shape y at starts op form a b e f) ≡ length (compared_shape y other others op form a b e f))

@@ -69,7 +69,7 @@ pub fn compares_are_carried()
     ensures { ComparesAreCarried }
 {}
 
-/// It has fewer words than the two, and as many wherever it stands.
+/// It has fewer words than the two weigh, and as many wherever it stands.
 pub fn compares_keep_within()
     ensures { ComparesKeepWithin }
 {}

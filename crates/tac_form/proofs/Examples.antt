@@ -69,7 +69,7 @@ pub needs_more : after_steps 9 100 ≡ Stops (More [])
 unfolding wrapped applied
 needs_more = refl
 
-pub words : code_words sum ≡ 237
+pub words : code_words sum ≡ 160
 words = refl
 
 pub counted : Counted sum

@@ -1,5 +1,9 @@
 -- How many words of machine code and private bytes three-address code may take.
-use Rattle.std.specs.Prelude.{ℕ, ◌+◌, ◌*◌, ◌≤◌, List, length, sum_by}
+use Rattle.std.specs.Prelude.{ℕ, ◌+◌, ◌*◌, ◌^◌, ◌≤◌, nat_lt, if◌then◌else◌, List, length, sum_by}
+use Rattle.terra_words.specs.declared.words.BinaryOperator.{BinaryOperator}
+use Rattle.terra_words.specs.declared.words.BinaryOperator.TheVariants.{ShiftLeft, ShiftRight, Equal, NotEqual, Less, LessEqual, Greater, GreaterEqual}
+use Rattle.tac_form.specs.declared.tac.Operand.{Operand}
+use Rattle.tac_form.specs.declared.tac.Operand.TheVariants.{Temp, Constant}
 use Rattle.tac_form.specs.declared.tac.Destination.{Destination}
 use Rattle.tac_form.specs.declared.tac.Destination.TheVariants as destinations
 use Rattle.tac_form.specs.declared.tac.Spot.{Spot}
@@ -14,28 +18,50 @@ use Rattle.tac_form.specs.declared.tac.Block.{Block}
 use Rattle.tac_form.specs.declared.tac.Part.{Part}
 use Rattle.tac_form.specs.declared.tac.Tac.{Tac}
 
--- the words that take an operand into a scratch register: a constant of 64 bits takes eight, a slot three
-abbrev taken : ℕ
-taken = 8
+-- the words that load a constant: one below 2,048, two below 2 ^ 31, and at most eight any other of 64 bits
+abbrev pub longest_constant : ℕ
+longest_constant = 8
+
+abbrev pub constant_words : ℕ → ℕ
+constant_words c = if nat_lt c 2048 then 1 else if nat_lt c (2 ^ 31) then 2 else longest_constant
+
+-- those that take an operand into a scratch register: a temporary may lie in a slot, which takes three
+abbrev pub operand_words : Operand → ℕ
+operand_words (Temp t) = 3
+operand_words (Constant c) = constant_words c
 
 -- those that put a scratch register into a home
 abbrev placed : ℕ
 placed = 3
 
+-- An operator on two scratch registers. Its result is cut to the form in at most two words, but for a comparison's. A shift's count is
+-- cut before it.
+abbrev pub operator_words : BinaryOperator → ℕ
+operator_words ShiftLeft = 4
+operator_words ShiftRight = 4
+operator_words Equal = 2
+operator_words NotEqual = 2
+operator_words Less = 2
+operator_words LessEqual = 2
+operator_words Greater = 2
+operator_words GreaterEqual = 2
+operator_words _ = 3
+
 -- those that end the run by a fault: the kind, the place, and the call to the machine
 abbrev failed : ℕ
 failed = 11
 
--- a jump of any distance, and a count before it
+-- a jump of any distance
 abbrev jumped : ℕ
 jumped = 2
 
+-- those of a call that count it before its jump and no more behind that, and take its result
 abbrev counted : ℕ
 counted = 3
 
 -- those that reach a spot, with the test of its bounds
-abbrev reached : Spot → ℕ
-reached (spots.Region at (Word a)) = taken + 5 + failed
+abbrev pub reached : Spot → ℕ
+reached (spots.Region at (Word a)) = operand_words a + 5 + failed
 reached (spots.Region at (Frame offset)) = 9
 reached (spots.Area n offset) = placed
 
@@ -48,35 +74,37 @@ abbrev copied : ℕ
 copied = 36
 
 -- results and parameters that are words, or the address of an area that is copied
-abbrev received : Destination → ℕ
+abbrev pub received : Destination → ℕ
 received (destinations.Temp t) = placed + placed
 received (destinations.Area n) = placed + placed + copied
 
+-- what is passed, at most as many for each part
 abbrev passed : List Part → ℕ
-passed parts = (taken + placed) * length parts
+passed parts = (longest_constant + placed) * length parts
 
 abbrev pub words_of : Instruction → ℕ
-words_of (Compute d op form a b) = taken + taken + 4 + placed
-words_of (TestDivisor at a) = taken + 1 + failed
-words_of (Copy d a) = taken + placed
+words_of (Compute d op form a b) = operand_words a + operand_words b + operator_words op + placed
+words_of (TestDivisor at a) = operand_words a + 1 + failed
+words_of (Copy d a) = operand_words a + placed
 words_of (Locate d offset) = 9 + placed
 words_of (Load d form spot) = reached spot + 2 + placed
-words_of (Store spot size a) = reached spot + taken + 1
+words_of (Store spot size a) = reached spot + operand_words a + 1
 words_of (Move to from size) = reached to + reached from + copied
 words_of (Clear n size) = placed + 16
-words_of (Call to at f arguments) = counted + taken + deep + passed arguments + jumped + received to
-words_of (CallValue to at sig a arguments) = counted + taken + 18 + failed + taken + deep + passed arguments + jumped + received to
-words_of (PutByte a) = taken + 6
-words_of (Write at a b) = taken + taken + 8 + failed + 5
-words_of (Alloc d a) = taken + 18 + placed
+words_of (Call to at f arguments) = counted + longest_constant + deep + passed arguments + jumped + received to
+words_of (CallValue to at sig a arguments) =
+    counted + longest_constant + 18 + failed + operand_words a + deep + passed arguments + jumped + received to
+words_of (PutByte a) = placed + 8
+words_of (Write at a b) = operand_words a + operand_words b + 8 + failed + 5
+words_of (Alloc d a) = operand_words a + 18 + placed
 
 abbrev edge_words : Edge → ℕ
-edge_words e = counted + jumped
+edge_words e = jumped
 
 abbrev pub exit_words : Exit → ℕ
 exit_words (Jump e) = edge_words e
-exit_words (Branch a e f) = taken + 1 + edge_words e + edge_words f
-exit_words (Return v) = taken + jumped
+exit_words (Branch a e f) = operand_words a + 1 + edge_words e + edge_words f
+exit_words (Return v) = longest_constant + jumped
 exit_words (Fail kind at) = failed
 
 abbrev pub block_words : Block → ℕ

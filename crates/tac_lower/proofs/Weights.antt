@@ -1,4 +1,4 @@
--- Lowered code has at most 250 words for each typed node, with the fixed part of its function.
+-- Lowered code has at most 250 words for each typed node, with the fixed part of its function, by the heaviest weights and so by its own.
 use Rattle.std.proofs.Common.{◌≡◌, ℕ, suc, ◌+◌, ◌*◌, ◌≤◌, Bool, true, false, List, [], ◌∷◌, ◌++◌, length, map, Option, Some, None, refl, ap, arith}
 use Rattle.std.specs.Prelude.{◌^◌, ◌-◌, nat_eq, fold, sum_by, if◌then◌else◌}
 use Rattle.tl_base.specs.declared.place.Place.{Place}
@@ -31,10 +31,11 @@ use Rattle.tac_form.specs.declared.tac.Spot.{Spot}
 use Rattle.tac_form.specs.declared.tac.Spot.TheVariants as spots
 use Rattle.tac_form.specs.declared.tac.Block.{Block}
 use Rattle.tac_form.specs.declared.tac.Tac.{Tac}
-use Rattle.tac_form.specs.Weights.{words_of, exit_words, block_words, code_words}
+use Rattle.tac_form.specs.Weights as weights
 use Rattle.tac_lower.specs.Items.{Item, does, ends, Ending, skips, tests, repeats, repeats_unless, leaves, gives, fails, count_ends, loop_of, exit_of, Draft, empty_draft, with_item, with_items, blocks_of}
 use Rattle.tac_lower.specs.Pieces.{Used, nothing_used, with_temp, with_area, Piece, known, doing, then_piece, taken, Result, a_word, an_area, an_offset, no_word, word_of, part_of, parts_of, address_of, word_at, result_at, rest, whole_word, number_of, is_bool, given, compute, copied, located, loaded_bit, loaded_area, loaded_word, loaded, stored_part, stored, placed, Holder, in_temp, at_offset, Holders, holder_of, Around, declare_at, declare, declare_all, first_of}
 use Rattle.tac_lower.specs.Lowering.{reached, variable, entry, element, extracted, constructed, call, call_value, signature_in, operation, target_at, aimed, Target, to_temp, to_place, assigned, assigned_all, passed_over, choice, Counting, counting, is_one, either_way, runs, counted_on, while_loop, piece, pieces, targets, one, all, around, ending, received, code_of, unreached, are_narrow, parameter_types, lowered}
+use Rattle.tac_lower.proofs.Heaviest.{words_of, exit_words, block_words, code_words, code-most}
 
 -- sums
 
@@ -640,11 +641,18 @@ few-words store entries k =
     let i = weigh-append (D.code ++ B.code) (ending k ∷ []) in
     let j = weigh-append D.code B.code in omega (arith, a, b, d, e, f, g, h, i, j)
 
-pub lowered-words : (store : Contents) (entries : List FnId) (k : Callable) →
+heaviest-words : (store : Contents) (entries : List FnId) (k : Callable) →
     code_words (lowered store entries k) ≤ 250 * (lowered store entries k).nodes
-lowered-words store entries k = by (are_narrow store.types (parameter_types k))
+heaviest-words store entries k = by (are_narrow store.types (parameter_types k))
   where
     by : (b : Bool) → code_words (if b then code_of store entries k else unreached k)
         ≤ 250 * (if b then code_of store entries k else unreached k).nodes
     by true = few-words store entries k
     by false = omega arith
+
+pub lowered-words : (store : Contents) (entries : List FnId) (k : Callable) →
+    weights.code_words (lowered store entries k) ≤ 250 * (lowered store entries k).nodes
+lowered-words store entries k = transitive (code-most (lowered store entries k)) (heaviest-words store entries k)
+  where
+    transitive : {a b c : ℕ} → a ≤ b → b ≤ c → a ≤ c
+    transitive {a} {b} {c} h g = omega (arith, h, g)
