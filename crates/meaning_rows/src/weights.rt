@@ -1,5 +1,7 @@
 // How many words machine code may take, as `Weights` of tac_form's specs has them.
 
+ghost use Rattle.std.specs.Prelude.{◌≤◌};
+
 use tac_form::{Address, Block, Destination, Exit, Instruction, Operand, Spot, Tac};
 use terra_words::BinaryOperator;
 
@@ -49,7 +51,9 @@ fn received(to: &Destination) -> u64 {
     }
 }
 
-fn taken(a: &Operand) -> u64 {
+fn taken(a: &Operand) -> u64
+    ensures { result ≤ 8 }
+{
     match a {
         Operand::Temp(_) => 3,
         Operand::Constant(c) => if *c < 2048 {
@@ -62,7 +66,9 @@ fn taken(a: &Operand) -> u64 {
     }
 }
 
-fn operated(op: &BinaryOperator) -> u64 {
+fn operated(op: &BinaryOperator) -> u64
+    ensures { result ≤ 4 }
+{
     match op {
         BinaryOperator::ShiftLeft | BinaryOperator::ShiftRight => 4,
         BinaryOperator::Equal | BinaryOperator::NotEqual | BinaryOperator::Less => 2,
