@@ -1,0 +1,167 @@
+-- What is kept by nothing, by one turn and the next, and by each layer.
+use Rattle.std.proofs.Common.{◌≡◌, ◌++◌, List, Option, Some, None, refl, sym, ◌∙◌, ap, subst}
+use Rattle.std.specs.Prelude.{ℕ, slice_get, Result, Ok, Err, OnOk}
+use Rattle.std.proofs.lemmas.Result.{on_ok_weaker}
+use Rattle.std.proofs.lemmas.Option.{slice_get_within}
+use Rattle.tl_base.specs.declared.place.Place.{Place}
+use Rattle.lua_table.specs.LuaState.{LuaState}
+use Rattle.lua_table.specs.Keeping.{IsFront, KeepsHeap}
+use Rattle.lua_table.proofs.Keeping as heaps
+use Rattle.terra_types.specs.declared.layout.Layout.{Layout}
+use Rattle.terra_types.specs.declared.types.TypeForm.{TypeForm}
+use Rattle.terra_types.specs.declared.types.TypeForm.TheVariants as forms
+use Rattle.terra_types.specs.Keeping.{KeepsForm, KeepsTypes}
+use Rattle.terra_types.proofs.Growing.{get-left}
+use Rattle.terra_term.specs.declared.store.FunctionState.{FunctionState}
+use Rattle.terra_term.specs.Held.{Held, state_of}
+use Rattle.terra_term.specs.Keeping.{Stays, AllStay}
+use Rattle.terra_term.proofs.Staying.{stays-same}
+use Rattle.exotype.specs.World.{ExportState, StageState, with_heap}
+use Rattle.terra_lib.specs.Keeping.{KeepsExports, KeepsWorld}
+use Rattle.stage_library.specs.Keeping.{KeepsStaging}
+
+-- ---- types
+
+form_stays : (f : TypeForm) → KeepsForm f f
+form_stays (forms.Integer i) = refl
+form_stays forms.Bool = refl
+form_stays forms.Unit = refl
+form_stays (forms.Pointer t) = refl
+form_stays (forms.Array t n) = refl
+form_stays (forms.Function ps r) = refl
+form_stays (forms.Struct n p None) = (None, refl)
+form_stays (forms.Struct n p (Some l)) = refl
+
+laid_then : (n : ℕ) (p : Place) (layout : Option Layout) (new : TypeForm) → KeepsForm (forms.Struct n p layout) new
+    → (l : Option Layout) × (new ≡ forms.Struct n p l)
+laid_then n p None new h = h
+laid_then n p (Some l) new h = (Some l, h)
+
+form_then : (a b c : TypeForm) → KeepsForm a b → KeepsForm b c → KeepsForm a c
+form_then (forms.Integer i) b c f g = subst (λ (x : TypeForm). KeepsForm x c) f g
+form_then forms.Bool b c f g = subst (λ (x : TypeForm). KeepsForm x c) f g
+form_then forms.Unit b c f g = subst (λ (x : TypeForm). KeepsForm x c) f g
+form_then (forms.Pointer t) b c f g = subst (λ (x : TypeForm). KeepsForm x c) f g
+form_then (forms.Array t n) b c f g = subst (λ (x : TypeForm). KeepsForm x c) f g
+form_then (forms.Function ps r) b c f g = subst (λ (x : TypeForm). KeepsForm x c) f g
+form_then (forms.Struct n p None) b c f g = laid_then n p f.0 c (subst (λ (x : TypeForm). KeepsForm x c) f.1 g)
+form_then (forms.Struct n p (Some l)) b c f g = subst (λ (x : TypeForm). KeepsForm x c) f g
+
+types_stay : (types : List TypeForm) → KeepsTypes types types
+types_stay types i form at = (form, (at, form_stays form))
+
+pub types_front : (old new : List TypeForm) → IsFront old new → KeepsTypes old new
+types_front old new front i form at = (
+  form,
+  (
+    ap (λ (l : List TypeForm). slice_get l i) front.1
+        ∙ get-left old front.0 i (slice_get_within old i form at) ∙ at,
+    form_stays form,
+  ),
+)
+
+types_then : (a b c : List TypeForm) → KeepsTypes a b → KeepsTypes b c → KeepsTypes a c
+types_then a b c f g i form at =
+    let first = f i form at in
+    let later = g i first.0 first.1.0 in
+    (later.0, (later.1.0, form_then form first.0 later.0 first.1.1 later.1.1))
+
+-- ---- functions and exports
+
+stays_then : (a b c : FunctionState) → Stays a b → Stays b c → Stays a c
+stays_then a b c f g = record {
+  term = λ t h. g.term t (f.term t h);
+  typed = λ t h. g.typed t (f.typed t h);
+  refusal = λ w h. g.refusal w (f.refusal w h);
+}
+
+pub exports_stay : (e : ExportState) → KeepsExports e e
+exports_stay e = record { list = heaps.front_self e.list; saved = λ h. h }
+
+exports_then : (a b c : ExportState) → KeepsExports a b → KeepsExports b c → KeepsExports a c
+exports_then a b c f g = record {
+  list = heaps.front_then a.list b.list c.list f.list g.list;
+  saved = λ h. g.saved (f.saved h);
+}
+
+-- ---- the world
+
+pub keeps_in_heap : (w : StageState) (heap : LuaState) → KeepsHeap w.heap heap → KeepsStaging w (with_heap w heap)
+keeps_in_heap w heap h = record {
+  heap = h;
+  functions = λ f. stays-same (state_of w.store f);
+  terms = heaps.front_self w.store.terms;
+  types = types_stay w.store.types;
+  symbols = heaps.front_self w.store.symbols;
+  quotes = heaps.front_self w.store.quotes;
+  constants = heaps.front_self w.store.constants;
+  statics = heaps.front_self w.store.statics;
+  structs = heaps.front_self w.kept.structs;
+  exports = exports_stay w.exports;
+  memory = refl;
+}
+
+pub keeps_itself : (w : StageState) → KeepsStaging w w
+keeps_itself w = keeps_in_heap w w.heap (heaps.keeps_itself w.heap)
+
+pub keeps_then : (a b c : StageState) → KeepsStaging a b → KeepsStaging b c → KeepsStaging a c
+keeps_then a b c f g = record {
+  heap = heaps.keeps_then a.heap b.heap c.heap f.heap g.heap;
+  functions = λ x. stays_then (state_of a.store x) (state_of b.store x) (state_of c.store x) (f.functions x) (g.functions x);
+  terms = heaps.front_then a.store.terms b.store.terms c.store.terms f.terms g.terms;
+  types = types_then a.store.types b.store.types c.store.types f.types g.types;
+  symbols = heaps.front_then a.store.symbols b.store.symbols c.store.symbols f.symbols g.symbols;
+  quotes = heaps.front_then a.store.quotes b.store.quotes c.store.quotes f.quotes g.quotes;
+  constants = heaps.front_then a.store.constants b.store.constants c.store.constants f.constants g.constants;
+  statics = heaps.front_then a.store.statics b.store.statics c.store.statics f.statics g.statics;
+  structs = heaps.front_then a.kept.structs b.kept.structs c.kept.structs f.structs g.structs;
+  exports = exports_then a.exports b.exports c.exports f.exports g.exports;
+  memory = g.memory ∙ f.memory;
+}
+
+-- ---- what each layer keeps
+
+-- functions, terms, quotes and statics are those that were there
+store_same : (old new : Held) → new ≡ record old { types = new.types; symbols = new.symbols; constants = new.constants }
+    → AllStay old new × IsFront old.terms new.terms × IsFront old.quotes new.quotes × IsFront old.statics new.statics
+store_same old new same =
+    let P : Held → Type 0 =
+    λ h. AllStay old h × IsFront old.terms h.terms × IsFront old.quotes h.quotes × IsFront old.statics h.statics in
+    subst P (sym same) (
+      λ f. stays-same (state_of old f),
+      heaps.front_self old.terms,
+      heaps.front_self old.quotes,
+      heaps.front_self old.statics,
+    )
+
+pub keeps_terra : (old new : StageState) → KeepsWorld old new → KeepsStaging old new
+keeps_terra old new k =
+    let same = store_same old.store new.store k.store in
+    record {
+      heap = k.heap;
+      functions = same.0;
+      terms = same.1;
+      types = k.types;
+      symbols = k.symbols;
+      quotes = same.2;
+      constants = k.constants;
+      statics = same.3;
+      structs = k.structs;
+      exports = k.exports;
+      memory = k.memory;
+    }
+
+-- ---- as calls leave the world
+
+-- a world where the heap alone is another
+pub heap_after : (w v new : StageState) → v ≡ w → new ≡ with_heap v new.heap → KeepsHeap v.heap new.heap → KeepsStaging w new
+heap_after w v new same heap kept =
+    subst (λ (x : StageState). KeepsStaging x new) same
+    (subst (λ (x : StageState). KeepsStaging v x) (sym heap) (keeps_in_heap v new.heap kept))
+
+pub heap_on : {T E : Type 0} (r : Result T E) (w v new : StageState) → v ≡ w → new ≡ with_heap v new.heap
+    → OnOk r (KeepsHeap v.heap new.heap) → OnOk r (KeepsStaging w new)
+heap_on r w v new same heap kept = on_ok_weaker r (λ k. heap_after w v new same heap k) kept
+
+pub terra_on : {T E : Type 0} (r : Result T E) (old new : StageState) → OnOk r (KeepsWorld old new) → OnOk r (KeepsStaging old new)
+terra_on r old new kept = on_ok_weaker r (λ k. keeps_terra old new k) kept

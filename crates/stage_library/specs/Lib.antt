@@ -1,0 +1,6 @@
+-- What calls of functions of the library mean.
+pub mod Library
+-- What it means to be asked for the text of a type.
+pub mod Types
+-- What each turn keeps of the world.
+pub mod Keeping

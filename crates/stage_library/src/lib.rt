@@ -1,0 +1,14 @@
+//! The layers of a staging that end in the library: calls of its functions, Lua's and Terra's, and the texts of types for which they ask.
+//!
+//! - `tasks`: what a layer of the stage is asked to do;
+//! - `calls`: a call of a function of the library, as a layer;
+//! - `writing`: the answers to what asks for the text of a type.
+#![tactic(auto)]
+
+pub mod calls;
+pub mod tasks;
+pub mod writing;
+
+pub use calls::Library;
+pub use tasks::Task;
+pub use writing::give_type_text;
