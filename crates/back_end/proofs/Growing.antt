@@ -46,25 +46,25 @@ Once fs = (n m : ℕ) (f : FnId) → slice_get fs n ≡ Some f → slice_get fs 
 
 among-has : (fs : List FnId) (f : FnId) → is_among f fs ≡ true → Has fs f
 among-has [] f e = cc
-among-has (g ∷ fs) f e = by (nat_eq g.0 f.0) refl (λ later. among-has fs f later)
+among-has (g ∷ fs) f e = by (nat_eq f.0 g.0) refl (λ later. among-has fs f later)
   where
-    by : (b : Bool) → nat_eq g.0 f.0 ≡ b → (is_among f fs ≡ true → Has fs f) → Has (g ∷ fs) f
-    by true q later = (0, ap Some (same-function f g q))
+    by : (b : Bool) → nat_eq f.0 g.0 ≡ b → (is_among f fs ≡ true → Has fs f) → Has (g ∷ fs) f
+    by true q later = (0, ap Some (sym (same-function g f q)))
     by false q later = let r = later (sym (ap (λ b. b || is_among f fs) q) ∙ e) in (suc r.0, r.1)
 
 not-among : (fs : List FnId) (f : FnId) (n : ℕ) → is_among f fs ≡ false → slice_get fs n ≡ Some f → ⊥
 not-among [] f n e h = cc
-not-among (g ∷ fs) f zero e h = by (nat_eq g.0 f.0) refl
+not-among (g ∷ fs) f zero e h = by (nat_eq f.0 g.0) refl
   where
     one : Some g ≡ Some f → g.0 ≡ f.0
     one q = cc
 
-    by : (b : Bool) → nat_eq g.0 f.0 ≡ b → ⊥
+    by : (b : Bool) → nat_eq f.0 g.0 ≡ b → ⊥
     by true q = let w : true ≡ false = sym (ap (λ b. b || is_among f fs) q) ∙ e in absurd (grind (arith, w))
-    by false q = eqb-false g.0 f.0 q (one h)
-not-among (g ∷ fs) f (suc n) e h = by (nat_eq g.0 f.0) refl (λ later. not-among fs f n later h)
+    by false q = eqb-false f.0 g.0 q (sym (one h))
+not-among (g ∷ fs) f (suc n) e h = by (nat_eq f.0 g.0) refl (λ later. not-among fs f n later h)
   where
-    by : (b : Bool) → nat_eq g.0 f.0 ≡ b → (is_among f fs ≡ false → ⊥) → ⊥
+    by : (b : Bool) → nat_eq f.0 g.0 ≡ b → (is_among f fs ≡ false → ⊥) → ⊥
     by true q later = let w : true ≡ false = sym (ap (λ b. b || is_among f fs) q) ∙ e in absurd (grind (arith, w))
     by false q later = later (sym (ap (λ b. b || is_among f fs) q) ∙ e)
 

@@ -1,6 +1,7 @@
 pub mod Closed
 pub mod Coded
 pub mod Compiles
+pub mod Counted
 pub mod Composes
 pub mod Extends
 pub mod Following
@@ -9,5 +10,6 @@ pub mod Making
 pub mod Mentioning
 pub mod Naming
 pub mod Passing
+pub mod Placed
 pub mod Sounds
 pub mod Worked

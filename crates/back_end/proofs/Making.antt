@@ -133,20 +133,20 @@ values-words types (x' ∷ xs) [] h k x e = absurd h
 
 -- ---- functions of a text
 
-starts-are : (xs : List Function) (at : ℕ) (f : FnId) → start_among xs (starts_in at xs) f ≡ (placed_in at xs f).at
+starts-are : (xs : List Function) (at : ℕ) (f : FnId) → start_among (map id_of xs) (starts_in at xs) f ≡ (placed_in at xs f).at
 starts-are [] at f = refl
 starts-are (x ∷ xs) at f = by (nat_eq x.id.0 f.0) refl (starts-are xs (at + 4 * length x.code.words.items) f)
   where
     next : ℕ
     next = at + 4 * length x.code.words.items
 
-    by : (b : Bool) → nat_eq x.id.0 f.0 ≡ b → start_among xs (starts_in next xs) f ≡ (placed_in next xs f).at →
-        start_among (x ∷ xs) (starts_in at (x ∷ xs)) f ≡ (placed_in at (x ∷ xs) f).at
+    by : (b : Bool) → nat_eq x.id.0 f.0 ≡ b → start_among (map id_of xs) (starts_in next xs) f ≡ (placed_in next xs f).at →
+        start_among (map id_of (x ∷ xs)) (starts_in at (x ∷ xs)) f ≡ (placed_in at (x ∷ xs) f).at
     by true q later =
-        ap (λ b. if b then at else start_among xs (starts_in next xs) f) q
+        ap (λ b. if b then at else start_among (map id_of xs) (starts_in next xs) f) q
         ∙ sym (ap (λ b. (if b then record { homes = x.homes; at = at } else placed_in next xs f).at) q)
     by false q later =
-        ap (λ b. if b then at else start_among xs (starts_in next xs) f) q ∙ later
+        ap (λ b. if b then at else start_among (map id_of xs) (starts_in next xs) f) q ∙ later
         ∙ sym (ap (λ b. (if b then record { homes = x.homes; at = at } else placed_in next xs f).at) q)
 
 same-nodes : (store : Contents) (k : Callable) → (lowered store [] k).nodes ≡ (body_size k.body).nodes
@@ -239,7 +239,7 @@ module _ (store : Contents) (exports : List Export) (functions : List Function) 
     (half : length (static_bytes store) ≤ image.memory / 2) (outward : AreExports store exports) (whole : AreWhole store exports functions)
     (text : IsLinkedText functions linked) (lawful : IsLawful image) (statics : image.statics ≡ static_bytes store)
     (text_is : image.text ≡ linked.words.items) (room : 512 * linked.frame ≤ image.private)
-    (symbols : image.exports ≡ symbols_of store functions linked.starts.items exports) where
+    (symbols : image.exports ≡ symbols_of store (map id_of functions) linked.starts.items exports) where
   abbrev ids : List FnId
   ids = map id_of functions
 
@@ -275,7 +275,7 @@ module _ (store : Contents) (exports : List Export) (functions : List Function) 
   }
 
   exported : (e : Export) → IsOutward store e.function → Has ids e.function →
-      IsExported store image most e (symbol_of store (start_among functions linked.starts.items e.function) e)
+      IsExported store image most e (symbol_of store (start_among ids linked.starts.items e.function) e)
   exported e out here = record {
     name = refl;
     function = out.term;
@@ -297,12 +297,12 @@ module _ (store : Contents) (exports : List Export) (functions : List Function) 
         (values-long store.types out.term.body.parameters arguments values ∙ sym (as-many store typed out.term narrow)));
   }
     where
-      start : start_among functions linked.starts.items e.function ≡ (image_of functions e.function).at
-      start = ap (λ s. start_among functions s e.function) text.starts ∙ starts-are functions text_address e.function
+      start : start_among ids linked.starts.items e.function ≡ (image_of functions e.function).at
+      start = ap (λ s. start_among ids s e.function) text.starts ∙ starts-are functions text_address e.function
 
   all-exported : (es : List Export) → ((i : ℕ) (e : Export) → slice_get es i ≡ Some e → IsOutward store e.function) →
       ((i : ℕ) (e : Export) → slice_get es i ≡ Some e → Has ids e.function) →
-      AreExported store image most es (symbols_of store functions linked.starts.items es)
+      AreExported store image most es (symbols_of store ids linked.starts.items es)
   all-exported [] o h = tt
   all-exported (e ∷ es) o h =
       (exported e (o 0 e refl) (h 0 e refl), all-exported es (λ i x q. o (suc i) x q) (λ i x q. h (suc i) x q))

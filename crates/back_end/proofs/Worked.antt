@@ -141,11 +141,17 @@ module _ (store : Contents) (exports : List Export) where
             (λ b k block to at f arguments q r. has-blocks x.tac.blocks list b k block to at f arguments q r);
       }
 
+  -- the list is of those that are compiled, once none is behind them
+  pub ends-same : (list : List FnId) (xs : List Function) → Working store exports list xs → slice_get list (length xs) ≡ None →
+      list ≡ map id_of xs
+  ends-same list xs w e =
+      w.front ∙ ap (λ r. map id_of xs ++ r) (none-is xs w.rest (subst (λ l. slice_get l (length xs) ≡ None) w.front e))
+      ∙ append-nil (map id_of xs)
+
   pub ends : (list : List FnId) (xs : List Function) → Working store exports list xs → slice_get list (length xs) ≡ None →
       AreWhole store exports xs
   ends list xs w e =
-      let none = none-is xs w.rest (subst (λ l. slice_get l (length xs) ≡ None) w.front e) in
-      let same : list ≡ map id_of xs = w.front ∙ ap (λ r. map id_of xs ++ r) none ∙ append-nil (map id_of xs) in
+      let same = ends-same list xs w e in
       record {
         reached = subst (AreReached store exports) same w.reached;
         exported = λ i ex q. subst (λ l. Has l ex.function) same (w.exported i ex q);

@@ -8,12 +8,11 @@ use Rattle.terra_term.specs.declared.store.Export.{Export}
 use Rattle.terra_term.specs.declared.lists.TypedName.{TypedName}
 use Rattle.terra_term.specs.Stores.{Callable, Contents, callable_of}
 use Rattle.terra_meaning.specs.Values.{form_at}
-use Rattle.rv_link.specs.declared.function.Function.{Function}
 use Rattle.back_end.specs.Compiled.{codes_of, type_code}
 
 -- where a function begins, by the first that has its number
-abbrev pub start_among : List Function → (starts : List ℕ) → FnId → ℕ
-start_among (x ∷ xs) (s ∷ ss) f = if nat_eq x.id.0 f.0 then s else start_among xs ss f
+abbrev pub start_among : (ids : List FnId) → (starts : List ℕ) → FnId → ℕ
+start_among (g ∷ gs) (s ∷ ss) f = if nat_eq g.0 f.0 then s else start_among gs ss f
 start_among _ _ f = 0
 
 abbrev pub parameters_in : Option Callable → List TypedName
@@ -33,7 +32,6 @@ symbol_of store at e = record {
   result = type_code (form_at store.types (result_in (callable_of store e.function)));
 }
 
-abbrev pub symbols_of : Contents → List Function → (starts : List ℕ) → List Export → List Symbol
-symbols_of store functions starts [] = []
-symbols_of store functions starts (e ∷ es) =
-    symbol_of store (start_among functions starts e.function) e ∷ symbols_of store functions starts es
+abbrev pub symbols_of : Contents → (ids : List FnId) → (starts : List ℕ) → List Export → List Symbol
+symbols_of store ids starts [] = []
+symbols_of store ids starts (e ∷ es) = symbol_of store (start_among ids starts e.function) e ∷ symbols_of store ids starts es

@@ -8,7 +8,7 @@ use Rattle.tac_form.specs.declared.tac.Instruction.TheVariants.{Call}
 use Rattle.tac_form.specs.declared.tac.Block.{Block}
 
 abbrev pub is_id : FnId → FnId → Bool
-is_id f g = nat_eq g.0 f.0
+is_id f g = nat_eq f.0 g.0
 
 abbrev pub is_among : FnId → List FnId → Bool
 is_among f fs = list_any (is_id f) fs

@@ -40,8 +40,8 @@ pub fn compile(
     ensures { IfOk result (λ image. IsCompiled (contents_of store.now) limits.memory exports.now image) }
 {
     store.types().are_types();
-    let functions = compile_functions(alloc, store, exports)?;
-    let linked = link(alloc, &functions)?;
+    let compiled = compile_functions(alloc, store, exports)?;
+    let linked = link(alloc, &compiled.functions)?;
     if linked.frame > MOST_FRAME {
         return Err(NoMemory);
     }
@@ -50,7 +50,7 @@ pub fn compile(
         &mut symbols,
         alloc,
         store,
-        &functions,
+        &compiled.ids,
         &linked.starts,
         exports,
     )?;

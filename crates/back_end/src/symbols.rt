@@ -7,7 +7,7 @@ ghost use Rattle.back_end.specs.Compiled.{codes_of, integer_code, type_code};
 ghost use Rattle.back_end.specs.Symbols.{start_among, symbol_of, symbols_of};
 
 use elf_image::{Bytes, Symbol};
-use rv_link::Function;
+use indexmap::IndexSet;
 use std::alloc::Global;
 use terra_eval::nodes::callable_of;
 use terra_term::{Export, Store, TypedName};
@@ -50,26 +50,23 @@ fn type_code(types: &Types, t: TypeId) -> u8
 fn push_codes(codes: &mut Vec<u8>, types: &Types, names: &[TypedName]) -> Result<(), NoMemory>
     ensures { OnOk result (codes.new.items ≡ codes.old.items ++ codes_of types.now names.now) }
 {
-    if let [first, rest @ ..] = names {
-        codes.push(type_code(types, first.of))?;
-        return push_codes(codes, types, rest);
+    for name in names {
+        codes.push(type_code(types, name.of))?;
     }
     Ok(())
 }
 
 /// Where a function begins that is one of these.
-fn start_of(functions: &[Function], starts: &[u64], f: FnId) -> u64
-    ensures { result ≡ start_among functions.now starts.now f }
+fn start_of(ids: &IndexSet<FnId>, starts: &[u64], f: FnId) -> u64
+    ensures { result ≡ start_among ids.now.keys starts.now f }
 {
-    if let [function, others @ ..] = functions {
-        if let [start, rest @ ..] = starts {
-            if function.id.0 == f.0 {
-                return *start;
-            }
-            return start_of(others, rest, f);
-        }
+    let Some(place) = ids.get_index_of(&f) else {
+        return 0;
+    };
+    match starts.get(place) {
+        Some(start) => *start,
+        None => 0,
     }
-    0
 }
 
 /// The symbol of an export whose function begins at an address. The function is typed.
@@ -94,16 +91,15 @@ pub fn push_symbols(
     symbols: &mut Vec<Symbol>,
     alloc: Global,
     store: &Store,
-    functions: &[Function],
+    ids: &IndexSet<FnId>,
     starts: &[u64],
     exports: &[Export],
 ) -> Result<(), NoMemory>
-    ensures { OnOk result (symbols.new.items ≡ symbols.old.items ++ symbols_of (contents_of store.now) functions.now starts.now exports.now) }
+    ensures { OnOk result (symbols.new.items ≡ symbols.old.items ++ symbols_of (contents_of store.now) ids.now.keys starts.now exports.now) }
 {
-    if let [first, rest @ ..] = exports {
-        let at = start_of(functions, starts, first.function);
-        symbols.push(symbol_of(alloc, store, at, first)?)?;
-        return push_symbols(symbols, alloc, store, functions, starts, rest);
+    for export in exports {
+        let at = start_of(ids, starts, export.function);
+        symbols.push(symbol_of(alloc, store, at, export)?)?;
     }
     Ok(())
 }

@@ -1,43 +1,34 @@
 // Which functions are compiled.
 
 ghost use Rattle.std.specs.Prelude.{◌≡◌, OnOk};
-ghost use Rattle.back_end.specs.Worklist.{is_among, with_blocks, with_exports, with_function, with_instruction, with_instructions};
+ghost use Rattle.back_end.specs.Worklist.{with_blocks, with_exports, with_function, with_instruction, with_instructions};
 
+use indexmap::IndexSet;
 use tac_form::{Block, Instruction};
 use terra_term::Export;
 use tl_base::{FnId, NoMemory};
 
-/// Whether a function is in a list.
-fn is_among(f: FnId, list: &[FnId]) -> bool
-    ensures { result ≡ is_among f list.now }
-{
-    list.iter().any(|g| g.0 == f.0)
-}
-
 /// Adds a function to a list unless it is there.
-fn add_function(list: &mut Vec<FnId>, f: FnId) -> Result<(), NoMemory>
-    ensures { OnOk result (list.new.items ≡ with_function list.old.items f) }
+fn add_function(list: &mut IndexSet<FnId>, f: FnId) -> Result<(), NoMemory>
+    ensures { OnOk result (list.new.keys ≡ with_function list.old.keys f) }
 {
-    if !is_among(f, list) {
-        list.push(f)?;
-    }
+    list.insert(f)?;
     Ok(())
 }
 
 /// Adds the functions of exports.
-pub fn add_exports(list: &mut Vec<FnId>, exports: &[Export]) -> Result<(), NoMemory>
-    ensures { OnOk result (list.new.items ≡ with_exports list.old.items exports.now) }
+pub fn add_exports(list: &mut IndexSet<FnId>, exports: &[Export]) -> Result<(), NoMemory>
+    ensures { OnOk result (list.new.keys ≡ with_exports list.old.keys exports.now) }
 {
-    if let [first, rest @ ..] = exports {
-        add_function(list, first.function)?;
-        return add_exports(list, rest);
+    for export in exports {
+        add_function(list, export.function)?;
     }
     Ok(())
 }
 
 /// Adds the function that an instruction calls, if it calls one.
-fn add_called(list: &mut Vec<FnId>, instruction: &Instruction) -> Result<(), NoMemory>
-    ensures { OnOk result (list.new.items ≡ with_instruction list.old.items instruction.now) }
+fn add_called(list: &mut IndexSet<FnId>, instruction: &Instruction) -> Result<(), NoMemory>
+    ensures { OnOk result (list.new.keys ≡ with_instruction list.old.keys instruction.now) }
 {
     match instruction {
         Instruction::Call(_, _, f, _) => add_function(list, *f),
@@ -46,23 +37,21 @@ fn add_called(list: &mut Vec<FnId>, instruction: &Instruction) -> Result<(), NoM
 }
 
 /// Adds the functions that instructions call.
-fn add_instructions(list: &mut Vec<FnId>, instructions: &[Instruction]) -> Result<(), NoMemory>
-    ensures { OnOk result (list.new.items ≡ with_instructions list.old.items instructions.now) }
+fn add_instructions(list: &mut IndexSet<FnId>, instructions: &[Instruction]) -> Result<(), NoMemory>
+    ensures { OnOk result (list.new.keys ≡ with_instructions list.old.keys instructions.now) }
 {
-    if let [first, rest @ ..] = instructions {
-        add_called(list, first)?;
-        return add_instructions(list, rest);
+    for instruction in instructions {
+        add_called(list, instruction)?;
     }
     Ok(())
 }
 
 /// Adds the functions that blocks call.
-pub fn add_blocks(list: &mut Vec<FnId>, blocks: &[Block]) -> Result<(), NoMemory>
-    ensures { OnOk result (list.new.items ≡ with_blocks list.old.items blocks.now) }
+pub fn add_blocks(list: &mut IndexSet<FnId>, blocks: &[Block]) -> Result<(), NoMemory>
+    ensures { OnOk result (list.new.keys ≡ with_blocks list.old.keys blocks.now) }
 {
-    if let [first, rest @ ..] = blocks {
-        add_instructions(list, first.instructions.as_slice())?;
-        return add_blocks(list, rest);
+    for block in blocks {
+        add_instructions(list, block.instructions.as_slice())?;
     }
     Ok(())
 }

@@ -1,5 +1,6 @@
-use Rattle.std.proofs.Common.{rules, ◌∙◌, ◌+◌, ◌*◌, ◌++◌, ap, subst, sym, List, ℕ, arith}
+use Rattle.std.proofs.Common.{rules, ◌∙◌, ◌+◌, ◌*◌, ◌++◌, map, ap, subst, sym, List, ℕ, arith}
 use Rattle.std.specs.Prelude.{◌/◌}
+use Rattle.tl_base.specs.declared.ids.FnId.{FnId}
 use Rattle.terra_term.specs.Stores.{contents_of}
 use Rattle.terra_types.specs.Opening.{AreTypes}
 use Rattle.elf_image.specs.declared.image.Image.{Image}
@@ -7,6 +8,7 @@ use Rattle.elf_image.specs.Lawful.{IsLawful}
 use Rattle.rv_link.specs.declared.function.Function.{Function}
 use Rattle.rv_link.specs.Linked.{AreSelected, AreThere, IsLinkedText}
 use Rattle.back_end.specs.Symbols.{symbols_of}
+use Rattle.back_end.specs.Working.{id_of}
 use Rattle.back_end.proofs.Making.{compiled}
 use Rattle.back_end.proofs.Sounds.{are-selected, are-there}
 use Rattle.back_end.proofs.compiling.compile.Goals as goal
@@ -14,12 +16,12 @@ use Rattle.back_end.proofs.compiling.compile.Goals as goal
 pub link-requires-clause-selected : goal.link-requires-clause-selected
 link-requires-clause-selected c =
     subst AreSelected (sym c.deref.ensures.value)
-    (are-selected (contents_of c.args.store.now) c.in_ok-functions.functions.items c.in_ok-functions.ensures.made)
+    (are-selected (contents_of c.args.store.now) c.in_ok-compiled.compiled.functions.items c.in_ok-compiled.ensures.whole.made)
 
 pub link-requires-clause-there : goal.link-requires-clause-there
 link-requires-clause-there c =
     subst AreThere (sym c.deref.ensures.value)
-    (are-there (contents_of c.args.store.now) c.in_ok-functions.functions.items c.in_ok-functions.ensures.made)
+    (are-there (contents_of c.args.store.now) c.in_ok-compiled.compiled.functions.items c.in_ok-compiled.ensures.whole.made)
 
 pub returns : goal.returns
 returns c =
@@ -32,15 +34,15 @@ returns c =
       exports = c.from-3.result;
     } in
     let lawful : IsLawful image = search rules in
-    compiled (contents_of c.args.store.now) c.args.exports.now c.in_ok-functions.functions.items c.in_ok-linked.linked image
+    compiled (contents_of c.args.store.now) c.args.exports.now c.in_ok-compiled.compiled.functions.items c.in_ok-linked.linked image
     (subst AreTypes c.types.ensures c.are_types.ensures) c.requires.typed
     (c.requires.limits.whole_kib, c.requires.limits.least_memory, c.requires.limits.most_memory) c.requires.half c.requires.exports
-    c.in_ok-functions.ensures
+    c.in_ok-compiled.ensures.whole
     (subst (λ (xs : List Function). IsLinkedText xs c.in_ok-linked.linked) c.deref.ensures.value c.in_ok-linked.ensures) lawful
     (c.from-2.ensures ∙ c.in_ok-statics.ensures) c.from.ensures (omega arith)
     (c.from-3.ensures ∙ c.in_ok-push_symbols.ensures
-    ∙ ap (λ l. l ++ symbols_of (contents_of c.args.store.now) c.deref-2.result.now c.deref-3.result.now c.args.exports.now)
+    ∙ ap (λ l. l ++ symbols_of (contents_of c.args.store.now) c.in_ok-compiled.compiled.ids.keys c.deref-2.result.now c.args.exports.now)
     c.new-symbols.ensures.items
-    ∙ ap (λ (xs : List Function). symbols_of (contents_of c.args.store.now) xs c.deref-3.result.now c.args.exports.now) c.deref-2.ensures.value
-    ∙ ap (λ (s : List ℕ). symbols_of (contents_of c.args.store.now) c.in_ok-functions.functions.items s c.args.exports.now)
-    c.deref-3.ensures.value)
+    ∙ ap (λ (fs : List FnId). symbols_of (contents_of c.args.store.now) fs c.deref-2.result.now c.args.exports.now) c.in_ok-compiled.ensures.ids
+    ∙ ap (λ (s : List ℕ). symbols_of (contents_of c.args.store.now) (map id_of c.in_ok-compiled.compiled.functions.items) s c.args.exports.now)
+    c.deref-2.ensures.value)
