@@ -1,0 +1,70 @@
+// What is written of a staging: texts alone, for a caller that has no use for the world.
+
+ghost use Rattle.std.specs.Prelude.{◌≡◌, ◌≤◌, IfOk};
+ghost use Rattle.tl_tree.specs.Arena.{items_of, end_of as finish_of};
+ghost use Rattle.stage_text.specs.Terms.{terms_text};
+ghost use Rattle.terra_stage.specs.Terms.{AreTerms};
+
+use crate::staging::{End, Outcome, stage};
+use exotype::World;
+use stage_text::terms_text;
+use std::alloc::Global;
+use tl_base::{NoMemory, Text2};
+use tl_tree::Tree;
+
+/// What is written of a staging: what was printed, how it ended, and a line for each export with the lines of the
+/// exported terms, as they were at that end.
+#[derive(Debug, Drop)]
+pub struct Terms {
+    pub printed: Text2,
+    pub end: End,
+    pub lines: Text2,
+}
+
+/// Stages a source as [`stage`] does, and writes the lines of its exports and of their terms. They are written after each
+/// end: those of a staging that failed are the ones that were exported until then.
+pub fn stage_terms(
+    alloc: Global,
+    tree: &Tree<'_>,
+    units: u64,
+    memory: u64,
+) -> Result<Terms, NoMemory>
+    requires { memory ≤ 67108864 }
+    ensures { IfOk result (λ it. AreTerms (items_of tree.now) (finish_of tree.now) units memory it) }
+{
+    let outcome = stage(alloc, tree, units, memory)?;
+    let terms = terms_of(outcome)?;
+    Ok(terms)
+}
+
+/// What is written of an outcome.
+fn terms_of(outcome: Outcome) -> Result<Terms, NoMemory>
+    ensures printed { IfOk result (λ it. it.printed ≡ outcome.world.heap.printed) }
+    ensures end { IfOk result (λ it. it.end ≡ outcome.end) }
+    ensures lines { IfOk result (λ it. it.lines ≡ terms_text outcome.world.store outcome.world.exports.list) }
+{
+    let printed = printed_by(&outcome.world)?;
+    let lines = lines_of(&outcome.world)?;
+    Ok(Terms {
+        printed,
+        end: outcome.end,
+        lines,
+    })
+}
+
+/// What was printed.
+fn printed_by(world: &World) -> Result<Text2, NoMemory>
+    ensures { IfOk result (λ text. text ≡ world.now.heap.printed) }
+{
+    let mut text = Text2::new(world.heap.allocator());
+    text.push_bytes(world.heap.printed())?;
+    Ok(text)
+}
+
+/// The lines of the exports, and of their terms.
+fn lines_of(world: &World) -> Result<Text2, NoMemory>
+    ensures { IfOk result (λ text. text ≡ terms_text world.now.store world.now.exports.list) }
+{
+    let lines = terms_text(&world.store, world.exports.as_slice())?;
+    Ok(lines)
+}
