@@ -7,17 +7,18 @@ use Rattle.terrac_call.specs.declared.status.Status.{Status}
 use Rattle.terrac_call.specs.declared.status.Status.TheVariants as statuses
 use Rattle.terrac_call.specs.declared.due.Due.{Due as DueValue}
 use Rattle.terrac_call.specs.declared.due.Ended.{Ended}
-use Rattle.terrac_call.specs.Words.{Call, Limits, Job, Run, Exec, Check, job_of}
+use Rattle.terrac_call.specs.Words.{Call, Limits, Job, Run, Exec, Check, Terms, job_of}
 use Rattle.terrac_call.specs.Due.{Due, after, line, longest, refused, IsSourceDue}
 use Rattle.terrac_call.specs.DueView.{shown_due}
 use Rattle.terrac_call.specs.Exec.{longest_image, IsExecDue, IsLong, IsBad, IsImage}
 use Rattle.terrac_call.specs.Check.{IsCheckDue}
+use Rattle.terrac_call.specs.Terms.{IsTermsDue}
 use Rattle.terrac_call.specs.Answer.{IsToldAs, IsDue, IsDueOrCut, IsWhole, IsCut, Owed, Answered, Unread, OutOfMemory, TakesFront, IsWritten, IsCutOff, Delivers, Answers, GivesDue}
 use Rattle.terrac_call.specs.Call.{AnswersDue, AnswersExactly}
 use Rattle.terrac_call.specs.Ending.{Remains, Stopped, Ends}
 use Rattle.terrac_call.proofs.Pieces.{with_back-none, with_back-both}
 use Rattle.terrac_call.proofs.Endings.{ends_into, cut_into}
-use Rattle.terrac_call.proofs.Telling.{check_whole}
+use Rattle.terrac_call.proofs.Telling.{check_whole, terms_whole}
 
 -- what was read of a source: all of it, or more than it may have
 pub record IsEnough (most : ℕ) (text : List ℕ) (old new : Option (List ℕ)) : Type 0 where
@@ -65,6 +66,16 @@ module _ (left : Option (List ℕ)) (Rose : Type 0) where
   check_ends limits text new ended out_old out_new f0 f1 Same enough h =
       let w = whole (longest + 1) text left new enough in
       ends_into _ _ (λ due is. Answered w.bytes w.told (IsWhole (check_whole limits.budget text w.bytes due w.same is))) ended out_old out_new f0 f1 Same h
+
+  -- `terms` on what was read of a source
+  pub terms_ends : (limits : Limits) (text : List ℕ) (new : Option (List ℕ)) (ended : Ended) (out_old out_new : Option (List ℕ))
+      (f0 f1 : ℕ) (Same : Type 0) → IsEnough (longest + 1) text left new
+      → Ends (IsTermsDue limits text) ended out_old out_new f0 f1 Same
+      → Ends (Owed (Some (Terms limits)) left Rose) ended out_old out_new f0 f1 Same
+  terms_ends limits text new ended out_old out_new f0 f1 Same enough h =
+      let w = whole (longest + 1) text left new enough in
+      ends_into _ _ (λ due is. Answered w.bytes w.told (IsWhole (terms_whole limits text w.bytes due w.same is)))
+      ended out_old out_new f0 f1 Same h
 
   -- and `run` on what was read of a source
   pub source_ends : (call : Call) (text : List ℕ) (new : Option (List ℕ)) (rest : DueValue) (out : Option (List ℕ)) (faults : ℕ) (Same : Type 0) →

@@ -5,6 +5,7 @@ use Rattle.tl_lex.specs.declared.SyntaxKind.{SyntaxKind}
 use Rattle.tl_tree.specs.Tokens.{Token, tokens_of, finish_of, place_of}
 use Rattle.tl_tree.specs.Tree.{Tree}
 use Rattle.tl_tree.specs.declared.tree.Tree as code
+use Rattle.tl_tree.specs.Arena.{end_of}
 use Rattle.tl_tree.specs.Refusing.{Language, Answer, Says, IsTree, Refused}
 use Rattle.tl_tree.specs.Laws.{HasOneAnswer, IsChunk}
 use Rattle.tl_tree.specs.Texts as texts
@@ -53,7 +54,7 @@ one_refusal text kind other place there p q =
         ap (λ (k : SyntaxKind). IsRefused k place) kinds ∙ ap (λ (x : Place). IsRefused other x) places
 
 one_text : (text : List ℕ) (a b : Reading) → IsTextReadAs text a → IsTextReadAs text b → a ≡ b
-one_text text _ _ (HasTree t p) (HasTree u q) = ap (λ (x : Tree). due.IsTree x) (one_tree text t u p q)
+one_text text _ _ (HasTree t p) (HasTree u q) = ap (λ (x : Tree). due.IsTree x (finish_of text)) (one_tree text t u p q)
 one_text text _ _ (HasTree t p) (HasNone kind place q) = absurd (no_both text t kind place p q)
 one_text text _ _ (HasNone kind place p) (HasTree u q) = absurd (no_both text u kind place q p)
 one_text text _ _ (HasNone kind place p) (HasNone other there q) = one_refusal text kind other place there p q
@@ -72,11 +73,17 @@ one_reading source _ _ (IsText a l u p) (IsText b m v q) = one_text source a b p
 -- what a value shows of one reading, it shows of another that follows
 pub shows_into : (P Q : Reading → Type 0) → ((r : Reading) → P r → Q r) → (x : Parsed) → Shows P x → Shows Q x
 shows_into P Q into (parsed.Refused kind place) h = into (IsRefused kind place) h
-shows_into P Q into (parsed.Tree tree) h = (h.0, into (due.IsTree h.0) h.1, h.2, h.3)
+shows_into P Q into (parsed.Tree tree) h = (h.0, into (due.IsTree h.0 (end_of tree)) h.1, h.2, h.3)
 
 -- the tree of a text
 pub text_tree : (text : List ℕ) (t : code.Tree) → ComesOf text (Ok t) → Shows (IsTextReadAs text) (parsed.Tree t)
-text_tree text t comes = (comes.0, HasTree comes.0 comes.1, comes.2, well_formed_trees text comes.0 comes.1)
+text_tree text t comes =
+    let read : IsTextReadAs text (due.IsTree comes.0 (finish_of text)) = HasTree comes.0 comes.1 in (
+      comes.0,
+      subst (λ (place : Place). IsTextReadAs text (due.IsTree comes.0 place)) (sym comes.3) read,
+      comes.2,
+      well_formed_trees text comes.0 comes.1,
+    )
 
 -- the function that is found of a tree is within the bounds
 pub found_within : (tree : Tree) (found : Option SourceFunction) (f : SourceFunction) → found ≡ function_of tree → found ≡ Some f → IsWithin f

@@ -15,11 +15,14 @@ use Rattle.stage_loop.specs.declared.staging.End.{End}
 use Rattle.stage_loop.specs.declared.staging.End.TheVariants.{Done, Raised, Spent}
 use Rattle.terrac_call.specs.declared.status.Status.{Status}
 use Rattle.terrac_call.specs.declared.status.Status.TheVariants as statuses
-use Rattle.terrac_call.specs.Words.{Call, Job, Run, Exec, Check}
+use Rattle.terrac_call.specs.Words.{Call, Limits, Job, Run, Exec, Check, Terms}
 use Rattle.terrac_call.specs.Arguments.{Arguments, Good, Bad, arguments_of}
 use Rattle.terrac_call.specs.Due.{Due, after, Reading, IsRefused, IsTree, int64, refused, due_of_arguments, due_of_no_entry, due_of_function, due_of_call}
 use Rattle.terrac_call.specs.Exec.{due_of_stop, IsRunDue, IsCallDue, IsExecDue, IsLong, IsBad, IsImage}
 use Rattle.terrac_call.specs.Check.{due_of_end, IsTreeDue, IsNotBuilt, IsStaged, IsReadingDue}
+use Rattle.terrac_call.specs.Terms as terms
+use Rattle.terra_stage.specs.declared.staging.End.{End as StageEnd}
+use Rattle.terra_stage.specs.declared.staging.End.TheVariants as stagings
 use Rattle.terrac_call.specs.Answer.{IsDue, IsDueOrCut, IsWhole, IsCut, Owed, Answered, Unread, OutOfMemory}
 
 -- the statuses with which a job may end
@@ -58,7 +61,7 @@ of_function call (Some function) =
 
 of_reading : (call : Call) (reading : Reading) → EndsJob (due_of_call call reading)
 of_reading call (IsRefused kind place) = refl
-of_reading call (IsTree tree) = of_function call (function_of tree)
+of_reading call (IsTree tree finish) = of_function call (function_of tree)
 
 of_stop : (code : ℕ) (stop : Stop) → EndsJob (due_of_stop code stop)
 of_stop code (stops.Returned word) = refl
@@ -94,12 +97,22 @@ of_tree units items due (IsStaged n out none comes is) = as_that due _ is (of_en
 
 of_check : (units : ℕ) (reading : Reading) (due : Due) → IsReadingDue units reading due → EndsJob due
 of_check units (IsRefused kind place) due is = as_that due _ is refl
-of_check units (IsTree tree) due is = of_tree units (lay tree []) due is
+of_check units (IsTree tree finish) due is = of_tree units (lay tree []) due is
+
+of_ending : (end : StageEnd) (lines : List ℕ) → EndsJob (terms.due_of_end end lines)
+of_ending stagings.Done lines = refl
+of_ending (stagings.Raised text place) lines = refl
+of_ending stagings.Spent lines = refl
+
+of_terms : (limits : Limits) (reading : Reading) (due : Due) → terms.IsReadingDue limits reading due → EndsJob due
+of_terms limits (IsRefused kind place) due is = as_that due _ is refl
+of_terms limits (IsTree tree finish) due is = as_that due _ is.is (of_ending is.ending.end _)
 
 of_job : (job : Job) (bytes : List ℕ) (due : Due) → IsDue (Some job) bytes due → EndsJob due
 of_job (Run call) bytes due is = as_that due _ is.2 (of_reading call is.0)
 of_job (Exec call steps) bytes due is = of_exec call steps bytes due is
 of_job (Check limits) bytes due is = of_check limits.budget is.0 due is.2
+of_job (Terms limits) bytes due is = of_terms limits is.0 due is.2
 
 of_job_or_cut : (job : Job) (bytes : List ℕ) (due : Due) → IsDueOrCut (IsDue (Some job) bytes) due → EndsJob due
 of_job_or_cut job bytes due (IsWhole is) = of_job job bytes due is

@@ -1,8 +1,9 @@
 -- What was read tells how the whole source reads.
 use Rattle.std.proofs.Common.{◌≡◌, ◌⊎◌, inl, inr, ◌+◌, ◌≤◌, ℕ, List, ◌++◌, length, sym, subst, arith, length-append}
-use Rattle.terrac_call.specs.Words.{Call}
+use Rattle.terrac_call.specs.Words.{Call, Limits}
 use Rattle.terrac_call.specs.Due.{Due, Reading, IsReadAs, IsTooLong, IsNotUtf8, IsText, longest, IsSourceDue}
 use Rattle.terrac_call.specs.Check.{IsCheckDue}
+use Rattle.terrac_call.specs.Terms.{IsTermsDue}
 
 -- a source is too long that has a front that is
 longer : (text rest : List ℕ) (reading : Reading) → longest + 1 ≤ length text → IsReadAs text reading → IsReadAs (text ++ rest) reading
@@ -22,3 +23,10 @@ pub check_whole : (units : ℕ) (text bytes : List ℕ) (due : Due) → (text �
 check_whole units text bytes due (inl same) is = subst (λ (b : List ℕ). IsCheckDue units b due) same is
 check_whole units text bytes due (inr long) is =
     subst (λ (b : List ℕ). IsCheckDue units b due) (sym long.1.1) (is.0, longer text long.1.0 is.0 long.0 is.1, is.2)
+
+pub terms_whole : (limits : Limits) (text bytes : List ℕ) (due : Due)
+    → (text ≡ bytes) ⊎ ((longest + 1 ≤ length text) × ((back : List ℕ) × (bytes ≡ text ++ back)))
+    → IsTermsDue limits text due → IsTermsDue limits bytes due
+terms_whole limits text bytes due (inl same) is = subst (λ (b : List ℕ). IsTermsDue limits b due) same is
+terms_whole limits text bytes due (inr long) is =
+    subst (λ (b : List ℕ). IsTermsDue limits b due) (sym long.1.1) (is.0, longer text long.1.0 is.0 long.0 is.1, is.2)

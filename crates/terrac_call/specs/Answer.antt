@@ -4,10 +4,11 @@ use Rattle.tl_base.specs.Outside.{with_front, with_back, IsFront}
 use Rattle.terrac_call.specs.declared.status.Status.{Status}
 use Rattle.terrac_call.specs.declared.status.Status.TheVariants as statuses
 use Rattle.terrac_call.specs.Statuses.{text_of}
-use Rattle.terrac_call.specs.Words.{Job, Run, Exec, Check, job_of}
+use Rattle.terrac_call.specs.Words.{Job, Run, Exec, Check, Terms, job_of}
 use Rattle.terrac_call.specs.Due.{Due, line, longest, refused, due_of_usage, IsSourceDue}
 use Rattle.terrac_call.specs.Exec.{longest_image, IsExecDue}
 use Rattle.terrac_call.specs.Check.{IsCheckDue}
+use Rattle.terrac_call.specs.Terms.{IsTermsDue}
 
 -- ---- what is owed, before it is written
 
@@ -22,6 +23,7 @@ IsDue None bytes due = (text : List ℕ) × (due ≡ due_of_usage text)
 IsDue (Some (Run call)) bytes due = IsSourceDue call bytes due
 IsDue (Some (Exec call steps)) bytes due = IsExecDue call steps bytes due
 IsDue (Some (Check limits)) bytes due = IsCheckDue limits.budget bytes due
+IsDue (Some (Terms limits)) bytes due = IsTermsDue limits bytes due
 
 -- what is due, unless memory runs out: then `out` takes a front of it, and `notes` the line that says so
 pub data IsDueOrCut (Is : Due → Type 0) (due : Due) : Type 0 where
@@ -42,6 +44,7 @@ most_read None = 0
 most_read (Some (Run call)) = longest + 1
 most_read (Some (Exec call steps)) = longest_image + 1
 most_read (Some (Check limits)) = longest + 1
+most_read (Some (Terms limits)) = longest + 1
 
 -- ---- how it is written
 

@@ -1,5 +1,6 @@
 -- The arguments of a run.
-use Rattle.std.specs.Prelude.{ℕ, Bool, ◌+◌, ◌-◌, ◌*◌, ◌^◌, List, [], ◌∷◌, length, drop, Option, Some, None, option_and_then, if◌then◌else◌, ◌&&◌, ◌==◌, nat_le, nat_lt, false, codes}
+use Rattle.std.specs.Prelude.{ℕ, Bool, ◌+◌, ◌-◌, ◌*◌, ◌^◌, List, [], ◌∷◌, length, drop, Option, Some, None}
+use Rattle.std.specs.Prelude.{option_and_then, if◌then◌else◌, ◌&&◌, ◌==◌, nat_le, nat_lt, false, codes}
 use Rattle.std.specs.List.{list_all}
 use Rattle.std.specs.Char.{is_ascii_digit}
 use Rattle.std.specs.Str.{bytes_eq}

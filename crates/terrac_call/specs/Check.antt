@@ -19,7 +19,8 @@ use Rattle.stage_loop.specs.declared.staging.End.TheVariants.{Done, Raised, Spen
 use Rattle.stage_loop.specs.declared.staging.Outcome.{Outcome}
 use Rattle.stage_loop.specs.Staging.{outcome}
 use Rattle.terrac_call.specs.declared.status.Status.TheVariants as statuses
-use Rattle.terrac_call.specs.Due.{Due, refused, after, due_of_syntax, due_of_not_built, Reading, IsRefused, IsTree, IsReadAs}
+use Rattle.terrac_call.specs.Due.{Due, refused, after, due_of_syntax, due_of_not_built, Reading, IsRefused, IsTree}
+use Rattle.terrac_call.specs.Due.{IsReadAs}
 
 -- ---- trees with Terra code
 
@@ -81,7 +82,7 @@ pub data IsTreeDue (units : ℕ) (items : Items) (due : Due) : Type 0 where
 -- for a source that reads so
 abbrev pub IsReadingDue : ℕ → Reading → Due → Type 0
 IsReadingDue units (IsRefused kind place) due = due ≡ due_of_syntax kind place
-IsReadingDue units (IsTree tree) due = IsTreeDue units (lay tree []) due
+IsReadingDue units (IsTree tree finish) due = IsTreeDue units (lay tree []) due
 
 -- for the bytes of a source
 abbrev pub IsCheckDue : ℕ → List ℕ → Due → Type 0

@@ -1,5 +1,6 @@
 -- What is due to the caller: the status, and what `out` and `notes` take.
-use Rattle.std.specs.Prelude.{ℕ, ◌≡◌, ◌<◌, ◌≤◌, List, [], ◌∷◌, ◌++◌, length, replicate, Option, Some, None, if◌then◌else◌, codes}
+use Rattle.std.specs.Prelude.{ℕ, ◌≡◌, ◌<◌, ◌≤◌, List, [], ◌∷◌, ◌++◌, length, replicate, Option, Some, None}
+use Rattle.std.specs.Prelude.{if◌then◌else◌, codes}
 use Rattle.std.specs.Str.{bytes_eq}
 use Rattle.std.specs.declared.io.ErrorKind.{ErrorKind}
 use Rattle.std.specs.declared.io.ErrorKind.TheVariants.{OutOfMemory}
@@ -9,6 +10,7 @@ use Rattle.tl_lex.specs.declared.SyntaxKind.{SyntaxKind}
 use Rattle.tl_lex.specs.declared.SyntaxKind.TheVariants.{TooLong, NotUtf8}
 use Rattle.tl_tree.specs.Tree.{Tree}
 use Rattle.tl_tree.specs.Texts.{Reads, Refuses}
+use Rattle.tl_tree.specs.Tokens.{finish_of}
 use Rattle.elf_image.specs.Calls.{result_text}
 use Rattle.first_form.specs.Formula.{SourceFunction}
 use Rattle.first_form.specs.Form.{function_of}
@@ -62,10 +64,10 @@ due_of_arguments function (Good values) = due_of_result int64 (meaning function.
 
 -- ---- how a source reads
 
--- what a source reads as: refused for this reason at this place, or this tree
+-- what a source reads as: refused for this reason at this place, or this tree, whose text ends at this place
 pub data Reading : Type 0 where
   IsRefused : SyntaxKind → Place → Reading
-  IsTree : Tree → Reading
+  IsTree : Tree → Place → Reading
 
 -- how many bytes a source may have
 abbrev pub longest : ℕ
@@ -77,7 +79,7 @@ nowhere = record { line = 0; word = 0 }
 
 -- A text reads as its tree, or is refused.
 pub data IsTextReadAs (text : List ℕ) : Reading → Type 0 where
-  HasTree : (tree : Tree) → Reads text tree → IsTextReadAs text (IsTree tree)
+  HasTree : (tree : Tree) → Reads text tree → IsTextReadAs text (IsTree tree (finish_of text))
   HasNone : (kind : SyntaxKind) (place : Place) → Refuses text kind place → IsTextReadAs text (IsRefused kind place)
 
 -- A source is refused where it is too long; else where it is not UTF-8; and else it reads as its text does.
@@ -106,7 +108,7 @@ due_of_function call (Some function) =
 -- for a call on a source that reads so
 abbrev pub due_of_call : Call → Reading → Due
 due_of_call call (IsRefused kind place) = due_of_syntax kind place
-due_of_call call (IsTree tree) = due_of_function call (function_of tree)
+due_of_call call (IsTree tree finish) = due_of_function call (function_of tree)
 
 -- for a call on the bytes of a source
 abbrev pub IsSourceDue : Call → List ℕ → Due → Type 0

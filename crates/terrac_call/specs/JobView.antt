@@ -11,7 +11,7 @@ use Rattle.terrac_call.specs.declared.words.Asked.{Asked}
 use Rattle.terrac_call.specs.declared.words.Asked.TheVariants as asked
 use Rattle.terrac_call.specs.declared.arguments.Arguments.{Arguments as ArgumentsValue}
 use Rattle.terrac_call.specs.declared.arguments.Arguments.TheVariants as values
-use Rattle.terrac_call.specs.Words.{Call, Limits, Job, Run, Exec, Check}
+use Rattle.terrac_call.specs.Words.{Call, Limits, Job, Run, Exec, Check, Terms}
 use Rattle.terrac_call.specs.Arguments.{Arguments, Good, Bad}
 use Rattle.terrac_call.specs.Due.{line}
 
@@ -29,6 +29,7 @@ abbrev pub shown_job : JobValue → Job
 shown_job (jobs.Run call) = Run (shown_call call)
 shown_job (jobs.Exec call steps) = Exec (shown_call call) steps
 shown_job (jobs.Check limits) = Check (shown_limits limits)
+shown_job (jobs.Terms limits) = Terms (shown_limits limits)
 
 -- the job that was asked for, if the words name one
 abbrev pub shown_asked : Asked → Option Job

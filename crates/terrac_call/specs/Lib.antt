@@ -11,6 +11,8 @@ pub mod Due
 pub mod Exec
 -- what is due for `check`
 pub mod Check
+-- what is due for `terms`
+pub mod Terms
 -- what is owed and delivered, whatever the source and the sinks do
 pub mod Answer
 -- what is answered where nothing fails

@@ -13,7 +13,9 @@ use Rattle.terrac_call.specs.declared.status.FaultKind.TheVariants as faults
 use Rattle.terrac_call.specs.declared.status.ImageFault.{ImageFault}
 use Rattle.terrac_call.specs.declared.status.ImageFault.TheVariants as images
 use Rattle.terrac_call.specs.declared.status.Status.{Status}
-use Rattle.terrac_call.specs.declared.status.Status.TheVariants.{Ok, Usage, Syntax, Raised, BudgetSpent, NoEntry, BadArgument, Fault, Unfinished, BadImage, ReadFault, WriteFault, NoMemory, MachineFault, NotBuilt}
+use Rattle.terrac_call.specs.declared.status.Status.TheVariants.{Ok, Usage, Syntax, Raised, BudgetSpent, NoEntry}
+use Rattle.terrac_call.specs.declared.status.Status.TheVariants.{BadArgument, Fault, Unfinished, BadImage, ReadFault}
+use Rattle.terrac_call.specs.declared.status.Status.TheVariants.{WriteFault, NoMemory, MachineFault, NotBuilt}
 
 abbrev pub code_of : Status → ℕ
 code_of Ok = 0

@@ -1,10 +1,12 @@
 -- What the words of a command line ask for, by what `clap` says of a simple command: which words it takes, and what it makes of them.
-use Rattle.std.specs.Prelude.{ℕ, ◌≡◌, ◌^◌, Bool, ◌&&◌, nat_lt, List, [], ◌∷◌, length, Option, Some, None, unwrap_or, if◌then◌else◌, true, codes}
+use Rattle.std.specs.Prelude.{ℕ, ◌≡◌, ◌^◌, Bool, ◌&&◌, nat_lt, List, [], ◌∷◌, length, Option, Some, None, unwrap_or}
+use Rattle.std.specs.Prelude.{if◌then◌else◌, true, codes}
 use Rattle.std.specs.List.{list_all}
 use Rattle.std.specs.Char.{digit_value}
 use Rattle.std.specs.Str.{bytes_eq}
 use Rattle.std.specs.Str.Parse.{digits_value, without_leading_plus}
-use Rattle.clap.specs.Words.{App, Row, Rule, Shape, Text, all_of, fault_of, first_of, new_app, new_rule, subcommand_of, takes, with_rule, with_subcommand}
+use Rattle.clap.specs.Words.{App, Row, Rule, Shape, Text, all_of, fault_of, first_of, new_app, new_rule}
+use Rattle.clap.specs.Words.{subcommand_of, takes, with_rule, with_subcommand}
 use Rattle.clap.specs.Simple.{new_shape}
 use Rattle.clap.specs.Walk.{is_empty}
 use Rattle.clap.specs.declared.builder.action.ArgAction.TheVariants.{Append}
@@ -59,13 +61,19 @@ exec_command = with_rule (with_rule (with_rule (new_app (codes "exec")) steps_ru
 abbrev pub check_command : App
 check_command = with_rule (with_rule (new_app (codes "check")) budget_rule) memory_rule
 
+-- terms, with its options
+abbrev pub terms_command : App
+terms_command = with_rule (with_rule (new_app (codes "terms")) budget_rule) memory_rule
+
 -- the program without a command
 abbrev pub program : App
 program = record { top = record (new_shape (codes "terrac")) { subcommand_required = true }; subs = [] }
 
 -- the program requires one of its commands
 abbrev pub command_line : App
-command_line = with_subcommand (with_subcommand (with_subcommand program run_command.top) exec_command.top) check_command.top
+command_line =
+    with_subcommand (with_subcommand (with_subcommand (with_subcommand program run_command.top) exec_command.top) check_command.top)
+    terms_command.top
 
 -- ---- the job
 
@@ -79,11 +87,13 @@ pub record Limits : Type 0 where
   pub budget : ℕ
   pub memory : ℕ
 
--- to run an entry of a source; to run an entry of an image for at most so many steps; to check a source within limits
+-- to run an entry of a source; to run an entry of an image for at most so many steps; to check a source within limits; to write
+-- the terms of what it exports, within limits
 pub data Job : Type 0 where
   Run : (call : Call) → Job
   Exec : (call : Call) (steps : ℕ) → Job
   Check : (limits : Limits) → Job
+  Terms : (limits : Limits) → Job
 
 -- What is required or has a default is always there, and a number is one in its range; these definitions say something of other
 -- rows as well.
@@ -120,7 +130,8 @@ abbrev pub job_of_command : Option (Text × List Row) → Job
 job_of_command None = Run (call_of [])
 job_of_command (Some found) =
     if bytes_eq found.0 (codes "exec") then exec_of found.1
-    else (if bytes_eq found.0 (codes "check") then Check (limits_of found.1) else Run (call_of found.1))
+    else (if bytes_eq found.0 (codes "check") then Check (limits_of found.1)
+    else (if bytes_eq found.0 (codes "terms") then Terms (limits_of found.1) else Run (call_of found.1)))
 
 -- the job that the words name, the program's own name first: none exactly where `clap` refuses them
 unfoldable pub job_of : List Text → Option Job

@@ -3,7 +3,8 @@
 ghost use Rattle.std.specs.Prelude.{◌≡◌, ℕ, ◌+◌, ◌-◌, ◌*◌, ◌≤◌, length, IfOk, IsTrue};
 ghost use Rattle.std.specs.List.{list_all};
 ghost use Rattle.std.specs.Char.{is_ascii_digit};
-ghost use Rattle.terrac_call.specs.Arguments.{number_of, is_number, size_of, below_64_bits, bool_word, number_word, argument_of, arguments_of};
+ghost use Rattle.terrac_call.specs.Arguments.{number_of, is_number, size_of, below_64_bits, bool_word, number_word};
+ghost use Rattle.terrac_call.specs.Arguments.{argument_of, arguments_of};
 ghost use Rattle.terrac_call.specs.JobView.{texts_of, shown_arguments, HasCount};
 
 use elf_image::{word_above, word_below};

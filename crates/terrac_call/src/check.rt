@@ -4,7 +4,8 @@ ghost use Rattle.std.specs.Prelude.{◌≡◌, ◌≢◌, IfOk, OnErr};
 ghost use Rattle.tl_tree.specs.Nodes.{item_of};
 ghost use Rattle.tl_tree.specs.Arena.{items_of};
 ghost use Rattle.terrac_call.specs.Due.{after};
-ghost use Rattle.terrac_call.specs.Check.{is_terra, is_terra_expression, is_terra_statement, has_terra, due_of_end, due_of_outcome, IsTreeDue, IsCheckDue};
+ghost use Rattle.terrac_call.specs.Check.{is_terra, is_terra_expression, is_terra_statement, has_terra, due_of_end};
+ghost use Rattle.terrac_call.specs.Check.{due_of_outcome, IsTreeDue, IsCheckDue};
 ghost use Rattle.terrac_call.specs.DueView.{shown_due};
 ghost use Rattle.terrac_call.specs.Ending.{Ends};
 ghost use Rattle.terrac_call.specs.declared.status.Status.TheVariants as statuses;
@@ -73,7 +74,7 @@ fn outcome_end<K: Sink>(alloc: Global, outcome: Outcome, out: &mut K) -> Result<
 }
 
 /// Writes what a staging printed, as one piece, before the rest that is due.
-fn print<K: Sink>(printed: &[u8], rest: Due, out: &mut K) -> Ended
+pub(crate) fn print<K: Sink>(printed: &[u8], rest: Due, out: &mut K) -> Ended
     requires { rest.status ≢ statuses.WriteFault }
     ensures { Ends (λ due. due ≡ after printed.now (shown_due rest)) result
         (K.taken out.old) (K.taken out.new) (K.faults out.old) (K.faults out.new) (out.new ≡ out.old) }

@@ -16,6 +16,7 @@ mod parsing;
 mod reading;
 mod run;
 pub mod status;
+mod terms;
 mod words;
 mod writing;
 

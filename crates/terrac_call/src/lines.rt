@@ -2,7 +2,8 @@
 
 ghost use Rattle.std.specs.Prelude.{◌≡◌, ◌≢◌, [], ◌++◌, IfOk, string_bytes};
 ghost use Rattle.terrac_call.specs.Check.{due_of_end};
-ghost use Rattle.terrac_call.specs.Due.{due_of_not_built, refused, due_of_result, due_of_syntax, due_of_no_entry, due_of_bad_argument, due_of_usage};
+ghost use Rattle.terrac_call.specs.Due.{due_of_not_built, refused, due_of_result, due_of_syntax, due_of_no_entry};
+ghost use Rattle.terrac_call.specs.Due.{due_of_bad_argument, due_of_usage};
 ghost use Rattle.terrac_call.specs.Statuses.{kind_name, fault_text, image_fault_text, machine_fault_text};
 ghost use Rattle.terrac_call.specs.Exec.{due_of_bad_image, due_of_fault, due_of_machine_fault};
 ghost use Rattle.terrac_call.specs.DueView.{shown_due};

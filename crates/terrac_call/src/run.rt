@@ -1,9 +1,10 @@
 // From the words and the source to what is due.
 
-ghost use Rattle.std.specs.Prelude.{◌≡◌, ◌≢◌, ◌⊎◌, ◌<◌, Some, None, Err, IfOk, OnErr, IsSome, length, map, string_bytes};
+ghost use Rattle.std.specs.Prelude.{◌≡◌, ◌≢◌, ◌⊎◌, ◌<◌, Some, None, Err, IfOk, OnErr, IsSome, length, map};
+ghost use Rattle.std.specs.Prelude.{string_bytes};
 ghost use Rattle.tl_base.specs.Outside.{IsRisen};
 ghost use Rattle.first_form.specs.Formula.{shown, IsWithin};
-ghost use Rattle.terrac_call.specs.Words.{Run, Exec, Check, job_of, AreTaken};
+ghost use Rattle.terrac_call.specs.Words.{Run, Exec, Check, Terms, job_of, AreTaken};
 ghost use Rattle.terrac_call.specs.Due.{due_of_function, IsSourceDue};
 ghost use Rattle.terrac_call.specs.JobView.{shown_call, shown_limits};
 ghost use Rattle.terrac_call.specs.DueView.{shown_due};
@@ -23,6 +24,7 @@ use crate::lines::{
 };
 use crate::parsing::{Parsed, parse_source};
 use crate::reading::{ReadError, read_source};
+use crate::terms::terms;
 use crate::words::{Asked, Call, Job, Limits, job_of};
 use first_form::{Function, function_of};
 use std::alloc::Global;
@@ -140,6 +142,26 @@ fn check_call<S: Source, K: Sink>(
     Ok(ended)
 }
 
+/// How `terms` ends, likewise.
+fn terms_call<S: Source, K: Sink>(
+    alloc: Global,
+    limits: Limits,
+    source: &mut S,
+    out: &mut K,
+) -> Result<Ended, ReadError>
+    ensures owed { IfOk result (λ ended.
+        Ends (Owed (Some (Terms (shown_limits limits))) (S.left source.old) (IsRisen (S.faults source.old) (S.faults source.new))) ended
+        (K.taken out.old) (K.taken out.new) (K.faults out.old) (K.faults out.new) (out.new ≡ out.old)) }
+    ensures bound { TookAtMost 1048577 (S.left source.old) (S.left source.new) }
+    ensures unread { result ≡ Err errors.Unread → IsRisen (S.faults source.old) (S.faults source.new) }
+    ensures quiet { result ≢ Err errors.Unread → S.faults source.new ≡ S.faults source.old }
+    ensures err { OnErr result (out.new ≡ out.old) }
+{
+    let bytes = read_source(alloc, source, LONGEST_TEXT + 1)?;
+    let ended = terms(alloc, limits, &bytes, out)?;
+    Ok(ended)
+}
+
 /// How the work for the words ends, with what may cut it off.
 fn try_run<S: Source, K: Sink>(
     alloc: Global,
@@ -163,6 +185,7 @@ fn try_run<S: Source, K: Sink>(
         Asked::Job(Job::Run(call)) => run_call(alloc, &call, source, out),
         Asked::Job(Job::Exec(call, steps)) => exec_call(alloc, &call, steps, source, out),
         Asked::Job(Job::Check(limits)) => check_call(alloc, limits, source, out),
+        Asked::Job(Job::Terms(limits)) => terms_call(alloc, limits, source, out),
     }
 }
 

@@ -2,8 +2,11 @@
 
 ghost use Rattle.std.specs.Prelude.{◌≡◌, [], IfOk, IsSome, false, map, unwrap_or, string_bytes};
 ghost use Rattle.clap.specs.Words.{app_of, found_of, rows_of, rule_of, subcommand_rows_of, all_of, first_of};
-ghost use Rattle.terrac_call.specs.Words.{entry_rule, arguments_rule, steps_rule, budget_rule, memory_rule, command_line, call_of, limits_of, number_found, number_or_zero, text_or_none, job_of, job_of_command, AreTaken};
-ghost use Rattle.terrac_call.specs.JobView.{texts_of, shown_call, shown_limits, shown_job, shown_asked, HasUsageLine, IsUsageText};
+ghost use Rattle.terrac_call.specs.Words.{entry_rule, arguments_rule, steps_rule, budget_rule, memory_rule};
+ghost use Rattle.terrac_call.specs.Words.{command_line, call_of, limits_of, number_found, number_or_zero};
+ghost use Rattle.terrac_call.specs.Words.{text_or_none, job_of, job_of_command, AreTaken};
+ghost use Rattle.terrac_call.specs.JobView.{texts_of, shown_call, shown_limits, shown_job, shown_asked, HasUsageLine};
+ghost use Rattle.terrac_call.specs.JobView.{IsUsageText};
 
 use clap::builder::ValueParser;
 use clap::error::ErrorKind;
@@ -18,7 +21,7 @@ pub(crate) struct Call<'a> {
     pub arguments: Vec<&'a str>,
 }
 
-/// The limits of a check.
+/// The limits of a staging.
 #[derive(Clone, Copy, Drop)]
 pub(crate) struct Limits {
     /// How many units staging may pay.
@@ -36,6 +39,8 @@ pub(crate) enum Job<'a> {
     Exec(Call<'a>, u64),
     /// To check a source within these limits.
     Check(Limits),
+    /// To write the terms of what a source exports, within these limits.
+    Terms(Limits),
 }
 
 /// The job that words name, or the line `usage` and `clap`'s own text where they name none.
@@ -86,6 +91,8 @@ fn job_of_matches<'a>(alloc: Global, matches: &ArgMatches<'a>) -> Result<Job<'a>
         Ok(Job::Exec(call, number_found(found, "steps")))
     } else if name == "check" {
         Ok(Job::Check(limits_of(found)))
+    } else if name == "terms" {
+        Ok(Job::Terms(limits_of(found)))
     } else {
         Ok(Job::Run(call_of(alloc, found)?))
     }
@@ -149,7 +156,7 @@ fn number_or_zero(text: &str) -> u64
     }
 }
 
-// The whole command line: run ENTRY ARG.., exec ENTRY ARG.. with its option, and check with its options.
+// The whole command line: run ENTRY ARG.., exec ENTRY ARG.. with its option, and check and terms with their options.
 fn command_line<'a>(alloc: Global) -> Result<Command<'a>, AllocError>
     ensures { IfOk result (λ command. app_of command ≡ command_line) }
 {
@@ -175,12 +182,20 @@ fn command_line<'a>(alloc: Global) -> Result<Command<'a>, AllocError>
         .after_help("Example: terrac check --budget 1000 < counters.t")
         .arg(budget_argument(alloc))?
         .arg(memory_argument(alloc))?;
+    let terms = Command::new(alloc, "terms")
+        .about(
+            "Stages a source, read on standard input: writes what it prints, and the terms of the functions that it exports.",
+        )
+        .after_help("Example: terrac terms < dot.t")
+        .arg(budget_argument(alloc))?
+        .arg(memory_argument(alloc))?;
     let command = Command::new(alloc, "terrac")
         .about("A compiler of Terra for RISC-V RV64IM.")
         .subcommand_required(true)
         .subcommand(run)?
         .subcommand(exec)?
-        .subcommand(check)?;
+        .subcommand(check)?
+        .subcommand(terms)?;
     Ok(command)
 }
 

@@ -1,7 +1,7 @@
 use Rattle.std.proofs.Common.{◌≡◌, List, refl, sym, subst}
 use Rattle.std.proofs.lemmas.Result.{IfOk-weaker}
 use Rattle.tl_tree.specs.Item.{Item}
-use Rattle.tl_tree.specs.Arena.{items_of}
+use Rattle.tl_tree.specs.Arena.{items_of, end_of}
 use Rattle.terrac_call.specs.declared.parsing.Parsed.{Parsed}
 use Rattle.terrac_call.specs.declared.parsing.Parsed.TheVariants as parsed
 use Rattle.terrac_call.specs.Due.{IsReadAs, IsRefused, IsTree, due_of_syntax}
@@ -27,5 +27,5 @@ returns-in-Tree-clause-ends g c =
     subst (λ (p : Parsed). Shows (IsReadAs c.args.bytes.now) p) c.in-Tree.is c.in_ok-parsed.ensures in
     IfOk-weaker c.check_tree.result _ _
     (λ ended h. ends_into (IsTreeDue c.args.budget (items_of c.in-Tree.tree)) (IsCheckDue c.args.budget c.args.bytes.now)
-    (λ due is. (IsTree shows.0, shows.1, subst (λ (items : List Item). IsTreeDue c.args.budget items due) shows.2 is)) ended _ _ _ _ _ h)
+    (λ due is. (IsTree shows.0 (end_of c.in-Tree.tree), shows.1, subst (λ (items : List Item). IsTreeDue c.args.budget items due) shows.2 is)) ended _ _ _ _ _ h)
     c.check_tree.ensures.ends
