@@ -4,6 +4,7 @@ use crate::rows::Row;
 use std::alloc::Global;
 use terra_stage::{End, Terms, stage_terms};
 use tl_base::{NoMemory, Text2};
+use tl_lex::LONGEST_TEXT;
 use tl_parse::{SyntaxError, parse};
 
 /// The bytes of memory that a program has.
@@ -15,7 +16,12 @@ pub fn answer(alloc: Global, row: &Row) -> Result<Text2, NoMemory> {
     let name = row.name.as_str();
     let line = format!(in alloc; "== {name}\n")?;
     out.push_bytes(line.as_bytes())?;
-    match parse(alloc, row.source.as_str()) {
+    let source = row.source.as_str();
+    if source.len() > LONGEST_TEXT {
+        out.push_bytes(b"-- too long\n")?;
+        return Ok(out);
+    }
+    match parse(alloc, source) {
         Ok(tree) => {
             let staged = stage_terms(alloc, &tree, row.units, MEMORY)?;
             push_staged(alloc, &mut out, &staged)?;
