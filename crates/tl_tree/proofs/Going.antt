@@ -13,8 +13,8 @@ use Rattle.tl_tree.specs.Forms.{sign, opening, opening_at}
 use Rattle.tl_tree.proofs.Classes.{subset, within}
 use Rattle.tl_tree.proofs.Spelled.{is_written, placed, among_one}
 use Rattle.tl_tree.proofs.Completing.{Starts, bare-give, bare-token, bare-bind, bare-when, bare-many, bare-within}
-use Rattle.tl_tree.proofs.Completing.{completes-within, completes-give, completes-token, completes-bind, completes-then}
-use Rattle.tl_tree.proofs.Completing.{completes-when, completes-many}
+use Rattle.tl_tree.proofs.Continuing.{completes-within, completes-give, completes-token, completes-bind, completes-then}
+use Rattle.tl_tree.proofs.Continuing.{completes-when, completes-many}
 use Rattle.tl_tree.proofs.Parting.{Turned, turned-within, turned-give, turned-token, turned-bind, turned-then}
 use Rattle.tl_tree.proofs.Parting.{turned-when, turned-many}
 use Rattle.tl_tree.proofs.Settings.{Setting, Completable, CoveredBy, covering}

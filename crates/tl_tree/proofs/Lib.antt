@@ -3,6 +3,7 @@ pub mod Spelt
 pub mod TextsGo
 pub mod Reading
 pub mod Completing
+pub mod Continuing
 pub mod Exact
 pub mod Parting
 pub mod Settings

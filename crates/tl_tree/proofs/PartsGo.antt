@@ -7,7 +7,8 @@ use Rattle.tl_tree.specs.Tree.{FunctionBody, Entries, TerraExpression, TerraOper
 use Rattle.tl_tree.specs.Tree.{TerraStatements, TerraFunctionBody, QuotedCode}
 use Rattle.tl_tree.specs.Grammar.{Grammar, Rule, Parts}
 use Rattle.tl_tree.specs.Syntax.{syntax_of}
-use Rattle.tl_tree.proofs.Completing.{Starts, bare-within, completes-within}
+use Rattle.tl_tree.proofs.Completing.{Starts, bare-within}
+use Rattle.tl_tree.proofs.Continuing.{completes-within}
 use Rattle.tl_tree.proofs.Parting.{turned-within}
 use Rattle.tl_tree.proofs.Settings.{Setting}
 use Rattle.tl_tree.proofs.Levels.{Begun, Completed, Parted}

@@ -6,7 +6,8 @@ use Rattle.tl_tree.specs.Tokens.{Token}
 use Rattle.tl_tree.specs.Tree.{Part}
 use Rattle.tl_tree.specs.Grammar.{is_none_left, Grammar, Rule, Parts, Readers}
 use Rattle.tl_tree.proofs.Reading.{Allows, ReadersLeave, ReadersSteady, ReadersSound}
-use Rattle.tl_tree.proofs.Completing.{Shows, Completion, Bare, Covers, Completes}
+use Rattle.tl_tree.proofs.Completing.{Shows, Completion, Bare}
+use Rattle.tl_tree.proofs.Continuing.{Covers, Completes}
 use Rattle.tl_tree.proofs.Parting.{Deep, Covering}
 
 pub record Setting (part_after : Part → Token → Bool) : Type 1 where
