@@ -1,0 +1,36 @@
+use Rattle.std.proofs.Common.{◌≡◌, refl, sym, ap, ◌∙◌, List, Option, Some, None, ◌++◌}
+use Rattle.tl_base.specs.declared.ids.NodeId.{NodeId}
+use Rattle.tl_base.specs.declared.machine.Step.TheVariants.{Enter}
+use Rattle.tl_tree.specs.Arena.{items_of}
+use Rattle.tl_tree.specs.Code.{if_any}
+use Rattle.spec_model.specs.declared.job.Job.TheVariants as jobs
+use Rattle.spec_model.specs.Plans.{SpecPlan}
+use Rattle.spec_machine.specs.declared.frame.TermFrame.TheVariants as of_term
+use Rattle.spec_machine.specs.Frames.{bounds_from}
+use Rattle.spec_machine.proofs.Doing.{moved}
+use Rattle.spec_machine.proofs.Carrying.{carried}
+use Rattle.spec_machine.proofs.Pushing.{term_enters}
+use Rattle.spec_machine.proofs.loops.more_bounds.Goals as goal
+
+pub returns-in_ok-push-in-Some-clause-means : goal.returns-in_ok-push-in-Some-clause-means
+returns-in_ok-push-in-Some-clause-means c =
+    let a = c.args in
+    let items = items_of a.tree.now in
+    let w = a.world.now in
+    let left = a.budget.now in
+    let n = c.in-Some.bound in
+    let by : Option NodeId → SpecPlan = λ o. bounds_from items a.frame (if_any o ++ if_any a.step) a.terms in
+    moved items a.frames.now.items c.push.new.self.items (by a.limit) (by (Some n)) w w w left left
+    (Enter (jobs.Expression n a.frame.env)) (ap by c.in-Some.is) refl
+    (term_enters items a.frames.now.items c.push.new.self.items (of_term.Bound None a.step a.terms a.frame) n a.frame.env w left
+    c.in_ok-push-in-Some.ensures.items)
+
+pub returns-in-None-clause-means : goal.returns-in-None-clause-means
+returns-in-None-clause-means c =
+    let a = c.args in
+    let items = items_of a.tree.now in
+    let w = a.world.now in
+    let by : Option NodeId → SpecPlan = λ o. bounds_from items a.frame (if_any o ++ if_any a.step) a.terms in
+    carried _ _ c.last_bound.result c.last_bound.ensures.means (λ next g.
+    moved items a.frames.now.items c.last_bound.new.frames.items (by a.limit) (by None) w w c.last_bound.new.world
+    a.budget.now c.last_bound.new.budget next (ap by c.in-None.is) refl g)

@@ -1,0 +1,31 @@
+use Rattle.std.proofs.Common.{◌-◌, refl}
+use Rattle.tl_base.specs.declared.machine.Step.TheVariants.{Return}
+use Rattle.tl_base.specs.Plan.{Give}
+use Rattle.tl_tree.specs.Arena.{items_of}
+use Rattle.spec_model.specs.Plans as plans
+use Rattle.spec_machine.specs.Kept.{keeps_itself}
+use Rattle.spec_machine.specs.Frames as waiting
+use Rattle.spec_machine.proofs.Doing.{returns as returned, moved}
+use Rattle.spec_machine.proofs.Placing as placing
+use Rattle.spec_machine.proofs.machine.after_term.Goals as goal
+
+pub returns-in_default : goal.returns-in_default
+returns-in_default c =
+    let a = c.args in
+    let items = items_of a.tree.now in
+    let fs = a.frames.now.items in
+    let d = c.in_default in
+    record {
+      means =
+          moved items fs fs (plans.as_term a.end (λ t. waiting.with_term items a.frame t)) (Give a.end) a.world.now a.world.now a.world.now
+          a.budget.now a.budget.now (Return a.end)
+          (placing.term_ended a.end (λ t. waiting.with_term items a.frame t) d.not-Found d.not-Made) refl
+          (returned items fs a.end a.world.now a.budget.now);
+      kept = keeps_itself a.world.now;
+    }
+
+pub returns-in_ok-step-in-Made-clause-means : goal.returns-in_ok-step-in-Made-clause-means
+returns-in_ok-step-in-Made-clause-means c = rw c.in-Made.is c.in_ok-step-in-Made.ensures.means
+
+pub returns-in_ok-step-in-Found-clause-means : goal.returns-in_ok-step-in-Found-clause-means
+returns-in_ok-step-in-Found-clause-means c = rw c.in-Found.is c.in_ok-step-in-Found.ensures.means

@@ -1,0 +1,37 @@
+use Rattle.std.proofs.Common.{◌-◌, sym, ap, ◌∙◌}
+use Rattle.tl_base.specs.declared.ids.TypeId.{TypeId}
+use Rattle.tl_tree.specs.Arena.{items_of}
+use Rattle.lua_value.specs.declared.value.Value.TheVariants as values
+use Rattle.exotype.specs.World.{StageState, with_heap}
+use Rattle.exotype.specs.Types.{next_type, with_struct}
+use Rattle.spec_model.specs.Plans.{SpecPlan}
+use Rattle.spec_model.specs.Definitions as definitions
+use Rattle.spec_model.specs.Structs as structs
+use Rattle.spec_machine.specs.Kept.{keeps_then}
+use Rattle.spec_machine.proofs.Doing.{moved}
+use Rattle.spec_machine.proofs.Keeping.{kept_as}
+use Rattle.spec_machine.proofs.Typing.{keeps_struct}
+use Rattle.spec_machine.proofs.structs.struct_target.Goals as goal
+
+pub returns-clause-means : goal.returns-clause-means
+returns-clause-means c = λ left.
+    let a = c.args in
+    let items = items_of a.tree.now in
+    let w = a.world.now in
+    let v = with_struct w a.at in
+    let x = next_type w in
+    let of = c.in_ok-of.of in
+    let go : TypeId → SpecPlan = λ t. structs.entries_plan items a.entries.now t 1 a.env definitions.over in
+    moved items a.frames.now.items c.more_entries.new.frames.items (go x) (go of)
+    (with_heap v (definitions.with_held v.heap a.target (values.TerraType x))) c.store.new.world c.store.new.world left left c.in_ok-step.step
+    (ap go (sym c.in_ok-of.ensures.id))
+    (sym (c.in_ok-store.ensures.ok
+    ∙ ap (λ (u : StageState). with_heap u (definitions.with_held u.heap a.target (values.TerraType of))) c.in_ok-of.ensures.ok
+    ∙ ap (λ (t : TypeId). with_heap v (definitions.with_held v.heap a.target (values.TerraType t))) c.in_ok-of.ensures.id))
+    (c.in_ok-step.ensures.means c.store.new.world left)
+
+pub returns-clause-kept : goal.returns-clause-kept
+returns-clause-kept c =
+    let w = c.args.world.now in
+    let v = c.new_struct.new.self in
+    keeps_then w v c.store.new.world (kept_as w v (with_struct w c.args.at) c.in_ok-of.ensures.ok (keeps_struct w c.args.at)) c.in_ok-store.ensures.kept

@@ -1,0 +1,85 @@
+// The operators of Terra code, and the types of numerals.
+
+ghost use Rattle.std.specs.Prelude.{◌≡◌};
+ghost use Rattle.spec_model.specs.Nodes as nodes;
+ghost use Rattle.spec_model.specs.Expressions.{numeral_value};
+
+use terra_term::UnaryOperator;
+use terra_words::BinaryOperator;
+use tl_base::TypeId;
+use tl_tree::{BinaryOperator as Written, UnaryOperator as WrittenUnary};
+
+/// The types of numerals, which are there from the begin.
+const INT32: TypeId = TypeId(2);
+
+const INT64: TypeId = TypeId(3);
+
+const UINT64: TypeId = TypeId(7);
+
+/// The operator between two operands that is written so. No Terra code has `->` or `..`.
+pub fn operator(written: Written) -> BinaryOperator
+    ensures { result ≡ nodes.operator_of written }
+{
+    match written {
+        Written::Arrow | Written::Or => BinaryOperator::Or,
+        Written::And => BinaryOperator::And,
+        Written::Less => BinaryOperator::Less,
+        Written::Greater => BinaryOperator::Greater,
+        Written::LessEqual => BinaryOperator::LessEqual,
+        Written::GreaterEqual => BinaryOperator::GreaterEqual,
+        Written::NotEqual => BinaryOperator::NotEqual,
+        Written::Equal => BinaryOperator::Equal,
+        Written::Concatenate | Written::Add => BinaryOperator::Add,
+        Written::ShiftLeft => BinaryOperator::ShiftLeft,
+        Written::ShiftRight => BinaryOperator::ShiftRight,
+        Written::Subtract => BinaryOperator::Subtract,
+        Written::Multiply => BinaryOperator::Multiply,
+        Written::Divide => BinaryOperator::Divide,
+        Written::Modulo => BinaryOperator::Modulo,
+        Written::Power => BinaryOperator::Xor,
+    }
+}
+
+/// The operator before one operand that is written so. No Terra code has `#`.
+pub fn unary(written: WrittenUnary) -> UnaryOperator
+    ensures { result ≡ nodes.unary_of written }
+{
+    match written {
+        WrittenUnary::Not | WrittenUnary::Length => UnaryOperator::Not,
+        WrittenUnary::Negate => UnaryOperator::Negate,
+        WrittenUnary::Address => UnaryOperator::Address,
+        WrittenUnary::Dereference => UnaryOperator::Dereference,
+    }
+}
+
+/// The number of a numeral.
+pub fn numeral(digits: &str) -> u64
+    ensures { result ≡ numeral_value digits.now }
+{
+    match tl_tree::numeral_value(digits) {
+        Some(number) => number,
+        None => 0,
+    }
+}
+
+/// The type of a numeral, by its last three bytes.
+pub fn numeral_type(digits: &str) -> TypeId
+    ensures { result ≡ nodes.numeral_type digits.now }
+{
+    let text = digits.as_bytes();
+    suffixed(&text[text.len().saturating_sub(3)..])
+}
+
+/// The type by the last bytes of a numeral.
+fn suffixed(end: &[u8]) -> TypeId
+    ensures { result ≡ nodes.suffixed end.now }
+{
+    if end.len() != 3 || !(end[2] == b'L' || end[2] == b'l') {
+        return INT32;
+    }
+    if end[0] == b'U' || end[0] == b'u' {
+        UINT64
+    } else {
+        INT64
+    }
+}

@@ -1,0 +1,71 @@
+// Texts and errors.
+
+ghost use Rattle.std.specs.Prelude.{◌≡◌, ◌≤◌, length, IfOk, OnOk};
+ghost use Rattle.tl_tree.specs.Code.{Items};
+ghost use Rattle.lua_model.specs.Plans.{text_units};
+ghost use Rattle.spec_model.specs.Plans.{error_text, with_text_of, raise};
+ghost use Rattle.spec_machine.specs.Keeping.{KeepsStage};
+ghost use Rattle.spec_machine.specs.Steps.{Gets, Does};
+
+use crate::reached::SpecStep;
+use exotype::{Fault, World};
+use lua_value::Value;
+use spec_model::End;
+use std::alloc::Global;
+use tl_base::{Budget, NoMemory, Place, Step, Text2, TextId};
+
+/// The most bytes of a text.
+const LONGEST_TEXT: usize = 65_535;
+
+/// The units that a text of so many bytes costs.
+fn text_units(length: usize) -> u64
+    ensures { result ≡ text_units length }
+{
+    (length as u64).div_ceil(64)
+}
+
+/// The text of an error: the place of what raises it, and what it is.
+fn error_text(alloc: Global, place: Place, fault: Fault) -> Result<Text2, NoMemory>
+    ensures { IfOk result (λ text. text ≡ error_text place fault) }
+{
+    let line = place.line;
+    let word = place.word;
+    let before = format!(in alloc; "{line}:{word}: ")?;
+    let behind = fault.text(alloc)?;
+    let mut text = Text2::new(alloc);
+    text.push_bytes(before.as_bytes())?;
+    text.push_bytes(behind.as_bytes())?;
+    Ok(text)
+}
+
+/// The text of these bytes. No source makes more of them than texts have.
+pub fn text(world: &mut World, bytes: &[u8]) -> Result<TextId, NoMemory>
+    ensures means { IfOk result (λ id. Gets (λ go. with_text_of bytes.now go) world.old id world.new) }
+    ensures kept { OnOk result (KeepsStage world.old world.new) }
+{
+    if bytes.len() > LONGEST_TEXT {
+        return Ok(TextId(0));
+    }
+    let id = world.heap.intern(bytes)?;
+    Ok(id)
+}
+
+/// Raises a fault, with its place before its text, which is paid for.
+pub fn raise(
+    world: &mut World,
+    budget: &mut Budget,
+    place: Place,
+    fault: Fault,
+) -> Result<SpecStep, NoMemory>
+    ensures means { IfOk result (λ step. (items : Items) →
+        Does items (raise place fault) world.old budget.old step world.new budget.new) }
+    ensures kept { OnOk result (KeepsStage world.old world.new) }
+{
+    let bytes = error_text(world.heap.allocator(), place, fault)?;
+    let bytes = bytes.bytes();
+    if !budget.pay(text_units(bytes.len())) {
+        return Ok(Step::Spent);
+    }
+    let id = text(world, bytes)?;
+    Ok(Step::Return(End::Raised(Value::Text(id), place)))
+}
