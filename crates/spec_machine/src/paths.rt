@@ -157,7 +157,8 @@ fn first_name<'a>(
     requires { ArePaths (items_of tree.now) slots.now }
     ensures means { IfOk result (λ step.
         Goes (items_of tree.now) frames.old.items
-        (models.named_value (binder (items_of tree.now) node) (name_at (items_of tree.now) node) (place_at (items_of tree.now) node) frame.entry.env
+        (models.named_value (binder (items_of tree.now) node) (name_at (items_of tree.now) node)
+        (place_at (items_of tree.now) node) frame.entry.env
         (λ object. waiting.with_value (items_of tree.now) (of_value.Path frame.entry) object))
         world.old budget.old frames.new.items step world.new budget.new) }
     ensures kept { OnOk result (KeepsStage world.old world.new) }

@@ -33,9 +33,11 @@ returns-in_ok-step-in-Some-clause-means c =
     moved items a.frames.now.items c.names.new.frames.items (expressions.named_value b name at f.env go)
     (Read (λ u. go (local_value u.heap f.env depth position))) w w c.names.new.world a.budget.now c.names.new.budget
     c.in_ok-step-in-Some.step (placing.local_is b depth position name at f.env go p) refl
-    (moved items a.frames.now.items c.names.new.frames.items (go (local_value w.heap f.env depth position)) (go c.local-object.result)
+    (moved items a.frames.now.items c.names.new.frames.items (go (local_value w.heap f.env depth position))
+    (go c.local-object.result)
     w w c.names.new.world a.budget.now c.names.new.budget c.in_ok-step-in-Some.step
-    (ap go (sym (c.local-object.ensures ∙ ap (λ (x : StageState). local_value x.heap f.env depth position) c.world.view_is))) refl c.in_ok-step-in-Some.ensures.means)
+    (ap go (sym (c.local-object.ensures ∙ ap (λ (x : StageState). local_value x.heap f.env depth position)
+    c.world.view_is))) refl c.in_ok-step-in-Some.ensures.means)
 
 pub returns-in_ok-step-in-None-clause-means : goal.returns-in_ok-step-in-None-clause-means
 returns-in_ok-step-in-None-clause-means c =
@@ -50,4 +52,5 @@ returns-in_ok-step-in-None-clause-means c =
     let p : None ≡ placing.path_of b = c.in-None.ensures ∙ ap placing.path_of (c.requires a.node) in
     moved items a.frames.now.items c.next_object.new.frames.items (expressions.named_value b name at f.env go)
     (plans.index (values.Table globals) name at go) w w c.next_object.new.world a.budget.now a.budget.now
-    c.in_ok-step-in-None.step (placing.global_is b name at f.env go p) refl (c.in_ok-step-in-None.ensures.means a.budget.now)
+    c.in_ok-step-in-None.step (placing.global_is b name at f.env go p) refl
+    (c.in_ok-step-in-None.ensures.means a.budget.now)

@@ -33,10 +33,13 @@ returns-in_ok-step-in-TerraType-clause-means c =
     let go : definitions.Go = waiting.path_end items f in
     let plan : Value → TextId → SpecPlan = λ v t. definitions.method_key t v at go in
     let step = c.in_ok-step-in-TerraType.step in
-    moved items fs fs2 (plans.with_text_of (name_at items a.node) (plan a.object)) (plans.with_text_of bytes (plan a.object)) w w w2 a.budget.now left2 step
+    moved items fs fs2 (plans.with_text_of (name_at items a.node) (plan a.object))
+    (plans.with_text_of bytes (plan a.object)) w w w2 a.budget.now left2 step
     (ap (λ (bs : List ℕ). plans.with_text_of bs (plan a.object)) (sym (c.as_bytes.ensures.value ∙ c.name.ensures))) refl
-    (gets {X = TextId} items fs fs2 (λ k. plans.with_text_of bytes k) (plan a.object) text w u w2 a.budget.now left2 step c.in_ok-text.ensures.means
-    (moved items fs fs2 (plan a.object text) (plan (values.TerraType c.in-TerraType.of) text) u u w2 a.budget.now left2 step
+    (gets {X = TextId} items fs fs2 (λ k. plans.with_text_of bytes k) (plan a.object) text w u w2 a.budget.now left2
+    step c.in_ok-text.ensures.means
+    (moved items fs fs2 (plan a.object text) (plan (values.TerraType c.in-TerraType.of) text) u u w2 a.budget.now
+    left2 step
     (ap (λ (v : Value). plan v text) c.in-TerraType.is) refl c.in_ok-step-in-TerraType.ensures.means))
 
 pub returns-in_ok-step-in_default-clause-means : goal.returns-in_ok-step-in_default-clause-means
@@ -56,18 +59,23 @@ returns-in_ok-step-in_default-clause-means c =
     let plan : Value → TextId → SpecPlan = λ v t. definitions.method_key t v at go in
     let refused : Place → _ → SpecPlan = λ p k. plans.raise p (faults.Index k) in
     let step = c.in_ok-step-in_default.step in
-    moved items fs fs (plans.with_text_of (name_at items a.node) (plan a.object)) (plans.with_text_of bytes (plan a.object)) w w w2 a.budget.now left2 step
+    moved items fs fs (plans.with_text_of (name_at items a.node) (plan a.object))
+    (plans.with_text_of bytes (plan a.object)) w w w2 a.budget.now left2 step
     (ap (λ (bs : List ℕ). plans.with_text_of bs (plan a.object)) (sym (c.as_bytes.ensures.value ∙ c.name.ensures))) refl
-    (gets {X = TextId} items fs fs (λ k. plans.with_text_of bytes k) (plan a.object) text w u w2 a.budget.now left2 step c.in_ok-text.ensures.means
+    (gets {X = TextId} items fs fs (λ k. plans.with_text_of bytes k) (plan a.object) text w u w2 a.budget.now left2
+    step c.in_ok-text.ensures.means
     (moved items fs fs (plan a.object text) (refused c.place.result c.kind.result) u u w2 a.budget.now left2 step
     (placing.no_struct text a.object at go c.in_default.not-TerraType
-    ∙ ap (λ (p : Place). refused p (kind_of a.object)) (sym c.place.ensures) ∙ ap (refused c.place.result) (sym c.kind.ensures)) refl
+    ∙ ap (λ (p : Place). refused p (kind_of a.object)) (sym c.place.ensures) ∙ ap (refused c.place.result)
+    (sym c.kind.ensures)) refl
     (c.in_ok-step-in_default.ensures.means items fs)))
 
 pub returns-in_ok-step-in-TerraType-clause-kept : goal.returns-in_ok-step-in-TerraType-clause-kept
 returns-in_ok-step-in-TerraType-clause-kept c =
-    keeps_then c.args.world.now c.text.new.world c.struct_key.new.world c.in_ok-text.ensures.kept c.in_ok-step-in-TerraType.ensures.kept
+    keeps_then c.args.world.now c.text.new.world c.struct_key.new.world c.in_ok-text.ensures.kept
+    c.in_ok-step-in-TerraType.ensures.kept
 
 pub returns-in_ok-step-in_default-clause-kept : goal.returns-in_ok-step-in_default-clause-kept
 returns-in_ok-step-in_default-clause-kept c =
-    keeps_then c.args.world.now c.text.new.world c.raise.new.world c.in_ok-text.ensures.kept c.in_ok-step-in_default.ensures.kept
+    keeps_then c.args.world.now c.text.new.world c.raise.new.world c.in_ok-text.ensures.kept
+    c.in_ok-step-in_default.ensures.kept

@@ -21,10 +21,13 @@ returns-in_ok-step-in-None-method-clause-means c =
     let fs = a.frames.now.items in
     let w = a.world.now in
     let go : definitions.Go = waiting.path_end items f in
-    let plan : List NodeId → Option NodeId → SpecPlan = λ ns m. definitions.steps items (is_any m) (ns ++ if_any m) a.object go in
+    let plan : List NodeId → Option NodeId → SpecPlan = λ ns m. definitions.steps items (is_any m) (ns ++ if_any m)
+    a.object go in
     let refused : Kind → SpecPlan = λ k. raise (record { line = 0; word = 0 }) (faults.Index k) in
-    moved items fs fs (plan f.rest.now f.method) (refused c.kind.result) w w c.raise.new.world a.budget.now c.raise.new.budget c.in_ok-step-in-None-method.step
-    (ap (λ (ns : List NodeId). plan ns f.method) (none_is f.rest.now c.in-None.ensures.cases) ∙ ap (λ (m : Option NodeId). plan [] m) c.in-None-method.is
+    moved items fs fs (plan f.rest.now f.method) (refused c.kind.result) w w c.raise.new.world a.budget.now
+    c.raise.new.budget c.in_ok-step-in-None-method.step
+    (ap (λ (ns : List NodeId). plan ns f.method) (none_is f.rest.now c.in-None.ensures.cases) ∙ ap
+    (λ (m : Option NodeId). plan [] m) c.in-None-method.is
     ∙ ap refused (sym c.kind.ensures)) refl
     (c.in_ok-step-in-None-method.ensures.means items fs)
 
@@ -36,12 +39,14 @@ returns-in_ok-step-in-Some-method-clause-means c =
     let fs = a.frames.now.items in
     let w = a.world.now in
     let go : definitions.Go = waiting.path_end items f in
-    let plan : List NodeId → Option NodeId → SpecPlan = λ ns m. definitions.steps items (is_any m) (ns ++ if_any m) a.object go in
+    let plan : List NodeId → Option NodeId → SpecPlan = λ ns m. definitions.steps items (is_any m) (ns ++ if_any m)
+    a.object go in
     let n = c.in-Some-method.last in
     moved items fs c.method_key.new.frames.items (plan f.rest.now f.method)
     (with_text_of (name_at items n) (λ name. definitions.method_key name a.object (place_at items n) go))
     w w c.method_key.new.world a.budget.now c.method_key.new.budget c.in_ok-step-in-Some-method.step
-    (ap (λ (ns : List NodeId). plan ns f.method) (none_is f.rest.now c.in-None.ensures.cases) ∙ ap (λ (m : Option NodeId). plan [] m) c.in-Some-method.is) refl
+    (ap (λ (ns : List NodeId). plan ns f.method) (none_is f.rest.now c.in-None.ensures.cases) ∙ ap
+    (λ (m : Option NodeId). plan [] m) c.in-Some-method.is) refl
     c.in_ok-step-in-Some-method.ensures.means
 
 pub returns-in_ok-step-in-Some-clause-means : goal.returns-in_ok-step-in-Some-clause-means
@@ -52,7 +57,8 @@ returns-in_ok-step-in-Some-clause-means c =
     let fs = a.frames.now.items in
     let w = a.world.now in
     let go : definitions.Go = waiting.path_end items f in
-    let plan : List NodeId → Option NodeId → SpecPlan = λ ns m. definitions.steps items (is_any m) (ns ++ if_any m) a.object go in
+    let plan : List NodeId → Option NodeId → SpecPlan = λ ns m. definitions.steps items (is_any m) (ns ++ if_any m)
+    a.object go in
     let n = c.in-Some.next.now in
     let rest = c.in-Some.rest.now in
     let last = sym c.is_last.ensures ∙ c.if-is_last.true in
@@ -60,7 +66,8 @@ returns-in_ok-step-in-Some-clause-means c =
     (with_text_of (name_at items n) (λ name. definitions.key name a.object (place_at items n) go))
     w w c.key.new.world a.budget.now c.key.new.budget c.in_ok-step-in-Some.step
     (ap (λ (ns : List NodeId). plan ns f.method) c.in-Some.ensures.cases.0
-    ∙ placing.steps_last items n rest f.method a.object go (placing.last_names rest f.method last) (placing.last_method rest f.method last)) refl
+    ∙ placing.steps_last items n rest f.method a.object go (placing.last_names rest f.method last)
+    (placing.last_method rest f.method last)) refl
     c.in_ok-step-in-Some.ensures.means
 
 pub returns-in_ok-step-in-Some-2-clause-means : goal.returns-in_ok-step-in-Some-2-clause-means
@@ -71,12 +78,15 @@ returns-in_ok-step-in-Some-2-clause-means c =
     let fs = a.frames.now.items in
     let w = a.world.now in
     let go : definitions.Go = waiting.path_end items f in
-    let plan : List NodeId → Option NodeId → SpecPlan = λ ns m. definitions.steps items (is_any m) (ns ++ if_any m) a.object go in
+    let plan : List NodeId → Option NodeId → SpecPlan = λ ns m. definitions.steps items (is_any m) (ns ++ if_any m)
+    a.object go in
     let n = c.in-Some.next.now in
     let rest = c.in-Some.rest.now in
     let more = placing.not_last rest f.method (sym c.is_last.ensures ∙ c.if-is_last.false) in
     moved items fs c.next_object.new.frames.items (plan f.rest.now f.method)
-    (index a.object (name_at items n) (place_at items n) (λ object. definitions.steps items (is_any f.method) (rest ++ if_any f.method) object go))
+    (index a.object (name_at items n) (place_at items n) (λ object. definitions.steps items (is_any f.method)
+    (rest ++ if_any f.method) object go))
     w w c.next_object.new.world a.budget.now a.budget.now c.in_ok-step-in-Some-2.step
-    (ap (λ (ns : List NodeId). plan ns f.method) c.in-Some.ensures.cases.0 ∙ placing.steps_more items n rest f.method a.object go more) refl
+    (ap (λ (ns : List NodeId). plan ns f.method) c.in-Some.ensures.cases.0 ∙ placing.steps_more items n rest f.method
+    a.object go more) refl
     (c.in_ok-step-in-Some-2.ensures.means a.budget.now)

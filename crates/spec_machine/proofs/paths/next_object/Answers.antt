@@ -26,11 +26,14 @@ returns-clause-means c = λ left.
     let v = c.text.new.world in
     let here = c.place.result in
     let at = place_at items a.node in
-    let ask : Place → TextId → SpecPlan = λ p t. AskFor (questions.Index a.object t p) (λ r. plans.on_value r (waiting.with_value items (of_value.Path f))) in
+    let ask : Place → TextId → SpecPlan = λ p t. AskFor (questions.Index a.object t p)
+    (λ r. plans.on_value r (waiting.with_value items (of_value.Path f))) in
     let q = questions.Index a.object text here in
-    moved items fs pushed (plans.with_text_of (name_at items a.node) (ask at)) (plans.with_text_of bytes (ask here)) a.world.now a.world.now v left left
+    moved items fs pushed (plans.with_text_of (name_at items a.node) (ask at)) (plans.with_text_of bytes (ask here))
+    a.world.now a.world.now v left left
     (Stop q)
     (ap (λ (bs : List ℕ). plans.with_text_of bs (ask at)) (sym (c.as_bytes.ensures.value ∙ c.name.ensures))
     ∙ ap (λ (p : Place). plans.with_text_of bytes (ask p)) (sym c.place.ensures)) refl
-    (gets {X = TextId} items fs pushed (λ k. plans.with_text_of bytes k) (ask here) text a.world.now v v left left (Stop q)
+    (gets {X = TextId} items fs pushed (λ k. plans.with_text_of bytes k) (ask here) text a.world.now v v left left
+    (Stop q)
     c.in_ok-text.ensures.means (asks_value items fs pushed (of_value.Path f) q v left c.in_ok-push.ensures.items))

@@ -30,12 +30,16 @@ returns-in_ok-step-in-Some-clause-means c =
     let position = c.in-Some.position in
     let p : Some (depth, position) ≡ placing.path_of b = c.in-Some.ensures ∙ ap placing.path_of (c.requires a.node) in
     let at : CellId → SpecPlan = λ cell. go (targets.Cell cell) None in
-    moved items a.frames.now.items c.at_target.new.frames.items (definitions.only_name b (name_at items a.node) f.env go)
-    (Read (λ u. at (local_cell u.heap f.env depth position))) w w c.at_target.new.world a.budget.now c.at_target.new.budget
+    moved items a.frames.now.items c.at_target.new.frames.items
+    (definitions.only_name b (name_at items a.node) f.env go)
+    (Read (λ u. at (local_cell u.heap f.env depth position))) w w c.at_target.new.world a.budget.now
+    c.at_target.new.budget
     c.in_ok-step-in-Some.step (placing.only_local b depth position (name_at items a.node) f.env go p) refl
-    (moved items a.frames.now.items c.at_target.new.frames.items (at (local_cell w.heap f.env depth position)) (at c.local_cell-cell.result)
+    (moved items a.frames.now.items c.at_target.new.frames.items (at (local_cell w.heap f.env depth position))
+    (at c.local_cell-cell.result)
     w w c.at_target.new.world a.budget.now c.at_target.new.budget c.in_ok-step-in-Some.step
-    (ap at (sym (c.local_cell-cell.ensures ∙ ap (λ (x : StageState). local_cell x.heap f.env depth position) c.world.view_is))) refl c.in_ok-step-in-Some.ensures.means)
+    (ap at (sym (c.local_cell-cell.ensures ∙ ap (λ (x : StageState). local_cell x.heap f.env depth position)
+    c.world.view_is))) refl c.in_ok-step-in-Some.ensures.means)
 
 pub returns-in_ok-step-in-None-clause-means : goal.returns-in_ok-step-in-None-clause-means
 returns-in_ok-step-in-None-clause-means c =
@@ -56,9 +60,11 @@ returns-in_ok-step-in-None-clause-means c =
     w w w2 a.budget.now left2 c.in_ok-step-in-None.step
     (placing.only_global b (name_at items a.node) f.env go p
     ∙ ap (λ (bs : List ℕ). plans.with_text_of bs key) (sym (c.as_bytes.ensures.value ∙ c.name.ensures))) refl
-    (gets {X = TextId} items fs fs2 (λ k. plans.with_text_of bytes k) key c.in_ok-text-in-None.text w c.text.new.world w2 a.budget.now left2
+    (gets {X = TextId} items fs fs2 (λ k. plans.with_text_of bytes k) key c.in_ok-text-in-None.text w c.text.new.world
+    w2 a.budget.now left2
     c.in_ok-step-in-None.step c.in_ok-text-in-None.ensures.means c.in_ok-step-in-None.ensures.means)
 
 pub returns-in_ok-step-in-None-clause-kept : goal.returns-in_ok-step-in-None-clause-kept
 returns-in_ok-step-in-None-clause-kept c =
-    keeps_then c.args.world.now c.text.new.world c.at_target-in-None.new.world c.in_ok-text-in-None.ensures.kept c.in_ok-step-in-None.ensures.kept
+    keeps_then c.args.world.now c.text.new.world c.at_target-in-None.new.world c.in_ok-text-in-None.ensures.kept
+    c.in_ok-step-in-None.ensures.kept

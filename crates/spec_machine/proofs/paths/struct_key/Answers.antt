@@ -26,9 +26,12 @@ returns-in_ok-step-clause-means c =
     let there : TableId → SpecPlan = λ t. go (targets.Key t a.text) (Some a.of) in
     let missing : SpecPlan = plans.raise at (faults.Index TerraType) in
     chosen items fs c.at_target.new.frames.items (is_struct w a.of) true (there (tables_of w a.of).methods) missing
-    w c.at_target.new.world a.budget.now c.at_target.new.budget c.in_ok-step.step (sym c.is_struct.ensures ∙ c.if-is_struct.true)
-    (moved items fs c.at_target.new.frames.items (there (tables_of w a.of).methods) (there c.struct_tables.result.methods) w w c.at_target.new.world
-    a.budget.now c.at_target.new.budget c.in_ok-step.step (ap (λ (t : _). there t.methods) (sym c.struct_tables.ensures)) refl
+    w c.at_target.new.world a.budget.now c.at_target.new.budget c.in_ok-step.step
+    (sym c.is_struct.ensures ∙ c.if-is_struct.true)
+    (moved items fs c.at_target.new.frames.items (there (tables_of w a.of).methods)
+    (there c.struct_tables.result.methods) w w c.at_target.new.world
+    a.budget.now c.at_target.new.budget c.in_ok-step.step (ap (λ (t : _). there t.methods)
+    (sym c.struct_tables.ensures)) refl
     c.in_ok-step.ensures.means)
 
 pub returns-in_ok-step-2-clause-means : goal.returns-in_ok-step-2-clause-means

@@ -17,7 +17,8 @@ returns-then-not-pay-clause-means c =
     let items = items_of a.tree.now in
     let go : definitions.Go = λ t struct. waiting.with_target items a.then a.at a.env t struct in
     let p : SpecPlan = definitions.targeted items (path_at items a.path) (names_method items a.path) a.env go in
-    unpaid_step items a.frames.now.items 1 p a.world.now a.budget.now c.pay.new.self c.if-not-pay.ensures.short c.if-not-pay.ensures.refused
+    unpaid_step items a.frames.now.items 1 p a.world.now a.budget.now c.pay.new.self c.if-not-pay.ensures.short
+    c.if-not-pay.ensures.refused
 
 pub returns-clause-means : goal.returns-clause-means
 returns-clause-means c =
@@ -31,11 +32,13 @@ returns-clause-means c =
     let ns = c.path_names.result.now in
     let m = c.path_method.result in
     let go : definitions.Go = λ t struct. waiting.with_target items a.then a.at a.env t struct in
-    let plan : List NodeId → Option NodeId → SpecPlan = λ l o. definitions.targeted items (l ++ if_any o) (is_any o) a.env go in
+    let plan : List NodeId → Option NodeId → SpecPlan = λ l o. definitions.targeted items (l ++ if_any o) (is_any o)
+    a.env go in
     let names = path_names_at items a.path in
     let method = path_method_of (item_at items a.path) in
     pays items fs fs2 1 (plan names method) a.world.now w2 a.budget.now left left2 c.in_ok-step.step
     (grind (arith, c.if-not-pay.ensures.enough)) c.if-not-pay.ensures.paid
     (moved items fs fs2 (plan names method) (plan ns m) a.world.now a.world.now w2 left left2 c.in_ok-step.step
-    (ap (λ (l : List NodeId). plan l method) (sym c.path_names.ensures) ∙ ap (λ (o : Option NodeId). plan ns o) (sym c.path_method.ensures)) refl
+    (ap (λ (l : List NodeId). plan l method) (sym c.path_names.ensures) ∙ ap (λ (o : Option NodeId). plan ns o)
+    (sym c.path_method.ensures)) refl
     c.in_ok-step.ensures.means)

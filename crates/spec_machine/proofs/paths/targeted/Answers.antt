@@ -23,12 +23,15 @@ returns-in-None-method c =
     let items = items_of a.tree.now in
     let fs = a.frames.now.items in
     let go : definitions.Go = waiting.path_end items f in
-    let plan : List NodeId → Option NodeId → SpecPlan = λ ns m. definitions.targeted items (ns ++ if_any m) (is_any m) f.env go in
+    let plan : List NodeId → Option NodeId → SpecPlan = λ ns m. definitions.targeted items (ns ++ if_any m) (is_any m)
+    f.env go in
     record {
       means =
-          moved items fs fs (plan f.rest.now f.method) definitions.over a.world.now a.world.now a.world.now a.budget.now a.budget.now
+          moved items fs fs (plan f.rest.now f.method) definitions.over a.world.now a.world.now a.world.now
+          a.budget.now a.budget.now
           (Return (ends.Gave values.Nil))
-          (ap (λ (ns : List NodeId). plan ns f.method) (none_is f.rest.now c.in-None.ensures.cases) ∙ ap (λ (m : Option NodeId). plan [] m) c.in-None-method.is) refl
+          (ap (λ (ns : List NodeId). plan ns f.method) (none_is f.rest.now c.in-None.ensures.cases) ∙ ap
+          (λ (m : Option NodeId). plan [] m) c.in-None-method.is) refl
           (returned items fs (ends.Gave values.Nil) a.world.now a.budget.now);
       kept = keeps_itself a.world.now;
     }
@@ -40,10 +43,13 @@ returns-in_ok-step-in-Some-method-clause-means c =
     let items = items_of a.tree.now in
     let fs = a.frames.now.items in
     let go : definitions.Go = waiting.path_end items f in
-    let plan : List NodeId → Option NodeId → SpecPlan = λ ns m. definitions.targeted items (ns ++ if_any m) (is_any m) f.env go in
-    moved items fs c.only_name.new.frames.items (plan f.rest.now f.method) (definitions.only_name (binder items c.in-Some-method.first) (name_at items c.in-Some-method.first) f.env go)
+    let plan : List NodeId → Option NodeId → SpecPlan = λ ns m. definitions.targeted items (ns ++ if_any m) (is_any m)
+    f.env go in
+    moved items fs c.only_name.new.frames.items (plan f.rest.now f.method)
+    (definitions.only_name (binder items c.in-Some-method.first) (name_at items c.in-Some-method.first) f.env go)
     a.world.now a.world.now c.only_name.new.world a.budget.now c.only_name.new.budget c.in_ok-step-in-Some-method.step
-    (ap (λ (ns : List NodeId). plan ns f.method) (none_is f.rest.now c.in-None.ensures.cases) ∙ ap (λ (m : Option NodeId). plan [] m) c.in-Some-method.is) refl
+    (ap (λ (ns : List NodeId). plan ns f.method) (none_is f.rest.now c.in-None.ensures.cases) ∙ ap
+    (λ (m : Option NodeId). plan [] m) c.in-Some-method.is) refl
     c.in_ok-step-in-Some-method.ensures.means
 
 pub returns-in_ok-step-in-Some-clause-means : goal.returns-in_ok-step-in-Some-clause-means
@@ -53,15 +59,18 @@ returns-in_ok-step-in-Some-clause-means c =
     let items = items_of a.tree.now in
     let fs = a.frames.now.items in
     let go : definitions.Go = waiting.path_end items f in
-    let plan : List NodeId → Option NodeId → SpecPlan = λ ns m. definitions.targeted items (ns ++ if_any m) (is_any m) f.env go in
+    let plan : List NodeId → Option NodeId → SpecPlan = λ ns m. definitions.targeted items (ns ++ if_any m) (is_any m)
+    f.env go in
     let n = c.in-Some.first.now in
     let rest = c.in-Some.rest.now in
     let last = sym c.is_last.ensures ∙ c.if-is_last.true in
     let step = c.in_ok-step-in-Some.step in
-    moved items fs c.only_name-in-Some.new.frames.items (plan f.rest.now f.method) (definitions.only_name (binder items n) (name_at items n) f.env go)
-    a.world.now a.world.now c.only_name-in-Some.new.world a.budget.now c.only_name-in-Some.new.budget step
+    moved items fs c.only_name-then-is_last.new.frames.items (plan f.rest.now f.method)
+    (definitions.only_name (binder items n) (name_at items n) f.env go)
+    a.world.now a.world.now c.only_name-then-is_last.new.world a.budget.now c.only_name-then-is_last.new.budget step
     (ap (λ (ns : List NodeId). plan ns f.method) c.in-Some.ensures.cases.0
-    ∙ placing.targeted_only items n rest f.method f.env go (placing.last_names rest f.method last) (placing.last_method rest f.method last)) refl
+    ∙ placing.targeted_only items n rest f.method f.env go (placing.last_names rest f.method last)
+    (placing.last_method rest f.method last)) refl
     c.in_ok-step-in-Some.ensures.means
 
 pub returns-in_ok-step-in-Some-2-clause-means : goal.returns-in_ok-step-in-Some-2-clause-means
@@ -71,13 +80,16 @@ returns-in_ok-step-in-Some-2-clause-means c =
     let items = items_of a.tree.now in
     let fs = a.frames.now.items in
     let go : definitions.Go = waiting.path_end items f in
-    let plan : List NodeId → Option NodeId → SpecPlan = λ ns m. definitions.targeted items (ns ++ if_any m) (is_any m) f.env go in
+    let plan : List NodeId → Option NodeId → SpecPlan = λ ns m. definitions.targeted items (ns ++ if_any m) (is_any m)
+    f.env go in
     let n = c.in-Some.first.now in
     let rest = c.in-Some.rest.now in
     let more = placing.not_last rest f.method (sym c.is_last.ensures ∙ c.if-is_last.false) in
     let step = c.in_ok-step-in-Some-2.step in
     moved items fs c.first_name.new.frames.items (plan f.rest.now f.method)
-    (expressions.named_value (binder items n) (name_at items n) (place_at items n) f.env (λ object. definitions.steps items (is_any f.method) (rest ++ if_any f.method) object go))
+    (expressions.named_value (binder items n) (name_at items n) (place_at items n) f.env
+    (λ object. definitions.steps items (is_any f.method) (rest ++ if_any f.method) object go))
     a.world.now a.world.now c.first_name.new.world a.budget.now c.first_name.new.budget step
-    (ap (λ (ns : List NodeId). plan ns f.method) c.in-Some.ensures.cases.0 ∙ placing.targeted_more items n rest f.method f.env go more) refl
+    (ap (λ (ns : List NodeId). plan ns f.method) c.in-Some.ensures.cases.0 ∙ placing.targeted_more items n rest
+    f.method f.env go more) refl
     c.in_ok-step-in-Some-2.ensures.means
