@@ -1,62 +1,57 @@
 // A few functions of Terra's library.
 
+ghost use Rattle.std.specs.Prelude.{length, ◌≤◌};
+
+use crate::stack::{Answer, one_value};
 use exotype::World;
-use lua_model::LuaAnswer;
 use lua_table::LibCall;
-use lua_value::{LibFn, Number, Value, Values};
+use lua_value::{LibFn, Number, Primitive, Value};
 use std::alloc::Global;
 use tl_base::{NoMemory, TableId, TypeId};
 
-/// Names of types, with their numbers.
-const TYPES: [(&str, u64); 12] = [
-    ("int8", 0),
-    ("int16", 1),
-    ("int32", 2),
-    ("int64", 3),
-    ("uint8", 4),
-    ("uint16", 5),
-    ("uint32", 6),
-    ("uint64", 7),
-    ("bool", 8),
-    ("rawstring", 10),
-    ("int", 2),
-    ("uint", 6),
-];
+/// The table of globals.
+const GLOBALS: TableId = TableId(0);
+
+/// The type of what has no value.
+const UNIT: TypeId = TypeId(9);
 
 /// Puts Terra's names into the globals.
 pub fn name_globals(world: &mut World) -> Result<(), NoMemory> {
-    for at in 0..12 {
-        let (name, number) = TYPES[at];
-        let key = world.heap.intern(name.as_bytes())?;
-        world.heap.store(
-            TableId(0),
-            Value::Text(key),
-            Value::TerraType(TypeId(number)),
-        )?;
-    }
-    let symbol = world.heap.intern(b"symbol")?;
-    world.heap.store(
-        TableId(0),
-        Value::Text(symbol),
-        Value::Library(LibFn::Symbol),
-    )?;
-    let sizes = world.heap.intern(b"sizeof")?;
-    world.heap.store(
-        TableId(0),
-        Value::Text(sizes),
-        Value::Library(LibFn::SizeOf),
-    )?;
-    let lib = world.heap.new_table()?;
-    let name = world.heap.intern(b"terralib")?;
-    world
-        .heap
-        .store(TableId(0), Value::Text(name), Value::Table(lib))?;
-    let byte = world.heap.intern(b"putbyte")?;
-    world.heap.store(
-        lib,
-        Value::Text(byte),
-        Value::Primitive(terra_term::Primitive::PutByte),
+    name_types(world)?;
+    name(world, GLOBALS, b"symbol", Value::Library(LibFn::Symbol))?;
+    name(world, GLOBALS, b"sizeof", Value::Library(LibFn::SizeOf))?;
+    let library = world.heap.new_table()?;
+    name(world, GLOBALS, b"terralib", Value::Table(library))?;
+    name(world, library, b"sizeof", Value::Library(LibFn::SizeOf))?;
+    name(
+        world,
+        library,
+        b"putbyte",
+        Value::Primitive(Primitive::PutByte),
     )
+}
+
+/// Puts the names of types into the globals.
+fn name_types(world: &mut World) -> Result<(), NoMemory> {
+    name(world, GLOBALS, b"int8", Value::TerraType(TypeId(0)))?;
+    name(world, GLOBALS, b"int16", Value::TerraType(TypeId(1)))?;
+    name(world, GLOBALS, b"int32", Value::TerraType(TypeId(2)))?;
+    name(world, GLOBALS, b"int64", Value::TerraType(TypeId(3)))?;
+    name(world, GLOBALS, b"uint8", Value::TerraType(TypeId(4)))?;
+    name(world, GLOBALS, b"uint16", Value::TerraType(TypeId(5)))?;
+    name(world, GLOBALS, b"uint32", Value::TerraType(TypeId(6)))?;
+    name(world, GLOBALS, b"uint64", Value::TerraType(TypeId(7)))?;
+    name(world, GLOBALS, b"bool", Value::TerraType(TypeId(8)))?;
+    name(world, GLOBALS, b"rawstring", Value::TerraType(TypeId(10)))?;
+    name(world, GLOBALS, b"int", Value::TerraType(TypeId(2)))?;
+    name(world, GLOBALS, b"uint", Value::TerraType(TypeId(6)))
+}
+
+fn name(world: &mut World, table: TableId, key: &[u8], value: Value) -> Result<(), NoMemory>
+    requires { length key.now ≤ 65535 }
+{
+    let key = world.heap.intern(key)?;
+    world.heap.store(table, Value::Text(key), value)
 }
 
 fn argument(call: &LibCall, at: usize) -> Value {
@@ -66,111 +61,20 @@ fn argument(call: &LibCall, at: usize) -> Value {
     }
 }
 
-fn gives(alloc: Global, value: Value) -> Result<Option<LuaAnswer>, NoMemory> {
-    let mut values = Values::new(alloc);
-    values.push(value)?;
-    Ok(Some(LuaAnswer::Values(values)))
-}
-
-/// The types of a value: of a type, or of a table of types.
-fn types_of(world: &World, value: Value, types: &mut Vec<TypeId>) -> Result<(), NoMemory> {
-    match value {
-        Value::TerraType(of) => types.push(of)?,
-        Value::Table(table) => {
-            for at in 0..world.heap.border(table) {
-                if let Some(number) = Number::new(at as i64 + 1) {
-                    if let Value::TerraType(of) = world.heap.get(table, Value::Number(number)) {
-                        types.push(of)?;
-                    }
-                }
-            }
-        }
-        _ => {}
-    }
-    Ok(())
-}
-
-/// What a field of a Terra value is.
-fn field(world: &mut World, object: Value, key: Value) -> Value {
-    let Value::Text(text) = key else {
-        return Value::Nil;
-    };
-    let name = world.heap.text(text);
-    match object {
-        Value::Symbol(symbol) => match world.store.symbol(symbol) {
-            Some(symbol) => match symbol.of {
-                Some(of) => Value::TerraType(of),
-                None => Value::Nil,
-            },
-            None => Value::Nil,
-        },
-        Value::TerraType(of) if world.is_struct(of) => {
-            let tables = world.struct_tables(of);
-            if name == b"methods".as_slice() {
-                Value::Table(tables.methods)
-            } else if name == b"entries".as_slice() {
-                Value::Table(tables.entries)
-            } else if name == b"metamethods".as_slice() {
-                Value::Table(tables.metamethods)
-            } else {
-                Value::Nil
-            }
-        }
-        _ => Value::Nil,
-    }
-}
-
-/// A call of one of these functions.
+/// What one of these functions answers; nothing for a function of Lua's library.
 pub fn call_terra(
     alloc: Global,
     world: &mut World,
     call: &LibCall,
-) -> Result<Option<LuaAnswer>, NoMemory> {
+) -> Result<Option<Answer>, NoMemory> {
     let (first, second) = (argument(call, 0), argument(call, 1));
-    match call.function {
-        LibFn::Symbol => {
-            let of = match first {
-                Value::TerraType(of) => Some(of),
-                _ => None,
-            };
-            let symbol = world.store.new_symbol(of)?;
-            gives(alloc, Value::Symbol(symbol))
-        }
-        LibFn::Field => {
-            let value = field(world, first, second);
-            gives(alloc, value)
-        }
-        LibFn::PointerType => match first {
-            Value::TerraType(of) => {
-                let of = world.pointer_to(of)?;
-                gives(alloc, Value::TerraType(of))
-            }
-            _ => gives(alloc, Value::Nil),
-        },
-        LibFn::ArrayType => match (first, second) {
-            (Value::TerraType(of), Value::Number(count)) => {
-                let count = if count.get() > 0 {
-                    count.get() as u64
-                } else {
-                    0
-                };
-                let of = world.array_of(of, count)?;
-                gives(alloc, Value::TerraType(of))
-            }
-            _ => gives(alloc, Value::Nil),
-        },
-        LibFn::FunctionType => {
-            let mut params = Vec::new(alloc);
-            types_of(world, first, &mut params)?;
-            let mut results = Vec::new(alloc);
-            types_of(world, second, &mut results)?;
-            let result = match results.first() {
-                Some(of) => *of,
-                None => TypeId(9),
-            };
-            let of = world.function_of(&params, result)?;
-            gives(alloc, Value::TerraType(of))
-        }
+    let value = match call.function {
+        LibFn::Symbol => new_symbol(world, first)?,
+        LibFn::Field => field(world, first, second),
+        LibFn::IsDefined => is_defined(world, first),
+        LibFn::PointerType => pointer_type(world, first)?,
+        LibFn::ArrayType => array_type(world, first, second)?,
+        LibFn::FunctionType => function_type(alloc, world, first, second)?,
         LibFn::Macro
         | LibFn::Constant
         | LibFn::Global
@@ -180,11 +84,124 @@ pub fn call_terra(
         | LibFn::Map
         | LibFn::NewStruct
         | LibFn::Pointer
-        | LibFn::Array
-        | LibFn::IsDefined => {
+        | LibFn::Array => {
             let text = world.heap.intern(b"not built")?;
-            Ok(Some(LuaAnswer::Raise(Value::Text(text), call.place)))
+            return Ok(Some(Answer::Raise(Value::Text(text), call.place)));
         }
-        _ => Ok(None),
+        _ => return Ok(None),
+    };
+    Ok(Some(one_value(alloc, value)?))
+}
+
+fn new_symbol(world: &mut World, of: Value) -> Result<Value, NoMemory> {
+    let of = match of {
+        Value::TerraType(of) => Some(of),
+        _ => None,
+    };
+    Ok(Value::Symbol(world.store.new_symbol(of)?))
+}
+
+/// What a field of a Terra value is.
+fn field(world: &World, object: Value, key: Value) -> Value {
+    let Value::Text(key) = key else {
+        return Value::Nil;
+    };
+    match object {
+        Value::Symbol(symbol) => match world.store.symbol(symbol) {
+            Some(symbol) => match symbol.of {
+                Some(of) => Value::TerraType(of),
+                None => Value::Nil,
+            },
+            None => Value::Nil,
+        },
+        Value::TerraType(of) => table_of(world, of, world.heap.text(key)),
+        Value::TerraFunction(_) if world.heap.text(key) == b"isdefined".as_slice() => {
+            Value::Library(LibFn::IsDefined)
+        }
+        _ => Value::Nil,
+    }
+}
+
+/// The table of a struct that has this name.
+fn table_of(world: &World, of: TypeId, name: &[u8]) -> Value {
+    if !world.is_struct(of) {
+        return Value::Nil;
+    }
+    let tables = world.struct_tables(of);
+    if name == b"methods".as_slice() {
+        return Value::Table(tables.methods);
+    }
+    if name == b"entries".as_slice() {
+        return Value::Table(tables.entries);
+    }
+    if name == b"metamethods".as_slice() {
+        return Value::Table(tables.metamethods);
+    }
+    Value::Nil
+}
+
+/// Whether a function has a term.
+fn is_defined(world: &World, f: Value) -> Value {
+    match f {
+        Value::TerraFunction(f) => Value::Boolean(world.store.state(f).term().is_some()),
+        _ => Value::Nil,
+    }
+}
+
+fn pointer_type(world: &mut World, of: Value) -> Result<Value, NoMemory> {
+    match of {
+        Value::TerraType(of) => Ok(Value::TerraType(world.pointer_to(of)?)),
+        _ => Ok(Value::Nil),
+    }
+}
+
+fn array_type(world: &mut World, of: Value, count: Value) -> Result<Value, NoMemory> {
+    match (of, count) {
+        (Value::TerraType(of), Value::Number(count)) => {
+            let count = count.get();
+            let count = if count > 0 { count as u64 } else { 0 };
+            Ok(Value::TerraType(world.array_of(of, count)?))
+        }
+        _ => Ok(Value::Nil),
+    }
+}
+
+fn function_type(
+    alloc: Global,
+    world: &mut World,
+    params: Value,
+    of: Value,
+) -> Result<Value, NoMemory> {
+    let params = types_of(alloc, world, params)?;
+    let of = match types_of(alloc, world, of)?.first() {
+        Some(of) => *of,
+        None => UNIT,
+    };
+    Ok(Value::TerraType(world.function_of(&params, of)?))
+}
+
+/// The types of a value: of a type, or of a table of types.
+fn types_of(alloc: Global, world: &World, value: Value) -> Result<Vec<TypeId>, NoMemory> {
+    let mut types = Vec::new(alloc);
+    match value {
+        Value::TerraType(of) => types.push(of)?,
+        Value::Table(table) => {
+            for at in 0..world.heap.border(table) {
+                if let Some(of) = type_at(world, table, at) {
+                    types.push(of)?;
+                }
+            }
+        }
+        _ => {}
+    }
+    Ok(types)
+}
+
+/// The type that stands in a table behind so many values.
+fn type_at(world: &World, table: TableId, behind: u64) -> Option<TypeId> {
+    let number = Number::new(i64::try_from(behind).ok()?.saturating_add(1))?;
+    match world.heap.get(table, Value::Number(number)) {
+        Value::TerraType(of) => Some(of),
+        _ => None,
     }
 }
