@@ -79,8 +79,8 @@ fn push_functions(out: &mut Text2, world: &World) -> Result<(), NoMemory> {
     Ok(())
 }
 
-/// Puts what a staging comes to behind other text: its functions, where it ends without an error; and a line with its end and
-/// the units that were paid.
+/// Puts what a staging comes to behind other text: its functions, where it ends without an error; and a line with its
+/// end and the units that were paid.
 fn push_end(
     alloc: Global,
     out: &mut Text2,

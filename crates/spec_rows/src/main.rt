@@ -1,9 +1,13 @@
-//! Stages the sources of standard input with Terra code in them, and writes what each prints, the functions that it defines, how it ends
-//! and the units that are left. Lua code and Terra code answer each other's questions by a loop of this program's own, over the functions
-//! of Lua's library and a few of Terra's.
+//! Stages the sources of standard input with Terra code in them, each with the units that its row gives, and writes
+//! what each prints, the functions that it defines, how it ends and the units that it paid. Lua code and Terra code
+//! answer each other's questions by a loop of this program's own, over the functions of Lua's library and a few of
+//! Terra's.
 //!
-//! A row is a line `== UNITS NAME` and the lines of its source. In a source, a line `%% COUNT PIECE` stands for the piece so many times,
-//! without a line end.
+//! A row is a line `== UNITS NAME` and the lines of its source. In a source, a line `%% COUNT PIECE` stands for the
+//! piece so many times, without a line end. Each source stands twice: with the units that it pays, and with one
+//! less, which is spent where the last payment is due. What is wanted, with its units, was worked out by an
+//! evaluator that shares no code with this one; it shows exported functions alone, and the texts of the others were
+//! written by the rules of specialisation.
 #![tactic(auto)]
 
 mod answers;
