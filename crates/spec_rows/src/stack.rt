@@ -258,7 +258,7 @@ pub fn run(
             }
             Came::Ends(answer) => match below.pop() {
                 Some(asking) => came = go_on(alloc, world, budget, asking, answer)?,
-                None => return Ok(ended(answer)),
+                None => return Ok(end_of(answer)),
             },
             Came::Spent => return Ok(Ended::Spent),
         }
@@ -266,7 +266,7 @@ pub fn run(
     Err(NoMemory)
 }
 
-fn ended(answer: Answer) -> Ended {
+fn end_of(answer: Answer) -> Ended {
     match answer {
         Answer::Raise(value, place) => Ended::Raised(value, place),
         Answer::Values(_) => Ended::Done,
