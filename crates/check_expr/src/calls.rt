@@ -1,0 +1,479 @@
+// Calls: of functions, primitives, macros, types and `sizeof`, and of typed values.
+
+ghost use Rattle.std.specs.Prelude.{◌≡◌, ℕ, List, [], ◌∷◌, ◌++◌, false, IfOk, OnOk};
+ghost use Rattle.check_model.specs.Calls as models;
+ghost use Rattle.check_model.specs.Plans as plans;
+ghost use Rattle.check_model.specs.Converting as converting;
+ghost use Rattle.check_model.specs.Typing.{TypingState, expression_at, function_at};
+ghost use Rattle.check_expr.specs.Callees.{callee_in, named_plan, ready_if, only_of};
+ghost use Rattle.check_expr.specs.Frames.{operands_from, on_answer, called_with};
+ghost use Rattle.check_expr.specs.Keeping.{KeepsTyping};
+ghost use Rattle.check_expr.specs.Steps.{Goes, Does};
+
+use crate::converting::{convert, fit};
+use crate::frame::{BodyFrame, CallFrame, LaidThen, MadeFrame, Target};
+use crate::known::{parameter_types, result_type};
+use crate::layouts::lay_out;
+use crate::nodes::{gives, refuse, without_lua};
+use crate::reading::{metamethod, place_of};
+use crate::step::{BodyStep, Node};
+use check_model::row::{Rest, Row, term_list};
+use check_model::{
+    BodyJob, BodyQuestion, CheckAnswer, KnownResult, Made, Mode, Operand, OperandList, PartEnd,
+    Site, Typing,
+};
+use exotype::World;
+use lua_value::Primitive;
+use terra_term::{Expression, Operation, RefusalKind, Term, TypedExpression};
+use tl_base::{Budget, FnId, NoMemory, Place, Step, TermId, TypeId};
+
+/// The types that primitives name, which are there from the begin.
+const INT64: TypeId = TypeId(3);
+
+const UINT8: TypeId = TypeId(4);
+
+const UNIT: TypeId = TypeId(9);
+
+/// What is called without being typed.
+#[derive(Clone, Copy, Debug)]
+pub enum Callee {
+    Function(FnId),
+    Primitive(Primitive),
+    Macro,
+    Type(TypeId),
+    SizeOf,
+    /// Anything else, which is typed and then called.
+    Value,
+}
+
+/// What a term is as a callee.
+pub fn callee_of(world: &World, term: TermId) -> Callee
+    ensures { result ≡ callee_in (expression_at world.now term) }
+{
+    match world.store.term(term) {
+        Some(Term::Expression(_, expression)) => match expression {
+            Expression::Function(f) => Callee::Function(*f),
+            Expression::Primitive(primitive) => Callee::Primitive(*primitive),
+            Expression::Macro(_) => Callee::Macro,
+            Expression::Type(of) => Callee::Type(*of),
+            Expression::SizeOf => Callee::SizeOf,
+            _ => Callee::Value,
+        },
+        _ => Callee::Value,
+    }
+}
+
+/// Calls what is called without being typed.
+pub fn call_named(
+    frames: &mut Vec<BodyFrame>,
+    typing: &mut Typing,
+    budget: &mut Budget,
+    callee: Callee,
+    operands: Rest<Operand>,
+    fitting: bool,
+    node: Node,
+) -> Result<BodyStep, NoMemory>
+    ensures means { IfOk result (λ step.
+        Goes frames.old.items (named_plan callee typing.old.stage operands node.at fitting node.source node.site)
+        typing.old budget.old frames.new.items step typing.new budget.new) }
+    ensures kept { OnOk result (KeepsTyping typing.old typing.new) }
+{
+    match callee {
+        Callee::Function(f) => call_function(frames, typing, f, operands, fitting, node),
+        Callee::Primitive(primitive) => {
+            call_primitive(frames, typing, primitive, operands, fitting, node)
+        }
+        Callee::Macro => macro_operands(frames, operands, node.at, node.site),
+        Callee::Type(of) => cast(frames, typing, of, operands, node),
+        Callee::SizeOf => call_size(frames, typing, budget, operands, node),
+        Callee::Value => Ok(refuse(RefusalKind::NotCallable, node.at, node.site)),
+    }
+}
+
+/// Calls a function: the number of arguments comes first, then the result type, then the arguments.
+fn call_function(
+    frames: &mut Vec<BodyFrame>,
+    typing: &mut Typing,
+    f: FnId,
+    operands: Rest<Operand>,
+    fitting: bool,
+    node: Node,
+) -> Result<BodyStep, NoMemory>
+    ensures means { IfOk result (λ step. (left : ℕ) →
+        Goes frames.old.items
+        (models.call_function typing.old.stage f (function_at typing.old.stage f) operands node.at fitting node.source node.site)
+        typing.old left frames.new.items step typing.new left) }
+    ensures kept { OnOk result (KeepsTyping typing.old typing.new) }
+{
+    match parameter_types(&typing.world, f)? {
+        None => Ok(refuse(RefusalKind::Undefined, node.at, node.site)),
+        Some(types) => {
+            if operands.len() != types.len() {
+                return Ok(refuse(RefusalKind::WrongCount, node.at, node.site));
+            }
+            let frame = CallFrame {
+                target: Target::Function(f),
+                operands,
+                types,
+                ids: Row::new(typing.world.store.allocator()),
+                fitting,
+                node,
+            };
+            by_result(frames, typing, f, frame)
+        }
+    }
+}
+
+/// Goes on with a call of a function by what is known of its result type.
+fn by_result(
+    frames: &mut Vec<BodyFrame>,
+    typing: &mut Typing,
+    f: FnId,
+    frame: CallFrame,
+) -> Result<BodyStep, NoMemory>
+    ensures means { IfOk result (λ step. (left : ℕ) →
+        Goes frames.old.items
+        (models.by_result (models.result_of typing.old.stage f) f frame.node.at frame.node.site
+        (λ of. operands_from frame frame.fitting frame.ids of))
+        typing.old left frames.new.items step typing.new left) }
+    ensures kept { OnOk result (KeepsTyping typing.old typing.new) }
+{
+    match result_type(&typing.world, f) {
+        KnownResult::Is(of) => operands_left(frames, typing, frame, of),
+        KnownResult::BeingTyped => Ok(refuse(
+            RefusalKind::RecursiveNeedsType,
+            frame.node.at,
+            frame.node.site,
+        )),
+        KnownResult::NotYet => {
+            frames.push(BodyFrame::Result(f, frame))?;
+            Ok(Step::Stop(BodyQuestion::ResultOf(f)))
+        }
+    }
+}
+
+/// Goes on with a call, given how the asking for the function's result type ended.
+pub fn after_result(
+    frames: &mut Vec<BodyFrame>,
+    typing: &mut Typing,
+    frame: CallFrame,
+    end: PartEnd,
+) -> Result<BodyStep, NoMemory>
+    ensures means { IfOk result (λ step. (left : ℕ) →
+        Goes frames.old.items
+        (on_answer end (λ a. models.on_result a frame.node.at frame.node.site
+        (λ of. operands_from frame frame.fitting frame.ids of)))
+        typing.old left frames.new.items step typing.new left) }
+    ensures kept { OnOk result (KeepsTyping typing.old typing.new) }
+{
+    match end {
+        PartEnd::Answered(CheckAnswer::Result(of)) => operands_left(frames, typing, frame, of),
+        PartEnd::Answered(CheckAnswer::Refused(refusal)) => {
+            Ok(Step::Return(PartEnd::Refused(refusal)))
+        }
+        PartEnd::Answered(_) => {
+            Ok(refuse(RefusalKind::Undefined, frame.node.at, frame.node.site))
+        }
+        end => Ok(Step::Return(end)),
+    }
+}
+
+/// Types and converts the operands that are left, and calls.
+pub fn operands_left(
+    frames: &mut Vec<BodyFrame>,
+    typing: &mut Typing,
+    frame: CallFrame,
+    of: TypeId,
+) -> Result<BodyStep, NoMemory>
+    ensures means { IfOk result (λ step. (left : ℕ) →
+        Goes frames.old.items (operands_from frame frame.fitting frame.ids of)
+        typing.old left frames.new.items step typing.new left) }
+    ensures kept { OnOk result (KeepsTyping typing.old typing.new) }
+{
+    let mut frame = frame;
+    match frame.operands.take() {
+        None => call(typing, frame, of),
+        Some(operand) => match frame.types.take() {
+            None => call(typing, frame, of),
+            Some(parameter) => match operand {
+                Operand::Untyped(term) => {
+                    let site = frame.node.site;
+                    frames.push(BodyFrame::Made(MadeFrame::Argument(parameter, frame, of)))?;
+                    Ok(Step::Enter(BodyJob::Expression(term, site)))
+                }
+                Operand::Typed(made) => argument(frames, typing, parameter, frame, of, made),
+            },
+        },
+    }
+}
+
+/// Converts a typed operand to the type of its parameter; a receiver is made to fit.
+pub fn argument(
+    frames: &mut Vec<BodyFrame>,
+    typing: &mut Typing,
+    parameter: TypeId,
+    frame: CallFrame,
+    of: TypeId,
+    made: Made,
+) -> Result<BodyStep, NoMemory>
+    ensures means { IfOk result (λ step. (left : ℕ) →
+        Goes frames.old.items
+        (models.argument frame.fitting made parameter frame.node.at frame.node.site
+        (λ r. operands_from frame false (frame.ids ++ r.id ∷ []) of))
+        typing.old left frames.new.items step typing.new left) }
+    ensures kept { OnOk result (KeepsTyping typing.old typing.new) }
+{
+    let (fitting, node) = (frame.fitting, frame.node);
+    frames.push(BodyFrame::Made(MadeFrame::Fitted(frame, of)))?;
+    if fitting {
+        fit(frames, typing, made, parameter, node.at, node.site)
+    } else {
+        convert(frames, typing, Mode::Implicit, made, parameter, node.site)
+    }
+}
+
+/// Goes on with the operands behind one that is converted.
+pub fn fitted(
+    frames: &mut Vec<BodyFrame>,
+    typing: &mut Typing,
+    frame: CallFrame,
+    of: TypeId,
+    made: Made,
+) -> Result<BodyStep, NoMemory>
+    ensures means { IfOk result (λ step. (left : ℕ) →
+        Goes frames.old.items (operands_from frame false (frame.ids ++ made.id ∷ []) of)
+        typing.old left frames.new.items step typing.new left) }
+    ensures kept { OnOk result (KeepsTyping typing.old typing.new) }
+{
+    let mut frame = frame;
+    frame.ids.push(made.id)?;
+    frame.fitting = false;
+    operands_left(frames, typing, frame, of)
+}
+
+/// Makes a call, once its operands are converted.
+fn call(typing: &mut Typing, frame: CallFrame, of: TypeId) -> Result<BodyStep, NoMemory>
+    ensures means { IfOk result (λ step. (left : ℕ) →
+        Does (called_with frame of frame.ids) typing.old left step typing.new left) }
+    ensures kept { OnOk result (KeepsTyping typing.old typing.new) }
+{
+    let CallFrame {
+        target,
+        ids,
+        node,
+        ..
+    } = frame;
+    let operation = match target {
+        Target::Function(f) => Operation::Call(f),
+        Target::Primitive(primitive) => Operation::Primitive(primitive),
+    };
+    let form = TypedExpression::Operate(operation, term_list(ids)?);
+    gives(typing, node.source, node.at, of, form)
+}
+
+/// Calls a primitive.
+fn call_primitive(
+    frames: &mut Vec<BodyFrame>,
+    typing: &mut Typing,
+    primitive: Primitive,
+    operands: Rest<Operand>,
+    fitting: bool,
+    node: Node,
+) -> Result<BodyStep, NoMemory>
+    ensures means { IfOk result (λ step. (left : ℕ) →
+        Goes frames.old.items (models.call_primitive primitive operands node.at fitting node.source node.site)
+        typing.old left frames.new.items step typing.new left) }
+    ensures kept { OnOk result (KeepsTyping typing.old typing.new) }
+{
+    let mut types = Row::new(typing.world.store.allocator());
+    let of = match primitive {
+        Primitive::PutByte => {
+            types.push(UINT8)?;
+            UNIT
+        }
+        Primitive::Write => {
+            types.push(typing.world.pointer_to(UINT8)?)?;
+            types.push(INT64)?;
+            UNIT
+        }
+        Primitive::Alloc => {
+            types.push(INT64)?;
+            typing.world.pointer_to(UINT8)?
+        }
+    };
+    let types = types.into_rest();
+    if operands.len() != types.len() {
+        return Ok(refuse(RefusalKind::WrongCount, node.at, node.site));
+    }
+    let frame = CallFrame {
+        target: Target::Primitive(primitive),
+        operands,
+        types,
+        ids: Row::new(typing.world.store.allocator()),
+        fitting,
+        node,
+    };
+    operands_left(frames, typing, frame, of)
+}
+
+/// Types the operands of a macro; Lua isn't asked for it yet.
+pub fn macro_operands(
+    frames: &mut Vec<BodyFrame>,
+    operands: Rest<Operand>,
+    at: Place,
+    site: Site,
+) -> Result<BodyStep, NoMemory>
+    ensures means { IfOk result (λ step. (w : TypingState) (left : ℕ) →
+        Goes frames.old.items (plans.operands operands site (plans.refuse RefusalKind.NotBuilt at site))
+        w left frames.new.items step w left) }
+{
+    let mut operands = operands;
+    while let Some(operand) = operands.take() {
+        if let Operand::Untyped(term) = operand {
+            frames.push(BodyFrame::Made(MadeFrame::Operand(operands, at, site)))?;
+            return Ok(Step::Enter(BodyJob::Expression(term, site)));
+        }
+    }
+    Ok(refuse(RefusalKind::NotBuilt, at, site))
+}
+
+/// Converts the only operand to a type.
+fn cast(
+    frames: &mut Vec<BodyFrame>,
+    typing: &mut Typing,
+    to: TypeId,
+    operands: Rest<Operand>,
+    node: Node,
+) -> Result<BodyStep, NoMemory>
+    ensures means { IfOk result (λ step. (left : ℕ) →
+        Goes frames.old.items (models.cast to operands node.at node.source node.site)
+        typing.old left frames.new.items step typing.new left) }
+    ensures kept { OnOk result (KeepsTyping typing.old typing.new) }
+{
+    match only(operands) {
+        None => Ok(refuse(RefusalKind::WrongCount, node.at, node.site)),
+        Some(Operand::Untyped(term)) => {
+            frames.push(BodyFrame::Made(MadeFrame::Cast(to, node)))?;
+            Ok(Step::Enter(BodyJob::Expression(term, node.site)))
+        }
+        Some(Operand::Typed(made)) => cast_made(frames, typing, to, node, made),
+    }
+}
+
+/// The only operand, where there is one and no more.
+fn only(operands: Rest<Operand>) -> Option<Operand>
+    ensures { result ≡ only_of operands }
+{
+    let mut operands = operands;
+    if operands.len() == 1 {
+        operands.take()
+    } else {
+        None
+    }
+}
+
+/// Converts a typed expression to a type by a cast.
+pub fn cast_made(
+    frames: &mut Vec<BodyFrame>,
+    typing: &mut Typing,
+    to: TypeId,
+    node: Node,
+    made: Made,
+) -> Result<BodyStep, NoMemory>
+    ensures means { IfOk result (λ step. (left : ℕ) →
+        Goes frames.old.items
+        (converting.convert Mode.Explicit made to node.site (λ r. plans.give (record r { source = node.source })))
+        typing.old left frames.new.items step typing.new left) }
+    ensures kept { OnOk result (KeepsTyping typing.old typing.new) }
+{
+    frames.push(BodyFrame::Made(MadeFrame::Recast(node.source)))?;
+    convert(frames, typing, Mode::Explicit, made, to, node.site)
+}
+
+/// The size of the only operand, which is a type.
+fn call_size(
+    frames: &mut Vec<BodyFrame>,
+    typing: &mut Typing,
+    budget: &mut Budget,
+    operands: Rest<Operand>,
+    node: Node,
+) -> Result<BodyStep, NoMemory>
+    ensures means { IfOk result (λ step.
+        Goes frames.old.items (models.call_size operands node.at node.source node.site)
+        typing.old budget.old frames.new.items step typing.new budget.new) }
+    ensures kept { OnOk result (KeepsTyping typing.old typing.new) }
+{
+    match only(operands) {
+        None => Ok(refuse(RefusalKind::WrongCount, node.at, node.site)),
+        Some(Operand::Typed(made)) => Ok(refuse(RefusalKind::BadOperand, made.at, node.site)),
+        Some(Operand::Untyped(term)) => match callee_of(&typing.world, term) {
+            Callee::Type(of) => {
+                if !budget.pay(1) {
+                    return Ok(Step::Spent);
+                }
+                let then = LaidThen::Size(of, node);
+                lay_out(frames, typing, of, node.at, node.site, then)
+            }
+            _ => Ok(refuse(
+                RefusalKind::BadOperand,
+                place_of(&typing.world, term),
+                node.site,
+            )),
+        },
+    }
+}
+
+/// Calls the term that a method became: by its name, or as it is typed.
+pub fn call_term(
+    frames: &mut Vec<BodyFrame>,
+    typing: &mut Typing,
+    budget: &mut Budget,
+    term: TermId,
+    operands: Vec<Operand>,
+    fitting: bool,
+    node: Node,
+) -> Result<BodyStep, NoMemory>
+    ensures means { IfOk result (λ step.
+        Goes frames.old.items (models.call_term term operands.items node.at fitting node.source node.site)
+        typing.old budget.old frames.new.items step typing.new budget.new) }
+    ensures kept { OnOk result (KeepsTyping typing.old typing.new) }
+{
+    match callee_of(&typing.world, term) {
+        Callee::Value => {
+            let operands = OperandList::from_vec(operands);
+            Ok(Step::Enter(BodyJob::Callee(term, operands, node.at, node.source, node.site)))
+        }
+        callee => {
+            let operands = Rest::from_vec(operands);
+            call_named(frames, typing, budget, callee, operands, fitting, node)
+        }
+    }
+}
+
+/// Calls a typed expression: a struct by `__apply`, for which Lua isn't asked yet.
+pub fn call_value(typing: &Typing, made: Made, at: Place, site: Site) -> BodyStep
+    ensures means { (operands : List Operand) (source : TermId) (left : ℕ) →
+        Does (models.call_value made operands at source site) typing.now left result typing.now left }
+{
+    let handler = metamethod(&typing.world, made.of, b"__apply");
+    without_lua(handler, RefusalKind::NotCallable, at, site)
+}
+
+/// Operands that are yet to be typed.
+pub fn untyped(
+    typing: &Typing,
+    first: Option<Made>,
+    terms: Rest<TermId>,
+) -> Result<Vec<Operand>, NoMemory>
+    ensures { IfOk result (λ operands. operands.items ≡ ready_if first ++ plans.untyped terms) }
+{
+    let mut operands = Vec::new(typing.world.store.allocator());
+    if let Some(made) = first {
+        operands.push(Operand::Typed(made))?;
+    }
+    let mut terms = terms;
+    while let Some(term) = terms.take() {
+        operands.push(Operand::Untyped(term))?;
+    }
+    Ok(operands)
+}

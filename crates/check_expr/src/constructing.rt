@@ -1,0 +1,224 @@
+// Constructors.
+
+ghost use Rattle.std.specs.Prelude.{◌≡◌, ℕ, [], ◌∷◌, ◌++◌, length, slice_get, IfOk, OnOk};
+ghost use Rattle.terra_types.specs.Layouts.{entries_of};
+ghost use Rattle.check_model.specs.Converting as converting;
+ghost use Rattle.check_model.specs.Expressions as models;
+ghost use Rattle.check_expr.specs.Frames.{laid_then, values_from, initials_of};
+ghost use Rattle.check_expr.specs.Keeping.{KeepsTyping};
+ghost use Rattle.check_expr.specs.Steps.{Goes, Does};
+
+use crate::converting::convert;
+use crate::entries::entry_of;
+use crate::frame::{BodyFrame, InitialFrame, Initials, LaidThen, MadeFrame};
+use crate::layouts::lay_out;
+use crate::nodes::{gives, refuse};
+use crate::reading::{bytes, is_struct};
+use crate::step::{BodyStep, Node};
+use check_model::row::{Rest, Row, term_list};
+use check_model::{BodyJob, Made, Mode, Typing};
+use exotype::World;
+use terra_term::{OffsetList, Operation, RefusalKind, TypedExpression};
+use terra_types::{Laid, TypeForm};
+use tl_base::{NoMemory, Step, TermId, TextId, TypeId};
+
+/// The most bytes of a struct that is a value.
+const WIDEST: u64 = 128;
+
+/// Makes a struct of these values.
+pub fn new_struct(
+    frames: &mut Vec<BodyFrame>,
+    typing: &mut Typing,
+    of: TypeId,
+    values: Initials,
+    node: Node,
+) -> Result<BodyStep, NoMemory>
+    ensures means { IfOk result (λ step. (left : ℕ) →
+        Goes frames.old.items
+        (models.new_plan typing.old.stage of (initials_of values) node.at node.source node.site)
+        typing.old left frames.new.items step typing.new left) }
+    ensures kept { OnOk result (KeepsTyping typing.old typing.new) }
+{
+    if !is_struct(&typing.world, of) {
+        return Ok(refuse(RefusalKind::BadOperand, node.at, node.site));
+    }
+    let then = LaidThen::New(of, values, node);
+    lay_out(frames, typing, of, node.at, node.site, then)
+}
+
+/// Makes a struct whose layout is settled.
+pub fn construct(
+    frames: &mut Vec<BodyFrame>,
+    typing: &mut Typing,
+    of: TypeId,
+    values: Initials,
+    node: Node,
+) -> Result<BodyStep, NoMemory>
+    ensures means { IfOk result (λ step. (left : ℕ) →
+        Goes frames.old.items (laid_then (LaidThen.New of values node) node.site)
+        typing.old left frames.new.items step typing.new left) }
+    ensures kept { OnOk result (KeepsTyping typing.old typing.new) }
+{
+    if WIDEST < bytes(&typing.world, of) {
+        return Ok(refuse(RefusalKind::TooWide, node.at, node.site));
+    }
+    let Initials { names, values } = values;
+    let entries = match names {
+        None => {
+            if entry_count(&typing.world, of) < values.len() as u64 {
+                return Ok(refuse(RefusalKind::WrongCount, node.at, node.site));
+            }
+            entries_in_order(&typing.world, of, values.as_slice())?
+        }
+        Some(names) => entries_by_name(&typing.world, of, names)?,
+    };
+    let alloc = typing.world.store.allocator();
+    let frame = InitialFrame {
+        of,
+        entries,
+        values,
+        offsets: Row::new(alloc),
+        ids: Row::new(alloc),
+        node,
+    };
+    values_left(frames, typing, frame)
+}
+
+/// How many entries a struct has.
+fn entry_count(world: &World, of: TypeId) -> u64
+    ensures { result ≡ length (entries_of world.now.store.types of) }
+{
+    match world.store.types().form(of) {
+        Some(TypeForm::Struct(_, _, Some(layout))) => layout.entries.len(),
+        _ => 0,
+    }
+}
+
+/// The entry of a struct at a place.
+fn entry_at(world: &World, of: TypeId, place: u64) -> Option<Laid>
+    ensures { result ≡ slice_get (entries_of world.now.store.types of) place }
+{
+    match world.store.types().form(of) {
+        Some(TypeForm::Struct(_, _, Some(layout))) => layout.entries.get(place),
+        _ => None,
+    }
+}
+
+/// The first so many entries of a struct.
+fn entries_in_order(
+    world: &World,
+    of: TypeId,
+    values: &[TermId],
+) -> Result<Rest<Option<Laid>>, NoMemory>
+    ensures { IfOk result (λ entries. entries ≡ models.in_order (entries_of world.now.store.types of) values.now) }
+{
+    let mut entries = Row::new(world.store.allocator());
+    'entries: for place in 0..values.len() {
+        if let Some(laid) = entry_at(world, of, place as u64) {
+            entries.push(Some(laid))?;
+        }
+    }
+    Ok(entries.into_rest())
+}
+
+/// The entries of a struct under these names.
+fn entries_by_name(
+    world: &World,
+    of: TypeId,
+    names: Rest<TextId>,
+) -> Result<Rest<Option<Laid>>, NoMemory>
+    ensures { IfOk result (λ entries. entries ≡ models.by_name (entries_of world.now.store.types of) names) }
+{
+    let mut entries = Row::new(world.store.allocator());
+    let mut names = names;
+    while let Some(name) = names.take() {
+        entries.push(entry_of(world, of, name))?;
+    }
+    Ok(entries.into_rest())
+}
+
+/// Types and converts the values that are left, and makes the struct.
+pub fn values_left(
+    frames: &mut Vec<BodyFrame>,
+    typing: &mut Typing,
+    frame: InitialFrame,
+) -> Result<BodyStep, NoMemory>
+    ensures means { IfOk result (λ step. (left : ℕ) →
+        Goes frames.old.items (values_from frame frame.offsets frame.ids)
+        typing.old left frames.new.items step typing.new left) }
+    ensures kept { OnOk result (KeepsTyping typing.old typing.new) }
+{
+    let mut frame = frame;
+    match frame.entries.take() {
+        None => constructed(typing, frame),
+        Some(entry) => match frame.values.take() {
+            None => constructed(typing, frame),
+            Some(value) => match entry {
+                None => Ok(refuse(RefusalKind::NoField, frame.node.at, frame.node.site)),
+                Some(laid) => {
+                    let site = frame.node.site;
+                    frames.push(BodyFrame::Made(MadeFrame::Initial(laid, frame)))?;
+                    Ok(Step::Enter(BodyJob::Expression(value, site)))
+                }
+            },
+        },
+    }
+}
+
+/// Converts a typed value to the type of its entry.
+pub fn initial(
+    frames: &mut Vec<BodyFrame>,
+    typing: &mut Typing,
+    laid: Laid,
+    frame: InitialFrame,
+    made: Made,
+) -> Result<BodyStep, NoMemory>
+    ensures means { IfOk result (λ step. (left : ℕ) →
+        Goes frames.old.items
+        (converting.convert Mode.Implicit made laid.of frame.node.site
+        (λ r. values_from frame (frame.offsets ++ laid.offset ∷ []) (frame.ids ++ r.id ∷ [])))
+        typing.old left frames.new.items step typing.new left) }
+    ensures kept { OnOk result (KeepsTyping typing.old typing.new) }
+{
+    let site = frame.node.site;
+    frames.push(BodyFrame::Made(MadeFrame::Initialised(laid, frame)))?;
+    convert(frames, typing, Mode::Implicit, made, laid.of, site)
+}
+
+/// Goes on with the values behind one that is converted.
+pub fn initialised(
+    frames: &mut Vec<BodyFrame>,
+    typing: &mut Typing,
+    laid: Laid,
+    frame: InitialFrame,
+    made: Made,
+) -> Result<BodyStep, NoMemory>
+    ensures means { IfOk result (λ step. (left : ℕ) →
+        Goes frames.old.items (values_from frame (frame.offsets ++ laid.offset ∷ []) (frame.ids ++ made.id ∷ []))
+        typing.old left frames.new.items step typing.new left) }
+    ensures kept { OnOk result (KeepsTyping typing.old typing.new) }
+{
+    let mut frame = frame;
+    frame.offsets.push(laid.offset)?;
+    frame.ids.push(made.id)?;
+    values_left(frames, typing, frame)
+}
+
+/// Makes the struct, once its values are converted.
+fn constructed(typing: &mut Typing, frame: InitialFrame) -> Result<BodyStep, NoMemory>
+    ensures means { IfOk result (λ step. (left : ℕ) →
+        Does (models.constructed frame.of frame.node.at frame.node.source frame.offsets frame.ids)
+        typing.old left step typing.new left) }
+    ensures kept { OnOk result (KeepsTyping typing.old typing.new) }
+{
+    let InitialFrame {
+        of,
+        offsets,
+        ids,
+        node,
+        ..
+    } = frame;
+    let offsets = OffsetList::from_vec(offsets.into_vec())?;
+    let form = TypedExpression::Operate(Operation::Construct(offsets), term_list(ids)?);
+    gives(typing, node.source, node.at, of, form)
+}

@@ -1,0 +1,111 @@
+// Typed nodes, and the ends of plans.
+
+ghost use Rattle.std.specs.Prelude.{◌≡◌, ℕ, IfOk, OnOk};
+ghost use Rattle.terra_term.specs.Held.{next_typed};
+ghost use Rattle.terra_term.specs.declared.typed.Typed.TheVariants as typed_kinds;
+ghost use Rattle.check_model.specs.Plans as plans;
+ghost use Rattle.check_model.specs.Typing.{TypingState, is_place_form, made_of};
+ghost use Rattle.check_expr.specs.Callees as callees;
+ghost use Rattle.check_expr.specs.Keeping.{KeepsTyping};
+ghost use Rattle.check_expr.specs.Steps.{Does, with_node};
+
+use crate::step::BodyStep;
+use check_model::{Made, PartEnd, Site, Typing};
+use lua_value::Value;
+use terra_term::{Refusal, RefusalKind, Typed, TypedExpression, TypedStatement};
+use tl_base::{NoMemory, Place, Step, TermId, TypeId};
+
+/// Whether an expression is a place.
+fn is_place(form: &TypedExpression) -> bool
+    ensures { result ≡ is_place_form form.now }
+{
+    match form {
+        TypedExpression::Variable(_) => true,
+        TypedExpression::Global(_) => true,
+        TypedExpression::Dereference(_) => true,
+        TypedExpression::Select(_, _) => true,
+        TypedExpression::Follow(_, _) => true,
+        TypedExpression::Element(_, _) => true,
+        TypedExpression::Index(_, _) => true,
+        _ => false,
+    }
+}
+
+/// Makes a typed expression of a term.
+pub fn make(
+    typing: &mut Typing,
+    source: TermId,
+    at: Place,
+    of: TypeId,
+    form: TypedExpression,
+) -> Result<Made, NoMemory>
+    ensures made { IfOk result (λ made. made ≡ made_of (next_typed typing.old.stage.store) source at of form) }
+    ensures ok { OnOk result (typing.new ≡ with_node typing.old (typed_kinds.Expression at of form)) }
+    ensures kept { OnOk result (KeepsTyping typing.old typing.new) }
+{
+    let is_place = is_place(&form);
+    let id = typing
+        .world
+        .store
+        .new_typed(Typed::Expression(at, of, form))?;
+    Ok(Made {
+        id,
+        source,
+        at,
+        of,
+        is_place,
+    })
+}
+
+/// Makes a typed expression of a term, which is the end.
+pub fn gives(
+    typing: &mut Typing,
+    source: TermId,
+    at: Place,
+    of: TypeId,
+    form: TypedExpression,
+) -> Result<BodyStep, NoMemory>
+    ensures means { IfOk result (λ step. (left : ℕ) →
+        Does (plans.gives source at of form) typing.old left step typing.new left) }
+    ensures kept { OnOk result (KeepsTyping typing.old typing.new) }
+{
+    let made = make(typing, source, at, of, form)?;
+    Ok(Step::Return(PartEnd::Made(made)))
+}
+
+/// Makes a typed statement, which is the end.
+pub fn states(
+    typing: &mut Typing,
+    at: Place,
+    form: TypedStatement,
+    result_type: Option<TypeId>,
+) -> Result<BodyStep, NoMemory>
+    ensures means { IfOk result (λ step. (left : ℕ) →
+        Does (plans.states at form result_type) typing.old left step typing.new left) }
+    ensures kept { OnOk result (KeepsTyping typing.old typing.new) }
+{
+    let id = typing.world.store.new_typed(Typed::Statement(at, form))?;
+    Ok(Step::Return(PartEnd::Stated(id, result_type)))
+}
+
+/// The end that is this refusal.
+pub fn refuse(kind: RefusalKind, at: Place, site: Site) -> BodyStep
+    ensures means { (w : TypingState) (left : ℕ) → Does (plans.refuse kind at site) w left result w left }
+{
+    Step::Return(PartEnd::Refused(Refusal {
+        kind,
+        place: at,
+        function: site.function,
+    }))
+}
+
+/// The end where a rule wants a metamethod: this refusal where there is none. Lua isn't asked for it yet.
+pub fn without_lua(handler: Value, kind: RefusalKind, at: Place, site: Site) -> BodyStep
+    ensures means { (w : TypingState) (left : ℕ) → Does (callees.without_lua handler kind at site) w left result w left }
+{
+    if handler.is_nil() {
+        refuse(kind, at, site)
+    } else {
+        refuse(RefusalKind::NotBuilt, at, site)
+    }
+}
