@@ -3,12 +3,14 @@ use Rattle.std.proofs.Common.{◌≡◌, Bool, true, false, List, [], ◌∷◌,
 use Rattle.std.specs.Prelude.{if◌then◌else◌}
 use Rattle.tl_base.specs.declared.ids.TypeId.{TypeId}
 use Rattle.tl_base.specs.declared.place.Place.{Place}
-use Rattle.tl_base.specs.Layer.{State}
+use Rattle.tl_base.specs.Layer.{State, state}
 use Rattle.tl_base.specs.Plan.{then_do, run}
 use Rattle.terra_term.specs.declared.refusal.RefusalKind.TheVariants.{Mismatch, NotPlace, NotBuilt}
 use Rattle.terra_term.specs.declared.operators.Operation.TheVariants as operations
 use Rattle.terra_term.specs.declared.operators.Constant.TheVariants as constants
 use Rattle.terra_term.specs.declared.typed.TypedExpression.TheVariants as te
+use Rattle.terra_term.specs.declared.typed.Typed.TheVariants as typed_kinds
+use Rattle.terra_term.specs.Held.{next_typed}
 use Rattle.terra_term.specs.WellTyped.{pointer_form, points_in}
 use Rattle.terra_types.specs.Making.{same_type}
 use Rattle.lua_value.specs.declared.value.Value.{Value}
@@ -18,13 +20,16 @@ use Rattle.check_cast.specs.declared.conversion.Conv.TheVariants as conv
 use Rattle.exotype.specs.World.{StageState}
 use Rattle.check_model.specs.declared.job.BodyJob.{BodyJob}
 use Rattle.check_model.specs.declared.made.Made.{Made}
+use Rattle.check_model.specs.declared.end.PartEnd.{PartEnd}
 use Rattle.check_model.specs.declared.rule.Mode.{Mode}
+use Rattle.check_model.specs.declared.rule.Mode.TheVariants.{Implicit}
 use Rattle.check_model.specs.declared.site.Site.{Site}
-use Rattle.check_model.specs.Typing.{TypingState, form_in, is_nil_made}
+use Rattle.check_model.specs.Typing.{TypingState, form_in, is_nil_made, made_of}
 use Rattle.check_model.specs.Plans.{BodyPlan, give, refuse, make, as_value, on_made, reading}
 use Rattle.check_model.specs.Converting as converting
 use Rattle.check_model.specs.Converting.{convert, converted, by_conv, cast_to, conv_of, takes_type, is_same, fit}
 use Rattle.check_model.specs.Bodies.{BodyGiven}
+use Rattle.check_expr.specs.Steps.{with_node}
 use Rattle.check_model.proofs.Composing.{BodyCourse, IsWith, PassesRefused, going_on, going_on_passes, if_then, as_value_then}
 
 -- what a plan with something behind it does: the plan that only gives, and then what is behind it
@@ -71,3 +76,25 @@ pub convert_continues : (f : BodyJob → BodyCourse) (mode : Mode) (m : Made) (t
     → Continues f (convert mode m to site) go
 convert_continues f mode m to site go s l =
     converted_continues f (conv_of mode s.world.stage m.of to) s.world.stage m to site go s l
+
+-- a receiver that is made to fit
+pub fit_continues : (f : BodyJob → BodyCourse) (m : Made) (to : TypeId) (at : Place) (site : Site) (go : Made → BodyPlan)
+    → Continues f (fit m to at site) go
+fit_continues f m to at site go s l =
+    let k = λ (r : PartEnd). run f (on_made r go) in
+    let w = s.world.stage in
+    let addressed : (Made → BodyPlan) → BodyPlan =
+    λ k. if m.is_place then make m.source at to (te.Address m.id) k else refuse NotPlace m.at site in
+    let target : (Made → BodyPlan) → BodyPlan = λ k. make m.source at to (te.Dereference m.id) (λ r. as_value r site (k r)) in
+    let behind : (Made → BodyPlan) → BodyPlan =
+    λ k. if points_in (form_in w m.of) to then target k else convert Implicit m to site k in
+    let others : (Made → BodyPlan) → BodyPlan = λ k. if points_in (form_in w to) m.of then addressed k else behind k in
+    if_then f (same_type m.of to) (as_value m site (go m)) (others go) (as_value m site (give m)) (others give) k
+    (value_continues f m site go)
+    (if_then f (points_in (form_in w to) m.of) (addressed go) (behind go) (addressed give) (behind give) k
+    (if_then f m.is_place (make m.source at to (te.Address m.id) go) (refuse NotPlace m.at site)
+    (make m.source at to (te.Address m.id) give) (refuse NotPlace m.at site) k (λ t later. refl) (λ t later. refl))
+    (if_then f (points_in (form_in w m.of) to) (target go) (convert Implicit m to site go) (target give) (convert Implicit m to site give) k
+    (λ t later. value_continues f (made_of (next_typed t.world.stage.store) m.source at to (te.Dereference m.id)) site go
+    (state (with_node t.world (typed_kinds.Expression at to (te.Dereference m.id))) t.left) later)
+    (convert_continues f Implicit m to site go))) s l

@@ -1,5 +1,5 @@
 -- What a step does by itself: it returns an end, enters a job or asks, below a frame or with nothing to wait for it.
-use Rattle.std.proofs.Common.{◌≡◌, ℕ, ◌-◌, ◌≤◌, ◌<◌, Bool, true, false, List, [], ◌∷◌, ◌++◌, refl, sym, ap, ◌∙◌}
+use Rattle.std.proofs.Common.{◌≡◌, ℕ, ◌-◌, ◌≤◌, ◌<◌, Bool, true, false, List, [], ◌∷◌, ◌++◌, refl, sym, subst, ap, ◌∙◌}
 use Rattle.std.specs.Prelude.{if◌then◌else◌, Result, Ok, Err, IfOk}
 use Rattle.tl_base.specs.Layer.{State, state}
 use Rattle.tl_base.specs.declared.machine.Step.TheVariants.{Enter, Return, Stop, Spent}
@@ -17,7 +17,7 @@ use Rattle.check_model.specs.Bodies.{BodyGiven, body_job}
 use Rattle.check_model.proofs.Composing.{BodyCourse}
 use Rattle.check_expr.specs.declared.frame.BodyFrame.{BodyFrame}
 use Rattle.check_expr.specs.Frames.{after, body_rules, reply}
-use Rattle.check_expr.specs.Steps.{BodyStep, Goes}
+use Rattle.check_expr.specs.Steps.{BodyStep, Goes, Does}
 
 -- runs of jobs
 abbrev pub jobs : BodyJob → BodyCourse
@@ -98,7 +98,19 @@ pub lacks : (fs : List BodyFrame) (n : ℕ) (p : BodyPlan) (w : TypingState) (le
 lacks fs n p w left short = λ later.
     ap (plug body_rules fs) (paid-short n (state w left) (λ s. run jobs p s later) short)
 
--- what holds of the step that comes of a call, by what the call ensures of it
-pub mapped : {X E : Type 0} (P Q : X → Type 0) (r : Result X E) → ((x : X) → P x → Q x) → IfOk r P → IfOk r Q
-mapped {X} {E} P Q (Ok x) h p = h x p
-mapped {X} {E} P Q (Err e) h p = p
+-- what holds of the step that comes of a call, by what the call ensures of it. The fact comes first, so that it is known where what
+-- follows from it is read
+pub carried : {X E : Type 0} (P Q : X → Type 0) (r : Result X E) → IfOk r P → ((x : X) → P x → Q x) → IfOk r Q
+carried {X} {E} P Q (Ok x) p h = h x p
+carried {X} {E} P Q (Err e) p h = p
+
+-- a step over any frames, whose plan is known by an equation
+pub does_as : (fs : List BodyFrame) (p q : BodyPlan) (w w2 : TypingState) (left left2 : ℕ) (step : BodyStep)
+    → p ≡ q → Does q w left step w2 left2 → Goes fs p w left fs step w2 left2
+does_as fs p q w w2 left left2 step is does = moved fs fs p q w w w2 left left2 step is refl (does fs)
+
+-- a payment above what is left, where what is left stays
+pub unpaid : (fs : List BodyFrame) (n : ℕ) (p : BodyPlan) (w : TypingState) (left after : ℕ)
+    → left < n → after ≡ left → Goes fs (Pay n p) w left fs Spent w after
+unpaid fs n p w left after short same =
+    subst (λ (m : ℕ). Goes fs (Pay n p) w left fs Spent w m) (sym same) (lacks fs n p w left short)

@@ -1,71 +1,37 @@
--- What is kept by nothing, by one step and the next, and by a typed node more.
-use Rattle.std.proofs.Common.{◌≡◌, List, [], ◌∷◌, ◌++◌, refl, ◌∙◌}
-use Rattle.lua_table.proofs.Keeping.{front_self, front_then, front_more}
-use Rattle.terra_term.specs.declared.store.FunctionState.{FunctionState}
+-- What later worlds keep: with another store, and with a typed node more.
+use Rattle.std.proofs.Common.{◌≡◌, [], ◌∷◌, refl, sym, subst}
+use Rattle.lua_table.proofs.Keeping.{front_more}
 use Rattle.terra_term.specs.declared.typed.Typed.{Typed}
-use Rattle.terra_term.specs.Held.{Held, state_of, with_typed}
-use Rattle.terra_term.specs.Keeping.{Stays}
-use Rattle.terra_term.proofs.Staying.{stays-same}
+use Rattle.terra_term.specs.Held.{Held, with_typed}
 use Rattle.exotype.specs.World.{StageState, with_store}
 use Rattle.check_model.specs.Typing.{TypingState}
 use Rattle.check_expr.specs.Keeping.{KeepsTyping, KeepsStage, KeepsStore}
+use Rattle.check_expr.specs.Kept.{store_itself}
 use Rattle.check_expr.specs.Steps.{with_node}
 
-pub store_itself : (s : Held) → KeepsStore s s
-store_itself s = record {
-  functions = λ f. stays-same (state_of s f);
-  types = front_self s.types;
-  terms = front_self s.terms;
-  typed = front_self s.typed;
-  statics = front_self s.statics;
-  symbols = refl;
-  quotes = refl;
-  names = refl;
-  constants = refl;
-  globals = refl;
-}
-
-stays_then : (a b c : FunctionState) → Stays a b → Stays b c → Stays a c
-stays_then a b c f g = record {
-  term = λ t h. g.term t (f.term t h);
-  typed = λ t h. g.typed t (f.typed t h);
-  refusal = λ w h. g.refusal w (f.refusal w h);
-}
-
-pub store_then : (a b c : Held) → KeepsStore a b → KeepsStore b c → KeepsStore a c
-store_then a b c f g = record {
-  functions = λ x. stays_then (state_of a x) (state_of b x) (state_of c x) (f.functions x) (g.functions x);
-  types = front_then a.types b.types c.types f.types g.types;
-  terms = front_then a.terms b.terms c.terms f.terms g.terms;
-  typed = front_then a.typed b.typed c.typed f.typed g.typed;
-  statics = front_then a.statics b.statics c.statics f.statics g.statics;
-  symbols = g.symbols ∙ f.symbols;
-  quotes = g.quotes ∙ f.quotes;
-  names = g.names ∙ f.names;
-  constants = g.constants ∙ f.constants;
-  globals = g.globals ∙ f.globals;
-}
-
-pub stage_itself : (w : StageState) → KeepsStage w w
-stage_itself w = record { heap = refl; store = store_itself w.store; kept = refl; exports = refl; memory = refl }
-
-pub keeps_itself : (w : TypingState) → KeepsTyping w w
-keeps_itself w = stage_itself w.stage
-
-pub keeps_then : (u v w : TypingState) → KeepsTyping u v → KeepsTyping v w → KeepsTyping u w
-keeps_then u v w f g = record {
-  heap = g.heap ∙ f.heap;
-  store = store_then u.stage.store v.stage.store w.stage.store f.store g.store;
-  kept = g.kept ∙ f.kept;
-  exports = g.exports ∙ f.exports;
-  memory = g.memory ∙ f.memory;
-}
+-- a world that is another one, which is kept
+pub kept_as : (u v w : TypingState) → v ≡ w → KeepsTyping u w → KeepsTyping u v
+kept_as u v w is kept = subst (KeepsTyping u) (sym is) kept
 
 -- another store
 pub keeps_store : (w : StageState) (s : Held) → KeepsStore w.store s → KeepsStage w (with_store w s)
 keeps_store w s kept = record { heap = refl; store = kept; kept = refl; exports = refl; memory = refl }
 
+pub store_typed : (s : Held) (node : Typed) → KeepsStore s (with_typed s node)
+store_typed s node =
+    let same = store_itself s in
+    record {
+      functions = same.functions;
+      types = same.types;
+      terms = same.terms;
+      typed = front_more s.typed (node ∷ []);
+      statics = same.statics;
+      symbols = same.symbols;
+      quotes = same.quotes;
+      names = same.names;
+      constants = same.constants;
+      globals = same.globals;
+    }
+
 pub keeps_node : (w : TypingState) (node : Typed) → KeepsTyping w (with_node w node)
-keeps_node w node =
-    keeps_store w.stage (with_typed w.stage.store node)
-    (record (store_itself w.stage.store) { typed = front_more w.stage.store.typed (node ∷ []) })
+keeps_node w node = keeps_store w.stage (with_typed w.stage.store node) (store_typed w.stage.store node)

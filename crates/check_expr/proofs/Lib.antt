@@ -3,3 +3,15 @@ pub mod Keeping
 pub mod Doing
 pub mod Composing
 pub mod Making
+-- What is behind a conversion or a value.
+pub mod Behind
+-- Layouts.
+pub mod Laying
+-- Types that are made.
+pub mod Typing
+-- Lists that are made of others.
+pub mod Lists
+-- Values that became terms.
+pub mod Becoming
+-- Worlds of which a part is another.
+pub mod Worlds

@@ -12,5 +12,6 @@ pub mod Retyping
 pub mod Steps
 -- What later worlds keep of earlier ones.
 pub mod Keeping
+pub mod Kept
 -- What remains of what is suspended.
 pub mod Rest

@@ -5,7 +5,7 @@ use Rattle.tl_base.specs.declared.machine.Step.{Step}
 use Rattle.tl_base.specs.Machine.{GoesOn}
 use Rattle.terra_term.specs.declared.typed.Typed.{Typed}
 use Rattle.terra_term.specs.Held.{with_typed}
-use Rattle.exotype.specs.World.{with_store}
+use Rattle.exotype.specs.World.{StageState, with_store}
 use Rattle.check_model.specs.declared.job.BodyJob.{BodyJob}
 use Rattle.check_model.specs.declared.end.PartEnd.{PartEnd}
 use Rattle.check_model.specs.declared.question.BodyQuestion.{BodyQuestion}
@@ -25,6 +25,10 @@ Goes fs plan w left fs2 step w2 left2 = GoesOn body_rules fs plan (state w left)
 abbrev pub Does : BodyPlan → TypingState → ℕ → BodyStep → TypingState → ℕ → Type 0
 Does plan w left step w2 left2 = (fs : List BodyFrame) → Goes fs plan w left fs step w2 left2
 
+-- another world of the staging, with the same variables
+abbrev pub with_stage : TypingState → StageState → TypingState
+with_stage w stage = record w { stage = stage }
+
 -- a typed node more
 abbrev pub with_node : TypingState → Typed → TypingState
-with_node w node = record w { stage = with_store w.stage (with_typed w.stage.store node) }
+with_node w node = with_stage w (with_store w.stage (with_typed w.stage.store node))

@@ -41,7 +41,8 @@ pub fn assign(
         at,
         site,
     };
-    values_left(frames, typing, frame)
+    let step = values_left(frames, typing, frame)?;
+    Ok(step)
 }
 
 /// Types the values that are left, and then the targets.
@@ -77,7 +78,8 @@ fn values_left(
                 at,
                 site,
             };
-            targets_left(frames, typing, frame)
+            let step = targets_left(frames, typing, frame)?;
+            Ok(step)
         }
     }
 }
@@ -96,7 +98,8 @@ pub fn value(
 {
     let mut frame = frame;
     frame.made.push(made)?;
-    values_left(frames, typing, frame)
+    let step = values_left(frames, typing, frame)?;
+    Ok(step)
 }
 
 /// Types the targets that are left, and converts the values.
@@ -128,23 +131,24 @@ fn targets_left(
             let alloc = typing.world.store.allocator();
             let frame = AssignedFrame {
                 made: made.into_rest(),
-                targets: ids_of(alloc, &places)?,
+                targets: ids_of(alloc, places.as_slice())?,
                 places: places.into_rest(),
                 ids: Row::new(alloc),
                 at,
                 site,
             };
-            conversions_left(frames, typing, frame)
+            let step = conversions_left(frames, typing, frame)?;
+            Ok(step)
         }
     }
 }
 
 /// The nodes of typed expressions.
-fn ids_of(alloc: Global, made: &Row<Made>) -> Result<TermList, NoMemory>
+fn ids_of(alloc: Global, made: &[Made]) -> Result<TermList, NoMemory>
     ensures { IfOk result (λ list. list ≡ plans.ids_of made.now) }
 {
     let mut ids = Row::new(alloc);
-    'made: for one in made.as_slice() {
+    'made: for one in made {
         ids.push(one.id)?;
     }
     term_list(ids)
@@ -165,7 +169,8 @@ pub fn target(
     if made.is_place {
         let mut frame = frame;
         frame.places.push(made)?;
-        targets_left(frames, typing, frame)
+        let step = targets_left(frames, typing, frame)?;
+        Ok(step)
     } else {
         Ok(refuse(RefusalKind::NotPlace, made.at, frame.site))
     }
@@ -184,13 +189,20 @@ fn conversions_left(
 {
     let mut frame = frame;
     match frame.made.take() {
-        None => assigned(typing, frame),
+        None => {
+            let step = assigned(typing, frame)?;
+            Ok(step)
+        }
         Some(made) => match frame.places.take() {
-            None => assigned(typing, frame),
+            None => {
+                let step = assigned(typing, frame)?;
+                Ok(step)
+            }
             Some(place) => {
                 let site = frame.site;
                 frames.push(BodyFrame::Doing(DoingFrame::Assigned(frame)))?;
-                convert(frames, typing, Mode::Implicit, made, place.of, site)
+                let step = convert(frames, typing, Mode::Implicit, made, place.of, site)?;
+                Ok(step)
             }
         },
     }
@@ -210,7 +222,8 @@ pub fn converted(
 {
     let mut frame = frame;
     frame.ids.push(made.id)?;
-    conversions_left(frames, typing, frame)
+    let step = conversions_left(frames, typing, frame)?;
+    Ok(step)
 }
 
 /// Makes the assignment.
@@ -227,5 +240,6 @@ fn assigned(typing: &mut Typing, frame: AssignedFrame) -> Result<BodyStep, NoMem
         ..
     } = frame;
     let form = TypedStatement::Assign(targets, term_list(ids)?);
-    states(typing, at, form, site.result)
+    let step = states(typing, at, form, site.result)?;
+    Ok(step)
 }

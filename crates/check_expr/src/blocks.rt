@@ -38,10 +38,12 @@ pub fn block(
         then,
         site,
     };
-    statements_left(frames, typing, frame)
+    let step = statements_left(frames, typing, frame)?;
+    Ok(step)
 }
 
 /// Types the statements of a block that are left.
+#[tactic(auto, using(tl_base::proofs::Steps::pushes))]
 fn statements_left(
     frames: &mut Vec<BodyFrame>,
     typing: &mut Typing,
@@ -66,7 +68,8 @@ fn statements_left(
                 site,
                 ..
             } = frame;
-            with_statements(frames, typing, then, ids, site.result)
+            let step = with_statements(frames, typing, then, ids, site.result)?;
+            Ok(step)
         }
     }
 }
@@ -89,13 +92,15 @@ pub fn after_statement(
             let mut frame = frame;
             frame.ids.push(id)?;
             frame.site.result = found;
-            statements_left(frames, typing, frame)
+            let step = statements_left(frames, typing, frame)?;
+            Ok(step)
         }
         end => Ok(Step::Return(end)),
     }
 }
 
 /// What is done with the statements of a block.
+#[tactic(auto, using(tl_base::proofs::Steps::pushes))]
 fn with_statements(
     frames: &mut Vec<BodyFrame>,
     typing: &mut Typing,
@@ -111,22 +116,26 @@ fn with_statements(
     match then {
         BlockThen::Do(count, at) => {
             typing.leave(count);
-            states(typing, at, TypedStatement::Do(term_list(ids)?), found)
+            let step = states(typing, at, TypedStatement::Do(term_list(ids)?), found)?;
+            Ok(step)
         }
         BlockThen::Then(count, test, more, at, site) => {
             typing.leave(count);
-            with_else(frames, typing, test, ids, more, at, site, found)
+            let step = with_else(frames, typing, test, ids, more, at, site, found)?;
+            Ok(step)
         }
         BlockThen::Else(count, test, before, at) => {
             typing.leave(count);
             let others = Some(term_list(ids)?);
             let form = TypedStatement::If(test.id, term_list(before)?, others);
-            states(typing, at, form, found)
+            let step = states(typing, at, form, found)?;
+            Ok(step)
         }
         BlockThen::While(count, test, at) => {
             typing.leave(count);
             let form = TypedStatement::While(test.id, term_list(ids)?);
-            states(typing, at, form, found)
+            let step = states(typing, at, form, found)?;
+            Ok(step)
         }
         BlockThen::Repeat(count, test, at, site) => {
             let frame = DoingFrame::Repeat(count, ids, found, at, site);
@@ -137,13 +146,17 @@ fn with_statements(
             typing.leave(count.saturating_add(1));
             typing.leave(count);
             let form = TypedStatement::For(name, term_list(bounds)?, term_list(ids)?);
-            states(typing, at, form, found)
+            let step = states(typing, at, form, found)?;
+            Ok(step)
         }
         BlockThen::Let(count, value, node) => {
             frames.push(BodyFrame::Made(MadeFrame::Let(count, ids, node)))?;
             Ok(Step::Enter(BodyJob::Expression(value, node.site)))
         }
-        BlockThen::Function(names, at, site) => { function(typing, names, found, ids, at, site) }
+        BlockThen::Function(names, at, site) => {
+            let step = function(typing, names, found, ids, at, site)?;
+            Ok(step)
+        }
     }
 }
 
@@ -167,14 +180,16 @@ fn with_else(
         None => {
             let none: Option<TermList> = None;
             let form = TypedStatement::If(test.id, term_list(ids)?, none);
-            states(typing, at, form, found)
+            let step = states(typing, at, form, found)?;
+            Ok(step)
         }
         Some(statements) => {
             let site = Site {
                 result: found,
                 ..site
             };
-            else_block(frames, typing, test, ids, statements, at, site)
+            let step = else_block(frames, typing, test, ids, statements, at, site)?;
+            Ok(step)
         }
     }
 }
@@ -212,7 +227,8 @@ fn else_block(
             typing.leave(count);
             let others = Some(term_list(others)?);
             let form = TypedStatement::If(test.id, term_list(ids)?, others);
-            states(typing, at, form, site.result)
+            let step = states(typing, at, form, site.result)?;
+            Ok(step)
         }
     }
 }

@@ -14,7 +14,7 @@ use crate::converting::{convert, fit};
 use crate::frame::{BodyFrame, CallFrame, LaidThen, MadeFrame, Target};
 use crate::known::{parameter_types, result_type};
 use crate::layouts::lay_out;
-use crate::nodes::{gives, refuse, without_lua};
+use crate::nodes::{gives, pointer_to, refuse, without_lua};
 use crate::reading::{metamethod, place_of};
 use crate::step::{BodyStep, Node};
 use check_model::row::{Rest, Row, term_list};
@@ -79,13 +79,26 @@ pub fn call_named(
     ensures kept { OnOk result (KeepsTyping typing.old typing.new) }
 {
     match callee {
-        Callee::Function(f) => call_function(frames, typing, f, operands, fitting, node),
-        Callee::Primitive(primitive) => {
-            call_primitive(frames, typing, primitive, operands, fitting, node)
+        Callee::Function(f) => {
+            let step = call_function(frames, typing, f, operands, fitting, node)?;
+            Ok(step)
         }
-        Callee::Macro => macro_operands(frames, operands, node.at, node.site),
-        Callee::Type(of) => cast(frames, typing, of, operands, node),
-        Callee::SizeOf => call_size(frames, typing, budget, operands, node),
+        Callee::Primitive(primitive) => {
+            let step = call_primitive(frames, typing, primitive, operands, fitting, node)?;
+            Ok(step)
+        }
+        Callee::Macro => {
+            let step = macro_operands(frames, operands, node.at, node.site)?;
+            Ok(step)
+        }
+        Callee::Type(of) => {
+            let step = cast(frames, typing, of, operands, node)?;
+            Ok(step)
+        }
+        Callee::SizeOf => {
+            let step = call_size(frames, typing, budget, operands, node)?;
+            Ok(step)
+        }
         Callee::Value => Ok(refuse(RefusalKind::NotCallable, node.at, node.site)),
     }
 }
@@ -119,7 +132,8 @@ fn call_function(
                 fitting,
                 node,
             };
-            by_result(frames, typing, f, frame)
+            let step = by_result(frames, typing, f, frame)?;
+            Ok(step)
         }
     }
 }
@@ -139,7 +153,10 @@ fn by_result(
     ensures kept { OnOk result (KeepsTyping typing.old typing.new) }
 {
     match result_type(&typing.world, f) {
-        KnownResult::Is(of) => operands_left(frames, typing, frame, of),
+        KnownResult::Is(of) => {
+            let step = operands_left(frames, typing, frame, of)?;
+            Ok(step)
+        }
         KnownResult::BeingTyped => Ok(refuse(
             RefusalKind::RecursiveNeedsType,
             frame.node.at,
@@ -167,7 +184,10 @@ pub fn after_result(
     ensures kept { OnOk result (KeepsTyping typing.old typing.new) }
 {
     match end {
-        PartEnd::Answered(CheckAnswer::Result(of)) => operands_left(frames, typing, frame, of),
+        PartEnd::Answered(CheckAnswer::Result(of)) => {
+            let step = operands_left(frames, typing, frame, of)?;
+            Ok(step)
+        }
         PartEnd::Answered(CheckAnswer::Refused(refusal)) => {
             Ok(Step::Return(PartEnd::Refused(refusal)))
         }
@@ -179,6 +199,7 @@ pub fn after_result(
 }
 
 /// Types and converts the operands that are left, and calls.
+#[tactic(auto, using(tl_base::proofs::Steps::pushes))]
 pub fn operands_left(
     frames: &mut Vec<BodyFrame>,
     typing: &mut Typing,
@@ -192,16 +213,25 @@ pub fn operands_left(
 {
     let mut frame = frame;
     match frame.operands.take() {
-        None => call(typing, frame, of),
+        None => {
+            let step = call(typing, frame, of)?;
+            Ok(step)
+        }
         Some(operand) => match frame.types.take() {
-            None => call(typing, frame, of),
+            None => {
+                let step = call(typing, frame, of)?;
+                Ok(step)
+            }
             Some(parameter) => match operand {
                 Operand::Untyped(term) => {
                     let site = frame.node.site;
                     frames.push(BodyFrame::Made(MadeFrame::Argument(parameter, frame, of)))?;
                     Ok(Step::Enter(BodyJob::Expression(term, site)))
                 }
-                Operand::Typed(made) => argument(frames, typing, parameter, frame, of, made),
+                Operand::Typed(made) => {
+                    let step = argument(frames, typing, parameter, frame, of, made)?;
+                    Ok(step)
+                }
             },
         },
     }
@@ -226,9 +256,11 @@ pub fn argument(
     let (fitting, node) = (frame.fitting, frame.node);
     frames.push(BodyFrame::Made(MadeFrame::Fitted(frame, of)))?;
     if fitting {
-        fit(frames, typing, made, parameter, node.at, node.site)
+        let step = fit(frames, typing, made, parameter, node.at, node.site)?;
+        Ok(step)
     } else {
-        convert(frames, typing, Mode::Implicit, made, parameter, node.site)
+        let step = convert(frames, typing, Mode::Implicit, made, parameter, node.site)?;
+        Ok(step)
     }
 }
 
@@ -248,7 +280,8 @@ pub fn fitted(
     let mut frame = frame;
     frame.ids.push(made.id)?;
     frame.fitting = false;
-    operands_left(frames, typing, frame, of)
+    let step = operands_left(frames, typing, frame, of)?;
+    Ok(step)
 }
 
 /// Makes a call, once its operands are converted.
@@ -268,7 +301,8 @@ fn call(typing: &mut Typing, frame: CallFrame, of: TypeId) -> Result<BodyStep, N
         Target::Primitive(primitive) => Operation::Primitive(primitive),
     };
     let form = TypedExpression::Operate(operation, term_list(ids)?);
-    gives(typing, node.source, node.at, of, form)
+    let step = gives(typing, node.source, node.at, of, form)?;
+    Ok(step)
 }
 
 /// Calls a primitive.
@@ -292,13 +326,13 @@ fn call_primitive(
             UNIT
         }
         Primitive::Write => {
-            types.push(typing.world.pointer_to(UINT8)?)?;
+            types.push(pointer_to(typing, UINT8)?)?;
             types.push(INT64)?;
             UNIT
         }
         Primitive::Alloc => {
             types.push(INT64)?;
-            typing.world.pointer_to(UINT8)?
+            pointer_to(typing, UINT8)?
         }
     };
     let types = types.into_rest();
@@ -313,7 +347,8 @@ fn call_primitive(
         fitting,
         node,
     };
-    operands_left(frames, typing, frame, of)
+    let step = operands_left(frames, typing, frame, of)?;
+    Ok(step)
 }
 
 /// Types the operands of a macro; Lua isn't asked for it yet.
@@ -356,7 +391,10 @@ fn cast(
             frames.push(BodyFrame::Made(MadeFrame::Cast(to, node)))?;
             Ok(Step::Enter(BodyJob::Expression(term, node.site)))
         }
-        Some(Operand::Typed(made)) => cast_made(frames, typing, to, node, made),
+        Some(Operand::Typed(made)) => {
+            let step = cast_made(frames, typing, to, node, made)?;
+            Ok(step)
+        }
     }
 }
 
@@ -387,7 +425,8 @@ pub fn cast_made(
     ensures kept { OnOk result (KeepsTyping typing.old typing.new) }
 {
     frames.push(BodyFrame::Made(MadeFrame::Recast(node.source)))?;
-    convert(frames, typing, Mode::Explicit, made, to, node.site)
+    let step = convert(frames, typing, Mode::Explicit, made, to, node.site)?;
+    Ok(step)
 }
 
 /// The size of the only operand, which is a type.
@@ -412,7 +451,8 @@ fn call_size(
                     return Ok(Step::Spent);
                 }
                 let then = LaidThen::Size(of, node);
-                lay_out(frames, typing, of, node.at, node.site, then)
+                let step = lay_out(frames, typing, of, node.at, node.site, then)?;
+                Ok(step)
             }
             _ => Ok(refuse(
                 RefusalKind::BadOperand,
@@ -445,7 +485,8 @@ pub fn call_term(
         }
         callee => {
             let operands = Rest::from_vec(operands);
-            call_named(frames, typing, budget, callee, operands, fitting, node)
+            let step = call_named(frames, typing, budget, callee, operands, fitting, node)?;
+            Ok(step)
         }
     }
 }

@@ -43,7 +43,8 @@ pub fn new_struct(
         return Ok(refuse(RefusalKind::BadOperand, node.at, node.site));
     }
     let then = LaidThen::New(of, values, node);
-    lay_out(frames, typing, of, node.at, node.site, then)
+    let step = lay_out(frames, typing, of, node.at, node.site, then)?;
+    Ok(step)
 }
 
 /// Makes a struct whose layout is settled.
@@ -81,7 +82,8 @@ pub fn construct(
         ids: Row::new(alloc),
         node,
     };
-    values_left(frames, typing, frame)
+    let step = values_left(frames, typing, frame)?;
+    Ok(step)
 }
 
 /// How many entries a struct has.
@@ -150,9 +152,15 @@ pub fn values_left(
 {
     let mut frame = frame;
     match frame.entries.take() {
-        None => constructed(typing, frame),
+        None => {
+            let step = constructed(typing, frame)?;
+            Ok(step)
+        }
         Some(entry) => match frame.values.take() {
-            None => constructed(typing, frame),
+            None => {
+                let step = constructed(typing, frame)?;
+                Ok(step)
+            }
             Some(value) => match entry {
                 None => Ok(refuse(RefusalKind::NoField, frame.node.at, frame.node.site)),
                 Some(laid) => {
@@ -182,7 +190,8 @@ pub fn initial(
 {
     let site = frame.node.site;
     frames.push(BodyFrame::Made(MadeFrame::Initialised(laid, frame)))?;
-    convert(frames, typing, Mode::Implicit, made, laid.of, site)
+    let step = convert(frames, typing, Mode::Implicit, made, laid.of, site)?;
+    Ok(step)
 }
 
 /// Goes on with the values behind one that is converted.
@@ -201,7 +210,8 @@ pub fn initialised(
     let mut frame = frame;
     frame.offsets.push(laid.offset)?;
     frame.ids.push(made.id)?;
-    values_left(frames, typing, frame)
+    let step = values_left(frames, typing, frame)?;
+    Ok(step)
 }
 
 /// Makes the struct, once its values are converted.
@@ -220,5 +230,6 @@ fn constructed(typing: &mut Typing, frame: InitialFrame) -> Result<BodyStep, NoM
     } = frame;
     let offsets = OffsetList::from_vec(offsets.into_vec())?;
     let form = TypedExpression::Operate(Operation::Construct(offsets), term_list(ids)?);
-    gives(typing, node.source, node.at, of, form)
+    let step = gives(typing, node.source, node.at, of, form)?;
+    Ok(step)
 }

@@ -64,9 +64,11 @@ pub fn convert(
 {
     let conv = conversion(typing, mode, made.of, to);
     if conv != Conv::Same && is_nil(&typing.world, made) && is_pointer(&typing.world, to) {
-        remade(typing, made, to, TypedExpression::Constant(Constant::Nil))
+        let step = remade(typing, made, to, TypedExpression::Constant(Constant::Nil))?;
+        Ok(step)
     } else {
-        by_conversion(frames, typing, conv, made, to, site)
+        let step = by_conversion(frames, typing, conv, made, to, site)?;
+        Ok(step)
     }
 }
 
@@ -85,10 +87,14 @@ fn by_conversion(
     ensures kept { OnOk result (KeepsTyping typing.old typing.new) }
 {
     match conv {
-        Conv::Same => as_value(frames, typing, made, site),
+        Conv::Same => {
+            let step = as_value(frames, typing, made, site)?;
+            Ok(step)
+        }
         Conv::Array => {
             if made.is_place {
-                remade(typing, made, to, TypedExpression::Decay(made.id))
+                let step = remade(typing, made, to, TypedExpression::Decay(made.id))?;
+                Ok(step)
             } else {
                 Ok(refuse(RefusalKind::NotPlace, made.at, site))
             }
@@ -97,7 +103,8 @@ fn by_conversion(
         _ => {
             let list = one(typing, made.id)?;
             let form = TypedExpression::Operate(Operation::Convert, list);
-            remade(typing, made, to, form)
+            let step = remade(typing, made, to, form)?;
+            Ok(step)
         }
     }
 }
@@ -113,7 +120,8 @@ fn remade(
         Does (plans.make made.source made.at of form give) typing.old left step typing.new left) }
     ensures kept { OnOk result (KeepsTyping typing.old typing.new) }
 {
-    gives(typing, made.source, made.at, of, form)
+    let step = gives(typing, made.source, made.at, of, form)?;
+    Ok(step)
 }
 
 /// An expression that is converted by `__cast` alone.
@@ -140,16 +148,18 @@ pub fn fit(
     ensures kept { OnOk result (KeepsTyping typing.old typing.new) }
 {
     if made.of.0 == to.0 {
-        as_value(frames, typing, made, site)
+        let step = as_value(frames, typing, made, site)?;
+        Ok(step)
     } else if points_to(&typing.world, to, made.of) {
         if made.is_place {
-            gives(
+            let step = gives(
                 typing,
                 made.source,
                 at,
                 to,
                 TypedExpression::Address(made.id),
-            )
+            )?;
+            Ok(step)
         } else {
             Ok(refuse(RefusalKind::NotPlace, made.at, site))
         }
@@ -161,8 +171,10 @@ pub fn fit(
             to,
             TypedExpression::Dereference(made.id),
         )?;
-        as_value(frames, typing, target, site)
+        let step = as_value(frames, typing, target, site)?;
+        Ok(step)
     } else {
-        convert(frames, typing, Mode::Implicit, made, to, site)
+        let step = convert(frames, typing, Mode::Implicit, made, to, site)?;
+        Ok(step)
     }
 }

@@ -41,7 +41,8 @@ pub fn select(
         None => Ok(refuse(RefusalKind::NoField, node.at, node.site)),
         Some(of) => {
             let then = LaidThen::Entry(of, object, field, node);
-            lay_out(frames, typing, of, node.at, node.site, then)
+            let step = lay_out(frames, typing, of, node.at, node.site, then)?;
+            Ok(step)
         }
     }
 }
@@ -71,7 +72,10 @@ pub fn with_entry(
     ensures kept { OnOk result (KeepsTyping typing.old typing.new) }
 {
     match entry_of(&typing.world, of, field) {
-        Some(laid) => entry(frames, typing, object, laid, node),
+        Some(laid) => {
+            let step = entry(frames, typing, object, laid, node)?;
+            Ok(step)
+        }
         None => {
             let handler = metamethod(&typing.world, of, b"__entrymissing");
             Ok(without_lua(handler, RefusalKind::NoField, node.at, node.site))
@@ -94,13 +98,16 @@ fn entry(
 {
     if !is_struct(&typing.world, object.of) {
         let form = TypedExpression::Follow(laid.offset, object.id);
-        gives(typing, node.source, node.at, laid.of, form)
+        let step = gives(typing, node.source, node.at, laid.of, form)?;
+        Ok(step)
     } else if object.is_place {
         let form = TypedExpression::Select(laid.offset, object.id);
-        gives(typing, node.source, node.at, laid.of, form)
+        let step = gives(typing, node.source, node.at, laid.of, form)?;
+        Ok(step)
     } else {
         frames.push(BodyFrame::Made(MadeFrame::Extract(laid, node)))?;
-        as_value(frames, typing, object, node.site)
+        let step = as_value(frames, typing, object, node.site)?;
+        Ok(step)
     }
 }
 
@@ -117,7 +124,8 @@ pub fn extract(
 {
     let list = one(typing, object.id)?;
     let form = TypedExpression::Operate(Operation::Extract(laid.offset), list);
-    gives(typing, node.source, node.at, laid.of, form)
+    let step = gives(typing, node.source, node.at, laid.of, form)?;
+    Ok(step)
 }
 
 /// What a type has elements of.
@@ -158,11 +166,13 @@ pub fn index(
                 return Ok(refuse(RefusalKind::NotPlace, object.at, node.site));
             }
             let form = TypedExpression::Element(object.id, key.id);
-            indexed(frames, typing, of, form, key, node)
+            let step = indexed(frames, typing, of, form, key, node)?;
+            Ok(step)
         }
         Elements::Behind(of) => {
             let form = TypedExpression::Index(object.id, key.id);
-            indexed(frames, typing, of, form, key, node)
+            let step = indexed(frames, typing, of, form, key, node)?;
+            Ok(step)
         }
         Elements::Nothing => Ok(refuse(RefusalKind::BadOperand, node.at, node.site)),
     }
@@ -187,7 +197,8 @@ fn indexed(
 {
     if is_integer(&typing.world, key.of) {
         let then = LaidThen::Makes(of, form, node);
-        lay_out(frames, typing, of, node.at, node.site, then)
+        let step = lay_out(frames, typing, of, node.at, node.site, then)?;
+        Ok(step)
     } else {
         Ok(refuse(RefusalKind::BadOperand, node.at, node.site))
     }

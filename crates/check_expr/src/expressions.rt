@@ -43,6 +43,7 @@ fn initials(alloc: Global, values: &Initialiser) -> Result<Initials, NoMemory>
 }
 
 /// Types the expression that a term is.
+#[tactic(auto, using(tl_base::proofs::Steps::pushes))]
 pub fn expression(
     frames: &mut Vec<BodyFrame>,
     typing: &mut Typing,
@@ -66,24 +67,32 @@ pub fn expression(
             match form {
                 Expression::Number(bits, of) => {
                     let (bits, of) = (*bits, *of);
-                    constant(typing, node, of, Constant::Number(bits))
+                    let step = constant(typing, node, of, Constant::Number(bits))?;
+                    Ok(step)
                 }
                 Expression::Truth(truth) => {
                     let truth = *truth;
-                    constant(typing, node, BOOL, Constant::Truth(truth))
+                    let step = constant(typing, node, BOOL, Constant::Truth(truth))?;
+                    Ok(step)
                 }
-                Expression::Nil => constant(typing, node, RAWSTRING, Constant::Nil),
+                Expression::Nil => {
+                    let step = constant(typing, node, RAWSTRING, Constant::Nil)?;
+                    Ok(step)
+                }
                 Expression::Static(address) => {
                     let address = *address;
-                    constant(typing, node, RAWSTRING, Constant::Static(address))
+                    let step = constant(typing, node, RAWSTRING, Constant::Static(address))?;
+                    Ok(step)
                 }
                 Expression::Variable(symbol) => {
                     let symbol = *symbol;
-                    variable(typing, symbol, node)
+                    let step = variable(typing, symbol, node)?;
+                    Ok(step)
                 }
                 Expression::Global(global) => {
                     let id = *global;
-                    global_variable(typing, id, node)
+                    let step = global_variable(typing, id, node)?;
+                    Ok(step)
                 }
                 Expression::Function(_) => Ok(refuse(RefusalKind::FunctionValue, node.at, site)),
                 Expression::Primitive(_) => Ok(refuse(RefusalKind::BadOperand, node.at, site)),
@@ -121,12 +130,14 @@ pub fn expression(
                 Expression::Call(f, arguments) => {
                     let f = *f;
                     let arguments = Rest::copy(alloc, arguments.as_slice())?;
-                    call(frames, typing, budget, f, arguments, node)
+                    let step = call(frames, typing, budget, f, arguments, node)?;
+                    Ok(step)
                 }
                 Expression::New(of, values) => {
                     let of = *of;
                     let values = initials(alloc, values)?;
-                    new_struct(frames, typing, of, values, node)
+                    let step = new_struct(frames, typing, of, values, node)?;
+                    Ok(step)
                 }
                 Expression::Let(statements, value) => {
                     let value = *value;
@@ -137,7 +148,8 @@ pub fn expression(
                         ..site
                     };
                     let then = BlockThen::Let(typing.count(), value, node);
-                    block(frames, typing, statements, within, then)
+                    let step = block(frames, typing, statements, within, then)?;
+                    Ok(step)
                 }
             }
         }
@@ -147,7 +159,8 @@ pub fn expression(
                 at: Place { line: 0, word: 0 },
                 site,
             };
-            constant(typing, node, RAWSTRING, Constant::Nil)
+            let step = constant(typing, node, RAWSTRING, Constant::Nil)?;
+            Ok(step)
         }
     }
 }
@@ -164,7 +177,8 @@ fn constant(
     ensures kept { OnOk result (KeepsTyping typing.old typing.new) }
 {
     let form = TypedExpression::Constant(constant);
-    gives(typing, node.source, node.at, of, form)
+    let step = gives(typing, node.source, node.at, of, form)?;
+    Ok(step)
 }
 
 /// A variable, whose declaration must be in scope.
@@ -177,7 +191,8 @@ fn variable(typing: &mut Typing, symbol: SymId, node: Node) -> Result<BodyStep, 
     match typing.variable(node.site.base, symbol) {
         Some(of) => {
             let form = TypedExpression::Variable(symbol);
-            gives(typing, node.source, node.at, of, form)
+            let step = gives(typing, node.source, node.at, of, form)?;
+            Ok(step)
         }
         None => Ok(refuse(RefusalKind::OutOfScope, node.at, node.site)),
     }
@@ -193,7 +208,8 @@ fn global_variable(typing: &mut Typing, global: GlobalId, node: Node) -> Result<
     match typing.world.store.global(global) {
         Some(found) => {
             let form = TypedExpression::Global(found.address);
-            gives(typing, node.source, node.at, found.of, form)
+            let step = gives(typing, node.source, node.at, found.of, form)?;
+            Ok(step)
         }
         None => Ok(refuse(RefusalKind::BadOperand, node.at, node.site)),
     }
@@ -224,7 +240,8 @@ fn call(
                 return Ok(Step::Spent);
             }
             let operands = Rest::from_vec(operands);
-            call_named(frames, typing, budget, callee, operands, false, node)
+            let step = call_named(frames, typing, budget, callee, operands, false, node)?;
+            Ok(step)
         }
     }
 }
@@ -244,7 +261,8 @@ pub fn let_value(
     ensures kept { OnOk result (KeepsTyping typing.old typing.new) }
 {
     frames.push(BodyFrame::Made(MadeFrame::LetValue(count, ids, node)))?;
-    as_value(frames, typing, made, node.site)
+    let step = as_value(frames, typing, made, node.site)?;
+    Ok(step)
 }
 
 /// Makes a `let`, whose variables go.
@@ -261,5 +279,6 @@ pub fn let_end(
 {
     typing.leave(count);
     let form = TypedExpression::Let(term_list(ids)?, made.id);
-    gives(typing, node.source, node.at, made.of, form)
+    let step = gives(typing, node.source, node.at, made.of, form)?;
+    Ok(step)
 }

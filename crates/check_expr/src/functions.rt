@@ -7,18 +7,19 @@ ghost use Rattle.check_model.specs.Bodies as models;
 ghost use Rattle.check_expr.specs.Frames as waiting;
 ghost use Rattle.check_expr.specs.Functions.{parts_in, parts_plan};
 ghost use Rattle.check_expr.specs.Keeping.{KeepsTyping};
-ghost use Rattle.check_expr.specs.Steps.{Goes, Does};
+ghost use Rattle.check_expr.specs.Steps.{Goes, Does, with_stage};
 
 use crate::blocks::block;
 use crate::frame::{BlockThen, BodyFrame, LaidThen, ParametersFrame};
 use crate::layouts::lay_out;
 use crate::loops::UNIT;
-use crate::nodes::refuse;
+use crate::nodes::{new_node, refuse};
 use crate::step::BodyStep;
 use crate::variables::is_function;
 use check_model::row::{Rest, Row, term_list};
 use check_model::{PartEnd, Site, Typing};
 use exotype::World;
+use std::alloc::Global;
 use terra_term::{
     Parameter, Refusal, RefusalKind, Size, Standing, Term, Typed, TypedName, TypedNameList,
 };
@@ -39,6 +40,20 @@ pub struct Definition {
     pub body: Rest<TermId>,
 }
 
+/// The names of parameters, with their types.
+fn names_of(alloc: Global, parameters: &[Parameter]) -> Result<Row<TypedName>, NoMemory>
+    ensures { IfOk result (λ names. names ≡ models.names_of parameters.now) }
+{
+    let mut named = Row::new(alloc);
+    'parameters: for parameter in parameters {
+        named.push(TypedName {
+            symbol: parameter.symbol,
+            of: parameter.of,
+        })?;
+    }
+    Ok(named)
+}
+
 /// The definition that a term is.
 fn definition_of(world: &World, term: TermId) -> Result<Option<Definition>, NoMemory>
     ensures { IfOk result (λ parts. parts ≡ parts_in (slice_get world.now.store.terms term.0)) }
@@ -46,13 +61,7 @@ fn definition_of(world: &World, term: TermId) -> Result<Option<Definition>, NoMe
     let alloc = world.store.allocator();
     match world.store.term(term) {
         Some(Term::Function(parameters, written, body)) => {
-            let mut named = Row::new(alloc);
-            'parameters: for parameter in parameters.as_slice() {
-                named.push(TypedName {
-                    symbol: parameter.symbol,
-                    of: parameter.of,
-                })?;
-            }
+            let named = names_of(alloc, parameters.as_slice())?;
             Ok(Some(Definition {
                 parameters: Rest::copy(alloc, parameters.as_slice())?,
                 named,
@@ -91,7 +100,8 @@ pub fn body(
                 let definition = definition_of(&typing.world, term)?;
                 frames.push(BodyFrame::Function(f, base))?;
                 begin(typing, f);
-                defined(frames, typing, budget, definition, function.place, site)
+                let step = defined(frames, typing, budget, definition, function.place, site)?;
+                Ok(step)
             }
         },
     }
@@ -99,7 +109,7 @@ pub fn body(
 
 /// A function that is defined is being typed from now on.
 fn begin(typing: &mut Typing, f: FnId)
-    ensures means { typing.new ≡ record typing.old { stage = models.begun_in typing.old.stage f } }
+    ensures means { typing.new ≡ with_stage typing.old (models.begun_in typing.old.stage f) }
     ensures kept { KeepsTyping typing.old typing.new }
 {
     if typing.world.store.standing(f) == Standing::Defined {
@@ -144,7 +154,8 @@ fn defined(
                     ..site
                 },
             };
-            parameters_left(frames, typing, budget, frame)
+            let step = parameters_left(frames, typing, budget, frame)?;
+            Ok(step)
         }
     }
 }
@@ -176,7 +187,8 @@ fn parameters_left(
             };
             let site = frame.site;
             let then = LaidThen::Parameter(name, frame);
-            lay_out(frames, typing, parameter.of, parameter.place, site, then)
+            let step = lay_out(frames, typing, parameter.of, parameter.place, site, then)?;
+            Ok(step)
         }
         None => {
             let ParametersFrame {
@@ -186,13 +198,14 @@ fn parameters_left(
                 site,
                 ..
             } = frame;
-            block(
+            let step = block(
                 frames,
                 typing,
                 body,
                 site,
                 BlockThen::Function(named, at, site),
-            )
+            )?;
+            Ok(step)
         }
     }
 }
@@ -211,7 +224,8 @@ pub fn with_parameter(
     ensures kept { OnOk result (KeepsTyping typing.old typing.new) }
 {
     typing.declare(name)?;
-    parameters_left(frames, typing, budget, frame)
+    let step = parameters_left(frames, typing, budget, frame)?;
+    Ok(step)
 }
 
 /// How many nodes and levels a typed term has.
@@ -249,8 +263,7 @@ pub fn function(
         None => UNIT,
     };
     let names = TypedNameList::from_vec(names.into_vec())?;
-    let node = Typed::Function(names, of, term_list(ids)?);
-    let id = typing.world.store.new_typed(node)?;
+    let id = new_node(typing, Typed::Function(names, of, term_list(ids)?))?;
     if is_too_large(size_of(&typing.world, id)) {
         Ok(refuse(RefusalKind::TooLarge, at, site))
     } else {

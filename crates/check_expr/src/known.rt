@@ -6,21 +6,34 @@ ghost use Rattle.check_model.specs.Calls as models;
 use check_model::KnownResult;
 use check_model::row::{Rest, Row};
 use exotype::World;
-use terra_term::{FunctionState, Term, Typed};
+use std::alloc::Global;
+use terra_term::{FunctionState, Parameter, Term, Typed};
 use terra_types::TypeForm;
 use tl_base::{FnId, NoMemory, TermId, TypeId};
+
+/// The types of parameters.
+fn types_of(alloc: Global, parameters: &[Parameter]) -> Result<Rest<TypeId>, NoMemory>
+    ensures { IfOk result (λ types. types ≡ models.types_of parameters.now) }
+{
+    let mut types = Row::new(alloc);
+    'parameters: for parameter in parameters {
+        types.push(parameter.of)?;
+    }
+    Ok(types.into_rest())
+}
 
 /// The types of the parameters of a definition.
 fn defined_parameters(world: &World, term: TermId) -> Result<Rest<TypeId>, NoMemory>
     ensures { IfOk result (λ types. types ≡ models.params_of (slice_get world.now.store.terms term.0)) }
 {
-    let mut types = Row::new(world.store.allocator());
-    if let Some(Term::Function(parameters, _, _)) = world.store.term(term) {
-        'parameters: for parameter in parameters.as_slice() {
-            types.push(parameter.of)?;
+    let alloc = world.store.allocator();
+    match world.store.term(term) {
+        Some(Term::Function(parameters, _, _)) => {
+            let types = types_of(alloc, parameters.as_slice())?;
+            Ok(types)
         }
+        _ => Ok(Rest::from_vec(Vec::new(alloc))),
     }
-    Ok(types.into_rest())
 }
 
 /// The types of the parameters of a declaration.

@@ -78,7 +78,10 @@ pub fn after_layout(
 {
     match end {
         PartEnd::Answered(CheckAnswer::NoLayout(kind)) => Ok(refuse(kind, at, site)),
-        PartEnd::Answered(_) => with_layout(frames, typing, budget, site, then),
+        PartEnd::Answered(_) => {
+            let step = with_layout(frames, typing, budget, site, then)?;
+            Ok(step)
+        }
         end => Ok(Step::Return(end)),
     }
 }
@@ -97,15 +100,34 @@ fn with_layout(
 {
     match then {
         LaidThen::Value(made) => Ok(value_if_narrow(typing, made, site)),
-        LaidThen::Makes(of, form, node) => gives(typing, node.source, node.at, of, form),
-        LaidThen::Difference(of, left, right, node) => difference(typing, of, left, right, node),
-        LaidThen::Size(of, node) => size(typing, of, node),
-        LaidThen::Entry(of, object, field, node) => {
-            with_entry(frames, typing, of, object, field, node)
+        LaidThen::Makes(of, form, node) => {
+            let step = gives(typing, node.source, node.at, of, form)?;
+            Ok(step)
         }
-        LaidThen::New(of, values, node) => construct(frames, typing, of, values, node),
-        LaidThen::Name(name, frame) => with_name(frames, typing, budget, name, frame),
-        LaidThen::Parameter(name, frame) => with_parameter(frames, typing, budget, name, frame),
+        LaidThen::Difference(of, left, right, node) => {
+            let step = difference(typing, of, left, right, node)?;
+            Ok(step)
+        }
+        LaidThen::Size(of, node) => {
+            let step = size(typing, of, node)?;
+            Ok(step)
+        }
+        LaidThen::Entry(of, object, field, node) => {
+            let step = with_entry(frames, typing, of, object, field, node)?;
+            Ok(step)
+        }
+        LaidThen::New(of, values, node) => {
+            let step = construct(frames, typing, of, values, node)?;
+            Ok(step)
+        }
+        LaidThen::Name(name, frame) => {
+            let step = with_name(frames, typing, budget, name, frame)?;
+            Ok(step)
+        }
+        LaidThen::Parameter(name, frame) => {
+            let step = with_parameter(frames, typing, budget, name, frame)?;
+            Ok(step)
+        }
     }
 }
 
@@ -129,5 +151,6 @@ fn size(typing: &mut Typing, of: TypeId, node: Node) -> Result<BodyStep, NoMemor
 {
     let size = bytes(&typing.world, of);
     let form = TypedExpression::Constant(Constant::Number(size));
-    gives(typing, node.source, node.at, UINT64, form)
+    let step = gives(typing, node.source, node.at, UINT64, form)?;
+    Ok(step)
 }

@@ -1,6 +1,7 @@
 // Loops and conditions.
 
-ghost use Rattle.std.specs.Prelude.{◌≡◌, ℕ, [], ◌∷◌, ◌++◌, IfOk, OnOk};
+ghost use Rattle.std.specs.Prelude.{◌≡◌, ℕ, [], ◌∷◌, ◌++◌, unwrap_or, IfOk, OnOk};
+ghost use Rattle.check_cast.specs.Conversions as conversions;
 ghost use Rattle.check_model.specs.Plans as plans;
 ghost use Rattle.check_model.specs.Statements as models;
 ghost use Rattle.check_model.specs.Typing.{TypingState};
@@ -61,7 +62,8 @@ pub fn if_block(
         return Ok(no_condition(made, site));
     }
     let then = BlockThen::Then(typing.count(), made, more, at, site);
-    block(frames, typing, body, site, then)
+    let step = block(frames, typing, body, site, then)?;
+    Ok(step)
 }
 
 /// Goes on with a `while` behind its condition.
@@ -82,7 +84,8 @@ pub fn while_block(
         return Ok(no_condition(made, site));
     }
     let then = BlockThen::While(typing.count(), made, at);
-    block(frames, typing, body, in_loop(site), then)
+    let step = block(frames, typing, body, in_loop(site), then)?;
+    Ok(step)
 }
 
 /// Makes a `repeat`, once its condition is typed.
@@ -104,7 +107,8 @@ pub fn repeat_end(
     }
     typing.leave(count);
     let form = TypedStatement::Repeat(term_list(ids)?, made.id);
-    states(typing, at, form, found)
+    let step = states(typing, at, form, found)?;
+    Ok(step)
 }
 
 /// A `for` with these bounds.
@@ -130,7 +134,8 @@ pub fn for_loop(
         at,
         site,
     };
-    bounds_left(frames, typing, frame)
+    let step = bounds_left(frames, typing, frame)?;
+    Ok(step)
 }
 
 /// Types the bounds that are left, and then converts them.
@@ -160,7 +165,7 @@ fn bounds_left(
                 site,
                 ..
             } = frame;
-            let of = meet_of(&typing.world, &made);
+            let of = meet_of(&typing.world, made.as_slice());
             let frame = CountedFrame {
                 of,
                 made: made.into_rest(),
@@ -170,27 +175,40 @@ fn bounds_left(
                 at,
                 site,
             };
-            conversions_left(frames, typing, frame)
+            let step = conversions_left(frames, typing, frame)?;
+            Ok(step)
         }
     }
 }
 
+/// The type at which a type and those of typed bounds meet.
+fn meet_from(world: &World, first: TypeId, others: &[Made]) -> TypeId
+    ensures { result ≡ models.meet_from world.now first others.now }
+{
+    let mut of = first;
+    'bounds: for bound in others {
+        of = meeting(world, of, bound.of);
+    }
+    of
+}
+
+/// The type at which two types meet, or else the first one.
+fn meeting(world: &World, first: TypeId, other: TypeId) -> TypeId
+    ensures { result ≡ unwrap_or (conversions.meet world.now.store.types first other) first }
+{
+    match meet(world.store.types(), first, other) {
+        Some(meet) => meet,
+        None => first,
+    }
+}
+
 /// The type at which typed bounds meet.
-fn meet_of(world: &World, made: &Row<Made>) -> TypeId
+fn meet_of(world: &World, made: &[Made]) -> TypeId
     ensures { result ≡ models.meet_of world.now made.now }
 {
-    let types = world.store.types();
-    match made.as_slice().split_first() {
+    match made.split_first() {
         None => UNIT,
-        Some((first, others)) => {
-            let mut of = first.of;
-            'bounds: for bound in others {
-                if let Some(meet) = meet(types, of, bound.of) {
-                    of = meet;
-                }
-            }
-            of
-        }
+        Some((first, others)) => meet_from(world, first.of, others),
     }
 }
 
@@ -209,7 +227,8 @@ pub fn bound(
     if is_integer(&typing.world, made.of) {
         let mut frame = frame;
         frame.made.push(made)?;
-        bounds_left(frames, typing, frame)
+        let step = bounds_left(frames, typing, frame)?;
+        Ok(step)
     } else {
         Ok(refuse(RefusalKind::BadOperand, made.at, frame.site))
     }
@@ -228,11 +247,15 @@ fn conversions_left(
 {
     let mut frame = frame;
     match frame.made.take() {
-        None => for_block(frames, typing, frame),
+        None => {
+            let step = for_block(frames, typing, frame)?;
+            Ok(step)
+        }
         Some(made) => {
             let (of, site) = (frame.of, frame.site);
             frames.push(BodyFrame::Doing(DoingFrame::Counted(frame)))?;
-            convert(frames, typing, Mode::Implicit, made, of, site)
+            let step = convert(frames, typing, Mode::Implicit, made, of, site)?;
+            Ok(step)
         }
     }
 }
@@ -251,7 +274,8 @@ pub fn converted(
 {
     let mut frame = frame;
     frame.ids.push(made.id)?;
-    conversions_left(frames, typing, frame)
+    let step = conversions_left(frames, typing, frame)?;
+    Ok(step)
 }
 
 /// Types the block of a `for`.
@@ -281,5 +305,6 @@ fn for_block(
     };
     typing.declare(variable)?;
     let then = BlockThen::For(count, variable, ids, at);
-    block(frames, typing, body, in_loop(site), then)
+    let step = block(frames, typing, body, in_loop(site), then)?;
+    Ok(step)
 }

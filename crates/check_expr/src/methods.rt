@@ -48,7 +48,8 @@ pub fn call_method(
             if value.is_nil() {
                 return Ok(missing(typing, of, node));
             }
-            with_method(frames, typing, budget, value, object, arguments, node)
+            let step = with_method(frames, typing, budget, value, object, arguments, node)?;
+            Ok(step)
         }
     }
 }
@@ -87,7 +88,8 @@ fn with_method(
     match typing.world.term_of(value, node.at)? {
         Became::Term(term) => {
             let operands = untyped(typing, Some(object), arguments)?;
-            call_term(frames, typing, budget, term, operands, true, node)
+            let step = call_term(frames, typing, budget, term, operands, true, node)?;
+            Ok(step)
         }
         Became::Refused(_) => Ok(refuse(RefusalKind::NotConstant, node.at, node.site)),
     }

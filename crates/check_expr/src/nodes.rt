@@ -3,11 +3,12 @@
 ghost use Rattle.std.specs.Prelude.{◌≡◌, ℕ, IfOk, OnOk};
 ghost use Rattle.terra_term.specs.Held.{next_typed};
 ghost use Rattle.terra_term.specs.declared.typed.Typed.TheVariants as typed_kinds;
+ghost use Rattle.exotype.specs.Types.{pointer_id, with_pointer};
 ghost use Rattle.check_model.specs.Plans as plans;
 ghost use Rattle.check_model.specs.Typing.{TypingState, is_place_form, made_of};
 ghost use Rattle.check_expr.specs.Callees as callees;
 ghost use Rattle.check_expr.specs.Keeping.{KeepsTyping};
-ghost use Rattle.check_expr.specs.Steps.{Does, with_node};
+ghost use Rattle.check_expr.specs.Steps.{Does, with_node, with_stage};
 
 use crate::step::BodyStep;
 use check_model::{Made, PartEnd, Site, Typing};
@@ -31,6 +32,26 @@ fn is_place(form: &TypedExpression) -> bool
     }
 }
 
+/// Adds a typed node.
+pub fn new_node(typing: &mut Typing, node: Typed) -> Result<TermId, NoMemory>
+    ensures id { IfOk result (λ id. id ≡ next_typed typing.old.stage.store) }
+    ensures ok { OnOk result (typing.new ≡ with_node typing.old node) }
+    ensures kept { OnOk result (KeepsTyping typing.old typing.new) }
+{
+    let id = typing.world.store.new_typed(node)?;
+    Ok(id)
+}
+
+/// Makes the type of pointers to a type.
+pub fn pointer_to(typing: &mut Typing, of: TypeId) -> Result<TypeId, NoMemory>
+    ensures id { IfOk result (λ id. id ≡ pointer_id typing.old.stage of) }
+    ensures ok { OnOk result (typing.new ≡ with_stage typing.old (with_pointer typing.old.stage of)) }
+    ensures kept { OnOk result (KeepsTyping typing.old typing.new) }
+{
+    let id = typing.world.pointer_to(of)?;
+    Ok(id)
+}
+
 /// Makes a typed expression of a term.
 pub fn make(
     typing: &mut Typing,
@@ -44,10 +65,7 @@ pub fn make(
     ensures kept { OnOk result (KeepsTyping typing.old typing.new) }
 {
     let is_place = is_place(&form);
-    let id = typing
-        .world
-        .store
-        .new_typed(Typed::Expression(at, of, form))?;
+    let id = new_node(typing, Typed::Expression(at, of, form))?;
     Ok(Made {
         id,
         source,
@@ -84,7 +102,7 @@ pub fn states(
         Does (plans.states at form result_type) typing.old left step typing.new left) }
     ensures kept { OnOk result (KeepsTyping typing.old typing.new) }
 {
-    let id = typing.world.store.new_typed(Typed::Statement(at, form))?;
+    let id = new_node(typing, Typed::Statement(at, form))?;
     Ok(Step::Return(PartEnd::Stated(id, result_type)))
 }
 

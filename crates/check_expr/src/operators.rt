@@ -14,7 +14,7 @@ ghost use Rattle.check_expr.specs.Steps.{Goes, Does};
 use crate::converting::{convert, one, two};
 use crate::frame::{BodyFrame, LaidThen, MadeFrame, MeetFrame};
 use crate::layouts::lay_out;
-use crate::nodes::{gives, make, refuse, without_lua};
+use crate::nodes::{gives, make, pointer_to, refuse, without_lua};
 use crate::reading::{
     bytes, is_bool, is_integer, is_nil, is_struct, metamethod, metamethod_of_either, target,
 };
@@ -167,7 +167,8 @@ pub fn binary(
         return Ok(without_lua(handler, RefusalKind::BadOperand, node.at, node.site));
     }
     let rule = rule_of(&typing.world, op, left.of, right.of);
-    by_rule(frames, typing, rule, op, left, right, node)
+    let step = by_rule(frames, typing, rule, op, left, right, node)?;
+    Ok(step)
 }
 
 /// A binary operator that works so.
@@ -188,7 +189,7 @@ fn by_rule(
     match rule {
         Rule::Meets => {
             let meet = meeting(typing, left, right);
-            at_type(
+            let step = at_type(
                 frames,
                 typing,
                 MeetFrame {
@@ -199,11 +200,12 @@ fn by_rule(
                 },
                 left,
                 right,
-            )
+            )?;
+            Ok(step)
         }
         Rule::Compares => {
             let meet = meeting(typing, left, right);
-            at_type(
+            let step = at_type(
                 frames,
                 typing,
                 MeetFrame {
@@ -214,33 +216,52 @@ fn by_rule(
                 },
                 left,
                 right,
-            )
+            )?;
+            Ok(step)
         }
-        Rule::Shifts => both(typing, op, left.of, left, right, node),
-        Rule::Tells => both(typing, op, BOOL, left, right, node),
+        Rule::Shifts => {
+            let step = both(typing, op, left.of, left, right, node)?;
+            Ok(step)
+        }
+        Rule::Tells => {
+            let step = both(typing, op, BOOL, left, right, node)?;
+            Ok(step)
+        }
         Rule::Ands => {
             let form = TypedExpression::Both(left.id, right.id);
-            gives(typing, node.source, node.at, BOOL, form)
+            let step = gives(typing, node.source, node.at, BOOL, form)?;
+            Ok(step)
         }
         Rule::Ors => {
             let form = TypedExpression::Either(left.id, right.id);
-            gives(typing, node.source, node.at, BOOL, form)
+            let step = gives(typing, node.source, node.at, BOOL, form)?;
+            Ok(step)
         }
-        Rule::Addresses => addresses(typing, op, left, right, node),
-        Rule::Forward(of) => moved(
-            frames,
-            typing,
-            of,
-            Operation::StepForward,
-            left,
-            right,
-            node,
-        ),
-        Rule::Back(of) => moved(frames, typing, of, Operation::StepBack, left, right, node),
+        Rule::Addresses => {
+            let step = addresses(typing, op, left, right, node)?;
+            Ok(step)
+        }
+        Rule::Forward(of) => {
+            let step = moved(
+                frames,
+                typing,
+                of,
+                Operation::StepForward,
+                left,
+                right,
+                node,
+            )?;
+            Ok(step)
+        }
+        Rule::Back(of) => {
+            let step = moved(frames, typing, of, Operation::StepBack, left, right, node)?;
+            Ok(step)
+        }
         Rule::Differs(of) => {
             if left.of.0 == right.of.0 {
                 let then = LaidThen::Difference(of, left.id, right.id, node);
-                lay_out(frames, typing, of, node.at, node.site, then)
+                let step = lay_out(frames, typing, of, node.at, node.site, then)?;
+                Ok(step)
             } else {
                 Ok(refuse(RefusalKind::BadOperand, node.at, node.site))
             }
@@ -274,14 +295,15 @@ fn at_type(
     ensures kept { OnOk result (KeepsTyping typing.old typing.new) }
 {
     frames.push(BodyFrame::Made(MadeFrame::MeetLeft(frame, right)))?;
-    convert(
+    let step = convert(
         frames,
         typing,
         Mode::Implicit,
         left,
         frame.meet,
         frame.node.site,
-    )
+    )?;
+    Ok(step)
 }
 
 /// Converts the right operand, behind the left one.
@@ -299,14 +321,15 @@ pub fn meet_next(
     ensures kept { OnOk result (KeepsTyping typing.old typing.new) }
 {
     frames.push(BodyFrame::Made(MadeFrame::MeetRight(frame, left)))?;
-    convert(
+    let step = convert(
         frames,
         typing,
         Mode::Implicit,
         right,
         frame.meet,
         frame.node.site,
-    )
+    )?;
+    Ok(step)
 }
 
 /// An operator on two operands as they are.
@@ -324,7 +347,8 @@ pub fn both(
 {
     let list = two(typing, left.id, right.id)?;
     let form = TypedExpression::Operate(Operation::Binary(op), list);
-    gives(typing, node.source, node.at, of, form)
+    let step = gives(typing, node.source, node.at, of, form)?;
+    Ok(step)
 }
 
 /// Moves a pointer to a type.
@@ -346,7 +370,8 @@ fn moved(
 {
     let list = two(typing, left.id, right.id)?;
     let then = LaidThen::Makes(left.of, TypedExpression::Operate(step, list), node);
-    lay_out(frames, typing, of, node.at, node.site, then)
+    let step = lay_out(frames, typing, of, node.at, node.site, then)?;
+    Ok(step)
 }
 
 /// Subtracts two pointers to a type whose layout is settled.
@@ -366,7 +391,8 @@ pub fn difference(
     }
     let list = two(typing, left, right)?;
     let form = TypedExpression::Operate(Operation::Difference, list);
-    gives(typing, node.source, node.at, INT64, form)
+    let step = gives(typing, node.source, node.at, INT64, form)?;
+    Ok(step)
 }
 
 /// An operator on the addresses in two pointers, of which a `nil` takes the other one's type.
@@ -387,7 +413,8 @@ fn addresses(
     let left = retyped(typing, first_is_nil, left, right)?;
     let right = retyped(typing, second_is_nil, right, left)?;
     if left.of.0 == right.of.0 {
-        both(typing, op, BOOL, left, right, node)
+        let step = both(typing, op, BOOL, left, right, node)?;
+        Ok(step)
     } else {
         Ok(refuse(RefusalKind::BadOperand, node.at, node.site))
     }
@@ -420,11 +447,18 @@ pub fn unary(
     ensures kept { OnOk result (KeepsTyping typing.old typing.new) }
 {
     match op {
-        UnaryOperator::Address => address(typing, made, node),
-        UnaryOperator::Dereference => dereference(typing, made, node),
+        UnaryOperator::Address => {
+            let step = address(typing, made, node)?;
+            Ok(step)
+        }
+        UnaryOperator::Dereference => {
+            let step = dereference(typing, made, node)?;
+            Ok(step)
+        }
         UnaryOperator::Negate => {
             if is_integer(&typing.world, made.of) {
-                operated(typing, Operation::Negate, made, node)
+                let step = operated(typing, Operation::Negate, made, node)?;
+                Ok(step)
             } else {
                 let handler = metamethod(&typing.world, made.of, b"__unm");
                 Ok(without_lua(handler, RefusalKind::BadOperand, node.at, node.site))
@@ -432,7 +466,8 @@ pub fn unary(
         }
         UnaryOperator::Not => {
             if is_integer(&typing.world, made.of) || is_bool(&typing.world, made.of) {
-                operated(typing, Operation::Not, made, node)
+                let step = operated(typing, Operation::Not, made, node)?;
+                Ok(step)
             } else {
                 let handler = metamethod(&typing.world, made.of, b"__not");
                 Ok(without_lua(handler, RefusalKind::BadOperand, node.at, node.site))
@@ -454,7 +489,8 @@ fn operated(
 {
     let list = one(typing, made.id)?;
     let form = TypedExpression::Operate(operation, list);
-    gives(typing, node.source, node.at, made.of, form)
+    let step = gives(typing, node.source, node.at, made.of, form)?;
+    Ok(step)
 }
 
 /// The place to which a pointer points.
@@ -467,7 +503,8 @@ fn dereference(typing: &mut Typing, made: Made, node: Node) -> Result<BodyStep, 
     match target(&typing.world, made.of) {
         Some(to) => {
             let form = TypedExpression::Dereference(made.id);
-            gives(typing, node.source, node.at, to, form)
+            let step = gives(typing, node.source, node.at, to, form)?;
+            Ok(step)
         }
         None => Ok(refuse(RefusalKind::BadOperand, node.at, node.site)),
     }
@@ -483,12 +520,13 @@ fn address(typing: &mut Typing, made: Made, node: Node) -> Result<BodyStep, NoMe
     if !made.is_place {
         return Ok(refuse(RefusalKind::NotPlace, made.at, node.site));
     }
-    let of = typing.world.pointer_to(made.of)?;
-    gives(
+    let of = pointer_to(typing, made.of)?;
+    let step = gives(
         typing,
         node.source,
         node.at,
         of,
         TypedExpression::Address(made.id),
-    )
+    )?;
+    Ok(step)
 }

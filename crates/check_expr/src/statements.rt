@@ -33,6 +33,7 @@ fn copy_if_any(alloc: Global, terms: &Option<TermList>) -> Result<Option<Rest<Te
 }
 
 /// Types the statement that a term is.
+#[tactic(auto, using(tl_base::proofs::Steps::pushes))]
 pub fn statement(
     frames: &mut Vec<BodyFrame>,
     typing: &mut Typing,
@@ -53,12 +54,14 @@ pub fn statement(
                 Statement::Var(names, values) => {
                     let names = Rest::copy(alloc, names.as_slice())?;
                     let values = copy_if_any(alloc, values)?;
-                    var(frames, typing, budget, names, values, at, site)
+                    let step = var(frames, typing, budget, names, values, at, site)?;
+                    Ok(step)
                 }
                 Statement::Assign(targets, values) => {
                     let targets = Rest::copy(alloc, targets.as_slice())?;
                     let values = Rest::copy(alloc, values.as_slice())?;
-                    assign(frames, typing, targets, values, at, site)
+                    let step = assign(frames, typing, targets, values, at, site)?;
+                    Ok(step)
                 }
                 Statement::If(test, body, more) => {
                     let test = *test;
@@ -76,23 +79,30 @@ pub fn statement(
                 Statement::Repeat(body, test) => {
                     let then = BlockThen::Repeat(typing.count(), *test, at, site);
                     let body = Rest::copy(alloc, body.as_slice())?;
-                    block(frames, typing, body, in_loop(site), then)
+                    let step = block(frames, typing, body, in_loop(site), then)?;
+                    Ok(step)
                 }
                 Statement::For(name, bounds, body) => {
                     let name = *name.name();
                     let bounds = Rest::copy(alloc, bounds.as_slice())?;
                     let body = Rest::copy(alloc, body.as_slice())?;
-                    for_loop(frames, typing, name, bounds, body, at, site)
+                    let step = for_loop(frames, typing, name, bounds, body, at, site)?;
+                    Ok(step)
                 }
                 Statement::Do(body) => {
                     let body = Rest::copy(alloc, body.as_slice())?;
                     let then = BlockThen::Do(typing.count(), at);
-                    block(frames, typing, body, site, then)
+                    let step = block(frames, typing, body, site, then)?;
+                    Ok(step)
                 }
-                Statement::Break => break_statement(typing, at, site),
+                Statement::Break => {
+                    let step = break_statement(typing, at, site)?;
+                    Ok(step)
+                }
                 Statement::Return(values) => {
                     let values = Rest::copy(alloc, values.as_slice())?;
-                    return_statement(frames, typing, values, at, site)
+                    let step = return_statement(frames, typing, values, at, site)?;
+                    Ok(step)
                 }
                 Statement::Perform(call) => {
                     let call = *call;
@@ -101,12 +111,15 @@ pub fn statement(
                 }
             }
         }
-        _ => states(
-            typing,
-            Place { line: 0, word: 0 },
-            TypedStatement::Break,
-            site.result,
-        ),
+        _ => {
+            let step = states(
+                typing,
+                Place { line: 0, word: 0 },
+                TypedStatement::Break,
+                site.result,
+            )?;
+            Ok(step)
+        }
     }
 }
 
@@ -117,13 +130,15 @@ fn break_statement(typing: &mut Typing, at: Place, site: Site) -> Result<BodySte
     ensures kept { OnOk result (KeepsTyping typing.old typing.new) }
 {
     if site.in_loop {
-        states(typing, at, TypedStatement::Break, site.result)
+        let step = states(typing, at, TypedStatement::Break, site.result)?;
+        Ok(step)
     } else {
         Ok(refuse(RefusalKind::Misplaced, at, site))
     }
 }
 
 /// A `return` of these values.
+#[tactic(auto, using(tl_base::proofs::Steps::pushes))]
 fn return_statement(
     frames: &mut Vec<BodyFrame>,
     typing: &mut Typing,
@@ -148,7 +163,10 @@ fn return_statement(
             frames.push(BodyFrame::Doing(DoingFrame::Return(at, site)))?;
             Ok(Step::Enter(BodyJob::Expression(value, site)))
         }
-        None => return_nothing(typing, at, site),
+        None => {
+            let step = return_nothing(typing, at, site)?;
+            Ok(step)
+        }
     }
 }
 
@@ -159,10 +177,14 @@ fn return_nothing(typing: &mut Typing, at: Place, site: Site) -> Result<BodyStep
     ensures kept { OnOk result (KeepsTyping typing.old typing.new) }
 {
     match site.result {
-        None => states(typing, at, TypedStatement::Return(None), Some(UNIT)),
+        None => {
+            let step = states(typing, at, TypedStatement::Return(None), Some(UNIT))?;
+            Ok(step)
+        }
         Some(of) => {
             if of == UNIT {
-                states(typing, at, TypedStatement::Return(None), Some(of))
+                let step = states(typing, at, TypedStatement::Return(None), Some(of))?;
+                Ok(step)
             } else {
                 Ok(refuse(RefusalKind::Mismatch, at, site))
             }
@@ -186,11 +208,13 @@ pub fn return_value(
     match site.result {
         None => {
             frames.push(BodyFrame::Doing(DoingFrame::Returned(made.of, at)))?;
-            as_value(frames, typing, made, site)
+            let step = as_value(frames, typing, made, site)?;
+            Ok(step)
         }
         Some(of) => {
             frames.push(BodyFrame::Doing(DoingFrame::Returned(of, at)))?;
-            convert(frames, typing, Mode::Implicit, made, of, site)
+            let step = convert(frames, typing, Mode::Implicit, made, of, site)?;
+            Ok(step)
         }
     }
 }
@@ -206,7 +230,8 @@ pub fn returned(
         Does (waiting.with_doing (DoingFrame.Returned of at) made) typing.old left step typing.new left) }
     ensures kept { OnOk result (KeepsTyping typing.old typing.new) }
 {
-    states(typing, at, TypedStatement::Return(Some(made.id)), Some(of))
+    let step = states(typing, at, TypedStatement::Return(Some(made.id)), Some(of))?;
+    Ok(step)
 }
 
 /// Uses the call that a statement is as a value.
@@ -223,5 +248,6 @@ pub fn perform(
     ensures kept { OnOk result (KeepsTyping typing.old typing.new) }
 {
     frames.push(BodyFrame::Doing(DoingFrame::Performed(at, site)))?;
-    as_value(frames, typing, made, site)
+    let step = as_value(frames, typing, made, site)?;
+    Ok(step)
 }

@@ -3,6 +3,7 @@
 ghost use Rattle.std.specs.Prelude.{◌≡◌, ℕ, [], ◌∷◌, ◌++◌, IfOk, OnOk};
 ghost use Rattle.terra_types.specs.Layouts as layouts;
 ghost use Rattle.check_model.specs.Statements as models;
+ghost use Rattle.check_model.specs.Typing.{with_variables};
 ghost use Rattle.check_expr.specs.Frames as waiting;
 ghost use Rattle.check_expr.specs.Keeping.{KeepsTyping};
 ghost use Rattle.check_expr.specs.Steps.{Goes, Does};
@@ -45,7 +46,8 @@ pub fn var(
                 at,
                 site,
             };
-            names_left(frames, typing, budget, frame)
+            let step = names_left(frames, typing, budget, frame)?;
+            Ok(step)
         }
         Some(values) => {
             if names.len() != values.len() {
@@ -59,7 +61,8 @@ pub fn var(
                 at,
                 site,
             };
-            values_left(frames, typing, budget, frame)
+            let step = values_left(frames, typing, budget, frame)?;
+            Ok(step)
         }
     }
 }
@@ -78,9 +81,15 @@ fn values_left(
 {
     let mut frame = frame;
     match frame.names.take() {
-        None => declare(frames, typing, budget, frame),
+        None => {
+            let step = declare(frames, typing, budget, frame)?;
+            Ok(step)
+        }
         Some(name) => match frame.values.take() {
-            None => declare(frames, typing, budget, frame),
+            None => {
+                let step = declare(frames, typing, budget, frame)?;
+                Ok(step)
+            }
             Some(value) => {
                 let site = frame.site;
                 frames.push(BodyFrame::Doing(DoingFrame::VarValue(name, frame)))?;
@@ -109,14 +118,16 @@ pub fn value(
     match name.of {
         Some(of) => {
             frames.push(BodyFrame::Doing(DoingFrame::VarReady(name, of, frame)))?;
-            convert(frames, typing, Mode::Implicit, made, of, site)
+            let step = convert(frames, typing, Mode::Implicit, made, of, site)?;
+            Ok(step)
         }
         None => {
             if is_nil(&typing.world, made) {
                 return Ok(refuse(RefusalKind::Mismatch, made.at, site));
             }
             frames.push(BodyFrame::Doing(DoingFrame::VarReady(name, made.of, frame)))?;
-            as_value(frames, typing, made, site)
+            let step = as_value(frames, typing, made, site)?;
+            Ok(step)
         }
     }
 }
@@ -143,7 +154,8 @@ pub fn ready(
         ..name
     })?;
     frame.ids.push(made.id)?;
-    values_left(frames, typing, budget, frame)
+    let step = values_left(frames, typing, budget, frame)?;
+    Ok(step)
 }
 
 /// Declares the names, each of which has its type.
@@ -172,7 +184,8 @@ fn declare(
         at,
         site,
     };
-    names_left(frames, typing, budget, frame)
+    let step = names_left(frames, typing, budget, frame)?;
+    Ok(step)
 }
 
 /// Whether a type is a function type.
@@ -199,12 +212,16 @@ fn names_left(
 {
     let mut frame = frame;
     match frame.names.take() {
-        None => named(typing, frame),
+        None => {
+            let step = named(typing, frame)?;
+            Ok(step)
+        }
         Some(name) => {
             if !budget.pay(1) {
                 return Ok(Step::Spent);
             }
-            name_for(frames, typing, name, frame)
+            let step = name_for(frames, typing, name, frame)?;
+            Ok(step)
         }
     }
 }
@@ -233,14 +250,15 @@ fn name_for(
                 symbol: name.symbol,
                 of,
             };
-            lay_out(
+            let step = lay_out(
                 frames,
                 typing,
                 of,
                 name.place,
                 site,
                 LaidThen::Name(typed, frame),
-            )
+            )?;
+            Ok(step)
         }
     }
 }
@@ -260,7 +278,18 @@ pub fn with_name(
 {
     let mut frame = frame;
     frame.named.push(name)?;
-    names_left(frames, typing, budget, frame)
+    let step = names_left(frames, typing, budget, frame)?;
+    Ok(step)
+}
+
+/// Variables are in scope from now on.
+fn declare_all(typing: &mut Typing, names: &[TypedName]) -> Result<(), NoMemory>
+    ensures ok { OnOk result (typing.new ≡ with_variables typing.old names.now) }
+{
+    'names: for name in names {
+        typing.declare(*name)?;
+    }
+    Ok(())
 }
 
 /// The names stand for variables behind the whole `var`.
@@ -276,10 +305,9 @@ fn named(typing: &mut Typing, frame: NamesFrame) -> Result<BodyStep, NoMemory>
         site,
         ..
     } = frame;
-    'names: for name in named.as_slice() {
-        typing.declare(*name)?;
-    }
+    declare_all(typing, named.as_slice())?;
     let names = TypedNameList::from_vec(named.into_vec())?;
     let form = TypedStatement::Var(names, term_list(ids)?);
-    states(typing, at, form, site.result)
+    let step = states(typing, at, form, site.result)?;
+    Ok(step)
 }
