@@ -143,7 +143,6 @@ fn with_statements(
             Ok(Step::Enter(BodyJob::Expression(test, site)))
         }
         BlockThen::For(count, name, bounds, at) => {
-            typing.leave(count.saturating_add(1));
             typing.leave(count);
             let form = TypedStatement::For(name, term_list(bounds)?, term_list(ids)?);
             let step = states(typing, at, form, found)?;

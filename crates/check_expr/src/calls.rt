@@ -6,7 +6,7 @@ ghost use Rattle.check_model.specs.Plans as plans;
 ghost use Rattle.check_model.specs.Converting as converting;
 ghost use Rattle.check_model.specs.Typing.{TypingState, expression_at, function_at};
 ghost use Rattle.check_expr.specs.Callees.{callee_in, named_plan, ready_if, only_of};
-ghost use Rattle.check_expr.specs.Frames.{operands_from, on_answer, called_with};
+ghost use Rattle.check_expr.specs.Frames.{operands_from, operation_of, on_answer, called_with};
 ghost use Rattle.check_expr.specs.Keeping.{KeepsTyping};
 ghost use Rattle.check_expr.specs.Steps.{Goes, Does};
 
@@ -184,17 +184,34 @@ pub fn after_result(
     ensures kept { OnOk result (KeepsTyping typing.old typing.new) }
 {
     match end {
-        PartEnd::Answered(CheckAnswer::Result(of)) => {
+        PartEnd::Answered(answer) => {
+            let step = after_answer(frames, typing, frame, answer)?;
+            Ok(step)
+        }
+        end => Ok(Step::Return(end)),
+    }
+}
+
+/// Goes on with a call, given what is known of the function's result type.
+fn after_answer(
+    frames: &mut Vec<BodyFrame>,
+    typing: &mut Typing,
+    frame: CallFrame,
+    answer: CheckAnswer,
+) -> Result<BodyStep, NoMemory>
+    ensures means { IfOk result (λ step. (left : ℕ) →
+        Goes frames.old.items
+        (models.on_result answer frame.node.at frame.node.site (λ of. operands_from frame frame.fitting frame.ids of))
+        typing.old left frames.new.items step typing.new left) }
+    ensures kept { OnOk result (KeepsTyping typing.old typing.new) }
+{
+    match answer {
+        CheckAnswer::Result(of) => {
             let step = operands_left(frames, typing, frame, of)?;
             Ok(step)
         }
-        PartEnd::Answered(CheckAnswer::Refused(refusal)) => {
-            Ok(Step::Return(PartEnd::Refused(refusal)))
-        }
-        PartEnd::Answered(_) => {
-            Ok(refuse(RefusalKind::Undefined, frame.node.at, frame.node.site))
-        }
-        end => Ok(Step::Return(end)),
+        CheckAnswer::Refused(refusal) => Ok(Step::Return(PartEnd::Refused(refusal))),
+        _ => Ok(refuse(RefusalKind::Undefined, frame.node.at, frame.node.site)),
     }
 }
 
@@ -284,6 +301,16 @@ pub fn fitted(
     Ok(step)
 }
 
+/// The operation that is a call.
+fn operation_of(target: Target) -> Operation
+    ensures { result ≡ operation_of target }
+{
+    match target {
+        Target::Function(f) => Operation::Call(f),
+        Target::Primitive(primitive) => Operation::Primitive(primitive),
+    }
+}
+
 /// Makes a call, once its operands are converted.
 fn call(typing: &mut Typing, frame: CallFrame, of: TypeId) -> Result<BodyStep, NoMemory>
     ensures means { IfOk result (λ step. (left : ℕ) →
@@ -296,11 +323,7 @@ fn call(typing: &mut Typing, frame: CallFrame, of: TypeId) -> Result<BodyStep, N
         node,
         ..
     } = frame;
-    let operation = match target {
-        Target::Function(f) => Operation::Call(f),
-        Target::Primitive(primitive) => Operation::Primitive(primitive),
-    };
-    let form = TypedExpression::Operate(operation, term_list(ids)?);
+    let form = TypedExpression::Operate(operation_of(target), term_list(ids)?);
     let step = gives(typing, node.source, node.at, of, form)?;
     Ok(step)
 }
@@ -319,23 +342,68 @@ fn call_primitive(
         typing.old left frames.new.items step typing.new left) }
     ensures kept { OnOk result (KeepsTyping typing.old typing.new) }
 {
-    let mut types = Row::new(typing.world.store.allocator());
-    let of = match primitive {
+    match primitive {
         Primitive::PutByte => {
-            types.push(UINT8)?;
-            UNIT
+            let types = one_type(typing, UINT8)?;
+            let step = call_by(
+                frames, typing, primitive, types, UNIT, operands, fitting, node,
+            )?;
+            Ok(step)
         }
         Primitive::Write => {
-            types.push(pointer_to(typing, UINT8)?)?;
-            types.push(INT64)?;
-            UNIT
+            let bytes = pointer_to(typing, UINT8)?;
+            let types = two_types(typing, bytes, INT64)?;
+            let step = call_by(
+                frames, typing, primitive, types, UNIT, operands, fitting, node,
+            )?;
+            Ok(step)
         }
         Primitive::Alloc => {
-            types.push(INT64)?;
-            pointer_to(typing, UINT8)?
+            let bytes = pointer_to(typing, UINT8)?;
+            let types = one_type(typing, INT64)?;
+            let step = call_by(
+                frames, typing, primitive, types, bytes, operands, fitting, node,
+            )?;
+            Ok(step)
         }
-    };
-    let types = types.into_rest();
+    }
+}
+
+/// A list of one type.
+fn one_type(typing: &Typing, of: TypeId) -> Result<Rest<TypeId>, NoMemory>
+    ensures { IfOk result (λ types. types ≡ of ∷ []) }
+{
+    let mut types = Row::new(typing.world.store.allocator());
+    types.push(of)?;
+    Ok(types.into_rest())
+}
+
+/// A list of two types.
+fn two_types(typing: &Typing, first: TypeId, second: TypeId) -> Result<Rest<TypeId>, NoMemory>
+    ensures { IfOk result (λ types. types ≡ first ∷ second ∷ []) }
+{
+    let mut types = Row::new(typing.world.store.allocator());
+    types.push(first)?;
+    types.push(second)?;
+    Ok(types.into_rest())
+}
+
+/// Calls a primitive whose parameters have these types.
+fn call_by(
+    frames: &mut Vec<BodyFrame>,
+    typing: &mut Typing,
+    primitive: Primitive,
+    types: Rest<TypeId>,
+    of: TypeId,
+    operands: Rest<Operand>,
+    fitting: bool,
+    node: Node,
+) -> Result<BodyStep, NoMemory>
+    ensures means { IfOk result (λ step. (left : ℕ) →
+        Goes frames.old.items (models.call_by primitive types of operands node.at fitting node.source node.site)
+        typing.old left frames.new.items step typing.new left) }
+    ensures kept { OnOk result (KeepsTyping typing.old typing.new) }
+{
     if operands.len() != types.len() {
         return Ok(refuse(RefusalKind::WrongCount, node.at, node.site));
     }
@@ -363,7 +431,7 @@ pub fn macro_operands(
         w left frames.new.items step w left) }
 {
     let mut operands = operands;
-    while let Some(operand) = operands.take() {
+    'operands: while let Some(operand) = operands.take() {
         if let Operand::Untyped(term) = operand {
             frames.push(BodyFrame::Made(MadeFrame::Operand(operands, at, site)))?;
             return Ok(Step::Enter(BodyJob::Expression(term, site)));
@@ -500,21 +568,33 @@ pub fn call_value(typing: &Typing, made: Made, at: Place, site: Site) -> BodySte
     without_lua(handler, RefusalKind::NotCallable, at, site)
 }
 
-/// Operands that are yet to be typed.
+/// Operands that are yet to be typed, behind the receiver, where there is one.
 pub fn untyped(
     typing: &Typing,
     first: Option<Made>,
-    terms: Rest<TermId>,
+    terms: &[TermId],
 ) -> Result<Vec<Operand>, NoMemory>
-    ensures { IfOk result (λ operands. operands.items ≡ ready_if first ++ plans.untyped terms) }
+    ensures { IfOk result (λ operands. operands.items ≡ ready_if first ++ plans.untyped terms.now) }
 {
     let mut operands = Vec::new(typing.world.store.allocator());
-    if let Some(made) = first {
-        operands.push(Operand::Typed(made))?;
-    }
-    let mut terms = terms;
-    while let Some(term) = terms.take() {
-        operands.push(Operand::Untyped(term))?;
+    match first {
+        Some(made) => {
+            operands.push(Operand::Typed(made))?;
+            push_untyped(&mut operands, terms)?;
+        }
+        None => {
+            push_untyped(&mut operands, terms)?;
+        }
     }
     Ok(operands)
+}
+
+/// Puts terms that are yet to be typed behind other operands.
+fn push_untyped(operands: &mut Vec<Operand>, terms: &[TermId]) -> Result<(), NoMemory>
+    ensures { OnOk result (operands.new.items ≡ operands.old.items ++ plans.untyped terms.now) }
+{
+    'terms: for term in terms {
+        operands.push(Operand::Untyped(*term))?;
+    }
+    Ok(())
 }

@@ -64,15 +64,38 @@ pub fn construct(
         return Ok(refuse(RefusalKind::TooWide, node.at, node.site));
     }
     let Initials { names, values } = values;
-    let entries = match names {
+    match names {
         None => {
             if entry_count(&typing.world, of) < values.len() as u64 {
                 return Ok(refuse(RefusalKind::WrongCount, node.at, node.site));
             }
-            entries_in_order(&typing.world, of, values.as_slice())?
+            let entries = entries_in_order(&typing.world, of, values.as_slice())?;
+            let step = with_entries(frames, typing, of, entries, values, node)?;
+            Ok(step)
         }
-        Some(names) => entries_by_name(&typing.world, of, names)?,
-    };
+        Some(names) => {
+            let entries = entries_by_name(&typing.world, of, names.as_slice())?;
+            let step = with_entries(frames, typing, of, entries, values, node)?;
+            Ok(step)
+        }
+    }
+}
+
+/// Makes a struct of values for these entries.
+fn with_entries(
+    frames: &mut Vec<BodyFrame>,
+    typing: &mut Typing,
+    of: TypeId,
+    entries: Rest<Option<Laid>>,
+    values: Rest<TermId>,
+    node: Node,
+) -> Result<BodyStep, NoMemory>
+    ensures means { IfOk result (λ step. (left : ℕ) →
+        Goes frames.old.items
+        (models.into entries values node.at node.site [] [] (models.constructed of node.at node.source))
+        typing.old left frames.new.items step typing.new left) }
+    ensures kept { OnOk result (KeepsTyping typing.old typing.new) }
+{
     let alloc = typing.world.store.allocator();
     let frame = InitialFrame {
         of,
@@ -116,8 +139,9 @@ fn entries_in_order(
 {
     let mut entries = Row::new(world.store.allocator());
     'entries: for place in 0..values.len() {
-        if let Some(laid) = entry_at(world, of, place as u64) {
-            entries.push(Some(laid))?;
+        match entry_at(world, of, place as u64) {
+            Some(laid) => entries.push(Some(laid))?,
+            None => return Ok(entries.into_rest()),
         }
     }
     Ok(entries.into_rest())
@@ -127,14 +151,13 @@ fn entries_in_order(
 fn entries_by_name(
     world: &World,
     of: TypeId,
-    names: Rest<TextId>,
+    names: &[TextId],
 ) -> Result<Rest<Option<Laid>>, NoMemory>
-    ensures { IfOk result (λ entries. entries ≡ models.by_name (entries_of world.now.store.types of) names) }
+    ensures { IfOk result (λ entries. entries ≡ models.by_name (entries_of world.now.store.types of) names.now) }
 {
     let mut entries = Row::new(world.store.allocator());
-    let mut names = names;
-    while let Some(name) = names.take() {
-        entries.push(entry_of(world, of, name))?;
+    'names: for name in names {
+        entries.push(entry_of(world, of, *name))?;
     }
     Ok(entries.into_rest())
 }

@@ -229,7 +229,7 @@ fn call(
         typing.old budget.old frames.new.items step typing.new budget.new) }
     ensures kept { OnOk result (KeepsTyping typing.old typing.new) }
 {
-    let operands = untyped(typing, None, arguments)?;
+    let operands = untyped(typing, None, arguments.as_slice())?;
     match callee_of(&typing.world, f) {
         Callee::Value => {
             let operands = OperandList::from_vec(operands);

@@ -20,9 +20,7 @@ use check_model::row::{Rest, Row, term_list};
 use check_model::{PartEnd, Site, Typing};
 use exotype::World;
 use std::alloc::Global;
-use terra_term::{
-    Parameter, Refusal, RefusalKind, Size, Standing, Term, Typed, TypedName, TypedNameList,
-};
+use terra_term::{Parameter, RefusalKind, Size, Standing, Term, Typed, TypedName, TypedNameList};
 use tl_base::{Budget, FnId, NoMemory, Place, Step, TermId, TypeId};
 
 /// The most nodes of a typed body.
@@ -258,10 +256,7 @@ pub fn function(
         Does (models.made_function names (unwrap_or found unit) ids at site) typing.old left step typing.new left) }
     ensures kept { OnOk result (KeepsTyping typing.old typing.new) }
 {
-    let of = match found {
-        Some(of) => of,
-        None => UNIT,
-    };
+    let of = found.unwrap_or(UNIT);
     let names = TypedNameList::from_vec(names.into_vec())?;
     let id = new_node(typing, Typed::Function(names, of, term_list(ids)?))?;
     if is_too_large(size_of(&typing.world, id)) {
@@ -271,22 +266,27 @@ pub fn function(
     }
 }
 
+/// A function that was being typed has its typed term or its refusal from now on.
+fn settle(typing: &mut Typing, f: FnId, end: &PartEnd)
+    ensures means { typing.new ≡ with_stage typing.old (models.stage_after f end.now typing.old.stage) }
+    ensures kept { KeepsTyping typing.old typing.new }
+{
+    if typing.world.store.standing(f) == Standing::Typing {
+        match end {
+            PartEnd::Made(made) => typing.world.store.finish_typing(f, made.id),
+            PartEnd::Stated(id, _) => typing.world.store.finish_typing(f, *id),
+            PartEnd::Refused(refusal) => typing.world.store.refuse(f, *refusal),
+            PartEnd::Answered(_) => {}
+        }
+    }
+}
+
 /// Closes a function, however its body ended: it has its typed term or its refusal, and its variables go.
 pub fn close(typing: &mut Typing, f: FnId, base: u64, end: PartEnd) -> BodyStep
     ensures means { (left : ℕ) → Does (models.close_function f base end) typing.old left result typing.new left }
     ensures kept { KeepsTyping typing.old typing.new }
 {
-    if typing.world.store.standing(f) == Standing::Typing {
-        match &end {
-            PartEnd::Made(made) => typing.world.store.finish_typing(f, made.id),
-            PartEnd::Stated(id, _) => typing.world.store.finish_typing(f, *id),
-            PartEnd::Refused(refusal) => {
-                let refusal: Refusal = *refusal;
-                typing.world.store.refuse(f, refusal)
-            }
-            PartEnd::Answered(_) => {}
-        }
-    }
+    settle(typing, f, &end);
     typing.leave(base);
     Step::Return(end)
 }

@@ -77,12 +77,35 @@ pub fn after_layout(
     ensures kept { OnOk result (KeepsTyping typing.old typing.new) }
 {
     match end {
-        PartEnd::Answered(CheckAnswer::NoLayout(kind)) => Ok(refuse(kind, at, site)),
-        PartEnd::Answered(_) => {
-            let step = with_layout(frames, typing, budget, site, then)?;
+        PartEnd::Answered(answer) => {
+            let step = after_answer(frames, typing, budget, at, site, then, answer)?;
             Ok(step)
         }
         end => Ok(Step::Return(end)),
+    }
+}
+
+/// Goes on with what needed a layout, given the answer.
+fn after_answer(
+    frames: &mut Vec<BodyFrame>,
+    typing: &mut Typing,
+    budget: &mut Budget,
+    at: Place,
+    site: Site,
+    then: LaidThen,
+    answer: CheckAnswer,
+) -> Result<BodyStep, NoMemory>
+    ensures means { IfOk result (λ step.
+        Goes frames.old.items (plans.on_layout answer at site (laid_then then site))
+        typing.old budget.old frames.new.items step typing.new budget.new) }
+    ensures kept { OnOk result (KeepsTyping typing.old typing.new) }
+{
+    match answer {
+        CheckAnswer::NoLayout(kind) => Ok(refuse(kind, at, site)),
+        _ => {
+            let step = with_layout(frames, typing, budget, site, then)?;
+            Ok(step)
+        }
     }
 }
 

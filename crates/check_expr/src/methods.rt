@@ -87,7 +87,7 @@ fn with_method(
     }
     match typing.world.term_of(value, node.at)? {
         Became::Term(term) => {
-            let operands = untyped(typing, Some(object), arguments)?;
+            let operands = untyped(typing, Some(object), arguments.as_slice())?;
             let step = call_term(frames, typing, budget, term, operands, true, node)?;
             Ok(step)
         }

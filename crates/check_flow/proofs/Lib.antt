@@ -1,2 +1,2 @@
--- Lemmas.
-pub mod Keeping
+-- Lemmas: what is to be gone through.
+pub mod Mentioning

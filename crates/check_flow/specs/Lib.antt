@@ -5,6 +5,7 @@ pub mod LayoutFrames
 pub mod Steps
 -- What a layout keeps.
 pub mod Keeping
+pub mod Kept
 -- What remains of what is suspended.
 pub mod Rest
 -- How types are laid out.

@@ -87,7 +87,10 @@ fn take(
                 Ok(refused_at(RefusalKind::RecursiveNeedsType, reached, function.place))
             }
             FunctionState::Refused(_, refusal) => Ok(Step::Return(CheckEnd::Refused(refusal))),
-            FunctionState::Typed(_, _) => past(world, queue, place, reached.function),
+            FunctionState::Typed(_, _) => {
+                let step = past(world, queue, place, reached.function)?;
+                Ok(step)
+            }
             FunctionState::Defined(_) => {
                 let f = reached.function;
                 frames.push(CheckFrame {
@@ -153,7 +156,8 @@ impl Machine for CheckSteps {
         job: CheckJob,
     ) -> Result<CheckStep, NoMemory> {
         let CheckJob::Take(queue, place) = job;
-        take(frames, world, queue, place)
+        let step = take(frames, world, queue, place)?;
+        Ok(step)
     }
 
     fn go_on(
@@ -171,7 +175,10 @@ impl Machine for CheckSteps {
         } = frame;
         match end {
             CheckEnd::Refused(refusal) => Ok(Step::Return(CheckEnd::Refused(refusal))),
-            CheckEnd::Done => past(world, queue, place, function),
+            CheckEnd::Done => {
+                let step = past(world, queue, place, function)?;
+                Ok(step)
+            }
         }
     }
 

@@ -98,7 +98,10 @@ fn parts_left(
             frames.push(LayoutFrame::Part(of, value, rest, entries, at))?;
             Ok(Step::Stop(LayoutQuestion::LayoutOf(entry.of, at)))
         }
-        None => settle(world, of, value, entries),
+        None => {
+            let step = settle(world, of, value, entries)?;
+            Ok(step)
+        }
     }
 }
 
@@ -140,7 +143,8 @@ fn by_entries(
         None => Ok(keep(world, of, RefusalKind::BadEntries)),
         Some(entries) => {
             let rest = Rest::copy(world.store.allocator(), &entries)?;
-            parts_left(frames, world, of, value, rest, entries, at)
+            let step = parts_left(frames, world, of, value, rest, entries, at)?;
+            Ok(step)
         }
     }
 }
@@ -175,7 +179,8 @@ fn lay_out_struct(
             if asks_lua {
                 Ok(keep(world, of, RefusalKind::NotBuilt))
             } else {
-                by_entries(frames, world, of, own, at)
+                let step = by_entries(frames, world, of, own, at)?;
+                Ok(step)
             }
         }
     }
@@ -212,7 +217,7 @@ fn sized(world: &World, of: TypeId) -> LayoutStep
 }
 
 impl Machine for LayoutSteps {
-    ghost use Rattle.check_flow.proofs.Keeping.{keeps_itself, keeps_then};
+    ghost use Rattle.check_flow.specs.Kept.{keeps_itself, keeps_then};
 
     type World = World;
 
@@ -248,7 +253,10 @@ impl Machine for LayoutSteps {
         task: LayoutTask,
     ) -> Result<LayoutStep, NoMemory> {
         match kind_of(world, task.of) {
-            Kind::Struct => lay_out_struct(frames, world, task.of, task.at),
+            Kind::Struct => {
+                let step = lay_out_struct(frames, world, task.of, task.at)?;
+                Ok(step)
+            }
             Kind::Array(elements) => {
                 frames.push(LayoutFrame::Elements(task.of))?;
                 Ok(Step::Stop(LayoutQuestion::LayoutOf(elements, task.at)))
@@ -278,7 +286,10 @@ impl Machine for LayoutSteps {
         match frame {
             LayoutFrame::Part(of, value, rest, entries, at) => match end {
                 LayoutEnd::Refused(kind) => Ok(keep(world, of, kind)),
-                LayoutEnd::Done => parts_left(frames, world, of, value, rest, entries, at),
+                LayoutEnd::Done => {
+                    let step = parts_left(frames, world, of, value, rest, entries, at)?;
+                    Ok(step)
+                }
             },
             LayoutFrame::Elements(of) => match end {
                 LayoutEnd::Refused(kind) => Ok(Step::Return(LayoutEnd::Refused(kind))),

@@ -42,13 +42,12 @@ fn all(parts: &mut Parts, terms: &[TermId], below: u64, is_statement: bool) -> R
 {
     let count = terms.len();
     'terms: for place in 0..count {
-        if let Some(term) = terms.get(count - 1 - place) {
-            parts.push(Part {
-                term: *term,
-                below,
-                is_statement,
-            })?;
-        }
+        let term = terms[count - 1 - place];
+        parts.push(Part {
+            term,
+            below,
+            is_statement,
+        })?;
     }
     Ok(())
 }
@@ -58,21 +57,35 @@ pub fn reach_mentions(world: &World, queue: &mut ReachedList, f: FnId) -> Result
     ensures { OnOk result (queue.new ≡ with_mentions queue.old f (mentions_at world.now f)) }
 {
     let mut parts = Vec::new(world.store.allocator());
-    if let Some(function) = world.store.function(f) {
-        if let FunctionState::Typed(_, made) = function.state {
-            if let Some(Typed::Function(_, _, body)) = world.store.typed(made) {
-                all(&mut parts, body.as_slice(), made.0, true)?;
-            }
-        }
-    }
+    statements_of(world, &mut parts, f)?;
     // Each part is a node of the typed term, and no memory has so many.
-    for _ in 0..u64::MAX {
+    'parts: for _ in 0..u64::MAX {
         let Some(part) = parts.pop() else {
             return Ok(());
         };
         go_through(world, queue, &mut parts, part, f)?;
     }
     Err(NoMemory)
+}
+
+/// Puts the statements of a function's typed term before what is to be gone through.
+fn statements_of(world: &World, parts: &mut Parts, f: FnId) -> Result<(), NoMemory>
+    ensures { OnOk result (
+        parts_mentions world.now parts.new.items ≡ mentions_at world.now f ++ parts_mentions world.now parts.old.items) }
+{
+    match world.store.function(f) {
+        Some(function) => match function.state {
+            FunctionState::Typed(_, made) => match world.store.typed(made) {
+                Some(Typed::Function(_, _, body)) => {
+                    all(parts, body.as_slice(), made.0, true)?;
+                    Ok(())
+                }
+                _ => Ok(()),
+            },
+            _ => Ok(()),
+        },
+        None => Ok(()),
+    }
 }
 
 /// Goes through a node: what it mentions comes behind the queue, and its parts before what is to be gone through.
@@ -94,10 +107,12 @@ fn go_through(
     match world.store.typed(part.term) {
         Some(Typed::Expression(at, _, form)) if !part.is_statement => {
             mention(queue, form, *at, by)?;
-            parts_of_expression(parts, form, below)
+            parts_of_expression(parts, form, below)?;
+            Ok(())
         }
         Some(Typed::Statement(_, doing)) if part.is_statement => {
-            parts_of_statement(parts, doing, below)
+            parts_of_statement(parts, doing, below)?;
+            Ok(())
         }
         _ => Ok(()),
     }
@@ -113,8 +128,14 @@ fn mention(
     ensures { OnOk result (queue.new ≡ with_mentions queue.old by (own_mention at form.now)) }
 {
     match form {
-        TypedExpression::Operate(Operation::Call(f), _) => reach(queue, *f, at, by),
-        TypedExpression::Constant(Constant::FnValue(f)) => reach(queue, *f, at, by),
+        TypedExpression::Operate(Operation::Call(f), _) => {
+            reach(queue, *f, at, by)?;
+            Ok(())
+        }
+        TypedExpression::Constant(Constant::FnValue(f)) => {
+            reach(queue, *f, at, by)?;
+            Ok(())
+        }
         _ => Ok(()),
     }
 }
@@ -133,19 +154,50 @@ fn parts_of_expression(
         TypedExpression::Constant(_) => Ok(()),
         TypedExpression::Variable(_) => Ok(()),
         TypedExpression::Global(_) => Ok(()),
-        TypedExpression::Operate(_, operands) => all(parts, operands.as_slice(), below, false),
-        TypedExpression::Both(first, second) => two(parts, *first, *second, below),
-        TypedExpression::Either(first, second) => two(parts, *first, *second, below),
-        TypedExpression::Dereference(pointer) => expression(parts, *pointer, below),
-        TypedExpression::Select(_, object) => expression(parts, *object, below),
-        TypedExpression::Follow(_, pointer) => expression(parts, *pointer, below),
-        TypedExpression::Element(object, key) => two(parts, *object, *key, below),
-        TypedExpression::Index(object, key) => two(parts, *object, *key, below),
-        TypedExpression::Address(object) => expression(parts, *object, below),
-        TypedExpression::Decay(object) => expression(parts, *object, below),
+        TypedExpression::Operate(_, operands) => {
+            all(parts, operands.as_slice(), below, false)?;
+            Ok(())
+        }
+        TypedExpression::Both(first, second) => {
+            two(parts, *first, *second, below)?;
+            Ok(())
+        }
+        TypedExpression::Either(first, second) => {
+            two(parts, *first, *second, below)?;
+            Ok(())
+        }
+        TypedExpression::Dereference(pointer) => {
+            expression(parts, *pointer, below)?;
+            Ok(())
+        }
+        TypedExpression::Select(_, object) => {
+            expression(parts, *object, below)?;
+            Ok(())
+        }
+        TypedExpression::Follow(_, pointer) => {
+            expression(parts, *pointer, below)?;
+            Ok(())
+        }
+        TypedExpression::Element(object, key) => {
+            two(parts, *object, *key, below)?;
+            Ok(())
+        }
+        TypedExpression::Index(object, key) => {
+            two(parts, *object, *key, below)?;
+            Ok(())
+        }
+        TypedExpression::Address(object) => {
+            expression(parts, *object, below)?;
+            Ok(())
+        }
+        TypedExpression::Decay(object) => {
+            expression(parts, *object, below)?;
+            Ok(())
+        }
         TypedExpression::Let(block, value) => {
             expression(parts, *value, below)?;
-            all(parts, block.as_slice(), below, true)
+            all(parts, block.as_slice(), below, true)?;
+            Ok(())
         }
     }
 }
@@ -157,7 +209,8 @@ fn two(parts: &mut Parts, first: TermId, second: TermId, below: u64) -> Result<(
         ≡ expression_mentions w below first ++ expression_mentions w below second ++ parts_mentions w parts.old.items) }
 {
     expression(parts, second, below)?;
-    expression(parts, first, below)
+    expression(parts, first, below)?;
+    Ok(())
 }
 
 /// Puts the parts of a statement before what is to be gone through: the first of them is the next.
@@ -166,36 +219,56 @@ fn parts_of_statement(parts: &mut Parts, doing: &TypedStatement, below: u64) -> 
         parts_mentions w parts.new.items ≡ doing_mentions w below doing.now ++ parts_mentions w parts.old.items) }
 {
     match doing {
-        TypedStatement::Var(_, values) => all(parts, values.as_slice(), below, false),
+        TypedStatement::Var(_, values) => {
+            all(parts, values.as_slice(), below, false)?;
+            Ok(())
+        }
         TypedStatement::Assign(targets, values) => {
             all(parts, targets.as_slice(), below, false)?;
-            all(parts, values.as_slice(), below, false)
+            all(parts, values.as_slice(), below, false)?;
+            Ok(())
         }
-        TypedStatement::If(test, block, others) => {
-            if let Some(others) = others {
-                all(parts, others.as_slice(), below, true)?;
-            }
+        TypedStatement::If(test, block, None) => {
             all(parts, block.as_slice(), below, true)?;
-            expression(parts, *test, below)
+            expression(parts, *test, below)?;
+            Ok(())
+        }
+        TypedStatement::If(test, block, Some(others)) => {
+            all(parts, others.as_slice(), below, true)?;
+            all(parts, block.as_slice(), below, true)?;
+            expression(parts, *test, below)?;
+            Ok(())
         }
         TypedStatement::While(test, block) => {
             all(parts, block.as_slice(), below, true)?;
-            expression(parts, *test, below)
+            expression(parts, *test, below)?;
+            Ok(())
         }
         TypedStatement::Repeat(block, test) => {
             expression(parts, *test, below)?;
-            all(parts, block.as_slice(), below, true)
+            all(parts, block.as_slice(), below, true)?;
+            Ok(())
         }
         TypedStatement::For(_, bounds, block) => {
             all(parts, block.as_slice(), below, true)?;
-            all(parts, bounds.as_slice(), below, false)
+            all(parts, bounds.as_slice(), below, false)?;
+            Ok(())
         }
-        TypedStatement::Do(block) => all(parts, block.as_slice(), below, true),
+        TypedStatement::Do(block) => {
+            all(parts, block.as_slice(), below, true)?;
+            Ok(())
+        }
         TypedStatement::Break => Ok(()),
         TypedStatement::Return(value) => match value {
-            Some(value) => expression(parts, *value, below),
+            Some(value) => {
+                expression(parts, *value, below)?;
+                Ok(())
+            }
             None => Ok(()),
         },
-        TypedStatement::Perform(call) => expression(parts, *call, below),
+        TypedStatement::Perform(call) => {
+            expression(parts, *call, below)?;
+            Ok(())
+        }
     }
 }

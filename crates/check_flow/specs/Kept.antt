@@ -1,4 +1,4 @@
--- What a layout keeps, by nothing, and by one step and the next.
+-- What a layout keeps, by nothing, and by one step and the next: the laws that the machine's `keeps` has.
 use Rattle.std.proofs.Common.{ℕ, ◌≡◌, List, Option, Some, None, refl, sym, subst, ◌∙◌, ap}
 use Rattle.std.specs.Prelude.{slice_get}
 use Rattle.tl_base.specs.declared.place.Place.{Place}
