@@ -16,10 +16,12 @@ pub mod Becoming
 -- Worlds of which a part is another.
 pub mod Worlds
 -- The entries of constructors.
-pub mod Constructing
+pub mod Ordering
 -- Variables that are declared, and scopes that are left.
 pub mod Declaring
 -- Ends and answers that pass by.
 pub mod Passing
 -- How far functions have come.
 pub mod Standing
+-- Comparisons of pointers.
+pub mod Retyped

@@ -6,9 +6,14 @@ use Rattle.tl_base.specs.declared.ids.FnId.{FnId}
 use Rattle.terra_term.specs.declared.store.Function.{Function}
 use Rattle.terra_term.specs.declared.store.FunctionState.{FunctionState}
 use Rattle.terra_term.specs.declared.store.FunctionState.TheVariants as states
-use Rattle.terra_term.specs.Held.{Held, state_of, with_state, state_changed}
+use Rattle.terra_term.specs.declared.store.Standing.TheVariants as standing
+use Rattle.terra_term.specs.Held.{Held, state_of, standing_of, standing_in, with_state, state_changed, begun}
 use Rattle.terra_term.specs.Keeping.{Stays}
 use Rattle.terra_term.proofs.Staying.{state-stays}
+use Rattle.exotype.specs.World.{StageState, with_store}
+use Rattle.check_model.specs.declared.end.PartEnd.{PartEnd}
+use Rattle.check_model.specs.declared.end.PartEnd.TheVariants as ends
+use Rattle.check_model.specs.Bodies.{begun_in, state_after, stage_after}
 use Rattle.check_expr.specs.Keeping.{KeepsStore}
 use Rattle.check_expr.specs.Kept.{store_itself}
 
@@ -41,3 +46,41 @@ store_state s f state stays =
       constants = same.constants;
       globals = same.globals;
     }
+
+-- ---- what isn't defined isn't begun, and what isn't being typed isn't settled
+
+not_begun : (s : FunctionState) → (standing_in s ≡ standing.Defined → ⊥) → begun s ≡ s
+not_begun states.Undefined other = refl
+not_begun (states.Defined t) other = absurd (other refl)
+not_begun (states.Typing t) other = refl
+not_begun (states.Typed t made) other = refl
+not_begun (states.Refused t why) other = refl
+
+pub begun_same : (w : StageState) (f : FnId) → (standing_of w.store f ≡ standing.Defined → ⊥) → begun_in w f ≡ w
+begun_same w f other =
+    ap (λ (s : FunctionState). with_store w (with_state w.store f s)) (not_begun (state_of w.store f) other)
+    ∙ ap (λ (s : Held). with_store w s) (same_state w.store f)
+
+not_settled : (r : PartEnd) (s : FunctionState) → (standing_in s ≡ standing.Typing → ⊥) → state_after r s ≡ s
+not_settled (ends.Answered a) s other = refl
+not_settled r (states.Typing t) other = absurd (other refl)
+not_settled (ends.Made m) states.Undefined other = refl
+not_settled (ends.Made m) (states.Defined t) other = refl
+not_settled (ends.Made m) (states.Typed t made) other = refl
+not_settled (ends.Made m) (states.Refused t why) other = refl
+not_settled (ends.Stated id result) states.Undefined other = refl
+not_settled (ends.Stated id result) (states.Defined t) other = refl
+not_settled (ends.Stated id result) (states.Typed t made) other = refl
+not_settled (ends.Stated id result) (states.Refused t why) other = refl
+not_settled (ends.Refused w) states.Undefined other = refl
+not_settled (ends.Refused w) (states.Defined t) other = refl
+not_settled (ends.Refused w) (states.Typed t made) other = refl
+not_settled (ends.Refused w) (states.Refused t why) other = refl
+
+pub settled_same : (w : StageState) (f : FnId) (r : PartEnd) → (standing_of w.store f ≡ standing.Typing → ⊥) → stage_after f r w ≡ w
+settled_same w f r other =
+    ap (λ (s : FunctionState). with_store w (with_state w.store f s)) (not_settled r (state_of w.store f) other)
+    ∙ ap (λ (s : Held). with_store w s) (same_state w.store f)
+
+pub answered_same : (w : StageState) (f : FnId) → with_store w (with_state w.store f (state_of w.store f)) ≡ w
+answered_same w f = ap (λ (s : Held). with_store w s) (same_state w.store f)

@@ -9,9 +9,7 @@ use Rattle.check_expr.proofs.Keeping.{keeps_store}
 pub stage_kept : (w v : TypingState) (stage : StageState) → v ≡ w → KeepsStage v.stage stage → KeepsStage w.stage stage
 stage_kept w v stage same kept = subst (λ (x : TypingState). KeepsStage x.stage stage) same kept
 
--- a world of the staging where the store alone is another
-pub store_kept : (w v : TypingState) (old new : StageState) → v ≡ w → old ≡ v.stage → new ≡ with_store old new.store
-    → KeepsStore old.store new.store → KeepsStage w.stage new
-store_kept w v old new same within by kept =
-    stage_kept w v new same (subst (λ (x : StageState). KeepsStage x new) within
-    (subst (λ (x : StageState). KeepsStage old x) (sym by) (keeps_store old new.store kept)))
+-- a world where the store alone is another
+pub store_kept : (w v new : StageState) → v ≡ w → new ≡ with_store v new.store → KeepsStore v.store new.store → KeepsStage w new
+store_kept w v new same by kept =
+    subst (λ (x : StageState). KeepsStage x new) same (subst (λ (x : StageState). KeepsStage v x) (sym by) (keeps_store v new.store kept))

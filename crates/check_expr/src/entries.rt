@@ -96,17 +96,19 @@ fn entry(
         typing.old left frames.new.items step typing.new left) }
     ensures kept { OnOk result (KeepsTyping typing.old typing.new) }
 {
-    if !is_struct(&typing.world, object.of) {
+    if is_struct(&typing.world, object.of) {
+        if object.is_place {
+            let form = TypedExpression::Select(laid.offset, object.id);
+            let step = gives(typing, node.source, node.at, laid.of, form)?;
+            Ok(step)
+        } else {
+            frames.push(BodyFrame::Made(MadeFrame::Extract(laid, node)))?;
+            let step = as_value(frames, typing, object, node.site)?;
+            Ok(step)
+        }
+    } else {
         let form = TypedExpression::Follow(laid.offset, object.id);
         let step = gives(typing, node.source, node.at, laid.of, form)?;
-        Ok(step)
-    } else if object.is_place {
-        let form = TypedExpression::Select(laid.offset, object.id);
-        let step = gives(typing, node.source, node.at, laid.of, form)?;
-        Ok(step)
-    } else {
-        frames.push(BodyFrame::Made(MadeFrame::Extract(laid, node)))?;
-        let step = as_value(frames, typing, object, node.site)?;
         Ok(step)
     }
 }

@@ -110,8 +110,9 @@ fn begin(typing: &mut Typing, f: FnId)
     ensures means { typing.new ≡ with_stage typing.old (models.begun_in typing.old.stage f) }
     ensures kept { KeepsTyping typing.old typing.new }
 {
-    if typing.world.store.standing(f) == Standing::Defined {
-        typing.world.store.begin_typing(f);
+    match typing.world.store.standing(f) {
+        Standing::Defined => typing.world.store.begin_typing(f),
+        _ => {}
     }
 }
 
@@ -271,13 +272,14 @@ fn settle(typing: &mut Typing, f: FnId, end: &PartEnd)
     ensures means { typing.new ≡ with_stage typing.old (models.stage_after f end.now typing.old.stage) }
     ensures kept { KeepsTyping typing.old typing.new }
 {
-    if typing.world.store.standing(f) == Standing::Typing {
-        match end {
+    match typing.world.store.standing(f) {
+        Standing::Typing => match end {
             PartEnd::Made(made) => typing.world.store.finish_typing(f, made.id),
             PartEnd::Stated(id, _) => typing.world.store.finish_typing(f, *id),
             PartEnd::Refused(refusal) => typing.world.store.refuse(f, *refusal),
             PartEnd::Answered(_) => {}
-        }
+        },
+        _ => {}
     }
 }
 

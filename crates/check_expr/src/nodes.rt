@@ -1,17 +1,19 @@
 // Typed nodes, and the ends of plans.
 
 ghost use Rattle.std.specs.Prelude.{◌≡◌, ℕ, IfOk, OnOk};
-ghost use Rattle.terra_term.specs.Held.{next_typed};
+ghost use Rattle.terra_term.specs.Held.{next_typed, with_typed};
 ghost use Rattle.terra_term.specs.declared.typed.Typed.TheVariants as typed_kinds;
 ghost use Rattle.exotype.specs.Types.{pointer_id, with_pointer};
+ghost use Rattle.exotype.specs.World.{with_store};
 ghost use Rattle.check_model.specs.Plans as plans;
 ghost use Rattle.check_model.specs.Typing.{TypingState, is_place_form, made_of};
 ghost use Rattle.check_expr.specs.Callees as callees;
-ghost use Rattle.check_expr.specs.Keeping.{KeepsTyping};
+ghost use Rattle.check_expr.specs.Keeping.{KeepsStage, KeepsTyping};
 ghost use Rattle.check_expr.specs.Steps.{Does, with_node, with_stage};
 
 use crate::step::BodyStep;
 use check_model::{Made, PartEnd, Site, Typing};
+use exotype::World;
 use lua_value::Value;
 use terra_term::{Refusal, RefusalKind, Typed, TypedExpression, TypedStatement};
 use tl_base::{NoMemory, Place, Step, TermId, TypeId};
@@ -32,13 +34,23 @@ fn is_place(form: &TypedExpression) -> bool
     }
 }
 
+/// Adds a typed node to the store.
+fn add_node(world: &mut World, node: Typed) -> Result<TermId, NoMemory>
+    ensures id { IfOk result (λ id. id ≡ next_typed world.old.store) }
+    ensures ok { OnOk result (world.new ≡ with_store world.old (with_typed world.old.store node)) }
+    ensures kept { OnOk result (KeepsStage world.old world.new) }
+{
+    let id = world.store.new_typed(node)?;
+    Ok(id)
+}
+
 /// Adds a typed node.
 pub fn new_node(typing: &mut Typing, node: Typed) -> Result<TermId, NoMemory>
     ensures id { IfOk result (λ id. id ≡ next_typed typing.old.stage.store) }
     ensures ok { OnOk result (typing.new ≡ with_node typing.old node) }
     ensures kept { OnOk result (KeepsTyping typing.old typing.new) }
 {
-    let id = typing.world.store.new_typed(node)?;
+    let id = add_node(&mut typing.world, node)?;
     Ok(id)
 }
 

@@ -1,11 +1,13 @@
 // The operators, by the types of their operands.
 
-ghost use Rattle.std.specs.Prelude.{◌≡◌, ℕ, [], ◌∷◌, IfOk, OnOk};
+ghost use Rattle.std.specs.Prelude.{◌≡◌, ℕ, ◌||◌, [], ◌∷◌, IfOk, OnOk};
 ghost use Rattle.terra_term.specs.declared.typed.TypedExpression.TheVariants as te;
 ghost use Rattle.check_model.specs.Converting as converting;
 ghost use Rattle.check_model.specs.Plans as plans;
 ghost use Rattle.check_model.specs.Operators as models;
+ghost use Rattle.check_model.specs.Structs as structs;
 ghost use Rattle.check_model.specs.Typing.{form_in};
+ghost use Rattle.terra_term.specs.WellTyped.{struct_form};
 ghost use Rattle.check_expr.specs.Frames.{laid_then, meet_right};
 ghost use Rattle.check_expr.specs.Retyping.{retyped_as, with_retyped};
 ghost use Rattle.check_expr.specs.Keeping.{KeepsTyping};
@@ -22,6 +24,7 @@ use crate::step::{BodyStep, Node};
 use check_cast::meet;
 use check_model::{Made, Mode, Rule, Typing};
 use exotype::World;
+use lua_value::Value;
 use terra_term::{Constant, Operation, RefusalKind, TypedExpression, UnaryOperator};
 use terra_types::TypeForm;
 use terra_words::BinaryOperator;
@@ -148,6 +151,20 @@ fn rule_of(world: &World, op: BinaryOperator, left: TypeId, right: TypeId) -> Ru
     }
 }
 
+/// Whether one of two types is a struct.
+fn is_any_struct(world: &World, left: TypeId, right: TypeId) -> bool
+    ensures { result ≡ (struct_form (form_in world.now left) || struct_form (form_in world.now right)) }
+{
+    is_struct(world, left) || is_struct(world, right)
+}
+
+/// The metamethod for an operator, of the first of two types that has one.
+fn operator_metamethod(world: &World, op: BinaryOperator, left: TypeId, right: TypeId) -> Value
+    ensures { result ≡ structs.metamethod_of_either world.now left right (models.event_of op) }
+{
+    metamethod_of_either(world, left, right, event(op))
+}
+
 /// A binary operator on two typed operands.
 pub fn binary(
     frames: &mut Vec<BodyFrame>,
@@ -162,8 +179,8 @@ pub fn binary(
         typing.old units frames.new.items step typing.new units) }
     ensures kept { OnOk result (KeepsTyping typing.old typing.new) }
 {
-    if is_struct(&typing.world, left.of) || is_struct(&typing.world, right.of) {
-        let handler = metamethod_of_either(&typing.world, left.of, right.of, event(op));
+    if is_any_struct(&typing.world, left.of, right.of) {
+        let handler = operator_metamethod(&typing.world, op, left.of, right.of);
         return Ok(without_lua(handler, RefusalKind::BadOperand, node.at, node.site));
     }
     let rule = rule_of(&typing.world, op, left.of, right.of);
@@ -412,6 +429,22 @@ fn addresses(
     let second_is_nil = is_nil(&typing.world, right);
     let left = retyped(typing, first_is_nil, left, right)?;
     let right = retyped(typing, second_is_nil, right, left)?;
+    let step = same_pointers(typing, op, left, right, node)?;
+    Ok(step)
+}
+
+/// An operator on the addresses in two pointers of one type.
+fn same_pointers(
+    typing: &mut Typing,
+    op: BinaryOperator,
+    left: Made,
+    right: Made,
+    node: Node,
+) -> Result<BodyStep, NoMemory>
+    ensures means { IfOk result (λ step. (units : ℕ) →
+        Does (models.same_pointers op left right node.at node.source node.site) typing.old units step typing.new units) }
+    ensures kept { OnOk result (KeepsTyping typing.old typing.new) }
+{
     if left.of.0 == right.of.0 {
         let step = both(typing, op, BOOL, left, right, node)?;
         Ok(step)

@@ -32,6 +32,6 @@ returns-in_ok-step-in-None-clause-means c = λ left.
     let w = a.typing.now in
     let plan : List TermId → BodyPlan = λ ts. models.typing_all ts f.site f.made (λ ms. models.targets f.targets f.site [] (λ ps. models.converting_all ms ps f.site [] (λ ids. waiting.assigned (ids_of ps) ids f.at f.site))) in
     let after : List Made → BodyPlan =
-        λ ps. models.targets f.targets f.site ps (λ qs. models.converting_all f.made qs f.site [] (λ ids. waiting.assigned (ids_of qs) ids f.at f.site)) in
+    λ ps. models.targets f.targets f.site ps (λ qs. models.converting_all f.made qs f.site [] (λ ids. waiting.assigned (ids_of qs) ids f.at f.site)) in
     moved fs c.targets_left.new.frames.items (plan f.values) (after c.new.result) w w c.targets_left.new.typing left left c.in_ok-step-in-None.step
     (ap plan c.in-None.ensures ∙ ap after (sym c.new.ensures)) refl (c.in_ok-step-in-None.ensures.means left)

@@ -3,7 +3,7 @@ use Rattle.tl_base.specs.declared.ids.TermId.{TermId}
 use Rattle.terra_types.specs.declared.layout.Laid.{Laid}
 use Rattle.terra_types.specs.Layouts.{entries_of}
 use Rattle.check_model.specs.Expressions as models
-use Rattle.check_expr.proofs.Constructing.{order_more, order_over, order_end}
+use Rattle.check_expr.proofs.Ordering.{order_more, order_over, order_end}
 use Rattle.check_expr.proofs.constructing.entries_in_order.Goals as goal
 
 pub entries-preserved : goal.entries-preserved

@@ -11,8 +11,8 @@ names-preserved c =
     ap (λ (w : TypingState). with_variables w (drop (l.name-index + 1) ns)) c.in_ok-declare.ensures
     ∙ names_more l.typing ns l.name-index _ c.names-test.true ∙ l.invariant
 
-pub returns-clause-ok : goal.returns-clause-ok
-returns-clause-ok c =
+pub returns : goal.returns
+returns c =
     let ns = c.args.names.now in
     let l = c.names in
-    sym (names_end l.typing ns l.name-index c.names-test.false) ∙ l.invariant
+    record { ok = sym (names_end l.typing ns l.name-index c.names-test.false) ∙ l.invariant }
