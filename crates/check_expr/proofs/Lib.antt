@@ -25,3 +25,5 @@ pub mod Passing
 pub mod Standing
 -- Comparisons of pointers.
 pub mod Retyped
+-- Definitions, by their parts.
+pub mod Defining

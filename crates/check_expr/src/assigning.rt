@@ -193,18 +193,39 @@ fn conversions_left(
             let step = assigned(typing, frame)?;
             Ok(step)
         }
-        Some(made) => match frame.places.take() {
-            None => {
-                let step = assigned(typing, frame)?;
-                Ok(step)
-            }
-            Some(place) => {
-                let site = frame.site;
-                frames.push(BodyFrame::Doing(DoingFrame::Assigned(frame)))?;
-                let step = convert(frames, typing, Mode::Implicit, made, place.of, site)?;
-                Ok(step)
-            }
-        },
+        Some(made) => {
+            let step = conversion_left(frames, typing, made, frame)?;
+            Ok(step)
+        }
+    }
+}
+
+/// Converts a value and those behind it, each to the type of its target.
+fn conversion_left(
+    frames: &mut Vec<BodyFrame>,
+    typing: &mut Typing,
+    made: Made,
+    frame: AssignedFrame,
+) -> Result<BodyStep, NoMemory>
+    ensures means { IfOk result (λ step. (left : ℕ) →
+        Goes frames.old.items
+        (models.converting_all (made ∷ frame.made) frame.places frame.site frame.ids
+        (λ all. waiting.assigned frame.targets all frame.at frame.site))
+        typing.old left frames.new.items step typing.new left) }
+    ensures kept { OnOk result (KeepsTyping typing.old typing.new) }
+{
+    let mut frame = frame;
+    match frame.places.take() {
+        None => {
+            let step = assigned(typing, frame)?;
+            Ok(step)
+        }
+        Some(place) => {
+            let site = frame.site;
+            frames.push(BodyFrame::Doing(DoingFrame::Assigned(frame)))?;
+            let step = convert(frames, typing, Mode::Implicit, made, place.of, site)?;
+            Ok(step)
+        }
     }
 }
 

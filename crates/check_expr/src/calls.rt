@@ -216,7 +216,6 @@ fn after_answer(
 }
 
 /// Types and converts the operands that are left, and calls.
-#[tactic(auto, using(tl_base::proofs::Steps::pushes))]
 pub fn operands_left(
     frames: &mut Vec<BodyFrame>,
     typing: &mut Typing,
@@ -234,22 +233,43 @@ pub fn operands_left(
             let step = call(typing, frame, of)?;
             Ok(step)
         }
-        Some(operand) => match frame.types.take() {
-            None => {
-                let step = call(typing, frame, of)?;
+        Some(operand) => {
+            let step = with_operand(frames, typing, frame, of, operand)?;
+            Ok(step)
+        }
+    }
+}
+
+/// Types and converts an operand and those behind it, and calls.
+fn with_operand(
+    frames: &mut Vec<BodyFrame>,
+    typing: &mut Typing,
+    frame: CallFrame,
+    of: TypeId,
+    operand: Operand,
+) -> Result<BodyStep, NoMemory>
+    ensures means { IfOk result (λ step. (left : ℕ) →
+        Goes frames.old.items
+        (models.arguments frame.fitting (operand ∷ frame.operands) frame.types frame.node.at frame.node.site frame.ids (called_with frame of))
+        typing.old left frames.new.items step typing.new left) }
+    ensures kept { OnOk result (KeepsTyping typing.old typing.new) }
+{
+    let mut frame = frame;
+    match frame.types.take() {
+        None => {
+            let step = call(typing, frame, of)?;
+            Ok(step)
+        }
+        Some(parameter) => match operand {
+            Operand::Untyped(term) => {
+                let site = frame.node.site;
+                frames.push(BodyFrame::Made(MadeFrame::Argument(parameter, frame, of)))?;
+                Ok(Step::Enter(BodyJob::Expression(term, site)))
+            }
+            Operand::Typed(made) => {
+                let step = argument(frames, typing, parameter, frame, of, made)?;
                 Ok(step)
             }
-            Some(parameter) => match operand {
-                Operand::Untyped(term) => {
-                    let site = frame.node.site;
-                    frames.push(BodyFrame::Made(MadeFrame::Argument(parameter, frame, of)))?;
-                    Ok(Step::Enter(BodyJob::Expression(term, site)))
-                }
-                Operand::Typed(made) => {
-                    let step = argument(frames, typing, parameter, frame, of, made)?;
-                    Ok(step)
-                }
-            },
         },
     }
 }

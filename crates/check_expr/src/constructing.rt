@@ -179,20 +179,61 @@ pub fn values_left(
             let step = constructed(typing, frame)?;
             Ok(step)
         }
-        Some(entry) => match frame.values.take() {
-            None => {
-                let step = constructed(typing, frame)?;
-                Ok(step)
-            }
-            Some(value) => match entry {
-                None => Ok(refuse(RefusalKind::NoField, frame.node.at, frame.node.site)),
-                Some(laid) => {
-                    let site = frame.node.site;
-                    frames.push(BodyFrame::Made(MadeFrame::Initial(laid, frame)))?;
-                    Ok(Step::Enter(BodyJob::Expression(value, site)))
-                }
-            },
-        },
+        Some(entry) => {
+            let step = value_left(frames, typing, entry, frame)?;
+            Ok(step)
+        }
+    }
+}
+
+/// Types and converts the value of an entry and those behind it, and makes the struct.
+fn value_left(
+    frames: &mut Vec<BodyFrame>,
+    typing: &mut Typing,
+    entry: Option<Laid>,
+    frame: InitialFrame,
+) -> Result<BodyStep, NoMemory>
+    ensures means { IfOk result (λ step. (left : ℕ) →
+        Goes frames.old.items
+        (models.into (entry ∷ frame.entries) frame.values frame.node.at frame.node.site frame.offsets frame.ids
+        (models.constructed frame.of frame.node.at frame.node.source))
+        typing.old left frames.new.items step typing.new left) }
+    ensures kept { OnOk result (KeepsTyping typing.old typing.new) }
+{
+    let mut frame = frame;
+    match frame.values.take() {
+        None => {
+            let step = constructed(typing, frame)?;
+            Ok(step)
+        }
+        Some(value) => {
+            let step = value_for(frames, typing, entry, value, frame)?;
+            Ok(step)
+        }
+    }
+}
+
+/// Types a value for an entry, which may not be there.
+fn value_for(
+    frames: &mut Vec<BodyFrame>,
+    typing: &Typing,
+    entry: Option<Laid>,
+    value: TermId,
+    frame: InitialFrame,
+) -> Result<BodyStep, NoMemory>
+    ensures means { IfOk result (λ step. (left : ℕ) →
+        Goes frames.old.items
+        (models.into (entry ∷ frame.entries) (value ∷ frame.values) frame.node.at frame.node.site frame.offsets frame.ids
+        (models.constructed frame.of frame.node.at frame.node.source))
+        typing.now left frames.new.items step typing.now left) }
+{
+    match entry {
+        None => Ok(refuse(RefusalKind::NoField, frame.node.at, frame.node.site)),
+        Some(laid) => {
+            let site = frame.node.site;
+            frames.push(BodyFrame::Made(MadeFrame::Initial(laid, frame)))?;
+            Ok(Step::Enter(BodyJob::Expression(value, site)))
+        }
     }
 }
 

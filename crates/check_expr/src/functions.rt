@@ -6,7 +6,7 @@ ghost use Rattle.exotype.specs.Terms.{typed_size};
 ghost use Rattle.check_model.specs.Bodies as models;
 ghost use Rattle.check_expr.specs.Frames as waiting;
 ghost use Rattle.check_expr.specs.Functions.{parts_in, parts_plan};
-ghost use Rattle.check_expr.specs.Keeping.{KeepsTyping};
+ghost use Rattle.check_expr.specs.Keeping.{KeepsStage, KeepsTyping};
 ghost use Rattle.check_expr.specs.Steps.{Goes, Does, with_stage};
 
 use crate::blocks::block;
@@ -105,15 +105,23 @@ pub fn body(
     }
 }
 
+/// A function that is defined is being typed from now on, in the world of the staging.
+fn begin_in(world: &mut World, f: FnId)
+    ensures means { world.new ≡ models.begun_in world.old f }
+    ensures kept { KeepsStage world.old world.new }
+{
+    match world.store.standing(f) {
+        Standing::Defined => world.store.begin_typing(f),
+        _ => {}
+    }
+}
+
 /// A function that is defined is being typed from now on.
 fn begin(typing: &mut Typing, f: FnId)
     ensures means { typing.new ≡ with_stage typing.old (models.begun_in typing.old.stage f) }
     ensures kept { KeepsTyping typing.old typing.new }
 {
-    match typing.world.store.standing(f) {
-        Standing::Defined => typing.world.store.begin_typing(f),
-        _ => {}
-    }
+    begin_in(&mut typing.world, f);
 }
 
 /// Types a definition: the function's own node, its parameters, and its statements.
@@ -267,20 +275,28 @@ pub fn function(
     }
 }
 
+/// A function that was being typed has its typed term or its refusal from now on, in the world of the staging.
+fn settle_in(world: &mut World, f: FnId, end: &PartEnd)
+    ensures means { world.new ≡ models.stage_after f end.now world.old }
+    ensures kept { KeepsStage world.old world.new }
+{
+    match world.store.standing(f) {
+        Standing::Typing => match end {
+            PartEnd::Made(made) => world.store.finish_typing(f, made.id),
+            PartEnd::Stated(id, _) => world.store.finish_typing(f, *id),
+            PartEnd::Refused(refusal) => world.store.refuse(f, *refusal),
+            PartEnd::Answered(_) => {}
+        },
+        _ => {}
+    }
+}
+
 /// A function that was being typed has its typed term or its refusal from now on.
 fn settle(typing: &mut Typing, f: FnId, end: &PartEnd)
     ensures means { typing.new ≡ with_stage typing.old (models.stage_after f end.now typing.old.stage) }
     ensures kept { KeepsTyping typing.old typing.new }
 {
-    match typing.world.store.standing(f) {
-        Standing::Typing => match end {
-            PartEnd::Made(made) => typing.world.store.finish_typing(f, made.id),
-            PartEnd::Stated(id, _) => typing.world.store.finish_typing(f, *id),
-            PartEnd::Refused(refusal) => typing.world.store.refuse(f, *refusal),
-            PartEnd::Answered(_) => {}
-        },
-        _ => {}
-    }
+    settle_in(&mut typing.world, f, end);
 }
 
 /// Closes a function, however its body ended: it has its typed term or its refusal, and its variables go.

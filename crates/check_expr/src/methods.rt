@@ -11,7 +11,7 @@ ghost use Rattle.check_expr.specs.Steps.{Goes, Does};
 
 use crate::calls::{call_term, untyped};
 use crate::frame::BodyFrame;
-use crate::nodes::{refuse, without_lua};
+use crate::nodes::{refuse, term_of, without_lua};
 use crate::reading::{metamethod, method, struct_of};
 use crate::step::{BodyStep, Node};
 use check_model::row::Rest;
@@ -85,7 +85,7 @@ fn with_method(
     if !budget.pay(nodes) {
         return Ok(Step::Spent);
     }
-    match typing.world.term_of(value, node.at)? {
+    match term_of(typing, value, node.at)? {
         Became::Term(term) => {
             let operands = untyped(typing, Some(object), arguments.as_slice())?;
             let step = call_term(frames, typing, budget, term, operands, true, node)?;

@@ -3,6 +3,7 @@
 ghost use Rattle.std.specs.Prelude.{◌≡◌, ℕ, IfOk, OnOk};
 ghost use Rattle.terra_term.specs.Held.{next_typed, with_typed};
 ghost use Rattle.terra_term.specs.declared.typed.Typed.TheVariants as typed_kinds;
+ghost use Rattle.exotype.specs.Becoming as becoming;
 ghost use Rattle.exotype.specs.Types.{pointer_id, with_pointer};
 ghost use Rattle.exotype.specs.World.{with_store};
 ghost use Rattle.check_model.specs.Plans as plans;
@@ -13,7 +14,7 @@ ghost use Rattle.check_expr.specs.Steps.{Does, with_node, with_stage};
 
 use crate::step::BodyStep;
 use check_model::{Made, PartEnd, Site, Typing};
-use exotype::World;
+use exotype::{Became, World};
 use lua_value::Value;
 use terra_term::{Refusal, RefusalKind, Typed, TypedExpression, TypedStatement};
 use tl_base::{NoMemory, Place, Step, TermId, TypeId};
@@ -62,6 +63,16 @@ pub fn pointer_to(typing: &mut Typing, of: TypeId) -> Result<TypeId, NoMemory>
 {
     let id = typing.world.pointer_to(of)?;
     Ok(id)
+}
+
+/// Makes a value a term, at the place of what it stands for.
+pub fn term_of(typing: &mut Typing, value: Value, at: Place) -> Result<Became, NoMemory>
+    ensures term { IfOk result (λ became. became ≡ becoming.term_of typing.old.stage value) }
+    ensures ok { OnOk result (typing.new ≡ with_stage typing.old (becoming.with_term_of typing.old.stage value at)) }
+    ensures kept { OnOk result (KeepsTyping typing.old typing.new) }
+{
+    let became = typing.world.term_of(value, at)?;
+    Ok(became)
 }
 
 /// Makes a typed expression of a term.

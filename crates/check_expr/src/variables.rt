@@ -85,17 +85,39 @@ fn values_left(
             let step = declare(frames, typing, budget, frame)?;
             Ok(step)
         }
-        Some(name) => match frame.values.take() {
-            None => {
-                let step = declare(frames, typing, budget, frame)?;
-                Ok(step)
-            }
-            Some(value) => {
-                let site = frame.site;
-                frames.push(BodyFrame::Doing(DoingFrame::VarValue(name, frame)))?;
-                Ok(Step::Enter(BodyJob::Expression(value, site)))
-            }
-        },
+        Some(name) => {
+            let step = value_left(frames, typing, budget, name, frame)?;
+            Ok(step)
+        }
+    }
+}
+
+/// Types the value of a name and those behind it, and declares the names.
+fn value_left(
+    frames: &mut Vec<BodyFrame>,
+    typing: &mut Typing,
+    budget: &mut Budget,
+    name: VarName,
+    frame: VarFrame,
+) -> Result<BodyStep, NoMemory>
+    ensures means { IfOk result (λ step.
+        Goes frames.old.items
+        (models.values_for (name ∷ frame.names) frame.values frame.site frame.typed frame.ids
+        (λ names all. models.declaring names all frame.at frame.site))
+        typing.old budget.old frames.new.items step typing.new budget.new) }
+    ensures kept { OnOk result (KeepsTyping typing.old typing.new) }
+{
+    let mut frame = frame;
+    match frame.values.take() {
+        None => {
+            let step = declare(frames, typing, budget, frame)?;
+            Ok(step)
+        }
+        Some(value) => {
+            let site = frame.site;
+            frames.push(BodyFrame::Doing(DoingFrame::VarValue(name, frame)))?;
+            Ok(Step::Enter(BodyJob::Expression(value, site)))
+        }
     }
 }
 
