@@ -254,7 +254,7 @@ after (frames.Made f) r = on_made r (λ m. with_made f m)
 after (frames.Doing f) r = on_made r (λ m. with_doing f m)
 after (frames.Block f) r = on_stated r (λ id result. block_from f result (f.ids ++ id ∷ []))
 after (frames.Laid at site next) r = on_answer r (λ a. on_layout a at site (laid_then next site))
-after (frames.Result g f) r = on_answer r (λ a. on_result a f.node.at f.node.site (λ result. operands_from f f.fitting [] result))
+after (frames.Result g f) r = on_answer r (λ a. on_result a f.node.at f.node.site (λ result. operands_from f f.fitting f.ids result))
 after (frames.Function f base) r = close_function f base r
 
 -- the end that an answer gives

@@ -43,7 +43,6 @@ pub fn block(
 }
 
 /// Types the statements of a block that are left.
-#[tactic(auto, using(tl_base::proofs::Steps::pushes))]
 fn statements_left(
     frames: &mut Vec<BodyFrame>,
     typing: &mut Typing,
@@ -100,7 +99,6 @@ pub fn after_statement(
 }
 
 /// What is done with the statements of a block.
-#[tactic(auto, using(tl_base::proofs::Steps::pushes))]
 fn with_statements(
     frames: &mut Vec<BodyFrame>,
     typing: &mut Typing,
@@ -116,7 +114,8 @@ fn with_statements(
     match then {
         BlockThen::Do(count, at) => {
             typing.leave(count);
-            let step = states(typing, at, TypedStatement::Do(term_list(ids)?), found)?;
+            let list = term_list(ids)?;
+            let step = states(typing, at, TypedStatement::Do(list), found)?;
             Ok(step)
         }
         BlockThen::Then(count, test, more, at, site) => {
@@ -126,14 +125,16 @@ fn with_statements(
         }
         BlockThen::Else(count, test, before, at) => {
             typing.leave(count);
-            let others = Some(term_list(ids)?);
-            let form = TypedStatement::If(test.id, term_list(before)?, others);
+            let first = term_list(before)?;
+            let others = term_list(ids)?;
+            let form = TypedStatement::If(test.id, first, Some(others));
             let step = states(typing, at, form, found)?;
             Ok(step)
         }
         BlockThen::While(count, test, at) => {
             typing.leave(count);
-            let form = TypedStatement::While(test.id, term_list(ids)?);
+            let list = term_list(ids)?;
+            let form = TypedStatement::While(test.id, list);
             let step = states(typing, at, form, found)?;
             Ok(step)
         }
@@ -144,7 +145,9 @@ fn with_statements(
         }
         BlockThen::For(count, name, bounds, at) => {
             typing.leave(count);
-            let form = TypedStatement::For(name, term_list(bounds)?, term_list(ids)?);
+            let limits = term_list(bounds)?;
+            let list = term_list(ids)?;
+            let form = TypedStatement::For(name, limits, list);
             let step = states(typing, at, form, found)?;
             Ok(step)
         }
@@ -177,8 +180,9 @@ fn with_else(
 {
     match more {
         None => {
+            let first = term_list(ids)?;
             let none: Option<TermList> = None;
-            let form = TypedStatement::If(test.id, term_list(ids)?, none);
+            let form = TypedStatement::If(test.id, first, none);
             let step = states(typing, at, form, found)?;
             Ok(step)
         }
@@ -224,8 +228,9 @@ fn else_block(
         }
         None => {
             typing.leave(count);
-            let others = Some(term_list(others)?);
-            let form = TypedStatement::If(test.id, term_list(ids)?, others);
+            let first = term_list(ids)?;
+            let list = term_list(others)?;
+            let form = TypedStatement::If(test.id, first, Some(list));
             let step = states(typing, at, form, site.result)?;
             Ok(step)
         }
