@@ -23,3 +23,8 @@ names_end w ns i over =
 -- a scope within another one
 pub cut_twice : (w : TypingState) (n m : ℕ) → n ≤ m → cut_to (cut_to w m) n ≡ cut_to w n
 cut_twice w n m within = ap (having w) (take-take n m w.variables within)
+
+-- how many there are with one more
+pub length_push : (vs : List TypedName) (v : TypedName) → length (vs ++ v ∷ []) ≡ length vs + 1
+length_push [] v = refl
+length_push (u ∷ us) v = let h = length_push us v in omega (arith, h)

@@ -13,6 +13,10 @@ use Rattle.check_expr.specs.Steps.{with_node}
 pub kept_as : (u v w : TypingState) → v ≡ w → KeepsTyping u w → KeepsTyping u v
 kept_as u v w is kept = subst (KeepsTyping u) (sym is) kept
 
+-- what is kept of a world, where another one is that
+pub kept_from : (u v w : TypingState) → v ≡ u → KeepsTyping v w → KeepsTyping u w
+kept_from u v w is kept = subst (λ (x : TypingState). KeepsTyping x w) is kept
+
 -- another store
 pub keeps_store : (w : StageState) (s : Held) → KeepsStore w.store s → KeepsStage w (with_store w s)
 keeps_store w s kept = record { heap = refl; store = kept; kept = refl; exports = refl; memory = refl }

@@ -23,6 +23,8 @@ pub mod Declaring
 pub mod Passing
 -- How far functions have come.
 pub mod Standing
+-- What is called by its name.
+pub mod Calling
 -- Comparisons of pointers.
 pub mod Retyped
 -- Definitions, by their parts.

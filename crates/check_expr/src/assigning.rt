@@ -31,7 +31,9 @@ pub fn assign(
         typing.old left frames.new.items step typing.new left) }
     ensures kept { OnOk result (KeepsTyping typing.old typing.new) }
 {
-    if targets.len() != values.len() {
+    let wanted = targets.len();
+    let given = values.len();
+    if given != wanted {
         return Ok(refuse(RefusalKind::WrongCount, at, site));
     }
     let frame = ValueFrame {
@@ -129,10 +131,13 @@ fn targets_left(
                 ..
             } = frame;
             let alloc = typing.world.store.allocator();
+            let nodes = ids_of(alloc, places.as_slice())?;
+            let values = made.into_rest();
+            let kept = places.into_rest();
             let frame = AssignedFrame {
-                made: made.into_rest(),
-                targets: ids_of(alloc, places.as_slice())?,
-                places: places.into_rest(),
+                made: values,
+                places: kept,
+                targets: nodes,
                 ids: Row::new(alloc),
                 at,
                 site,
@@ -260,7 +265,8 @@ fn assigned(typing: &mut Typing, frame: AssignedFrame) -> Result<BodyStep, NoMem
         site,
         ..
     } = frame;
-    let form = TypedStatement::Assign(targets, term_list(ids)?);
+    let list = term_list(ids)?;
+    let form = TypedStatement::Assign(targets, list);
     let step = states(typing, at, form, site.result)?;
     Ok(step)
 }

@@ -118,10 +118,13 @@ fn call_function(
         typing.old left frames.new.items step typing.new left) }
     ensures kept { OnOk result (KeepsTyping typing.old typing.new) }
 {
-    match parameter_types(&typing.world, f)? {
+    let known = parameter_types(&typing.world, f)?;
+    match known {
         None => Ok(refuse(RefusalKind::Undefined, node.at, node.site)),
         Some(types) => {
-            if operands.len() != types.len() {
+            let given = operands.len();
+            let wanted = types.len();
+            if given != wanted {
                 return Ok(refuse(RefusalKind::WrongCount, node.at, node.site));
             }
             let frame = CallFrame {
@@ -424,7 +427,9 @@ fn call_by(
         typing.old left frames.new.items step typing.new left) }
     ensures kept { OnOk result (KeepsTyping typing.old typing.new) }
 {
-    if operands.len() != types.len() {
+    let given = operands.len();
+    let wanted = types.len();
+    if given != wanted {
         return Ok(refuse(RefusalKind::WrongCount, node.at, node.site));
     }
     let frame = CallFrame {
@@ -475,14 +480,16 @@ fn cast(
 {
     match only(operands) {
         None => Ok(refuse(RefusalKind::WrongCount, node.at, node.site)),
-        Some(Operand::Untyped(term)) => {
-            frames.push(BodyFrame::Made(MadeFrame::Cast(to, node)))?;
-            Ok(Step::Enter(BodyJob::Expression(term, node.site)))
-        }
-        Some(Operand::Typed(made)) => {
-            let step = cast_made(frames, typing, to, node, made)?;
-            Ok(step)
-        }
+        Some(operand) => match operand {
+            Operand::Untyped(term) => {
+                frames.push(BodyFrame::Made(MadeFrame::Cast(to, node)))?;
+                Ok(Step::Enter(BodyJob::Expression(term, node.site)))
+            }
+            Operand::Typed(made) => {
+                let step = cast_made(frames, typing, to, node, made)?;
+                Ok(step)
+            }
+        },
     }
 }
 
@@ -532,22 +539,42 @@ fn call_size(
 {
     match only(operands) {
         None => Ok(refuse(RefusalKind::WrongCount, node.at, node.site)),
-        Some(Operand::Typed(made)) => Ok(refuse(RefusalKind::BadOperand, made.at, node.site)),
-        Some(Operand::Untyped(term)) => match callee_of(&typing.world, term) {
-            Callee::Type(of) => {
-                if !budget.pay(1) {
-                    return Ok(Step::Spent);
-                }
-                let then = LaidThen::Size(of, node);
-                let step = lay_out(frames, typing, of, node.at, node.site, then)?;
+        Some(operand) => match operand {
+            Operand::Typed(made) => Ok(refuse(RefusalKind::BadOperand, made.at, node.site)),
+            Operand::Untyped(term) => {
+                let step = size_of_term(frames, typing, budget, term, node)?;
                 Ok(step)
             }
-            _ => Ok(refuse(
-                RefusalKind::BadOperand,
-                place_of(&typing.world, term),
-                node.site,
-            )),
         },
+    }
+}
+
+/// The size of the type that a term is.
+fn size_of_term(
+    frames: &mut Vec<BodyFrame>,
+    typing: &mut Typing,
+    budget: &mut Budget,
+    term: TermId,
+    node: Node,
+) -> Result<BodyStep, NoMemory>
+    ensures means { IfOk result (λ step.
+        Goes frames.old.items (models.size_of_operand (Operand.Untyped term) node.at node.source node.site)
+        typing.old budget.old frames.new.items step typing.new budget.new) }
+    ensures kept { OnOk result (KeepsTyping typing.old typing.new) }
+{
+    match callee_of(&typing.world, term) {
+        Callee::Type(of) => {
+            if !budget.pay(1) {
+                return Ok(Step::Spent);
+            }
+            let then = LaidThen::Size(of, node);
+            let step = lay_out(frames, typing, of, node.at, node.site, then)?;
+            Ok(step)
+        }
+        _ => {
+            let named = place_of(&typing.world, term);
+            Ok(refuse(RefusalKind::BadOperand, named, node.site))
+        }
     }
 }
 

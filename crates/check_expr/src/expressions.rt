@@ -278,7 +278,8 @@ pub fn let_end(
     ensures kept { OnOk result (KeepsTyping typing.old typing.new) }
 {
     typing.leave(count);
-    let form = TypedExpression::Let(term_list(ids)?, made.id);
+    let list = term_list(ids)?;
+    let form = TypedExpression::Let(list, made.id);
     let step = gives(typing, node.source, node.at, made.of, form)?;
     Ok(step)
 }

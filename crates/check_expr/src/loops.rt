@@ -106,7 +106,8 @@ pub fn repeat_end(
         return Ok(no_condition(made, site));
     }
     typing.leave(count);
-    let form = TypedStatement::Repeat(term_list(ids)?, made.id);
+    let list = term_list(ids)?;
+    let form = TypedStatement::Repeat(list, made.id);
     let step = states(typing, at, form, found)?;
     Ok(step)
 }

@@ -85,7 +85,8 @@ fn with_method(
     if !budget.pay(nodes) {
         return Ok(Step::Spent);
     }
-    match term_of(typing, value, node.at)? {
+    let became = term_of(typing, value, node.at)?;
+    match became {
         Became::Term(term) => {
             let operands = untyped(typing, Some(object), arguments.as_slice())?;
             let step = call_term(frames, typing, budget, term, operands, true, node)?;

@@ -39,10 +39,12 @@ pub fn var(
     let alloc = typing.world.store.allocator();
     match values {
         None => {
+            let named = Row::new(alloc);
+            let ids = Row::new(alloc);
             let frame = NamesFrame {
                 names,
-                named: Row::new(alloc),
-                ids: Row::new(alloc),
+                named,
+                ids,
                 at,
                 site,
             };
@@ -50,14 +52,18 @@ pub fn var(
             Ok(step)
         }
         Some(values) => {
-            if names.len() != values.len() {
+            let wanted = names.len();
+            let given = values.len();
+            if given != wanted {
                 return Ok(refuse(RefusalKind::WrongCount, at, site));
             }
+            let typed = Row::new(alloc);
+            let none = Row::new(alloc);
             let frame = VarFrame {
                 names,
                 values,
-                typed: Row::new(alloc),
-                ids: Row::new(alloc),
+                typed,
+                ids: none,
                 at,
                 site,
             };
@@ -329,7 +335,8 @@ fn named(typing: &mut Typing, frame: NamesFrame) -> Result<BodyStep, NoMemory>
     } = frame;
     declare_all(typing, named.as_slice())?;
     let names = TypedNameList::from_vec(named.into_vec())?;
-    let form = TypedStatement::Var(names, term_list(ids)?);
+    let list = term_list(ids)?;
+    let form = TypedStatement::Var(names, list);
     let step = states(typing, at, form, site.result)?;
     Ok(step)
 }

@@ -1,7 +1,9 @@
 use Rattle.tl_base.specs.declared.machine.Step.TheVariants.{Return}
 use Rattle.tl_base.specs.Plan.{Give}
-use Rattle.std.proofs.Common.{refl, ◌++◌, ◌∷◌, []}
+use Rattle.std.proofs.Common.{◌≡◌, List, [], ◌∷◌, ◌++◌, refl, sym, ap}
+use Rattle.tl_base.specs.declared.ids.TermId.{TermId}
 use Rattle.check_model.specs.Plans as plans
+use Rattle.check_model.specs.Plans.{BodyPlan}
 use Rattle.check_expr.specs.Frames as waiting
 use Rattle.check_expr.specs.Kept.{keeps_itself}
 use Rattle.check_expr.proofs.Doing.{returns as returned, moved}
@@ -19,3 +21,14 @@ returns-in_default c =
           (returned fs a.end w left);
       kept = keeps_itself w;
     }
+
+pub returns-in_ok-step-in-Stated-clause-means : goal.returns-in_ok-step-in-Stated-clause-means
+returns-in_ok-step-in-Stated-clause-means c = λ left.
+    let a = c.args in
+    let f = a.frame in
+    let m = c.in-Stated in
+    let w = a.typing.now in
+    let plan : List TermId → BodyPlan = λ ids. waiting.block_from f m.found ids in
+    rw m.is (moved a.frames.now.items c.statements_left.new.frames.items (plan (f.ids ++ m.id ∷ [])) (plan c.push.new.self) w w
+    c.statements_left.new.typing left left c.in_ok-step-in-Stated.step (ap plan (sym c.in_ok-push-in-Stated.ensures)) refl
+    (c.in_ok-step-in-Stated.ensures.means left))

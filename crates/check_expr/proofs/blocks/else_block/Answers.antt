@@ -10,6 +10,7 @@ use Rattle.check_expr.specs.declared.frame.BodyFrame.TheVariants as frames
 use Rattle.check_expr.specs.declared.frame.BlockThen.TheVariants as of_block
 use Rattle.check_expr.specs.Frames as waiting
 use Rattle.check_expr.proofs.Doing.{moved, enters}
+use Rattle.check_expr.proofs.Keeping.{kept_from}
 use Rattle.check_expr.proofs.blocks.else_block.Goals as goal
 
 pub returns-in_ok-push-in-Some-clause-means : goal.returns-in_ok-push-in-Some-clause-means
@@ -51,3 +52,7 @@ returns-in_ok-step-in-None-clause-means c = λ left.
     (moved fs fs (form a.ids none) (form first.first list.list) (cut_to w n) c.leave.new.self w2 left left step
     (ap (λ (before : List TermId). form before none) (sym first.ensures) ∙ ap (form first.first) (sym list.ensures)) (sym c.leave.ensures)
     (c.in_ok-step-in-None.ensures.means left fs))
+
+pub returns-in_ok-step-in-None-clause-kept : goal.returns-in_ok-step-in-None-clause-kept
+returns-in_ok-step-in-None-clause-kept c =
+    kept_from (cut_to c.args.typing.now c.count.result) c.leave.new.self c.states.new.typing c.leave.ensures c.in_ok-step-in-None.ensures.kept

@@ -13,6 +13,7 @@ use Rattle.check_expr.specs.declared.frame.DoingFrame.TheVariants as of_doing
 use Rattle.check_expr.specs.declared.frame.MadeFrame.TheVariants as of_made
 use Rattle.check_expr.proofs.Declaring.{cut_twice}
 use Rattle.check_expr.proofs.Doing.{moved, enters}
+use Rattle.check_expr.proofs.Keeping.{kept_from}
 use Rattle.check_expr.proofs.blocks.with_statements.Goals as goal
 
 pub returns-in_ok-step-in-Do-clause-means : goal.returns-in_ok-step-in-Do-clause-means
@@ -88,3 +89,23 @@ returns-in_ok-push-in-Let-clause-means c = λ left.
 pub returns-in_ok-step-in-Function-clause-means : goal.returns-in_ok-step-in-Function-clause-means
 returns-in_ok-step-in-Function-clause-means c = λ left.
     rw c.in-Function.is (c.in_ok-step-in-Function.ensures.means left c.args.frames.now.items)
+
+pub returns-in_ok-step-in-Do-clause-kept : goal.returns-in_ok-step-in-Do-clause-kept
+returns-in_ok-step-in-Do-clause-kept c =
+    kept_from (cut_to c.args.typing.now c.in-Do.count) c.leave.new.self c.states.new.typing c.leave.ensures c.in_ok-step-in-Do.ensures.kept
+
+pub returns-in_ok-step-in-Then-clause-kept : goal.returns-in_ok-step-in-Then-clause-kept
+returns-in_ok-step-in-Then-clause-kept c =
+    kept_from (cut_to c.args.typing.now c.in-Then.count) c.leave-in-Then.new.self c.with_else.new.typing c.leave-in-Then.ensures c.in_ok-step-in-Then.ensures.kept
+
+pub returns-in_ok-step-in-Else-clause-kept : goal.returns-in_ok-step-in-Else-clause-kept
+returns-in_ok-step-in-Else-clause-kept c =
+    kept_from (cut_to c.args.typing.now c.in-Else.count) c.leave-in-Else.new.self c.states-in-Else.new.typing c.leave-in-Else.ensures c.in_ok-step-in-Else.ensures.kept
+
+pub returns-in_ok-step-in-While-clause-kept : goal.returns-in_ok-step-in-While-clause-kept
+returns-in_ok-step-in-While-clause-kept c =
+    kept_from (cut_to c.args.typing.now c.in-While.count) c.leave-in-While.new.self c.states-in-While.new.typing c.leave-in-While.ensures c.in_ok-step-in-While.ensures.kept
+
+pub returns-in_ok-step-in-For-clause-kept : goal.returns-in_ok-step-in-For-clause-kept
+returns-in_ok-step-in-For-clause-kept c =
+    kept_from (cut_to c.args.typing.now c.in-For.count) c.leave-in-For.new.self c.states-in-For.new.typing c.leave-in-For.ensures c.in_ok-step-in-For.ensures.kept
