@@ -97,12 +97,14 @@ fn with_entries(
     ensures kept { OnOk result (KeepsTyping typing.old typing.new) }
 {
     let alloc = typing.world.store.allocator();
+    let offsets = Row::new(alloc);
+    let ids = Row::new(alloc);
     let frame = InitialFrame {
         of,
         entries,
         values,
-        offsets: Row::new(alloc),
-        ids: Row::new(alloc),
+        offsets,
+        ids,
         node,
     };
     let step = values_left(frames, typing, frame)?;
@@ -293,7 +295,8 @@ fn constructed(typing: &mut Typing, frame: InitialFrame) -> Result<BodyStep, NoM
         ..
     } = frame;
     let offsets = OffsetList::from_vec(offsets.into_vec())?;
-    let form = TypedExpression::Operate(Operation::Construct(offsets), term_list(ids)?);
+    let list = term_list(ids)?;
+    let form = TypedExpression::Operate(Operation::Construct(offsets), list);
     let step = gives(typing, node.source, node.at, of, form)?;
     Ok(step)
 }

@@ -267,7 +267,8 @@ pub fn function(
 {
     let of = found.unwrap_or(UNIT);
     let names = TypedNameList::from_vec(names.into_vec())?;
-    let id = new_node(typing, Typed::Function(names, of, term_list(ids)?))?;
+    let list = term_list(ids)?;
+    let id = new_node(typing, Typed::Function(names, of, list))?;
     if is_too_large(size_of(&typing.world, id)) {
         Ok(refuse(RefusalKind::TooLarge, at, site))
     } else {
