@@ -66,7 +66,8 @@ behind_doing_value fs pushed fs2 f m site w w2 left left2 step is g =
 
 -- ---- in a function
 
-pub behind_function : (fs pushed fs2 : List BodyFrame) (f : FnId) (base : ℕ) (q : BodyPlan) (w w2 : TypingState) (left left2 : ℕ) (step : BodyStep)
+pub behind_function : (fs pushed fs2 : List BodyFrame) (f : FnId) (base : ℕ) (q : BodyPlan) (w w2 : TypingState) (left
+    left2 : ℕ) (step : BodyStep)
     → pushed ≡ fs ++ frames.Function f base ∷ [] → Goes pushed q w left fs2 step w2 left2
     → Goes fs (then_on q (λ r. close_function f base r)) w left fs2 step w2 left2
 behind_function fs pushed fs2 f base q w w2 left left2 step is g =

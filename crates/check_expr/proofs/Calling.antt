@@ -51,7 +51,8 @@ others_called _ other = absurd (other refl)
 -- ---- functions
 
 -- the parameters of a function aren't known
-pub function_unknown : (w : StageState) (f : FnId) (x : Option Function) (os : List Operand) (at : Place) (fitting : Bool) (source : TermId) (site : Site)
+pub function_unknown : (w : StageState) (f : FnId) (x : Option Function) (os : List Operand) (at : Place) (fitting :
+    Bool) (source : TermId) (site : Site)
     → models.parameters_in_state w x ≡ None → models.call_function w f x os at fitting source site ≡ refuse Undefined at site
 function_unknown w f None os at fitting source site none = refl
 function_unknown w f (Some g) os at fitting source site none =

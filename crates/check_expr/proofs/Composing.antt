@@ -36,7 +36,8 @@ use Rattle.check_model.proofs.Composing.{BodyCourse, IsWith, PassesRefused, goin
 abbrev pub Continues : (BodyJob → BodyCourse) → ((Made → BodyPlan) → BodyPlan) → (Made → BodyPlan) → Type 0
 Continues f plan go = IsWith f (plan go) (plan give) (λ r. run f (on_made r go))
 
-pub value_continues : (f : BodyJob → BodyCourse) (m : Made) (site : Site) (go : Made → BodyPlan) → Continues f (λ k. as_value m site (k m)) go
+pub value_continues : (f : BodyJob → BodyCourse) (m : Made) (site : Site) (go : Made → BodyPlan) → Continues f (λ k.
+    as_value m site (k m)) go
 value_continues f m site go =
     as_value_then f m site (go m) (give m) (λ r. run f (on_made r go)) (going_on_passes f go) (λ s l. refl)
 

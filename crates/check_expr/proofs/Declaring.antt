@@ -13,7 +13,8 @@ pub names_more : (w : TypingState) (ns : List TypedName) (i : ℕ) (d : TypedNam
 names_more w ns i d within =
     let n = get_or ns i d in
     let rest = drop (i + 1) ns in
-    ap (having w) (append_assoc w.variables (n ∷ []) rest ∙ ap (λ (vs : List TypedName). w.variables ++ vs) (sym (at_drop_more (λ vs. vs) ns i d within)))
+    ap (having w) (append_assoc w.variables (n ∷ []) rest ∙ ap (λ (vs : List TypedName). w.variables ++ vs) (sym
+    (at_drop_more (λ vs. vs) ns i d within)))
 
 -- no variable is left
 pub names_end : (w : TypingState) (ns : List TypedName) (i : ℕ) → length ns ≤ i → with_variables w (drop i ns) ≡ w

@@ -23,18 +23,22 @@ use Rattle.check_expr.specs.Frames.{body_rules}
 use Rattle.check_expr.specs.Steps.{BodyStep, Goes, with_node}
 use Rattle.check_expr.proofs.Doing.{moved}
 
-pub makes : (fs : List BodyFrame) (source : TermId) (at : Place) (of : TypeId) (form : TypedExpression) (w w2 : TypingState) (left : ℕ) (m : Made)
+pub makes : (fs : List BodyFrame) (source : TermId) (at : Place) (of : TypeId) (form : TypedExpression) (w w2 :
+    TypingState) (left : ℕ) (m : Made)
     → m ≡ made_of (next_typed w.stage.store) source at of form → w2 ≡ with_node w (typed_kinds.Expression at of form)
     → Goes fs (gives source at of form) w left fs (Return (ends.Made m)) w2 left
 makes fs source at of form w w2 left m is made = λ later.
-    ap (λ (n : Made). plug body_rules fs (Gives (ends.Made n) (state (with_node w (typed_kinds.Expression at of form)) left) later)) (sym is)
+    ap (λ (n : Made). plug body_rules fs (Gives (ends.Made n) (state (with_node w (typed_kinds.Expression at of form))
+    left) later)) (sym is)
     ∙ ap (λ (v : TypingState). plug body_rules fs (Gives (ends.Made m) (state v left) later)) (sym made)
 
-pub stated : (fs : List BodyFrame) (at : Place) (form : TypedStatement) (result : Option TypeId) (w w2 : TypingState) (left : ℕ) (id : TermId)
+pub stated : (fs : List BodyFrame) (at : Place) (form : TypedStatement) (result : Option TypeId) (w w2 : TypingState)
+    (left : ℕ) (id : TermId)
     → id ≡ next_typed w.stage.store → w2 ≡ with_node w (typed_kinds.Statement at form)
     → Goes fs (states at form result) w left fs (Return (ends.Stated id result)) w2 left
 stated fs at form result w w2 left id is made = λ later.
-    ap (λ (n : TermId). plug body_rules fs (Gives (ends.Stated n result) (state (with_node w (typed_kinds.Statement at form)) left) later)) (sym is)
+    ap (λ (n : TermId). plug body_rules fs (Gives (ends.Stated n result) (state (with_node w (typed_kinds.Statement at
+    form)) left) later)) (sym is)
     ∙ ap (λ (v : TypingState). plug body_rules fs (Gives (ends.Stated id result) (state v left) later)) (sym made)
 
 -- a node that is made on the way

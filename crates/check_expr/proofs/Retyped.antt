@@ -17,14 +17,16 @@ use Rattle.check_expr.specs.Steps.{BodyStep, Goes, with_node}
 use Rattle.check_expr.proofs.Doing.{moved, chosen}
 use Rattle.check_expr.proofs.Making.{made_then}
 
-by_test : (t : Bool) (fs fs2 : List BodyFrame) (m other x : Made) (go : Made → BodyPlan) (w v w2 : TypingState) (left left2 : ℕ) (step : BodyStep)
+by_test : (t : Bool) (fs fs2 : List BodyFrame) (m other x : Made) (go : Made → BodyPlan) (w v w2 : TypingState) (left
+    left2 : ℕ) (step : BodyStep)
     → x ≡ (if t then made_of (next_typed w.stage.store) m.source m.at other.of (te.Constant constants.Nil) else m)
     → v ≡ (if t then with_node w (typed_kinds.Expression m.at other.of (te.Constant constants.Nil)) else w)
     → Goes fs (go x) v left fs2 step w2 left2
     → Goes fs (if t then make m.source m.at other.of (te.Constant constants.Nil) go else go m) w left fs2 step w2 left2
 by_test true fs fs2 m other x go w v w2 left left2 step is made g =
     made_then fs fs2 m.source m.at other.of (te.Constant constants.Nil) go w v w2 left left2 x step is made g
-by_test false fs fs2 m other x go w v w2 left left2 step is made g = moved fs fs2 (go m) (go x) w v w2 left left2 step (ap go (sym is)) (sym made) g
+by_test false fs fs2 m other x go w v w2 left left2 step is made g = moved fs fs2 (go m) (go x) w v w2 left left2 step
+    (ap go (sym is)) (sym made) g
 
 -- an operand, and what goes on with it
 pub retyped_goes : (fs fs2 : List BodyFrame) (seen : StageState) (n : Bool) (m other x : Made) (go : Made → BodyPlan) (w v w2 : TypingState)

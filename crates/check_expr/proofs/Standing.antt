@@ -1,12 +1,13 @@
 -- How far functions have come: a function that is given the state that it has changes nothing, and what is kept where it comes further.
 use Rattle.std.proofs.Common.{◌≡◌, ℕ, zero, suc, List, [], ◌∷◌, Option, Some, None, refl, sym, ap, ◌∙◌}
-use Rattle.std.specs.Prelude.{option_map_or, slice_get, slice_set}
+use Rattle.std.specs.Prelude.{slice_get, slice_set}
+use Rattle.std.specs.Option.{option_map_or}
 use Rattle.std.proofs.Math.Option.{some-injective}
 use Rattle.tl_base.specs.declared.ids.FnId.{FnId}
 use Rattle.terra_term.specs.declared.store.Function.{Function}
 use Rattle.terra_term.specs.declared.store.FunctionState.{FunctionState}
 use Rattle.terra_term.specs.declared.store.FunctionState.TheVariants as states
-use Rattle.terra_term.specs.declared.store.Standing.TheVariants as standing
+use Rattle.terra_term.specs.declared.refusal.Standing.TheVariants as standing
 use Rattle.terra_term.specs.Held.{Held, state_of, standing_of, standing_in, with_state, state_changed, begun}
 use Rattle.terra_term.specs.Keeping.{Stays}
 use Rattle.terra_term.proofs.Staying.{state-stays}

@@ -35,5 +35,6 @@ returns-in_ok-step-in-Some-clause-means c = λ left.
     let w2 = c.convert.new.typing in
     let step = c.in_ok-step-in-Some.step in
     moved fs fs2 (plan f.places) (plan (p ∷ rest)) w w w2 left left step (ap plan c.in-Some.ensures) refl
-    (behind_doing_convert fs c.push.new.self.items fs2 (of_doing.Assigned (record f { places = rest })) Implicit a.made p.of f.site w w2 left left
+    (behind_doing_convert fs c.push.new.self.items fs2 (of_doing.Assigned (record f { places = rest })) Implicit a.made
+    p.of f.site w w2 left left
     step c.in_ok-push-in-Some.ensures.items (c.in_ok-step-in-Some.ensures.means left))

@@ -26,5 +26,6 @@ returns-in_ok-step-in-Some-clause-means c = λ left.
     let w = a.typing.now in
     let go : List TermId → BodyPlan = λ all. waiting.assigned f.targets all f.at f.site in
     let plan : List Made → BodyPlan = λ ms. models.converting_all ms f.places f.site f.ids go in
-    moved fs c.conversion_left.new.frames.items (plan f.made) (plan (c.in-Some.made ∷ c.take.new.self)) w w c.conversion_left.new.typing left left
+    moved fs c.conversion_left.new.frames.items (plan f.made) (plan (c.in-Some.made ∷ c.take.new.self)) w w
+    c.conversion_left.new.typing left left
     c.in_ok-step-in-Some.step (ap plan c.in-Some.ensures) refl (c.in_ok-step-in-Some.ensures.means left)

@@ -40,7 +40,8 @@ returns-in_ok-step-in-None-clause-means c = λ left.
     λ ms ps ns ids. models.converting_all ms ps f.site ids (λ done. waiting.assigned ns done f.at f.site) in
     let go : List Made → BodyPlan = λ ps. all f.made ps (ids_of ps) [] in
     let plan : List TermId → BodyPlan = λ ts. models.targets ts f.site f.places go in
-    moved fs c.conversions_left.new.frames.items (plan f.targets) (all values kept nodes c.new.result) w w c.conversions_left.new.typing left left
+    moved fs c.conversions_left.new.frames.items (plan f.targets) (all values kept nodes c.new.result) w w
+    c.conversions_left.new.typing left left
     c.in_ok-step-in-None.step
     (ap plan c.in-None.ensures ∙ ap (λ (ms : List Made). all ms f.places (ids_of f.places) []) (sym c.into_rest-values.ensures)
     ∙ ap (λ (ps : List Made). all values ps (ids_of f.places) []) (sym c.into_rest-kept.ensures)

@@ -20,7 +20,8 @@ returns-in_ok-push-in-Some-clause-means c = λ left.
     let fs2 = c.push.new.self.items in
     let w = a.typing.now in
     let job = jobs.Expression t f.site in
-    let plan : List TermId → BodyPlan = λ ts. models.typing_all ts f.site f.made (λ ms. models.targets f.targets f.site [] (λ ps. models.converting_all ms ps f.site [] (λ ids. waiting.assigned (ids_of ps) ids f.at f.site))) in
+    let plan : List TermId → BodyPlan = λ ts. models.typing_all ts f.site f.made (λ ms. models.targets f.targets f.site
+    [] (λ ps. models.converting_all ms ps f.site [] (λ ids. waiting.assigned (ids_of ps) ids f.at f.site))) in
     moved fs fs2 (plan f.values) (plan (t ∷ c.take.new.self)) w w w left left (Enter job) (ap plan c.in-Some.ensures) refl
     (enters fs fs2 (frames.Doing (of_doing.Value (record f { values = c.take.new.self }))) job w left c.in_ok-push-in-Some.ensures.items)
 
@@ -30,8 +31,11 @@ returns-in_ok-step-in-None-clause-means c = λ left.
     let f = a.frame in
     let fs = a.frames.now.items in
     let w = a.typing.now in
-    let plan : List TermId → BodyPlan = λ ts. models.typing_all ts f.site f.made (λ ms. models.targets f.targets f.site [] (λ ps. models.converting_all ms ps f.site [] (λ ids. waiting.assigned (ids_of ps) ids f.at f.site))) in
+    let plan : List TermId → BodyPlan = λ ts. models.typing_all ts f.site f.made (λ ms. models.targets f.targets f.site
+    [] (λ ps. models.converting_all ms ps f.site [] (λ ids. waiting.assigned (ids_of ps) ids f.at f.site))) in
     let after : List Made → BodyPlan =
-    λ ps. models.targets f.targets f.site ps (λ qs. models.converting_all f.made qs f.site [] (λ ids. waiting.assigned (ids_of qs) ids f.at f.site)) in
-    moved fs c.targets_left.new.frames.items (plan f.values) (after c.new.result) w w c.targets_left.new.typing left left c.in_ok-step-in-None.step
+    λ ps. models.targets f.targets f.site ps (λ qs. models.converting_all f.made qs f.site [] (λ ids. waiting.assigned
+    (ids_of qs) ids f.at f.site)) in
+    moved fs c.targets_left.new.frames.items (plan f.values) (after c.new.result) w w c.targets_left.new.typing left
+    left c.in_ok-step-in-None.step
     (ap plan c.in-None.ensures ∙ ap after (sym c.new.ensures)) refl (c.in_ok-step-in-None.ensures.means left)

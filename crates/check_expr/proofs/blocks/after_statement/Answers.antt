@@ -17,7 +17,9 @@ returns-in_default c =
     let w = a.typing.now in
     record {
       means = λ left.
-          moved fs fs (plans.on_stated a.end (λ id found. waiting.block_from a.frame found (a.frame.ids ++ id ∷ []))) (Give a.end) w w w left left (Return a.end) (none_stated a.end (λ id found. waiting.block_from a.frame found (a.frame.ids ++ id ∷ [])) c.in_default.not-Stated) refl
+          moved fs fs (plans.on_stated a.end (λ id found. waiting.block_from a.frame found (a.frame.ids ++ id ∷ [])))
+          (Give a.end) w w w left left (Return a.end) (none_stated a.end (λ id found. waiting.block_from a.frame found
+          (a.frame.ids ++ id ∷ [])) c.in_default.not-Stated) refl
           (returned fs a.end w left);
       kept = keeps_itself w;
     }

@@ -55,4 +55,5 @@ returns-in_ok-step-in-None-clause-means c = λ left.
 
 pub returns-in_ok-step-in-None-clause-kept : goal.returns-in_ok-step-in-None-clause-kept
 returns-in_ok-step-in-None-clause-kept c =
-    kept_from (cut_to c.args.typing.now c.count.result) c.leave.new.self c.states.new.typing c.leave.ensures c.in_ok-step-in-None.ensures.kept
+    kept_from (cut_to c.args.typing.now c.count.result) c.leave.new.self c.states.new.typing c.leave.ensures
+    c.in_ok-step-in-None.ensures.kept

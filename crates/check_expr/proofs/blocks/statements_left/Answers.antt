@@ -29,5 +29,6 @@ returns-in_ok-step-in-None-clause-means c = λ left.
     let fs = a.frames.now.items in
     let w = a.typing.now in
     let plan : List TermId → BodyPlan = λ ts. expressions.statements ts f.site f.ids (λ all last. waiting.block_then f.then all last) in
-    moved fs c.with_statements.new.frames.items (plan f.rest) (waiting.block_then f.then f.ids f.site.result) w w c.with_statements.new.typing left left c.in_ok-step-in-None.step
+    moved fs c.with_statements.new.frames.items (plan f.rest) (waiting.block_then f.then f.ids f.site.result) w w
+    c.with_statements.new.typing left left c.in_ok-step-in-None.step
     (ap plan c.in-None.ensures) refl (c.in_ok-step-in-None.ensures.means left)

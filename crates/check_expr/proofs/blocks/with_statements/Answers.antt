@@ -22,7 +22,8 @@ returns-in_ok-step-in-Do-clause-means c = λ left.
     let m = c.in-Do in
     let fs = a.frames.now.items in
     let plan : List TermId → BodyPlan = λ ids. states m.at (ts.Do ids) a.found in
-    rw m.is (moved fs fs (plan a.ids) (plan c.in_ok-list-in-Do.list) (cut_to a.typing.now m.count) c.leave.new.self c.states.new.typing left left
+    rw m.is (moved fs fs (plan a.ids) (plan c.in_ok-list-in-Do.list) (cut_to a.typing.now m.count) c.leave.new.self
+    c.states.new.typing left left
     c.in_ok-step-in-Do.step (ap plan (sym c.in_ok-list-in-Do.ensures)) (sym c.leave.ensures) (c.in_ok-step-in-Do.ensures.means left fs))
 
 pub returns-in_ok-step-in-Then-clause-means : goal.returns-in_ok-step-in-Then-clause-means
@@ -74,7 +75,8 @@ returns-in_ok-step-in-For-clause-means c = λ left.
     let list = c.in_ok-list-in-For in
     let plan : List TermId → List TermId → BodyPlan = λ bounds ids. states m.at (ts.For m.name bounds ids) a.found in
     let within : m.count ≤ m.count + 1 = omega arith in
-    rw m.is (moved fs fs (plan m.bounds a.ids) (plan limits.limits list.list) (cut_to (cut_to w (m.count + 1)) m.count) c.leave-in-For.new.self
+    rw m.is (moved fs fs (plan m.bounds a.ids) (plan limits.limits list.list) (cut_to (cut_to w (m.count + 1)) m.count)
+    c.leave-in-For.new.self
     c.states-in-For.new.typing left left c.in_ok-step-in-For.step
     (ap (λ (bounds : List TermId). plan bounds a.ids) (sym limits.ensures) ∙ ap (plan limits.limits) (sym list.ensures))
     (cut_twice w m.count (m.count + 1) within ∙ sym c.leave-in-For.ensures) (c.in_ok-step-in-For.ensures.means left fs))
@@ -96,16 +98,20 @@ returns-in_ok-step-in-Do-clause-kept c =
 
 pub returns-in_ok-step-in-Then-clause-kept : goal.returns-in_ok-step-in-Then-clause-kept
 returns-in_ok-step-in-Then-clause-kept c =
-    kept_from (cut_to c.args.typing.now c.in-Then.count) c.leave-in-Then.new.self c.with_else.new.typing c.leave-in-Then.ensures c.in_ok-step-in-Then.ensures.kept
+    kept_from (cut_to c.args.typing.now c.in-Then.count) c.leave-in-Then.new.self c.with_else.new.typing
+    c.leave-in-Then.ensures c.in_ok-step-in-Then.ensures.kept
 
 pub returns-in_ok-step-in-Else-clause-kept : goal.returns-in_ok-step-in-Else-clause-kept
 returns-in_ok-step-in-Else-clause-kept c =
-    kept_from (cut_to c.args.typing.now c.in-Else.count) c.leave-in-Else.new.self c.states-in-Else.new.typing c.leave-in-Else.ensures c.in_ok-step-in-Else.ensures.kept
+    kept_from (cut_to c.args.typing.now c.in-Else.count) c.leave-in-Else.new.self c.states-in-Else.new.typing
+    c.leave-in-Else.ensures c.in_ok-step-in-Else.ensures.kept
 
 pub returns-in_ok-step-in-While-clause-kept : goal.returns-in_ok-step-in-While-clause-kept
 returns-in_ok-step-in-While-clause-kept c =
-    kept_from (cut_to c.args.typing.now c.in-While.count) c.leave-in-While.new.self c.states-in-While.new.typing c.leave-in-While.ensures c.in_ok-step-in-While.ensures.kept
+    kept_from (cut_to c.args.typing.now c.in-While.count) c.leave-in-While.new.self c.states-in-While.new.typing
+    c.leave-in-While.ensures c.in_ok-step-in-While.ensures.kept
 
 pub returns-in_ok-step-in-For-clause-kept : goal.returns-in_ok-step-in-For-clause-kept
 returns-in_ok-step-in-For-clause-kept c =
-    kept_from (cut_to c.args.typing.now c.in-For.count) c.leave-in-For.new.self c.states-in-For.new.typing c.leave-in-For.ensures c.in_ok-step-in-For.ensures.kept
+    kept_from (cut_to c.args.typing.now c.in-For.count) c.leave-in-For.new.self c.states-in-For.new.typing
+    c.leave-in-For.ensures c.in_ok-step-in-For.ensures.kept

@@ -15,7 +15,10 @@ returns-in_default c =
     let w = a.typing.now in
     record {
       means = λ left.
-          moved fs fs (on_answer a.end (λ x. models.on_result x a.frame.node.at a.frame.node.site (λ t. operands_from a.frame a.frame.fitting a.frame.ids t))) (Give a.end) w w w left left (Return a.end) (none_answered a.end (λ x. models.on_result x a.frame.node.at a.frame.node.site (λ t. operands_from a.frame a.frame.fitting a.frame.ids t)) c.in_default.not-Answered) refl
+          moved fs fs (on_answer a.end (λ x. models.on_result x a.frame.node.at a.frame.node.site (λ t. operands_from
+          a.frame a.frame.fitting a.frame.ids t))) (Give a.end) w w w left left (Return a.end) (none_answered a.end (λ
+          x. models.on_result x a.frame.node.at a.frame.node.site (λ t. operands_from a.frame a.frame.fitting
+          a.frame.ids t)) c.in_default.not-Answered) refl
           (returned fs a.end w left);
       kept = keeps_itself w;
     }

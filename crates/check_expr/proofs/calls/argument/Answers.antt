@@ -35,7 +35,9 @@ returns-in_ok-step-2-clause-means c = λ left.
     let w = a.typing.now in
     let w2 = c.convert.new.typing in
     let go : Made → BodyPlan = λ r. operands_from f false (f.ids ++ r.id ∷ []) a.of in
-    moved fs fs2 (models.argument f.fitting a.made a.parameter n.at n.site go) (convert Implicit a.made a.parameter n.site go) w w w2 left left
+    moved fs fs2 (models.argument f.fitting a.made a.parameter n.at n.site go) (convert Implicit a.made a.parameter
+    n.site go) w w w2 left left
     c.in_ok-step-2.step (ap (λ (b : Bool). models.argument b a.made a.parameter n.at n.site go) c.if-fitting.false) refl
-    (behind_convert fs c.push.new.self.items fs2 (of_made.Fitted f a.of) Implicit a.made a.parameter n.site w w2 left left c.in_ok-step-2.step
+    (behind_convert fs c.push.new.self.items fs2 (of_made.Fitted f a.of) Implicit a.made a.parameter n.site w w2 left
+    left c.in_ok-step-2.step
     c.in_ok-push.ensures.items (c.in_ok-step-2.ensures.means left))

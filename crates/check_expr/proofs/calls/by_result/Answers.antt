@@ -34,7 +34,8 @@ returns-in-BeingTyped-clause-means c = λ left.
     let go : TypeId → BodyPlan = λ of. operands_from f f.fitting f.ids of in
     let plan : KnownResult → BodyPlan = λ k. models.by_result k a.f f.node.at f.node.site go in
     moved fs fs (plan (models.result_of w.stage a.f)) (refuse RecursiveNeedsType f.node.at f.node.site) w w w left left c.refuse.result
-    (ap plan (ap (λ (v : TypingState). models.result_of v.stage a.f) (sym c.typing.view_is) ∙ sym c.result_type.ensures ∙ c.in-BeingTyped.is))
+    (ap plan (ap (λ (v : TypingState). models.result_of v.stage a.f) (sym c.typing.view_is) ∙ sym c.result_type.ensures
+    ∙ c.in-BeingTyped.is))
     refl (c.refuse.ensures.means w left fs)
 
 pub returns-in_ok-push-in-NotYet-clause-means : goal.returns-in_ok-push-in-NotYet-clause-means
@@ -47,5 +48,6 @@ returns-in_ok-push-in-NotYet-clause-means c = λ left.
     let go : TypeId → BodyPlan = λ of. operands_from f f.fitting f.ids of in
     let plan : KnownResult → BodyPlan = λ k. models.by_result k a.f f.node.at f.node.site go in
     moved fs fs2 (plan (models.result_of w.stage a.f)) (plan NotYet) w w w left left (Stop (ResultOf a.f))
-    (ap plan (ap (λ (v : TypingState). models.result_of v.stage a.f) (sym c.typing.view_is) ∙ sym c.result_type.ensures ∙ c.in-NotYet.is)) refl
+    (ap plan (ap (λ (v : TypingState). models.result_of v.stage a.f) (sym c.typing.view_is) ∙ sym c.result_type.ensures
+    ∙ c.in-NotYet.is)) refl
     (asks fs fs2 (frames.Result a.f f) (ResultOf a.f) w left c.in_ok-push-in-NotYet.ensures.items)

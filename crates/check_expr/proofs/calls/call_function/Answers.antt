@@ -19,7 +19,8 @@ returns-in-None-clause-means c = λ left.
     let fs = a.frames.now.items in
     let w = a.typing.now in
     let x = function_at w.stage a.f in
-    moved fs fs (models.call_function w.stage a.f x a.operands n.at a.fitting n.source n.site) (refuse Undefined n.at n.site) w w w left left
+    moved fs fs (models.call_function w.stage a.f x a.operands n.at a.fitting n.source n.site) (refuse Undefined n.at
+    n.site) w w w left left
     c.refuse.result
     (function_unknown w.stage a.f x a.operands n.at a.fitting n.source n.site
     (ap (λ (v : TypingState). models.parameters_of v.stage a.f) (sym c.typing.view_is) ∙ sym c.in_ok-known.ensures ∙ c.in-None.is)) refl
@@ -56,7 +57,8 @@ returns-in_ok-step-in-Some-clause-means c = λ left.
     let ps = c.in-Some.types in
     let step = c.in_ok-step-in-Some.step in
     let body : List TermId → BodyPlan = λ before. models.by_result (models.result_of w.stage a.f) a.f n.at n.site (λ result.
-    models.arguments a.fitting a.operands ps n.at n.site before (λ ids. gives n.source n.at result (te.Operate (operations.Call a.f) ids))) in
+    models.arguments a.fitting a.operands ps n.at n.site before (λ ids. gives n.source n.at result (te.Operate
+    (operations.Call a.f) ids))) in
     moved fs fs2 (models.call_function w.stage a.f x a.operands n.at a.fitting n.source n.site)
     (models.counted a.operands ps n.at n.site (body [])) w w w2 left left step
     (function_known w.stage a.f x ps a.operands n.at a.fitting n.source n.site

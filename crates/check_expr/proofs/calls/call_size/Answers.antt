@@ -14,7 +14,8 @@ returns-in-None-clause-means c =
     let n = a.node in
     let w = a.typing.now in
     let left = a.budget.now in
-    does_as a.frames.now.items (models.call_size a.operands n.at n.source n.site) (refuse WrongCount n.at n.site) w w left left c.refuse.result
+    does_as a.frames.now.items (models.call_size a.operands n.at n.source n.site) (refuse WrongCount n.at n.site) w w
+    left left c.refuse.result
     (size_none a.operands n.at n.source n.site (sym c.only.ensures ∙ c.in-None.is)) (c.refuse.ensures.means w left)
 
 pub returns-in-Typed-clause-means : goal.returns-in-Typed-clause-means
@@ -37,7 +38,8 @@ returns-in_ok-step-in-Untyped-clause-means c =
     let w = a.typing.now in
     let o = c.in-Some.operand in
     let plan : Operand → BodyPlan = λ x. models.size_of_operand x n.at n.source n.site in
-    moved a.frames.now.items c.size_of_term.new.frames.items (models.call_size a.operands n.at n.source n.site) (plan (Untyped c.in-Untyped.term))
+    moved a.frames.now.items c.size_of_term.new.frames.items (models.call_size a.operands n.at n.source n.site) (plan
+    (Untyped c.in-Untyped.term))
     w w c.size_of_term.new.typing a.budget.now c.size_of_term.new.budget c.in_ok-step-in-Untyped.step
     (size_one a.operands o n.at n.source n.site (sym c.only.ensures ∙ c.in-Some.is) ∙ ap plan c.in-Untyped.is) refl
     c.in_ok-step-in-Untyped.ensures.means

@@ -17,7 +17,8 @@ returns-in-None-clause-means c = λ left.
     let a = c.args in
     let n = a.node in
     let w = a.typing.now in
-    does_as a.frames.now.items (models.cast a.to a.operands n.at n.source n.site) (refuse WrongCount n.at n.site) w w left left c.refuse.result
+    does_as a.frames.now.items (models.cast a.to a.operands n.at n.source n.site) (refuse WrongCount n.at n.site) w w
+    left left c.refuse.result
     (cast_none a.operands a.to n.at n.source n.site (sym c.only.ensures ∙ c.in-None.is)) (c.refuse.ensures.means w left)
 
 pub returns-in_ok-push-in-Untyped-clause-means : goal.returns-in_ok-push-in-Untyped-clause-means
@@ -42,7 +43,8 @@ returns-in_ok-step-in-Typed-clause-means c = λ left.
     let w = a.typing.now in
     let o = c.in-Some.operand in
     let plan : Operand → BodyPlan = λ x. models.cast a.to (x ∷ []) n.at n.source n.site in
-    moved a.frames.now.items c.cast_made.new.frames.items (models.cast a.to a.operands n.at n.source n.site) (plan (Typed c.in-Typed.made)) w w
+    moved a.frames.now.items c.cast_made.new.frames.items (models.cast a.to a.operands n.at n.source n.site) (plan
+    (Typed c.in-Typed.made)) w w
     c.cast_made.new.typing left left c.in_ok-step-in-Typed.step
     (cast_one a.operands o a.to n.at n.source n.site (sym c.only.ensures ∙ c.in-Some.is) ∙ ap plan c.in-Typed.is) refl
     (c.in_ok-step-in-Typed.ensures.means left)

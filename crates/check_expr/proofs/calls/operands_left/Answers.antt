@@ -23,5 +23,6 @@ returns-in_ok-step-in-Some-clause-means c = λ left.
     let fs = a.frames.now.items in
     let w = a.typing.now in
     let plan : List Operand → BodyPlan = λ os. models.arguments f.fitting os f.types f.node.at f.node.site f.ids (called_with f a.of) in
-    moved fs c.with_operand.new.frames.items (plan f.operands) (plan (c.in-Some.operand ∷ c.take.new.self)) w w c.with_operand.new.typing left left
+    moved fs c.with_operand.new.frames.items (plan f.operands) (plan (c.in-Some.operand ∷ c.take.new.self)) w w
+    c.with_operand.new.typing left left
     c.in_ok-step-in-Some.step (ap plan c.in-Some.ensures) refl (c.in_ok-step-in-Some.ensures.means left)

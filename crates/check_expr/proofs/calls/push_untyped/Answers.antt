@@ -11,7 +11,8 @@ terms-preserved c =
     let ts = c.args.terms.now in
     let l = c.terms in
     ap (λ (os : List Operand). os ++ plans.untyped (drop (l.term-index + 1) ts)) c.in_ok-push.ensures.items
-    ∙ place_more plans.untyped (λ (t : TermId). Untyped t) (λ t rest. refl) l.operands.items _ ts l.term-index _ c.terms-test.true l.invariant
+    ∙ place_more plans.untyped (λ (t : TermId). Untyped t) (λ t rest. refl) l.operands.items _ ts l.term-index _
+    c.terms-test.true l.invariant
 
 pub returns : goal.returns
 returns c =

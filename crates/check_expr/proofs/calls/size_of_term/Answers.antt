@@ -27,9 +27,11 @@ returns-then-not-pay-clause-means c =
     let named = place_of w.stage a.term in
     let laid : BodyPlan =
     laid_out t n.at n.site (reading (λ v. gives n.source n.at uint64 (te.Constant (constants.Number (bytes_in v t))))) in
-    moved fs fs (models.size_of_type x named n.at n.source n.site) (models.size_constant t n.at n.source n.site) w w w left c.pay.new.self Spent
+    moved fs fs (models.size_of_type x named n.at n.source n.site) (models.size_constant t n.at n.source n.site) w w w
+    left c.pay.new.self Spent
     (size_type x t named n.at n.source n.site
-    (ap (λ (v : TypingState). callee_in (expression_at v.stage a.term)) (sym c.typing.view_is) ∙ sym c.callee_of.ensures ∙ c.in-Type.is)) refl
+    (ap (λ (v : TypingState). callee_in (expression_at v.stage a.term)) (sym c.typing.view_is) ∙ sym
+    c.callee_of.ensures ∙ c.in-Type.is)) refl
     (unpaid fs 1 laid w left c.pay.new.self c.if-not-pay.ensures.short c.if-not-pay.ensures.refused)
 
 pub returns-in_ok-step-in-Type-clause-means : goal.returns-in_ok-step-in-Type-clause-means
@@ -49,7 +51,8 @@ returns-in_ok-step-in-Type-clause-means c =
     laid_out t n.at n.site (reading (λ v. gives n.source n.at uint64 (te.Constant (constants.Number (bytes_in v t))))) in
     moved fs fs2 (models.size_of_type x named n.at n.source n.site) (models.size_constant t n.at n.source n.site) w w w left after step
     (size_type x t named n.at n.source n.site
-    (ap (λ (v : TypingState). callee_in (expression_at v.stage a.term)) (sym c.typing.view_is) ∙ sym c.callee_of.ensures ∙ c.in-Type.is)) refl
+    (ap (λ (v : TypingState). callee_in (expression_at v.stage a.term)) (sym c.typing.view_is) ∙ sym
+    c.callee_of.ensures ∙ c.in-Type.is)) refl
     (pays fs fs2 1 laid w w left after after step (grind (arith, c.if-not-pay.ensures.enough)) c.if-not-pay.ensures.paid
     (c.in_ok-step-in-Type.ensures.means after))
 
@@ -63,7 +66,8 @@ returns-in_default-clause-means c =
     let x = expression_at w.stage a.term in
     let place : Place → BodyPlan = λ at. refuse BadOperand at n.site in
     let same = ap (λ (v : TypingState). callee_in (expression_at v.stage a.term)) (sym c.typing.view_is) ∙ sym c.callee_of.ensures in
-    does_as fs (models.size_of_type x (place_of w.stage a.term) n.at n.source n.site) (place c.place_of-named.result) w w left left c.refuse.result
+    does_as fs (models.size_of_type x (place_of w.stage a.term) n.at n.source n.site) (place c.place_of-named.result) w
+    w left left c.refuse.result
     (size_other x (place_of w.stage a.term) n.at n.source n.site (λ (t : TypeId) is. c.in_default.not-Type t (sym same ∙ is))
     ∙ ap place (ap (λ (v : TypingState). place_of v.stage a.term) (sym c.typing.view_is) ∙ sym c.place_of-named.ensures))
     (c.refuse.ensures.means w left)

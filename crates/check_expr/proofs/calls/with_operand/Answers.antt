@@ -18,7 +18,8 @@ returns-in_ok-step-in-None-clause-means c = λ left.
     let f = a.frame in
     let fs = a.frames.now.items in
     let w = a.typing.now in
-    let plan : Operand → List TypeId → BodyPlan = λ o ps. models.arguments f.fitting (o ∷ f.operands) ps f.node.at f.node.site f.ids (called_with f a.of) in
+    let plan : Operand → List TypeId → BodyPlan = λ o ps. models.arguments f.fitting (o ∷ f.operands) ps f.node.at
+    f.node.site f.ids (called_with f a.of) in
     moved fs fs (plan a.operand f.types) (called_with f a.of f.ids) w w c.call.new.typing left left c.in_ok-step-in-None.step
     (ap (λ (ps : List TypeId). plan a.operand ps) c.in-None.ensures) refl (c.in_ok-step-in-None.ensures.means left fs)
 
@@ -28,7 +29,8 @@ returns-in_ok-push-in-Untyped-clause-means c = λ left.
     let f = a.frame in
     let fs = a.frames.now.items in
     let w = a.typing.now in
-    let plan : Operand → List TypeId → BodyPlan = λ o ps. models.arguments f.fitting (o ∷ f.operands) ps f.node.at f.node.site f.ids (called_with f a.of) in
+    let plan : Operand → List TypeId → BodyPlan = λ o ps. models.arguments f.fitting (o ∷ f.operands) ps f.node.at
+    f.node.site f.ids (called_with f a.of) in
     let p = c.in-Some.parameter in
     let rest = c.take.new.self in
     let t = c.in-Untyped.term in
@@ -44,7 +46,8 @@ returns-in_ok-step-in-Typed-clause-means c = λ left.
     let f = a.frame in
     let fs = a.frames.now.items in
     let w = a.typing.now in
-    let plan : Operand → List TypeId → BodyPlan = λ o ps. models.arguments f.fitting (o ∷ f.operands) ps f.node.at f.node.site f.ids (called_with f a.of) in
+    let plan : Operand → List TypeId → BodyPlan = λ o ps. models.arguments f.fitting (o ∷ f.operands) ps f.node.at
+    f.node.site f.ids (called_with f a.of) in
     let p = c.in-Some.parameter in
     let rest = c.take.new.self in
     let m = c.in-Typed.made in

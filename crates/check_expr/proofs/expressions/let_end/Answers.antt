@@ -12,7 +12,8 @@ returns-clause-means c = λ left fs.
     let a = c.args in
     let n = a.node in
     let plan : List TermId → BodyPlan = λ ids. gives n.source n.at a.made.of (te.Let ids a.made.id) in
-    moved fs fs (plan a.ids) (plan c.in_ok-list.list) (cut_to a.typing.now a.count) c.leave.new.self c.gives.new.typing left left c.in_ok-step.step
+    moved fs fs (plan a.ids) (plan c.in_ok-list.list) (cut_to a.typing.now a.count) c.leave.new.self c.gives.new.typing
+    left left c.in_ok-step.step
     (ap plan (sym c.in_ok-list.ensures)) (sym c.leave.ensures) (c.in_ok-step.ensures.means left fs)
 
 pub returns-clause-kept : goal.returns-clause-kept

@@ -36,8 +36,10 @@ returns-then-is_too_large-clause-means c = λ left fs.
     ∙ ap (λ (t : TypeId). plan names t a.ids) (sym c.unwrap_or-of.ensures) ∙ ap (plan names of) (sym c.in_ok-list.ensures)) refl
     (moved fs fs (go (next_typed w.stage.store)) (go id) (with_node w (typed_kinds.Function names of list)) v v left left step
     (ap go (sym c.in_ok-id.ensures.id)) (sym c.in_ok-id.ensures.ok)
-    (chosen fs fs (models.is_too_large (typed_size v.stage id)) true (refuse TooLarge a.at a.site) (Give (ends.Stated id (Some of))) v v left left step
-    (ap (λ (u : TypingState). models.is_too_large (typed_size u.stage id)) (sym c.typing.view_is) ∙ ap models.is_too_large (sym c.size_of.ensures)
+    (chosen fs fs (models.is_too_large (typed_size v.stage id)) true (refuse TooLarge a.at a.site) (Give (ends.Stated
+    id (Some of))) v v left left step
+    (ap (λ (u : TypingState). models.is_too_large (typed_size u.stage id)) (sym c.typing.view_is) ∙ ap
+    models.is_too_large (sym c.size_of.ensures)
     ∙ sym c.is_too_large.ensures ∙ c.if-is_too_large.true)
     (c.refuse.ensures.means v left fs)))
 
@@ -60,6 +62,7 @@ returns-else-is_too_large-clause-means c = λ left fs.
     (moved fs fs (go (next_typed w.stage.store)) (go id) (with_node w (typed_kinds.Function names of list)) v v left left (Return end)
     (ap go (sym c.in_ok-id.ensures.id)) (sym c.in_ok-id.ensures.ok)
     (chosen fs fs (models.is_too_large (typed_size v.stage id)) false (refuse TooLarge a.at a.site) (Give end) v v left left (Return end)
-    (ap (λ (u : TypingState). models.is_too_large (typed_size u.stage id)) (sym c.typing.view_is) ∙ ap models.is_too_large (sym c.size_of.ensures)
+    (ap (λ (u : TypingState). models.is_too_large (typed_size u.stage id)) (sym c.typing.view_is) ∙ ap
+    models.is_too_large (sym c.size_of.ensures)
     ∙ sym c.is_too_large.ensures ∙ c.if-is_too_large.false)
     (returned fs end v left)))

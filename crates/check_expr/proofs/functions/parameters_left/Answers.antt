@@ -63,7 +63,8 @@ returns-then-is_function-clause-means c =
     moved fs fs (plan f.parameters) (plan (p ∷ rest)) w w w left after step (ap plan c.in-Some.ensures) refl
     (pays fs fs 1 (may_be p.of p.place f.site next) w w left after after step (grind (arith, c.if-not-pay.ensures.enough))
     c.if-not-pay.ensures.paid
-    (chosen fs fs (layouts.is_function w.stage.store.types p.of) true (refuse FunctionValue p.place f.site) (laid_out p.of p.place f.site next)
+    (chosen fs fs (layouts.is_function w.stage.store.types p.of) true (refuse FunctionValue p.place f.site) (laid_out
+    p.of p.place f.site next)
     w w after after step
     (ap (λ (v : TypingState). layouts.is_function v.stage.store.types p.of) (sym c.typing.view_is) ∙ sym c.is_function.ensures
     ∙ c.if-is_function.true)
@@ -88,7 +89,8 @@ returns-in_ok-step-in-Some-clause-means c =
     moved fs fs2 (plan f.parameters) (plan (p ∷ rest)) w w w left after step (ap plan c.in-Some.ensures) refl
     (pays fs fs2 1 (may_be p.of p.place f.site next) w w left after after step (grind (arith, c.if-not-pay.ensures.enough))
     c.if-not-pay.ensures.paid
-    (chosen fs fs2 (layouts.is_function w.stage.store.types p.of) false (refuse FunctionValue p.place f.site) (laid_out p.of p.place f.site next)
+    (chosen fs fs2 (layouts.is_function w.stage.store.types p.of) false (refuse FunctionValue p.place f.site) (laid_out
+    p.of p.place f.site next)
     w w after after step
     (ap (λ (v : TypingState). layouts.is_function v.stage.store.types p.of) (sym c.typing.view_is) ∙ sym c.is_function.ensures
     ∙ c.if-is_function.false)

@@ -16,7 +16,8 @@ returns-in-Made-clause-kept c =
 
 pub returns-in-Stated-clause-kept : goal.returns-in-Stated-clause-kept
 returns-in-Stated-clause-kept c =
-    store_kept _ (the_view c.world.inside) _ c.world.view_is refl (rw c.finish_typing-in-Stated.ensures (store_state _ _ _ (stays-finished _ _)))
+    store_kept _ (the_view c.world.inside) _ c.world.view_is refl (rw c.finish_typing-in-Stated.ensures (store_state _
+    _ _ (stays-finished _ _)))
 
 pub returns-in-Refused-clause-kept : goal.returns-in-Refused-clause-kept
 returns-in-Refused-clause-kept c =

@@ -9,7 +9,8 @@ pub returns-clause-means : goal.returns-clause-means
 returns-clause-means c =
     let a = c.args in
     let plan = waiting.parameters_from a.frame in
-    moved a.frames.now.items c.parameters_left.new.frames.items plan plan (with_variable a.typing.now a.name.symbol a.name.of) c.declare.new.self
+    moved a.frames.now.items c.parameters_left.new.frames.items plan plan (with_variable a.typing.now a.name.symbol
+    a.name.of) c.declare.new.self
     c.parameters_left.new.typing a.budget.now c.parameters_left.new.budget c.in_ok-step.step refl (sym c.in_ok-declare.ensures)
     c.in_ok-step.ensures.means
 

@@ -17,7 +17,9 @@ returns-in_default c =
     let w = a.typing.now in
     record {
       means =
-          moved fs fs (on_answer a.end (λ x. plans.on_layout x a.at a.site (laid_then a.then a.site))) (Give a.end) w w w a.budget.now a.budget.now (Return a.end) (none_answered a.end (λ x. plans.on_layout x a.at a.site (laid_then a.then a.site)) c.in_default.not-Answered) refl
+          moved fs fs (on_answer a.end (λ x. plans.on_layout x a.at a.site (laid_then a.then a.site))) (Give a.end) w w
+          w a.budget.now a.budget.now (Return a.end) (none_answered a.end (λ x. plans.on_layout x a.at a.site
+          (laid_then a.then a.site)) c.in_default.not-Answered) refl
           (returned fs a.end w a.budget.now);
       kept = keeps_itself w;
     }

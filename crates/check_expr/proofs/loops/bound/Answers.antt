@@ -33,5 +33,6 @@ returns-else-is_integer-clause-means c = λ left.
     let w = a.typing.now in
     chosen fs fs (integer_form (form_in w.stage m.of)) false (waiting.bounds_from f (f.made ++ m ∷ [])) (refuse BadOperand m.at f.site) w w
     left left c.refuse.result
-    (ap (λ (v : TypingState). integer_form (form_in v.stage m.of)) (sym c.typing.view_is) ∙ sym c.is_integer.ensures ∙ c.if-is_integer.false)
+    (ap (λ (v : TypingState). integer_form (form_in v.stage m.of)) (sym c.typing.view_is) ∙ sym c.is_integer.ensures ∙
+    c.if-is_integer.false)
     (c.refuse.ensures.means w left fs)

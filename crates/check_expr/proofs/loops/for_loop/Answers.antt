@@ -11,5 +11,6 @@ returns-clause-means c = λ left.
     let w = a.typing.now in
     let plan : List Made → BodyPlan = λ before. models.integers a.bounds a.site before
     (λ ms. reading (λ v. models.counting (models.meet_of v ms) a.name ms a.body a.at a.site)) in
-    moved a.frames.now.items c.bounds_left.new.frames.items (plan []) (plan c.new.result) w w c.bounds_left.new.typing left left c.in_ok-step.step
+    moved a.frames.now.items c.bounds_left.new.frames.items (plan []) (plan c.new.result) w w c.bounds_left.new.typing
+    left left c.in_ok-step.step
     (ap plan (sym c.new.ensures)) refl (c.in_ok-step.ensures.means left)

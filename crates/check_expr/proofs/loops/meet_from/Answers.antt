@@ -10,7 +10,7 @@ bounds-preserved c =
     let ms = c.args.others.now in
     let w = c.args.world.now in
     let l = c.bounds in
-    ap (λ (t : TypeId). models.meet_from w t (drop (l.bound-index + 1) ms)) c.meeting.ensures
+    ap (λ (t : TypeId). models.meet_from w t (drop (l.bound-index + 1) ms)) c.meeting-of.ensures
     ∙ sym (at_drop_more (λ (xs : List Made). models.meet_from w l.of xs) ms l.bound-index _ c.bounds-test.true) ∙ l.invariant
 
 pub returns : goal.returns

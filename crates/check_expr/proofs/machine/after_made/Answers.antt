@@ -15,7 +15,8 @@ returns-in_default c =
     let w = a.typing.now in
     record {
       means =
-          moved fs fs (on_made a.end (λ m. waiting.with_made a.frame m)) (Give a.end) w w w a.budget.now a.budget.now (Return a.end) (none_made a.end (λ m. waiting.with_made a.frame m) c.in_default.not-Made) refl
+          moved fs fs (on_made a.end (λ m. waiting.with_made a.frame m)) (Give a.end) w w w a.budget.now a.budget.now
+          (Return a.end) (none_made a.end (λ m. waiting.with_made a.frame m) c.in_default.not-Made) refl
           (returned fs a.end w a.budget.now);
       kept = keeps_itself w;
     }

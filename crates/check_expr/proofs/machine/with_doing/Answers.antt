@@ -22,7 +22,8 @@ pub returns-in_ok-step-in-While-clause-means : goal.returns-in_ok-step-in-While-
 returns-in_ok-step-in-While-clause-means c = rw c.in-While.is (c.in_ok-step-in-While.ensures.means c.args.budget.now)
 
 pub returns-in_ok-step-in-Repeat-clause-means : goal.returns-in_ok-step-in-Repeat-clause-means
-returns-in_ok-step-in-Repeat-clause-means c = rw c.in-Repeat.is (c.in_ok-step-in-Repeat.ensures.means c.args.budget.now c.args.frames.now.items)
+returns-in_ok-step-in-Repeat-clause-means c = rw c.in-Repeat.is (c.in_ok-step-in-Repeat.ensures.means c.args.budget.now
+    c.args.frames.now.items)
 
 pub returns-in_ok-step-in-Bound-clause-means : goal.returns-in_ok-step-in-Bound-clause-means
 returns-in_ok-step-in-Bound-clause-means c = rw c.in-Bound.is (c.in_ok-step-in-Bound.ensures.means c.args.budget.now)
@@ -34,10 +35,12 @@ pub returns-in_ok-step-in-Return-clause-means : goal.returns-in_ok-step-in-Retur
 returns-in_ok-step-in-Return-clause-means c = rw c.in-Return.is (c.in_ok-step-in-Return.ensures.means c.args.budget.now)
 
 pub returns-in_ok-step-in-Returned-clause-means : goal.returns-in_ok-step-in-Returned-clause-means
-returns-in_ok-step-in-Returned-clause-means c = rw c.in-Returned.is (c.in_ok-step-in-Returned.ensures.means c.args.budget.now c.args.frames.now.items)
+returns-in_ok-step-in-Returned-clause-means c = rw c.in-Returned.is (c.in_ok-step-in-Returned.ensures.means
+    c.args.budget.now c.args.frames.now.items)
 
 pub returns-in_ok-step-in-Perform-clause-means : goal.returns-in_ok-step-in-Perform-clause-means
 returns-in_ok-step-in-Perform-clause-means c = rw c.in-Perform.is (c.in_ok-step-in-Perform.ensures.means c.args.budget.now)
 
 pub returns-in_ok-step-in-Performed-clause-means : goal.returns-in_ok-step-in-Performed-clause-means
-returns-in_ok-step-in-Performed-clause-means c = rw c.in-Performed.is (c.in_ok-step-in-Performed.ensures.means c.args.budget.now c.args.frames.now.items)
+returns-in_ok-step-in-Performed-clause-means c = rw c.in-Performed.is (c.in_ok-step-in-Performed.ensures.means
+    c.args.budget.now c.args.frames.now.items)

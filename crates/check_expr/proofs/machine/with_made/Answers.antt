@@ -7,13 +7,15 @@ use Rattle.check_expr.proofs.Doing.{enters, returns as returned}
 use Rattle.check_expr.proofs.machine.with_made.Goals as goal
 
 pub returns-in_ok-step-in-Unary-clause-means : goal.returns-in_ok-step-in-Unary-clause-means
-returns-in_ok-step-in-Unary-clause-means c = rw c.in-Unary.is (c.in_ok-step-in-Unary.ensures.means c.args.budget.now c.args.frames.now.items)
+returns-in_ok-step-in-Unary-clause-means c = rw c.in-Unary.is (c.in_ok-step-in-Unary.ensures.means c.args.budget.now
+    c.args.frames.now.items)
 
 pub returns-in_ok-push-in-Left-clause-means : goal.returns-in_ok-push-in-Left-clause-means
 returns-in_ok-push-in-Left-clause-means c =
     let a = c.args in
     let m = c.in-Left in
-    rw m.is (enters a.frames.now.items c.push.new.self.items (frames.Made (of_made.Right m.op a.made m.node)) (jobs.Expression m.right m.node.site) a.typing.now a.budget.now
+    rw m.is (enters a.frames.now.items c.push.new.self.items (frames.Made (of_made.Right m.op a.made m.node))
+    (jobs.Expression m.right m.node.site) a.typing.now a.budget.now
     c.in_ok-push-in-Left.ensures.items)
 
 pub returns-in_ok-step-in-Right-clause-means : goal.returns-in_ok-step-in-Right-clause-means
@@ -23,13 +25,16 @@ pub returns-in_ok-step-in-MeetLeft-clause-means : goal.returns-in_ok-step-in-Mee
 returns-in_ok-step-in-MeetLeft-clause-means c = rw c.in-MeetLeft.is (c.in_ok-step-in-MeetLeft.ensures.means c.args.budget.now)
 
 pub returns-in_ok-step-in-MeetRight-clause-means : goal.returns-in_ok-step-in-MeetRight-clause-means
-returns-in_ok-step-in-MeetRight-clause-means c = rw c.in-MeetRight.is (c.in_ok-step-in-MeetRight.ensures.means c.args.budget.now c.args.frames.now.items)
+returns-in_ok-step-in-MeetRight-clause-means c = rw c.in-MeetRight.is (c.in_ok-step-in-MeetRight.ensures.means
+    c.args.budget.now c.args.frames.now.items)
 
 pub returns-in-Callee-clause-means : goal.returns-in-Callee-clause-means
-returns-in-Callee-clause-means c = rw c.in-Callee.is (c.call_value.ensures.means _ _ c.args.budget.now c.args.frames.now.items)
+returns-in-Callee-clause-means c = rw c.in-Callee.is (c.call_value.ensures.means c.in-Callee.field-0 c.in-Callee.field-2 c.args.budget.now
+    c.args.frames.now.items)
 
 pub returns-in_ok-step-in-Operand-clause-means : goal.returns-in_ok-step-in-Operand-clause-means
-returns-in_ok-step-in-Operand-clause-means c = rw c.in-Operand.is (c.in_ok-step-in-Operand.ensures.means c.args.typing.now c.args.budget.now)
+returns-in_ok-step-in-Operand-clause-means c = rw c.in-Operand.is (c.in_ok-step-in-Operand.ensures.means
+    c.args.typing.now c.args.budget.now)
 
 pub returns-in_ok-step-in-Cast-clause-means : goal.returns-in_ok-step-in-Cast-clause-means
 returns-in_ok-step-in-Cast-clause-means c = rw c.in-Cast.is (c.in_ok-step-in-Cast.ensures.means c.args.budget.now)
@@ -53,13 +58,15 @@ pub returns-in_ok-step-in-Select-clause-means : goal.returns-in_ok-step-in-Selec
 returns-in_ok-step-in-Select-clause-means c = rw c.in-Select.is (c.in_ok-step-in-Select.ensures.means c.args.budget.now)
 
 pub returns-in_ok-step-in-Extract-clause-means : goal.returns-in_ok-step-in-Extract-clause-means
-returns-in_ok-step-in-Extract-clause-means c = rw c.in-Extract.is (c.in_ok-step-in-Extract.ensures.means c.args.budget.now c.args.frames.now.items)
+returns-in_ok-step-in-Extract-clause-means c = rw c.in-Extract.is (c.in_ok-step-in-Extract.ensures.means
+    c.args.budget.now c.args.frames.now.items)
 
 pub returns-in_ok-push-in-Object-clause-means : goal.returns-in_ok-push-in-Object-clause-means
 returns-in_ok-push-in-Object-clause-means c =
     let a = c.args in
     let m = c.in-Object in
-    rw m.is (enters a.frames.now.items c.push-in-Object.new.self.items (frames.Made (of_made.Key a.made m.node)) (jobs.Expression m.key m.node.site) a.typing.now a.budget.now
+    rw m.is (enters a.frames.now.items c.push-in-Object.new.self.items (frames.Made (of_made.Key a.made m.node))
+    (jobs.Expression m.key m.node.site) a.typing.now a.budget.now
     c.in_ok-push-in-Object.ensures.items)
 
 pub returns-in_ok-step-in-Key-clause-means : goal.returns-in_ok-step-in-Key-clause-means
@@ -75,4 +82,5 @@ pub returns-in_ok-step-in-Let-clause-means : goal.returns-in_ok-step-in-Let-clau
 returns-in_ok-step-in-Let-clause-means c = rw c.in-Let.is (c.in_ok-step-in-Let.ensures.means c.args.budget.now)
 
 pub returns-in_ok-step-in-LetValue-clause-means : goal.returns-in_ok-step-in-LetValue-clause-means
-returns-in_ok-step-in-LetValue-clause-means c = rw c.in-LetValue.is (c.in_ok-step-in-LetValue.ensures.means c.args.budget.now c.args.frames.now.items)
+returns-in_ok-step-in-LetValue-clause-means c = rw c.in-LetValue.is (c.in_ok-step-in-LetValue.ensures.means
+    c.args.budget.now c.args.frames.now.items)

@@ -16,7 +16,8 @@ returns-in-None-clause-means c = λ left.
     let f = a.frame in
     let w = a.typing.now in
     let go : TypedName → BodyPlan = λ n. waiting.names_from f (f.named ++ n ∷ []) in
-    does_as a.frames.now.items (models.name_for a.name.of a.name f.at f.site go) (refuse WrongCount f.at f.site) w w left left c.refuse.result
+    does_as a.frames.now.items (models.name_for a.name.of a.name f.at f.site go) (refuse WrongCount f.at f.site) w w
+    left left c.refuse.result
     (ap (λ (o : Option TypeId). models.name_for o a.name f.at f.site go) c.in-None.is) (c.refuse.ensures.means w left)
 
 pub returns-then-is_function-clause-means : goal.returns-then-is_function-clause-means

@@ -22,5 +22,6 @@ returns-clause-means c = λ left fs.
 
 pub returns-clause-kept : goal.returns-clause-kept
 returns-clause-kept c =
-    kept_from (with_variables c.args.typing.now c.as_slice.result.now) c.declare_all.new.typing c.states.new.typing c.in_ok-declare_all.ensures.ok
+    kept_from (with_variables c.args.typing.now c.as_slice.result.now) c.declare_all.new.typing c.states.new.typing
+    c.in_ok-declare_all.ensures.ok
     c.in_ok-step.ensures.kept

@@ -29,7 +29,8 @@ returns-then-given-wanted-clause-means c =
     let left = a.budget.now in
     let values = c.in-Some.values in
     let body : BodyPlan = models.values_for a.names values a.site [] [] (λ names all. models.declaring names all a.at a.site) in
-    rw c.in-Some.is (chosen fs fs (nat_eq (length a.names) (length values)) false body (refuse WrongCount a.at a.site) w w left left c.refuse.result
+    rw c.in-Some.is (chosen fs fs (nat_eq (length a.names) (length values)) false body (refuse WrongCount a.at a.site)
+    w w left left c.refuse.result
     (ne_eqb _ _ (λ same. c.if-given-wanted.true (c.len-given.ensures ∙ sym same ∙ sym c.len-wanted.ensures)))
     (c.refuse.ensures.means w left fs))
 
@@ -46,7 +47,8 @@ returns-in_ok-step-in-Some-clause-means c =
     let step = c.in_ok-step-in-Some.step in
     let body : List VarName → List TermId → BodyPlan = λ typed ids.
     models.values_for a.names values a.site typed ids (λ names all. models.declaring names all a.at a.site) in
-    rw c.in-Some.is (chosen fs fs2 (nat_eq (length a.names) (length values)) true (body [] []) (refuse WrongCount a.at a.site) w w2 left left2 step
+    rw c.in-Some.is (chosen fs fs2 (nat_eq (length a.names) (length values)) true (body [] []) (refuse WrongCount a.at
+    a.site) w w2 left left2 step
     (eq-eqb _ _ (sym c.len-wanted.ensures ∙ sym c.if-given-wanted.false ∙ c.len-given.ensures))
     (moved fs fs2 (body [] []) (body c.new-typed.result c.new-none.result) w w w2 left left2 step
     (ap (λ (typed : List VarName). body typed []) (sym c.new-typed.ensures) ∙ ap (body c.new-typed.result) (sym c.new-none.ensures)) refl
