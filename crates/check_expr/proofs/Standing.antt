@@ -1,8 +1,7 @@
 -- How far functions have come: a function that is given the state that it has changes nothing, and what is kept where it comes further.
 use Rattle.std.proofs.Common.{◌≡◌, ℕ, zero, suc, List, [], ◌∷◌, Option, Some, None, refl, sym, ap, ◌∙◌}
-use Rattle.std.specs.Prelude.{slice_get, slice_set}
+use Rattle.std.specs.Prelude.{slice_get, slice_set, unwrap_or}
 use Rattle.std.specs.Option.{option_map_or}
-use Rattle.std.proofs.Math.Option.{some-injective}
 use Rattle.tl_base.specs.declared.ids.FnId.{FnId}
 use Rattle.terra_term.specs.declared.store.Function.{Function}
 use Rattle.terra_term.specs.declared.store.FunctionState.{FunctionState}
@@ -20,7 +19,7 @@ use Rattle.check_expr.specs.Kept.{store_itself}
 
 same_set : (fs : List Function) (i : ℕ) (f : Function) → slice_get fs i ≡ Some f → slice_set fs i f ≡ fs
 same_set [] i f there = refl
-same_set (g ∷ fs) zero f there = ap (λ (h : Function). h ∷ fs) (sym (some-injective g f there))
+same_set (g ∷ fs) zero f there = ap (λ (h : Function). h ∷ fs) (sym (ap (λ (o : Option Function). unwrap_or o g) there))
 same_set (g ∷ fs) (suc i) f there = ap (λ (gs : List Function). g ∷ gs) (same_set fs i f there)
 
 same_changed : (fs : List Function) (i : ℕ) (x : Option Function) → slice_get fs i ≡ x

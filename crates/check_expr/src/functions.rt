@@ -5,7 +5,7 @@ ghost use Rattle.terra_types.specs.Opening.{unit};
 ghost use Rattle.exotype.specs.Terms.{typed_size};
 ghost use Rattle.check_model.specs.Bodies as models;
 ghost use Rattle.check_expr.specs.Frames as waiting;
-ghost use Rattle.check_expr.specs.Functions.{parts_in, parts_plan};
+ghost use Rattle.check_expr.specs.Functions.{parts_in, parts_plan, small_plan};
 ghost use Rattle.check_expr.specs.Keeping.{KeepsStage, KeepsTyping};
 ghost use Rattle.check_expr.specs.Steps.{Goes, Does, with_stage};
 
@@ -269,10 +269,17 @@ pub fn function(
     let names = TypedNameList::from_vec(names.into_vec())?;
     let list = term_list(ids)?;
     let id = new_node(typing, Typed::Function(names, of, list))?;
+    Ok(if_small(typing, id, of, at, site))
+}
+
+/// The end of a function's node, unless it is too large.
+fn if_small(typing: &Typing, id: TermId, of: TypeId, at: Place, site: Site) -> BodyStep
+    ensures means { (left : ℕ) → Does (small_plan id of at site) typing.now left result typing.now left }
+{
     if is_too_large(size_of(&typing.world, id)) {
-        Ok(refuse(RefusalKind::TooLarge, at, site))
+        refuse(RefusalKind::TooLarge, at, site)
     } else {
-        Ok(Step::Return(PartEnd::Stated(id, Some(of))))
+        Step::Return(PartEnd::Stated(id, Some(of)))
     }
 }
 

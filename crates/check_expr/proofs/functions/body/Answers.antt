@@ -58,7 +58,7 @@ returns-in_ok-step-in-Some-term-clause-means c =
     let left = a.budget.now in
     let left2 = c.defined.new.budget in
     let step = c.in_ok-step-in-Some-term.step in
-    let n = c.count.result in
+    let n = c.count-base.result in
     let term = slice_get w.stage.store.terms t.0 in
     let plan : Option Function → BodyPlan = λ o. models.for_function w a.f o in
     let known : Option TermId → BodyPlan = λ o. models.function_plan w a.f g o in
@@ -70,7 +70,7 @@ returns-in_ok-step-in-Some-term-clause-means c =
     moved fs fs2 (plan (function_at w.stage a.f)) (known (Some t)) w w w2 left left2 step
     (ap plan (ap (λ (u : TypingState). function_at u.stage a.f) (sym c.typing.view_is) ∙ sym c.function.ensures ∙ c.in-Some.is)
     ∙ ap known (sym c.term.ensures ∙ c.in-Some-term.is)) refl
-    (moved fs fs2 (behind (length w.variables)) (behind n) v v w2 left left2 step (ap behind (sym c.count.ensures)) refl
+    (moved fs fs2 (behind (length w.variables)) (behind n) v v w2 left left2 step (ap behind (sym c.count-base.ensures)) refl
     (behind_function fs pushed fs2 a.f n (body n) v w2 left left2 step c.in_ok-push-in-Some-term.ensures.items
     (moved pushed fs2 (body n) (parts definition) v c.begin.new.typing w2 left left2 step
     (parts_mean term g.place (site n)

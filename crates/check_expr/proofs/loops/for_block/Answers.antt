@@ -16,7 +16,7 @@ returns-clause-means c = λ left.
     let a = c.args in
     let f = a.frame in
     let w = a.typing.now in
-    let n = c.count.result in
+    let n = c.count-count.result in
     let v : TypedName = record { symbol = f.name.symbol; of = f.of } in
     let plan : Site → ℕ → ℕ → BodyPlan = λ site inner outer. expressions.statements f.body site [] (λ stats result.
     leaving inner (leaving outer (states f.at (ts.For v f.ids stats) result))) in
@@ -25,7 +25,7 @@ returns-clause-means c = λ left.
     (plan c.in_loop.result (n + 1) n) (with_variable w v.symbol v.of) c.declare.new.self c.block.new.typing left left c.in_ok-step.step
     (ap (λ (site : Site). plan site (length (w.variables ++ v ∷ [])) size) (sym c.in_loop.ensures)
     ∙ ap (λ (inner : ℕ). plan c.in_loop.result inner size) (length_push w.variables v)
-    ∙ ap (λ (k : ℕ). plan c.in_loop.result (k + 1) k) (sym c.count.ensures))
+    ∙ ap (λ (k : ℕ). plan c.in_loop.result (k + 1) k) (sym c.count-count.ensures))
     (sym c.in_ok-declare.ensures) (c.in_ok-step.ensures.means left)
 
 pub returns-clause-kept : goal.returns-clause-kept
