@@ -1,5 +1,6 @@
 -- How each frame goes on with the end that it waited for: the plan that waited there.
-use Rattle.std.specs.Prelude.{ℕ, Bool, true, false, List, [], ◌∷◌, ◌++◌, length, Option, Some, None, if◌then◌else◌, nat_eq, nat_lt, unwrap_or, ◌+◌}
+use Rattle.std.specs.Prelude.{ℕ, Bool, true, false, List, [], ◌∷◌, ◌++◌, length, Option, Some, None, if◌then◌else◌}
+use Rattle.std.specs.Prelude.{nat_eq, nat_lt, unwrap_or, ◌+◌}
 use Rattle.tl_base.specs.declared.ids.FnId.{FnId}
 use Rattle.tl_base.specs.declared.ids.TermId.{TermId}
 use Rattle.tl_base.specs.declared.ids.TextId.{TextId}
@@ -35,13 +36,17 @@ use Rattle.check_model.specs.declared.question.CheckAnswer.{CheckAnswer}
 use Rattle.check_model.specs.declared.question.CheckAnswer.TheVariants as answers
 use Rattle.check_model.specs.declared.job.Operand.{Operand}
 use Rattle.check_model.specs.Typing.{TypingState, form_in, struct_of, bytes_in, with_variable, with_variables}
-use Rattle.check_model.specs.Plans.{BodyPlan, reading, refuse, give, gives, states, on_made, on_stated, typing, as_value, on_layout, is_wide, leaving, ids_of, operands}
+use Rattle.check_model.specs.Plans.{BodyPlan, reading, refuse, give, gives, states, on_made, on_stated, typing}
+use Rattle.check_model.specs.Plans.{as_value, on_layout, is_wide, leaving, ids_of, operands}
 use Rattle.check_model.specs.declared.rule.Mode.TheVariants.{Implicit, Explicit}
 use Rattle.check_model.specs.Converting.{convert}
 use Rattle.check_model.specs.Calls.{argument, arguments, on_result, call_value}
 use Rattle.check_model.specs.Operators.{binary_plan, unary_plan, both}
-use Rattle.check_model.specs.Expressions.{method_plan, select_plan, index_plan, entry_or, into, in_order, by_name, constructed, initialised, statements, let_plan}
-use Rattle.check_model.specs.Statements.{block, values_for, value_for, names_for, declaring, typing_all, targets, converting_all, integers, meet_of, all_to, counting, else_plan, return_value, in_loop}
+use Rattle.check_model.specs.Expressions.{method_plan, select_plan, index_plan, entry_or, into, in_order, by_name}
+use Rattle.check_model.specs.Expressions.{constructed, initialised, statements, let_plan}
+use Rattle.check_model.specs.Statements.{block, values_for, value_for, names_for, declaring, typing_all, targets}
+use Rattle.check_model.specs.Statements.{converting_all, integers, meet_of, all_to, counting, else_plan, return_value}
+use Rattle.check_model.specs.Statements.{in_loop}
 use Rattle.check_model.specs.Bodies.{body_job, body_first, close_body, close_function, parameters, made_function, is_too_large}
 use Rattle.check_expr.specs.declared.step.Node.{Node}
 use Rattle.check_expr.specs.declared.frame.BodyFrame.{BodyFrame}
@@ -223,7 +228,8 @@ with_doing (of_doing.Performed at site) m = states at (ts.Perform m.id) site.res
 -- a parameter has a type: it is a variable, and the others are left
 abbrev pub parameters_from : ParametersFrame → BodyPlan
 parameters_from f =
-    parameters f.parameters f.site (statements f.body f.site [] (λ typed found. made_function f.named (unwrap_or found unit) typed f.at f.site))
+    parameters f.parameters f.site (statements f.body f.site [] (λ typed found.
+    made_function f.named (unwrap_or found unit) typed f.at f.site))
 
 abbrev pub laid_then : LaidThen → Site → BodyPlan
 laid_then (of_layout.Value m) site = reading (λ w. if is_wide w m.of then refuse TooWide m.at site else give m)

@@ -25,7 +25,8 @@ parts_in _ = None
 abbrev pub parts_plan : Option Definition → Place → Site → BodyPlan
 parts_plan None at site = refuse Undefined at site
 parts_plan (Some d) at site =
-    Pay 1 (parameters d.parameters (record site { result = d.written }) (statements d.body (record site { result = d.written }) [] (λ typed found.
+    Pay 1 (parameters d.parameters (record site { result = d.written })
+    (statements d.body (record site { result = d.written }) [] (λ typed found.
     made_function d.named (unwrap_or found unit) typed at site)))
 
 -- the end of a function's node, unless it is too large

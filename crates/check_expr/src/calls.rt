@@ -253,7 +253,8 @@ fn with_operand(
 ) -> Result<BodyStep, NoMemory>
     ensures means { IfOk result (λ step. (left : ℕ) →
         Goes frames.old.items
-        (models.arguments frame.fitting (operand ∷ frame.operands) frame.types frame.node.at frame.node.site frame.ids (called_with frame of))
+        (models.arguments frame.fitting (operand ∷ frame.operands) frame.types frame.node.at frame.node.site frame.ids
+        (called_with frame of))
         typing.old left frames.new.items step typing.new left) }
     ensures kept { OnOk result (KeepsTyping typing.old typing.new) }
 {

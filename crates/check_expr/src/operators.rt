@@ -529,7 +529,8 @@ fn operated(
 /// The place to which a pointer points.
 fn dereference(typing: &mut Typing, made: Made, node: Node) -> Result<BodyStep, NoMemory>
     ensures means { IfOk result (λ step. (units : ℕ) →
-        Does (models.unary_plan typing.old.stage UnaryOperator.Dereference (form_in typing.old.stage made.of) made node.at node.source node.site)
+        Does (models.unary_plan typing.old.stage UnaryOperator.Dereference (form_in typing.old.stage made.of)
+        made node.at node.source node.site)
         typing.old units step typing.new units) }
     ensures kept { OnOk result (KeepsTyping typing.old typing.new) }
 {
@@ -546,7 +547,8 @@ fn dereference(typing: &mut Typing, made: Made, node: Node) -> Result<BodyStep, 
 /// The address of a place.
 fn address(typing: &mut Typing, made: Made, node: Node) -> Result<BodyStep, NoMemory>
     ensures means { IfOk result (λ step. (units : ℕ) →
-        Does (models.unary_plan typing.old.stage UnaryOperator.Address (form_in typing.old.stage made.of) made node.at node.source node.site)
+        Does (models.unary_plan typing.old.stage UnaryOperator.Address (form_in typing.old.stage made.of)
+        made node.at node.source node.site)
         typing.old units step typing.new units) }
     ensures kept { OnOk result (KeepsTyping typing.old typing.new) }
 {
