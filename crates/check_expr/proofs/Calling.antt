@@ -80,7 +80,8 @@ cast_none (o ∷ p ∷ os) to at source site none = refl
 pub cast_one : (os : List Operand) (o : Operand) (to : TypeId) (at : Place) (source : TermId) (site : Site)
     → only_of os ≡ Some o → models.cast to os at source site ≡ models.cast to (o ∷ []) at source site
 cast_one [] o to at source site one = absurd (cc one)
-cast_one (p ∷ []) o to at source site one = ap (λ (x : Operand). models.cast to (x ∷ []) at source site) (ap (λ (x : Option Operand). unwrap_or x p) one)
+cast_one (p ∷ []) o to at source site one = ap (λ (x : Operand). models.cast to (x ∷ []) at source site) (ap (λ (x :
+    Option Operand). unwrap_or x p) one)
 cast_one (p ∷ q ∷ os) o to at source site one = absurd (cc one)
 
 pub size_none : (os : List Operand) (at : Place) (source : TermId) (site : Site)
@@ -92,7 +93,8 @@ size_none (o ∷ p ∷ os) at source site none = refl
 pub size_one : (os : List Operand) (o : Operand) (at : Place) (source : TermId) (site : Site)
     → only_of os ≡ Some o → models.call_size os at source site ≡ models.size_of_operand o at source site
 size_one [] o at source site one = absurd (cc one)
-size_one (p ∷ []) o at source site one = ap (λ (x : Operand). models.size_of_operand x at source site) (ap (λ (x : Option Operand). unwrap_or x p) one)
+size_one (p ∷ []) o at source site one = ap (λ (x : Operand). models.size_of_operand x at source site) (ap (λ (x :
+    Option Operand). unwrap_or x p) one)
 size_one (p ∷ q ∷ os) o at source site one = absurd (cc one)
 
 -- the type that a callee is

@@ -30,7 +30,6 @@ use tl_base::{Budget, FnId, Machine, NoMemory, Step, TermId};
 pub(crate) struct Steps {}
 
 /// Goes on with what waited for a typed expression of an expression.
-#[tactic(auto, using(tl_base::proofs::Steps::pushes))]
 fn with_made(
     frames: &mut Vec<BodyFrame>,
     typing: &mut Typing,
