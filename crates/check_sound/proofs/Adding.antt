@@ -41,7 +41,8 @@ use Rattle.check_sound.proofs.Shapes.{size-kept}
 use Rattle.check_sound.proofs.Foreseen.{body-item, count-trees}
 use Rattle.check_sound.proofs.Passing.{Lies}
 use Rattle.check_sound.proofs.Grows.{Grows, form-itself, trees-kept}
-use Rattle.check_sound.proofs.Worlds.{Fair, fair-of, grows-same, any-grows, body-grows, sound-from}
+use Rattle.check_sound.proofs.Worlds.{Fair, fair-of, any-grows, body-grows, sound-from}
+use Rattle.check_sound.proofs.SameFunctions.{grows-same}
 
 -- ---- bodies that are there already
 

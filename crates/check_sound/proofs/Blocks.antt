@@ -11,7 +11,7 @@ use Rattle.check_model.specs.declared.site.Site.{Site}
 use Rattle.check_model.specs.declared.end.PartEnd.{PartEnd}
 use Rattle.check_model.specs.declared.end.PartEnd.TheVariants as ends
 use Rattle.check_model.specs.Typing.{TypingState, cut_to}
-use Rattle.check_model.specs.Plans.{BodyPlan, on_stated, leaving}
+use Rattle.check_model.specs.Plans.{BodyPlan, on_stated}
 use Rattle.check_model.specs.Expressions.{statements}
 use Rattle.check_sound.specs.Sound.{foreseen, IsSound, AreStatements}
 use Rattle.check_sound.proofs.Grows.{Grows, AllBelow, all-below, block-same, grows-twice, grows-itself}
@@ -68,10 +68,6 @@ cut-step b s w v more i m =
       grows = m.grows;
       same = same;
     }
-
-pub holds-leaving : (q : PartEnd → TypingState → Type 0) (w : TypingState) (n : ℕ) (rest : BodyPlan) →
-    Holds q rest (cut_to w n) → Holds q (leaving n rest) w
-holds-leaving q w n rest h = h
 
 -- ---- statements in order
 

@@ -31,7 +31,7 @@ use Rattle.check_sound.specs.Sound.{foreseen, IsThere, IsSound, AnswerIsSound}
 use Rattle.check_sound.proofs.Shapes.{struct-stays}
 use Rattle.check_sound.proofs.Scalars.{flat-layout, sized-layout}
 use Rattle.check_sound.proofs.Grows.{Grows, grows-itself, grows-twice, tree-same, longer}
-use Rattle.check_sound.proofs.Worlds.{fair-of, there-grows, typed-grows, layout-grows, usable-grows}
+use Rattle.check_sound.proofs.Worlds.{fair-of, there-grows, typed-grows, usable-grows}
 use Rattle.check_sound.proofs.Running.{AllThere, scope_of, Known, Holds, SeesAll, LeavesMade}
 use Rattle.check_sound.proofs.Adding.{added, added-grows, added-sound, added-tree, added-below, pointer-points}
 
@@ -103,9 +103,6 @@ module _ (b : ℕ) (s : Scope) (w v : TypingState) (i : In b s w) (p : Step b s 
 
   pub usable-still : (t : TypeId) → is_usable (foreseen w.stage) t ≡ true → is_usable (foreseen v.stage) t ≡ true
   usable-still t h = usable-grows w.stage v.stage (fair-of w.stage i.sound) (fair-of v.stage p.inside.sound) p.grows t h
-
-  pub layout-still : (t : TypeId) → has_layout (foreseen w.stage) t ≡ true → has_layout (foreseen v.stage) t ≡ true
-  layout-still t h = layout-grows w.stage v.stage (fair-of w.stage i.sound) (fair-of v.stage p.inside.sound) p.grows t h
 
 -- a goal that each refusal meets
 abbrev pub Refuses : (PartEnd → TypingState → Type 0) → TypingState → Type 0

@@ -21,9 +21,6 @@ use Rattle.check_sound.proofs.Tests.{none-some, same-some, get-past, past-get}
 
 -- ---- what the functions become
 
-kept-twice : {A : Type 0} (xs ys zs : List A) → AreKept xs ys → AreKept ys zs → AreKept xs zs
-kept-twice xs ys zs f g i x h = g i x (f i x h)
-
 typed-step : (c : Contents) (g : Function) (o : Option typed.Item) → AreKept c.typed (with_foreseen c g o).typed
 typed-step c g None i x h = h
 typed-step c g (Some item) i x h = kept-front c.typed (item ∷ []) i x h

@@ -56,7 +56,7 @@ pub called-as : (c : Contents) (f : FnId) (g : Function) (made : TermId) (b : ty
     callable_of c f ≡ Some (record { at = g.place; body = b })
 called-as c f g made b h i j = rw (h, i, j) refl
 
-uncalled : (c : Contents) (f : FnId) (g : Function) → slice_get c.functions f.0 ≡ Some g → typed_in g.state ≡ None →
+pub uncalled : (c : Contents) (f : FnId) (g : Function) → slice_get c.functions f.0 ≡ Some g → typed_in g.state ≡ None →
     callable_of c f ≡ None
 uncalled c f g h i = rw (h, i) refl
 
@@ -95,6 +95,18 @@ unknown-callable : (w : StageState) (f : FnId) (g : Function) → function_at w 
 unknown-callable w f g at untyped none =
     uncalled (foreseen w) f g (subst (λ o. FoundAs o g (foreseen w).functions (foreseen w).typed f.0) none
     (found w f g at)) untyped
+
+-- what is known, and what isn't
+pub known-some : (o : Option TypeId) (x : KnownResult) (r : TypeId) → ((q : TypeId) → x ≡ Is q → ⊥) →
+    known_or o x ≡ Is r → o ≡ Some r
+known-some None x r apart h = absurd (apart r h)
+known-some (Some t) x r apart h = ap (λ z. Some z) (cc h)
+
+pub not-yet : (q : TypeId) → NotYet ≡ Is q → ⊥
+not-yet q e = cc e
+
+pub being : (q : TypeId) → BeingTyped ≡ Is q → ⊥
+being q e = cc e
 
 same-is : (r q : TypeId) → Is r ≡ Is q → r ≡ q
 same-is r q e = cc e

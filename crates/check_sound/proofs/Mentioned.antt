@@ -18,7 +18,7 @@ use Rattle.terra_term.specs.Events.{Event, Opens, Closes, Declares, Takes, Uses,
 use Rattle.terra_term.specs.TypedTerms.{Expression, typed, Constant', Variable, Global, Operate, Both, Either, Dereference, Select, Follow, Element, Index, Address, Decay, Let, Expressions, no_more, then_one, Statement, statement, Var, Assign, If, IfElse, While, Repeat, For, Do, Break, Finish, Return, Perform, Statements, done, and_then, Body}
 use Rattle.terra_term.specs.WellTyped.{Within, Scope, form_at, has_type, function_type_in, constant_typed, operation_typed, is_typed, are_typed, one_typed, all_typed, body_typed, types_in, after_all, after_one, in_a_let, in_a_loop}
 use Rattle.check_sound.proofs.Tests.{no}
-use Rattle.check_sound.proofs.Passing.{Names}
+use Rattle.check_sound.proofs.Naming.{Names}
 
 pub names-split : (f : FnId) (a b : List Event) → Names f (a ++ b) → Names f a ⊎ Names f b
 names-split f [] b h = inr h

@@ -33,13 +33,13 @@ use Rattle.check_sound.proofs.Mades.{AllKnown, ArePlaces, made_types, known-snoc
 module _ (q : PartEnd → TypingState → Type 0) (b : ℕ) (s : Scope) (site : Site) (base : site.base ≡ b) where
   -- ---- assignments
 
-  abbrev Makes_all : TypingState → ℕ → (List Made → BodyPlan) → Type 0
-  Makes_all w n go = (ms : List Made) (v : TypingState) → Step b s w v → AllKnown s v.stage ms → length ms ≡ n →
+  abbrev LeavesMades : TypingState → ℕ → (List Made → BodyPlan) → Type 0
+  LeavesMades w n go = (ms : List Made) (v : TypingState) → Step b s w v → AllKnown s v.stage ms → length ms ≡ n →
       Holds q (go ms) v
 
   holds-typing-all : (ts : List TermId) (ms : List Made) (go : List Made → BodyPlan) (w : TypingState) (i : In b s w) →
       Refuses q w → AllKnown s w.stage ms →
-      Makes_all w (length ms + length ts) go → Holds q (typing_all ts site ms go) w
+      LeavesMades w (length ms + length ts) go → Holds q (typing_all ts site ms go) w
   holds-typing-all [] ms go w i r known k = k ms w (step-itself b s w i) known (omega arith)
   holds-typing-all (t ∷ ts) ms go w i r known k =
       holds-typing q b s w i t site (λ m. typing_all ts site (ms ++ m ∷ []) go) base r
@@ -47,14 +47,14 @@ module _ (q : PartEnd → TypingState → Type 0) (b : ℕ) (s : Scope) (site : 
       (known-snoc s v.stage ms m (all-grow s w.stage v.stage i.sound p.inside.sound p.grows ms known) now)
       (λ ms2 x o all same. k ms2 x (step-twice b s w v x p o) all (omega (arith, same, length-append ms (m ∷ [])))))
 
-  abbrev Makes_places : TypingState → ℕ → (List Made → BodyPlan) → Type 0
-  Makes_places w n go =
+  abbrev LeavesPlaces : TypingState → ℕ → (List Made → BodyPlan) → Type 0
+  LeavesPlaces w n go =
       (ms : List Made) (v : TypingState) → Step b s w v → AllKnown s v.stage ms → ArePlaces ms → length ms ≡ n →
       Holds q (go ms) v
 
   holds-targets : (ts : List TermId) (ms : List Made) (go : List Made → BodyPlan) (w : TypingState) (i : In b s w) →
       Refuses q w → AllKnown s w.stage ms →
-      ArePlaces ms → Makes_places w (length ms + length ts) go → Holds q (targets ts site ms go) w
+      ArePlaces ms → LeavesPlaces w (length ms + length ts) go → Holds q (targets ts site ms go) w
   holds-targets [] ms go w i r known places k = k ms w (step-itself b s w i) known places (omega arith)
   holds-targets (t ∷ ts) ms go w i r known places k =
       holds-typing q b s w i t site (λ m. if m.is_place then targets ts site (ms ++ m ∷ []) go else refuse NotPlace

@@ -1,7 +1,7 @@
 -- Bodies leave typed terms: what a function has then is a body that passes the test.
 use Rattle.std.proofs.Common.{◌≡◌, ℕ, Bool, true, false, List, [], ◌∷◌, ◌++◌, length, drop, append_assoc, append-nil, Option, Some, None, refl, sym, ap, ◌∙◌, subst, arith, slice_get}
 use Rattle.std.specs.Prelude.{unwrap_or, if◌then◌else◌}
-use Rattle.std.proofs.lemmas.Bool.{and_from, and_parts}
+use Rattle.std.proofs.lemmas.Bool.{and_from}
 use Rattle.tl_base.specs.declared.place.Place.{Place}
 use Rattle.tl_base.specs.declared.ids.TermId.{TermId}
 use Rattle.tl_base.specs.declared.ids.TypeId.{TypeId}
@@ -16,7 +16,7 @@ use Rattle.terra_term.specs.declared.typed.Typed.TheVariants as typed_kinds
 use Rattle.terra_term.specs.Held.{next_typed}
 use Rattle.terra_term.specs.Planted.{typed_trees, typed_block_at}
 use Rattle.terra_term.specs.TypedTerms as typed
-use Rattle.terra_term.specs.WellTyped.{body_typed, names_laid_out, has_layout, types_of_names, with_names, all_typed}
+use Rattle.terra_term.specs.WellTyped.{body_typed, names_laid_out, types_of_names, with_names, all_typed}
 use Rattle.exotype.specs.World.{StageState}
 use Rattle.exotype.specs.Terms.{typed_size}
 use Rattle.check_model.specs.declared.site.Site.{Site}
@@ -38,7 +38,7 @@ use Rattle.check_sound.proofs.Combining.{In, Refuses, refuses-on, all-there}
 use Rattle.check_sound.proofs.Adding.{added, added-grows, added-sound, added-tree}
 use Rattle.check_sound.proofs.Blocks.{More, Block, more-to, holds-statements}
 use Rattle.check_sound.proofs.Scopes.{there-append}
-use Rattle.check_sound.proofs.OfVars.{laid-grows, holds-may-be}
+use Rattle.check_sound.proofs.OfVars.{laid-snoc, laid-grows, holds-may-be}
 use Rattle.check_sound.proofs.Arguments.{unit-there}
 use Rattle.check_sound.proofs.OfCalls.{holds-apply}
 use Rattle.check_sound.proofs.OfExpressions.{holds-expression-job}
@@ -127,12 +127,6 @@ Defines w t _ v = ⊥
 names-types : (ps : List Parameter) → types_of_names (names_of ps) ≡ types_of ps
 names-types [] = refl
 names-types (p ∷ ps) = ap (λ l. p.of ∷ l) (names-types ps)
-
-laid-snoc : (w : StageState) (xs : List TypedName) (x : TypedName) → names_laid_out (foreseen w) xs ≡ true →
-    has_layout (foreseen w) x.of ≡ true →
-    names_laid_out (foreseen w) (xs ++ x ∷ []) ≡ true
-laid-snoc w [] x h k = and_from _ _ k refl
-laid-snoc w (y ∷ xs) x h k = let p = and_parts _ _ h in and_from _ _ p.0 (laid-snoc w xs x p.1 k)
 
 parameters-grow : (w v : StageState) → IsSound w → IsSound v → Grows w v →
     (ps : List Parameter) → ParametersAreThere w ps → ParametersAreThere v ps

@@ -31,10 +31,6 @@ use Rattle.check_sound.proofs.OfAssigns.{there-on}
 module _ (q : PartEnd → TypingState → Type 0) (b : ℕ) (s : Scope) (site : Site) (base : site.base ≡ b) where
   -- ---- `if`, `while`, `do` and `repeat`
 
-  result-kept : (o : Option TypeId) (result : Option TypeId) → ((r : TypeId) → o ≡ Some r → result ≡ Some r) →
-      (r : TypeId) → o ≡ Some r → result ≡ Some r
-  result-kept o result h r e = h r e
-
   holds-else : (w0 w : TypingState) (i0 : In b s w0) (i : In b s w) (p0 : Step b s w0 w) (r : Refuses q w)
       (o : Option (List TermId)) (m : Made) (stats : List TermId)
       (more : List TypedName) (result : Option TypeId) (at : Place) → States q b s site base w0 → is_placed at ≡ true →

@@ -33,7 +33,8 @@ use Rattle.check_model.specs.Plans.{BodyPlan, reading, refuse, make, as_value, i
 use Rattle.check_model.specs.Converting.{conv_of, by_conv, is_same, takes_type, converted, convert, fit}
 use Rattle.check_sound.specs.Sound.{foreseen, IsThere, IsSound}
 use Rattle.check_sound.proofs.Tests.{no, same-id}
-use Rattle.check_sound.proofs.Scalars.{is_scalar, Fact, conversion-fact, scalar-usable, flat-usable, narrow-usable}
+use Rattle.check_sound.proofs.Scalars.{is_scalar, scalar-usable, flat-usable, narrow-usable}
+use Rattle.check_sound.proofs.Conversions.{Fact, conversion-fact}
 use Rattle.check_sound.proofs.Running.{Known, Holds}
 use Rattle.check_sound.proofs.Combining.{In, Step, Refuses, Makes, step-twice, refuses-on, still, usable-still, holds-make, holds-refuse, holds-if, holds-laid}
 use Rattle.check_sound.proofs.Parts.{part-of, operates}

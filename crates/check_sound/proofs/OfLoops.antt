@@ -40,8 +40,8 @@ use Rattle.check_sound.proofs.OfAssigns.{there-on}
 module _ (q : PartEnd → TypingState → Type 0) (b : ℕ) (s : Scope) (site : Site) (base : site.base ≡ b) where
   -- ---- `for`
 
-  abbrev Makes_integers : TypingState → ℕ → (List Made → BodyPlan) → Type 0
-  Makes_integers w n go =
+  abbrev LeavesIntegers : TypingState → ℕ → (List Made → BodyPlan) → Type 0
+  LeavesIntegers w n go =
       (ms : List Made) (v : TypingState) → Step b s w v → AllKnown s v.stage ms → AreIntegers v.stage ms →
       length ms ≡ n → Holds q (go ms) v
 
@@ -52,7 +52,7 @@ module _ (q : PartEnd → TypingState → Type 0) (b : ℕ) (s : Scope) (site : 
 
   holds-integers : (ts : List TermId) (ms : List Made) (go : List Made → BodyPlan) (w : TypingState) (i : In b s w) →
       Refuses q w → AllKnown s w.stage ms →
-      AreIntegers w.stage ms → Makes_integers w (length ms + length ts) go → Holds q (integers ts site ms go) w
+      AreIntegers w.stage ms → LeavesIntegers w (length ms + length ts) go → Holds q (integers ts site ms go) w
   holds-integers [] ms go w i r known each k = k ms w (step-itself b s w i) known each (omega arith)
   holds-integers (t ∷ ts) ms go w i r known each k =
       holds-typing q b s w i t site
@@ -67,12 +67,13 @@ module _ (q : PartEnd → TypingState → Type 0) (b : ℕ) (s : Scope) (site : 
       (omega (arith, same, length-append ms (m ∷ [])))))
       (λ c. holds-refuse q b s v p.inside (refuses-on q w v r p.grows) BadOperand m.at site))
 
-  abbrev To : TypingState → List TypeId → (List TermId → BodyPlan) → Type 0
-  To w us go = (ids : List TermId) (v : TypingState) → Step b s w v → Listed s v.stage ids us → Holds q (go ids) v
+  abbrev LeavesCopies : TypingState → List TypeId → (List TermId → BodyPlan) → Type 0
+  LeavesCopies w us go = (ids : List TermId) (v : TypingState) → Step b s w v → Listed s v.stage ids us →
+      Holds q (go ids) v
 
   holds-all-to : (ms : List Made) (t : TypeId) (ids : List TermId) (us : List TypeId) (go : List TermId → BodyPlan)
       (w : TypingState) (i : In b s w) → Refuses q w →
-      AllKnown s w.stage ms → IsThere w.stage t → Listed s w.stage ids us → To w (us ++ copies ms t) go →
+      AllKnown s w.stage ms → IsThere w.stage t → Listed s w.stage ids us → LeavesCopies w (us ++ copies ms t) go →
       Holds q (all_to t ms site ids go) w
   holds-all-to [] t ids us go w i r known there l k = k ids w (step-itself b s w i)
       (subst (Listed s w.stage ids) (sym (append-nil us)) l)

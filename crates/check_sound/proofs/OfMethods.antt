@@ -25,7 +25,8 @@ use Rattle.check_sound.proofs.Running.{Known, Holds}
 use Rattle.check_sound.proofs.Combining.{In, Step, Refuses, step-to, refuses-on, still, holds-refuse, holds-if}
 use Rattle.check_sound.proofs.Arguments.{are-untyped, Gives, gives-on}
 use Rattle.check_sound.proofs.OfCalls.{holds-term}
-use Rattle.check_sound.proofs.Becoming.{becomes, method-sound}
+use Rattle.check_sound.proofs.Becoming.{becomes}
+use Rattle.check_sound.proofs.Tabled.{method-sound}
 
 module _ (q : PartEnd → TypingState → Type 0) (b : ℕ) (s : Scope) (site : Site) (base : site.base ≡ b) where
   -- ---- methods

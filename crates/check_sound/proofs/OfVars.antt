@@ -61,7 +61,7 @@ types-snoc : (xs : List TypedName) (x : TypedName) → types_of_names (xs ++ x �
 types-snoc [] x = refl
 types-snoc (y ∷ xs) x = ap (λ l. y.of ∷ l) (types-snoc xs x)
 
-laid-snoc : (w : StageState) (xs : List TypedName) (x : TypedName) → names_laid_out (foreseen w) xs ≡ true →
+pub laid-snoc : (w : StageState) (xs : List TypedName) (x : TypedName) → names_laid_out (foreseen w) xs ≡ true →
     has_layout (foreseen w) x.of ≡ true →
     names_laid_out (foreseen w) (xs ++ x ∷ []) ≡ true
 laid-snoc w [] x h k = and_from _ _ k refl

@@ -1,5 +1,5 @@
 -- The tests of operations stay passed where types are kept and what is called keeps its type.
-use Rattle.std.proofs.Common.{◌≡◌, ℕ, zero, suc, ◌+◌, ◌≤◌, Bool, true, false, List, [], ◌∷◌, ◌++◌, Option, Some, None, refl, sym, ap, ◌∙◌, arith, slice_get}
+use Rattle.std.proofs.Common.{◌≡◌, ℕ, zero, suc, ◌+◌, ◌≤◌, Bool, true, false, List, [], ◌∷◌, Option, Some, None, refl, sym, ap, ◌∙◌, arith, slice_get}
 use Rattle.std.specs.Prelude.{◌&&◌, ◌⊎◌, nat_eq, nat_le, nat_lt, unwrap_or, is_some, if◌then◌else◌}
 use mathlib.Core.Logic.{inl, inr}
 use Rattle.std.proofs.lemmas.Bool.{and_parts, and_from, eqb-true, le-leb, or_cases}
@@ -23,37 +23,12 @@ use Rattle.terra_term.specs.declared.operators.Constant.TheVariants as constants
 use Rattle.terra_term.specs.declared.operators.Operation.{Operation}
 use Rattle.terra_term.specs.declared.operators.Operation.TheVariants as operations
 use Rattle.terra_term.specs.Stores.{Contents, callable_of}
-use Rattle.terra_term.specs.Events.{Event, Opens, Closes, Declares, Takes, Uses, Mentions, events_of, operation_events}
+use Rattle.terra_term.specs.Events.{events_of, operation_events}
 use Rattle.terra_term.specs.TypedTerms.{typed, Constant'}
 use Rattle.terra_term.specs.WellTyped.{same, form_at, integer_form, pointer_form, function_form, struct_form, is_struct, is_integer, is_pointer, is_function, points_in, points_to, array_in, is_array_of, has_layout, small, is_usable, has_entry, bytes_at, entry_of, follows_in, all_usable, has_type, function_type_in, calls_in, is_word_of, constant_typed, compares, comparable, shifts, binary_typed, converts, primitive_typed, target_in, is_sized, step_typed, entries_typed, first_type, second_type, has_operands, others, operation_typed, names_laid_out, are_bounds}
 use Rattle.check_sound.proofs.Tests.{no, keep, keep_or, stay, three, same-id}
 use Rattle.check_sound.proofs.Shapes.{form-stays, stays-is, struct-stays, measure-kept, size-kept}
-
--- ---- which functions are mentioned
-
-abbrev pub Names : FnId → List Event → Type 0
-Names f [] = ⊥
-Names f (Mentions at g ∷ es) = (f ≡ g) ⊎ Names f es
-Names f (_ ∷ es) = Names f es
-
-pub names-left : (f : FnId) (a b : List Event) → Names f a → Names f (a ++ b)
-names-left f [] b h = absurd h
-names-left f (Opens ∷ a) b h = names-left f a b h
-names-left f (Closes ∷ a) b h = names-left f a b h
-names-left f (Declares x t ∷ a) b h = names-left f a b h
-names-left f (Takes x ∷ a) b h = names-left f a b h
-names-left f (Uses at x t ∷ a) b h = names-left f a b h
-names-left f (Mentions at g ∷ a) b (inl e) = inl e
-names-left f (Mentions at g ∷ a) b (inr h) = inr (names-left f a b h)
-
-pub names-right : (f : FnId) (a b : List Event) → Names f b → Names f (a ++ b)
-names-right f [] b h = h
-names-right f (Opens ∷ a) b h = names-right f a b h
-names-right f (Closes ∷ a) b h = names-right f a b h
-names-right f (Declares x t ∷ a) b h = names-right f a b h
-names-right f (Takes x ∷ a) b h = names-right f a b h
-names-right f (Uses at x t ∷ a) b h = names-right f a b h
-names-right f (Mentions at g ∷ a) b h = inr (names-right f a b h)
+use Rattle.check_sound.proofs.Naming.{Names}
 
 -- ---- the tests
 

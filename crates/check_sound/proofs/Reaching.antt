@@ -26,7 +26,7 @@ use Rattle.check_sound.specs.Sound.{foreseen, IsSound, IsReady, HasBodyOf}
 use Rattle.check_sound.proofs.Tests.{none-some, same-some, no}
 use Rattle.check_sound.proofs.Knowing.{typed-callable, knows-from, called-as}
 use Rattle.check_sound.proofs.Foreseen.{body-item, count-trees}
-use Rattle.check_sound.proofs.Passing.{Names}
+use Rattle.check_sound.proofs.Naming.{Names}
 use Rattle.check_sound.proofs.Growing.{body-stays}
 use Rattle.check_sound.proofs.Grows.{Grows, keeps-types-of, item-same}
 use Rattle.check_sound.proofs.Worlds.{fair-of}
@@ -191,7 +191,7 @@ names-at (Uses at x t ∷ es) i m h = names-at es i m h
 names-at (Mentions at f ∷ es) zero m h = inl (ap (λ (z : Place × FnId). z.1) (sym (same-some (at, f) m h)))
 names-at (Mentions at f ∷ es) (suc i) m h = inr (names-at es i m h)
 
-mention-of : (f : FnId) (events : List Event) → Names f events →
+pub mention-of : (f : FnId) (events : List Event) → Names f events →
     (i : ℕ) × ((m : Place × FnId) × ((slice_get (mentions_in events) i ≡ Some m) × (m.1 ≡ f)))
 mention-of f [] h = absurd h
 mention-of f (Opens ∷ es) h = mention-of f es h

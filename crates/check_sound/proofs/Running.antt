@@ -128,7 +128,7 @@ abbrev Good : TypingState → Type 0
 Good w = IsSound w.stage
 
 -- what follows from an answer that fits
-record Fits_answer (q : BodyQuestion) (w : TypingState) (a : CheckAnswer) (v : TypingState) : Type 0 where
+record AnswerFits (q : BodyQuestion) (w : TypingState) (a : CheckAnswer) (v : TypingState) : Type 0 where
   sound : IsSound v.stage
   answer : AnswerIsSound v.stage a
   grows : Grows w.stage v.stage
@@ -140,7 +140,7 @@ record Fine (a : BodyGiven) : Type 0 where
   answer : AnswerIsSound a.state.world.stage a.answer
 
 fits : (q : BodyQuestion) (s : State TypingState) (a : BodyGiven) → keeping.Follows q s a → Fine a →
-    Fits_answer q s.world a.answer a.state.world
+    AnswerFits q s.world a.answer a.state.world
 fits q s a h fine = record {
   sound = fine.sound;
   answer = fine.answer;
@@ -151,7 +151,7 @@ fits q s a h fine = record {
 
 -- what holds of a plan is met by its ends
 holds-meets : (Q : PartEnd → TypingState → Type 0) (p : BodyPlan) (w : TypingState) → Holds Q p w →
-    Meets body_job Good Ready Outcome Fits_answer keeping.Follows Fine fits Q p w
+    Meets body_job Good Ready Outcome AnswerFits keeping.Follows Fine fits Q p w
 holds-meets Q (Give r) w h = h
 holds-meets Q (Do job go) w h = (h.0, (h.1.0, λ r v out. holds-meets Q (go r) v (h.1.1 r v out.0 out.1.0 out.1.1)))
 holds-meets Q (AskFor q go) w h = λ a v f. holds-meets Q (go a) v (h a v f.sound f.answer f.grows f.variables f.answers)
@@ -161,12 +161,12 @@ holds-meets Q (Pay n p) w h = holds-meets Q p w h
 
 follows-shown : (o : Run TypingState BodyQuestion CheckAnswer PartEnd) (next : BodyGiven) →
     keeping.FollowsSeen (shown close_body o) next →
-    FollowsRun body_job Good Ready Outcome Fits_answer keeping.Follows Fine fits o next
+    FollowsRun body_job Good Ready Outcome AnswerFits keeping.Follows Fine fits o next
 follows-shown (Gives r s over) next h = tt
 follows-shown (Stops (Lacks s)) next h = tt
 follows-shown (Stops (Waits q s)) next h = h
 
-all-fine : (l : List BodyGiven) → AreSound l → AllFine body_job Good Ready Outcome Fits_answer keeping.Follows Fine
+all-fine : (l : List BodyGiven) → AreSound l → AllFine body_job Good Ready Outcome AnswerFits keeping.Follows Fine
     fits l
 all-fine [] h = tt
 all-fine (a ∷ l) h = (record { sound = h.0; answer = h.1 }, all-fine l h.2)
@@ -187,7 +187,7 @@ pub ends-so : EachHolds → (Q : PartEnd → TypingState → Type 0) (f : FnId) 
 ends-so each Q f first later end after h all sound e =
     let o = shown-ended (run (run_job body_job) (body_first f) first.state later) end after e in (
       o.0,
-      meets body_job Good Ready Outcome Fits_answer keeping.Follows Fine fits
+      meets body_job Good Ready Outcome AnswerFits keeping.Follows Fine fits
           (λ job w good ready. holds-meets (Outcome job w) (body_job job) w (each job w good ready)) Q
           (body_first f) first.state later
           (holds-meets Q (body_first f) first.state.world h)

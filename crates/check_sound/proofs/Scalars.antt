@@ -1,26 +1,21 @@
--- What the forms of types say: which are there, which have a layout, which values may be used, and what converts.
+-- What the forms of types say: which are there, which have a layout, and which values may be used.
 use Rattle.std.proofs.Common.{◌≡◌, ℕ, ◌*◌, ◌<◌, ◌≤◌, Bool, true, false, List, [], length, Option, Some, None, refl, sym, ap, ◌∙◌, subst, arith, slice_get, lit≤}
-use Rattle.std.specs.Prelude.{◌&&◌, ◌||◌, not, is_some, unwrap_or, nat_le, nat_lt, if◌then◌else◌}
-use Rattle.std.proofs.lemmas.Bool.{and_from, leb-true, le-leb, ltb-false, or_right, or_left}
+use Rattle.std.specs.Prelude.{is_some, unwrap_or, nat_le, nat_lt, if◌then◌else◌}
+use Rattle.std.proofs.lemmas.Bool.{leb-true, le-leb, ltb-false}
 use Rattle.std.proofs.lemmas.Option.{slice_get_within}
 use Rattle.tl_base.specs.declared.ids.TypeId.{TypeId}
 use Rattle.terra_types.specs.declared.measure.Measure.{Measure}
 use Rattle.terra_types.specs.declared.types.Integer.TheVariants.{Int8, Int16, Int32, Int64, Uint8, Uint16, Uint32, Uint64}
 use Rattle.terra_types.specs.declared.types.TypeForm.{TypeForm}
 use Rattle.terra_types.specs.declared.types.TypeForm.TheVariants as forms
-use Rattle.terra_types.specs.Making.{same_type}
 use Rattle.terra_types.specs.Opening.{AreTypes, NamesBelow, boolean}
 use Rattle.terra_types.specs.Sizes.{measured, measure_of, size_of, for_some, repeated, limited, settled}
 use Rattle.terra_types.proofs.Growing.{array-measure, plain-measure, past-measure, is_array}
-use Rattle.check_cast.specs.declared.conversion.Conv.{Conv}
-use Rattle.check_cast.specs.declared.conversion.Conv.TheVariants as conv
-use Rattle.check_cast.specs.Conversions.{form_of, implicit, explicit, implicit_forms, explicit_forms, array_conversion}
+use Rattle.check_cast.specs.Conversions.{form_of}
 use Rattle.terra_term.specs.Stores.{Contents}
-use Rattle.terra_term.specs.WellTyped.{same, small, form_at, integer_form, pointer_form, is_integer, is_pointer, is_function, is_array_of, array_in, target_in, has_layout, is_usable, converts}
-use Rattle.check_model.specs.declared.rule.Mode.{Mode}
-use Rattle.check_model.specs.declared.rule.Mode.TheVariants.{Implicit, Explicit}
+use Rattle.terra_term.specs.WellTyped.{same, small, pointer_form, has_layout, is_usable}
 use Rattle.check_model.specs.Typing.{is_aggregate_form}
-use Rattle.check_sound.proofs.Tests.{no, none-some, same-some, same-id, same-refl, get-past}
+use Rattle.check_sound.proofs.Tests.{no, none-some, same-some, same-refl, get-past}
 
 -- ---- which types are there
 
@@ -234,89 +229,3 @@ size-limited ts a t = by (measure_of ts t) refl
     by : (o : Option Measure) → measure_of ts t ≡ o → unwrap_or (for_some o (λ m. Some m.size)) 0 ≤ 67108864
     by None h = omega arith
     by (Some m) h = there m h (slice_get ts t.0) refl
-
--- ---- conversions
-
--- what a conversion says of its types
-abbrev pub Fact : Contents → Conv → TypeId → TypeId → Type 0
-Fact c conv.Same from to = from ≡ to
-Fact c conv.Array from to = (is_pointer c to ≡ true) × (is_array_of c from (target_in (form_at c to)) ≡ true)
-Fact c conv.No from to = Unit {0}
-Fact c _ from to = (converts c from to ≡ true) × ((is_scalar (form_of c.types from) ≡ true) ×
-    (is_scalar (form_of c.types to) ≡ true))
-
-module _ (c : Contents) (a : AreTypes c.types) (from to : TypeId) (apart : same from to ≡ false) where
-  by-forms : (f g : TypeForm) → form_of c.types from ≡ f → form_of c.types to ≡ g → is_scalar f ≡ true →
-      is_scalar g ≡ true →
-      ((integer_form f && (integer_form g || (same to boolean || pointer_form g))) ||
-      ((same from boolean && integer_form g) || ((pointer_form f && (pointer_form g || integer_form g)) ||
-      (is_function c from && integer_form g)))) ≡ true →
-      (converts c from to ≡ true) × ((is_scalar (form_of c.types from) ≡ true) ×
-      (is_scalar (form_of c.types to) ≡ true))
-  by-forms f g p q x y h = (
-    and_from (not (same from to)) _ (ap not apart)
-        (subst (λ (z : TypeForm). ((integer_form z && (is_integer c to || (same to boolean || is_pointer c to))) ||
-        ((same from boolean && is_integer c to) || ((pointer_form z && (is_pointer c to || is_integer c to)) ||
-        (is_function c from && is_integer c to)))) ≡ true) (sym p)
-        (subst (λ (z : TypeForm). ((integer_form f && (integer_form z || (same to boolean || pointer_form z))) ||
-        ((same from boolean && integer_form z) || ((pointer_form f && (pointer_form z || integer_form z)) ||
-        (is_function c from && integer_form z)))) ≡ true) (sym q) h)),
-    (ap is_scalar p ∙ x, ap is_scalar q ∙ y),
-  )
-
-  of-array : (t : TypeId) (n : ℕ) (g : TypeForm) → form_of c.types from ≡ forms.Array t n → form_of c.types to ≡ g →
-      Fact c (array_conversion t g) from to
-  of-array t n (forms.Pointer u) p q = by (same_type t u) refl
-    where
-      by : (b : Bool) → same_type t u ≡ b → Fact c (if b then conv.Array else conv.No) from to
-      by true e = (ap pointer_form q, ap (λ f. is_array_of c from (target_in f)) q ∙ (ap (λ f. array_in f u) p ∙ e))
-      by false e = tt
-  of-array t n _ p q = tt
-
-  pub implicit-fact : (f g : TypeForm) → form_of c.types from ≡ f → form_of c.types to ≡ g →
-      Fact c (implicit_forms f g) from to
-  implicit-fact (forms.Integer i) (forms.Integer j) p q = by-forms (forms.Integer i) (forms.Integer j) p q refl refl
-      refl
-  implicit-fact (forms.Array t n) g p q = of-array t n g p q
-  implicit-fact _ _ p q = tt
-
-  pub explicit-fact : (f g : TypeForm) → form_of c.types from ≡ f → form_of c.types to ≡ g →
-      Fact c (explicit_forms f g) from to
-  explicit-fact (forms.Integer i) (forms.Integer j) p q = by-forms (forms.Integer i) (forms.Integer j) p q refl refl
-      refl
-  explicit-fact (forms.Array t n) g p q = of-array t n g p q
-  explicit-fact (forms.Integer i) forms.Bool p q =
-      by-forms (forms.Integer i) forms.Bool p q refl refl
-      (or_left _ _ (or_left (same to boolean) (pointer_form forms.Bool) (truth-is c.types a to q)))
-  explicit-fact forms.Bool (forms.Integer i) p q =
-      by-forms forms.Bool (forms.Integer i) p q refl refl
-      (or_left (same from boolean && true) _ (and_from (same from boolean) true (truth-is c.types a from p) refl))
-  explicit-fact (forms.Pointer t) (forms.Pointer u) p q =
-      by-forms (forms.Pointer t) (forms.Pointer u) p q refl refl
-      (or_right (same from boolean && false) (true || (is_function c from && false)) refl)
-  explicit-fact (forms.Pointer t) (forms.Integer i) p q =
-      by-forms (forms.Pointer t) (forms.Integer i) p q refl refl
-      (or_right (same from boolean && true) (true || (is_function c from && true)) refl)
-  explicit-fact (forms.Integer i) (forms.Pointer t) p q =
-      by-forms (forms.Integer i) (forms.Pointer t) p q refl refl
-      (or_left (same to boolean || true) _ (or_right (same to boolean) true refl))
-  explicit-fact _ _ p q = tt
-
-abbrev pub conv_in : Mode → List TypeForm → TypeId → TypeId → Conv
-conv_in Implicit ts from to = implicit ts from to
-conv_in Explicit ts from to = explicit ts from to
-
-pub conversion-fact : (c : Contents) → AreTypes c.types → (mode : Mode) (from to : TypeId) →
-    Fact c (conv_in mode c.types from to) from to
-conversion-fact c a Implicit from to = by (same_type from to) refl
-  where
-    by : (b : Bool) → same_type from to ≡ b → Fact c (if b then conv.Same else implicit_forms (form_of c.types from)
-        (form_of c.types to)) from to
-    by true e = same-id from to e
-    by false e = implicit-fact c a from to e (form_of c.types from) (form_of c.types to) refl refl
-conversion-fact c a Explicit from to = by (same_type from to) refl
-  where
-    by : (b : Bool) → same_type from to ≡ b → Fact c (if b then conv.Same else explicit_forms (form_of c.types from)
-        (form_of c.types to)) from to
-    by true e = same-id from to e
-    by false e = explicit-fact c a from to e (form_of c.types from) (form_of c.types to) refl refl

@@ -22,6 +22,7 @@ use Rattle.check_model.specs.Typing.{function_at, expression_at, expression_in}
 use Rattle.check_model.specs.Calls.{known_result, parameter_types, params_of, params_in, result_in, declared_params, declared_result, written_in, found_in, types_of, result_of, result_in_state, known_or}
 use Rattle.check_sound.specs.Sound.{IsThere, IsThereIfAny, ParametersAreThere, ExpressionIsSound, IsSound}
 use Rattle.check_sound.proofs.Tests.{none-some, same-some}
+use Rattle.check_sound.proofs.Knowing.{known-some, not-yet, being}
 use Rattle.check_sound.proofs.Foreseen.{body-result}
 use Rattle.check_sound.proofs.Scalars.{in-range, at-form}
 use Rattle.check_sound.proofs.Parts.{TypesThere}
@@ -96,17 +97,6 @@ module _ (w : StageState) (sound : IsSound w) where
   term-result i (Some (kinds.Statement place x)) r at h = absurd (none-some r h)
   term-result i (Some (kinds.Function ps z body)) r at h =
       subst (λ o. IsThereIfAny w o) h (sound.terms i (kinds.Function ps z body) at).1.0
-
-  known-some : (o : Option TypeId) (otherwise : KnownResult) (r : TypeId) → ((z : TypeId) → otherwise ≡ Is z → ⊥) →
-      known_or o otherwise ≡ Is r → o ≡ Some r
-  known-some None otherwise r apart h = absurd (apart r h)
-  known-some (Some t) otherwise r apart h = ap (λ z. Some z) (cc h)
-
-  not-yet : (z : TypeId) → NotYet ≡ Is z → ⊥
-  not-yet z e = cc e
-
-  being : (z : TypeId) → BeingTyped ≡ Is z → ⊥
-  being z e = cc e
 
   params-by : (g : Function) (z : FunctionState) (ps : List TypeId) → parameter_types w g z ≡ Some ps → TypesThere w ps
   params-by g standing.Undefined ps h = declared-there g.declared ps h

@@ -27,6 +27,7 @@ use Rattle.check_model.specs.Bodies.{definition_plan, stage_after, close_functio
 use Rattle.check_sound.specs.Sound.{foreseen, TermIsThere, IsSound, HasBodyOf, typed_body, KeepsSound}
 use Rattle.check_sound.proofs.Tests.{same-some}
 use Rattle.check_sound.proofs.Foreseen.{body-result}
+use Rattle.check_sound.proofs.Knowing.{known-some, not-yet, being}
 use Rattle.check_sound.proofs.Running.{Holds, ends-so}
 use Rattle.check_sound.proofs.Becoming.{Next}
 use Rattle.check_sound.proofs.Changing.{changed, Changes, changed-next}
@@ -41,17 +42,6 @@ known-on : (o : Option TypeId) (x y : KnownResult) (r : TypeId) → ((q : TypeId
     known_or o y ≡ Is r
 known-on None x y r apart h = absurd (apart r h)
 known-on (Some t) x y r apart h = h
-
-known-some : (o : Option TypeId) (x : KnownResult) (r : TypeId) → ((q : TypeId) → x ≡ Is q → ⊥) → known_or o x ≡ Is r →
-    o ≡ Some r
-known-some None x r apart h = absurd (apart r h)
-known-some (Some t) x r apart h = ap (λ z. Some z) (cc h)
-
-not-yet : (q : TypeId) → NotYet ≡ Is q → ⊥
-not-yet q e = cc e
-
-being : (q : TypeId) → BeingTyped ≡ Is q → ⊥
-being q e = cc e
 
 module _ (w : StageState) (old : IsSound w) (f : FnId) (g : Function) (at : function_at w f ≡ Some g) where
   same-changes : Changes w f g g.state

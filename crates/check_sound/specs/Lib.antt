@@ -1,2 +1,4 @@
--- The promise: that typing leaves typed terms, and that what a check went through is ready to be called.
+-- The promise: which worlds are sound, that typing keeps them so, and what is ready behind a check. A reader can stop here.
 pub mod Sound
+-- What a check reached, as a store of its own.
+pub mod Reached

@@ -11,7 +11,7 @@ use Rattle.tl_base.specs.Layer.{State, Ended}
 use Rattle.terra_types.specs.declared.layout.Laid.{Laid}
 use Rattle.terra_types.specs.Sizes.{size_of}
 use Rattle.terra_types.specs.Layouts.{entries_of}
-use Rattle.terra_types.specs.Opening.{AreTypes, boolean, unit, rawstring}
+use Rattle.terra_types.specs.Opening.{AreTypes, opening_types, boolean, unit, rawstring}
 use Rattle.terra_types.specs.Making.{same_type}
 use Rattle.terra_term.specs.declared.lists.TypedName.{TypedName}
 use Rattle.terra_term.specs.declared.store.Function.{Function}
@@ -39,7 +39,7 @@ use Rattle.terra_term.specs.WellTyped.{Within, Scope, is_typed, body_typed, is_p
 use Rattle.lua_value.specs.declared.value.Value.{Value}
 use Rattle.lua_value.specs.declared.value.Value.TheVariants as values
 use Rattle.lua_table.specs.declared.table.HeldTable.{HeldTable}
-use Rattle.exotype.specs.World.{StageState}
+use Rattle.exotype.specs.World.{StageState, opening}
 use Rattle.exotype.specs.Types.{is_type}
 use Rattle.check_model.specs.declared.question.CheckAnswer.{CheckAnswer}
 use Rattle.check_model.specs.declared.question.CheckAnswer.TheVariants as answers
@@ -216,6 +216,10 @@ pub record IsSound (w : StageState) : Type 0 where
   pub statics : (i : ℕ) (x : Static) → slice_get w.store.statics i ≡ Some x → x.address < 2 ^ 64
   pub tables : (i j : ℕ) (table : HeldTable) (pair : Value × Value) → slice_get w.heap.tables i ≡ Some table →
       slice_get table.table j ≡ Some pair → ValueIsSound w pair.1
+
+-- A staging begins in such a world.
+abbrev pub BeginsSound : Type 0
+BeginsSound = (memory : ℕ) → memory ≤ 67108864 → IsSound (opening opening_types memory)
 
 abbrev pub AnswerIsSound : StageState → CheckAnswer → Type 0
 AnswerIsSound w (answers.Values vs) = (i : ℕ) (v : Value) → slice_get vs i ≡ Some v → ValueIsSound w v

@@ -1,6 +1,12 @@
 // What typing promises of typed terms. Each function does nothing, and its clause is a law.
 
-ghost use Rattle.check_sound.specs.Sound.{KeepsSound, LeavesReady};
+ghost use Rattle.check_sound.specs.Sound.{BeginsSound, KeepsSound, LeavesReady};
+ghost use Rattle.check_sound.specs.Reached.{ReachedStoresAreTyped};
+
+/// A staging begins in a sound world, whatever memory within the limit its runs have.
+pub fn stagings_begin_sound()
+    ensures { BeginsSound }
+{}
 
 /// Where a body is typed in a sound world, and each answer fits and is given in a sound world, it leaves a sound world.
 pub fn typing_keeps_sound()
@@ -10,4 +16,10 @@ pub fn typing_keeps_sound()
 /// Behind a check, the function and all that it reaches can be called, and their bodies pass the test of typed terms.
 pub fn checks_leave_ready()
     ensures { LeavesReady }
+{}
+
+/// A store with what a check reached alone is typed: each function that can be called in it passes the test of typed terms there, and
+/// what was reached is called as in the whole store.
+pub fn reached_stores_are_typed()
+    ensures { ReachedStoresAreTyped }
 {}

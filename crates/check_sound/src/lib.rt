@@ -1,9 +1,12 @@
 //! What typing promises of typed terms.
 //!
-//! A body that is typed in a sound world leaves a sound world ([`typing_keeps_sound`]): what it typed passes the test of typed terms.
-//! Behind a check, the function and all that it reaches can be called and pass that test ([`checks_leave_ready`]).
+//! A staging begins in a sound world ([`stagings_begin_sound`]), and a body that is typed in a sound world leaves a sound world
+//! ([`typing_keeps_sound`]): what it typed passes the test of typed terms. Behind a check, the function and all that it reaches can be
+//! called and pass that test ([`checks_leave_ready`]), and a store with these functions alone is typed ([`reached_stores_are_typed`]).
 #![tactic(auto)]
 
 pub mod law;
 
-pub use law::{checks_leave_ready, typing_keeps_sound};
+pub use law::{
+    checks_leave_ready, reached_stores_are_typed, stagings_begin_sound, typing_keeps_sound,
+};
