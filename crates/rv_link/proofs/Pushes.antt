@@ -1,9 +1,10 @@
 -- What linking puts into a text, part by part.
-use Rattle.std.proofs.Common.{◌≡◌, ℕ, ◌+◌, ◌-◌, ◌*◌, ◌^◌, ◌<◌, ◌≤◌, true, ◌&&◌, List, [], ◌∷◌, ◌++◌, length, take, drop, append_assoc, refl, sym, ap, ◌∙◌, subst, arith}
+use Rattle.std.proofs.Common.{◌≡◌, ℕ, zero, suc, ◌+◌, ◌-◌, ◌*◌, ◌^◌, ◌<◌, ◌≤◌, true, ◌&&◌, List, [], ◌∷◌, ◌++◌, length, take, drop, append_assoc, refl, sym, ap, ◌∙◌, subst, arith}
 use Rattle.std.specs.Prelude.{get_or, map, nat_lt}
 use Rattle.std.specs.List.{list_all}
 use Rattle.std.proofs.lemmas.List.{drop-drop, drop_more, length-append, length-map}
 use Rattle.tl_base.specs.declared.ids.FnId.{FnId}
+use Rattle.rv_isa.specs.declared.instr.Instr.{Instr}
 use Rattle.rv_isa.specs.Table.{word_of}
 use Rattle.elf_image.specs.Layout.{text_address}
 use Rattle.tac_form.specs.declared.tac.Exit.{Exit}
@@ -12,8 +13,9 @@ use Rattle.tac_form.specs.declared.tac.Block.{Block}
 use Rattle.tac_form.specs.declared.tac.Tac.{Tac}
 use Rattle.tac_form.specs.Fits.{area_fits, block_fits, destination_fits, edge_fits, exit_fits, instruction_fits, is_within, operand_fits, place_fits}
 use Rattle.rv_select.specs.declared.selected.Call.{Call as Site}
-use Rattle.rv_select.specs.Places.{Layout, layout_of}
-use Rattle.rv_select.specs.Calls.{IsSelected, call_jump, function_calls, function_code}
+use Rattle.rv_select.specs.Places.{Layout, frame_bytes, layout_of}
+use Rattle.rv_select.specs.Entering.{begun, entered, left, received, words_offset}
+use Rattle.rv_select.specs.Calls.{IsSelected, body_code, call_jump, function_calls, function_code, head_code}
 use Rattle.rv_select.proofs.Stands.{both-true}
 use Rattle.rv_link.specs.declared.function.Function.{Function}
 use Rattle.rv_link.specs.Filling.{AreIn, entry_in, filled, words_in}
@@ -24,6 +26,27 @@ use Rattle.rv_link.proofs.Links.{entries-are, selected-length}
 -- the item at which a loop stands
 pub drop-item : {X : Type 0} (xs : List X) (i : ℕ) (x : X) → x ≡ get_or xs i x → i < length xs → drop i xs ≡ x ∷ drop (i + 1) xs
 drop-item xs i x e h = drop_more xs i x h ∙ ap (λ y. y ∷ drop (i + 1) xs) (sym e)
+
+-- calls enter a function within its words
+pub entry-within : (x : Function) → IsSelected x.tac x.homes x.code → x.code.entry ≤ length x.code.words.items
+entry-within x s =
+    least x.code.entry (length (begun x.tac)) (length head) (length rest) (length behind) (length x.code.words.items) s.entry
+    (length-append (begun x.tac) rest) (ap length s.words ∙ (length-map (function_code y x.tac (λ f. 0) 0) word_of ∙ length-append head behind))
+  where
+    y : Layout
+    y = layout_of x.tac x.homes
+
+    rest : List Instr
+    rest = entered y (frame_bytes y) x.tac.frame ++ received y x.tac.areas (words_offset y) x.tac.parameters
+
+    head : List Instr
+    head = head_code y x.tac
+
+    behind : List Instr
+    behind = body_code y x.tac (λ f. 0) 0 ++ left y (frame_bytes y) x.tac.frame
+
+    least : (entry begun head rest behind all : ℕ) → entry ≡ begun → head ≡ begun + rest → all ≡ head + behind → entry ≤ all
+    least entry begun head rest behind all a b c = omega (arith, a, b, c)
 
 -- what a loop puts behind the words that it has
 pub turn : (out new part rest whole total : List ℕ) → new ≡ out ++ part → out ++ whole ≡ total → whole ≡ part ++ rest → new ++ rest ≡ total
@@ -138,6 +161,20 @@ next-selected xs i x e h k =
     let both : AreSelected (x ∷ drop (i + 1) xs) × AreThere (x ∷ drop (i + 1) xs) =
     subst (λ z. AreSelected z × AreThere z) (drop-item xs i x e h) k in
     ((both.0.0, both.1.0), (both.0.1, both.1.1))
+
+selected-behind : (xs : List Function) (i : ℕ) → AreSelected xs → AreSelected (drop i xs)
+selected-behind [] zero s = tt
+selected-behind [] (suc i) s = tt
+selected-behind (x ∷ xs) zero s = s
+selected-behind (x ∷ xs) (suc i) s = selected-behind xs i s.1
+
+-- the next function's words are near, and its entry is among them
+pub next-fits : (xs : List Function) (i : ℕ) (x : Function) (at : ℕ) → x ≡ get_or xs i x → i < length xs → AreSelected xs →
+    at + 4 * words_in (drop i xs) ≡ text_address + 4 * words_in xs → text_address + 4 * words_in xs + 256 ≤ 2 ^ 30 →
+    (at + 4 * length x.code.words.items + 256 ≤ 2 ^ 30) × (x.code.entry ≤ length x.code.words.items)
+next-fits xs i x at e h s sum near =
+    let here : AreSelected (x ∷ drop (i + 1) xs) = subst AreSelected (drop-item xs i x e h) (selected-behind xs i s) in
+    (omega (arith, words-turn xs i x e h, sum, near), entry-within x here.0)
 
 -- one more function's words
 pub text-turn : (xs : List Function) (i : ℕ) (x : Function) (places others : FnId → ℕ) → ((f : FnId) → places f ≡ others f) →

@@ -78,11 +78,12 @@ fn linked_words(
     Ok(text)
 }
 
-/// The text of functions, in their order: calls go to where the functions of their numbers are entered. What no machine could hold, a
-/// text that ends above 2 ^ 30, is answered as a want of memory.
+/// The text of functions, in their order: calls go to where the functions of their numbers are entered. All of it is within reach of a
+/// jump.
 pub fn link(alloc: Global, functions: &[Function]) -> Result<Linked, NoMemory>
     requires selected { AreSelected functions.now }
     requires there { AreThere functions.now }
+    requires near { 65536 + 4 * words_in functions.now + 256 ≤ 2 ^ 30 }
     ensures { IfOk result (λ linked. IsLinkedText functions.now linked) }
 {
     let places = place_all(alloc, functions)?;

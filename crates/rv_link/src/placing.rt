@@ -1,9 +1,9 @@
 // Where functions stand that lie one behind the other, and where calls enter them.
 
-ghost use Rattle.std.specs.Prelude.{◌≡◌, ℕ, ◌*◌, ◌+◌, ◌-◌, ◌^◌, ◌<◌, ◌≤◌, ◌++◌, length, replicate, slice_index, nat_eq, if◌then◌else◌, IfOk, OnOk};
+ghost use Rattle.std.specs.Prelude.{◌≡◌, ℕ, ◌*◌, ◌+◌, ◌-◌, ◌^◌, ◌<◌, ◌≤◌, ◌++◌, length, replicate, slice_index, nat_eq, if◌then◌else◌, ◌↔◌, IfOk, IsTrue, OnOk};
 ghost use Rattle.tl_base.specs.declared.ids.FnId.{FnId};
 ghost use Rattle.rv_link.specs.Filling.{entry_at, entry_in, first_of, words_in};
-ghost use Rattle.rv_link.specs.Linked.{larger, most_frame, starts_in};
+ghost use Rattle.rv_link.specs.Linked.{AreSelected, larger, most_frame, starts_in};
 
 use crate::function::Function;
 use std::alloc::Global;
@@ -12,35 +12,21 @@ use tl_base::{FnId, NoMemory};
 /// The address of the first word of a text.
 pub(crate) const TEXT: u64 = 0x10000;
 
-/// The highest address at which a text may end. All of it is within reach of a jump.
-const LAST: u64 = (1 << 30) - 256;
-
-/// The address behind a function that stands at an address. No machine has longer texts.
-fn behind(at: u64, function: &Function) -> Result<u64, NoMemory>
-    requires { at ≤ 2 ^ 30 }
-    ensures at { IfOk result (λ next. next ≡ at + 4 * length function.now.code.words.items) }
-    ensures near { IfOk result (λ next. next + 256 ≤ 2 ^ 30) }
+/// The address behind a function that stands at an address.
+fn behind(at: u64, function: &Function) -> u64
+    requires { at + 4 * length function.now.code.words.items + 256 ≤ 2 ^ 30 }
+    ensures { result ≡ at + 4 * length function.now.code.words.items }
 {
-    let count = function.code.words.len();
-    if count > 1 << 28 {
-        return Err(NoMemory);
-    }
-    let next = at + 4 * count as u64;
-    if next > LAST {
-        return Err(NoMemory);
-    }
-    Ok(next)
+    at + 4 * function.code.words.len() as u64
 }
 
 /// The address at which calls enter a function that stands at an address.
-fn entered_at(at: u64, function: &Function) -> Result<u64, NoMemory>
-    requires { at ≤ 2 ^ 30 }
-    ensures { IfOk result (λ entry. entry ≡ at + 4 * function.now.code.entry) }
+fn entered_at(at: u64, function: &Function) -> u64
+    requires near { at + 4 * length function.now.code.words.items + 256 ≤ 2 ^ 30 }
+    requires within { function.now.code.entry ≤ length function.now.code.words.items }
+    ensures { result ≡ at + 4 * function.now.code.entry }
 {
-    if function.code.entry > 1 << 28 {
-        return Err(NoMemory);
-    }
-    Ok(at + 4 * function.code.entry)
+    at + 4 * function.code.entry
 }
 
 /// Zeros behind numbers, so many that there are at least `count` of both.
@@ -53,7 +39,7 @@ fn fill(table: &mut Vec<u64>, count: usize) -> Result<(), NoMemory>
     Ok(())
 }
 
-/// Makes a table long enough for an index. What it has no number for is 0.
+/// Makes a table long enough for an index. What it has no number for is 0. No memory has 2 ^ 60 numbers of eight bytes.
 fn reach(table: &mut Vec<u64>, index: u64) -> Result<(), NoMemory>
     ensures same { OnOk result ((k : ℕ) → slice_index table.new.items k ≡ slice_index table.old.items k) }
     ensures long { OnOk result (index < length table.new.items) }
@@ -86,19 +72,41 @@ pub(crate) struct Places {
 
 /// Where functions stand that lie one behind the other from the begin of a text on. Of two that have one number the first counts.
 pub(crate) fn place_all(alloc: Global, functions: &[Function]) -> Result<Places, NoMemory>
+    requires selected { AreSelected functions.now }
+    requires near { 65536 + 4 * words_in functions.now + 256 ≤ 2 ^ 30 }
     ensures starts { IfOk result (λ places. places.starts.items ≡ starts_in 65536 functions.now) }
     ensures entries { IfOk result (λ places. (f : FnId) → entry_at places.entries.items f ≡ entry_in 65536 functions.now f) }
-    ensures near { IfOk result (λ places. 65536 + 4 * words_in functions.now + 256 ≤ 2 ^ 30) }
 {
     let mut starts = Vec::new(alloc);
     let mut entries = Vec::new(alloc);
     let mut at = TEXT;
     for function in functions {
         starts.push(at)?;
-        put_first(&mut entries, function.id.0, entered_at(at, function)?)?;
-        at = behind(at, function)?;
+        put_first(&mut entries, function.id.0, entered_at(at, function))?;
+        at = behind(at, function);
     }
     Ok(Places { starts, entries })
+}
+
+/// The highest address at which a text may end. All of it is within reach of a jump.
+const LAST: u64 = (1 << 30) - 256;
+
+/// Whether a text of functions ends where each jump still reaches, at 2 ^ 30 - 256 or below.
+pub fn is_near(functions: &[Function]) -> bool
+    ensures { IsTrue result ↔ 65536 + 4 * words_in functions.now + 256 ≤ 2 ^ 30 }
+{
+    let mut at = TEXT;
+    for function in functions {
+        let count = function.code.words.len();
+        if count > 1 << 28 {
+            return false;
+        }
+        at += 4 * count as u64;
+        if at > LAST {
+            return false;
+        }
+    }
+    true
 }
 
 /// The largest frame of functions.

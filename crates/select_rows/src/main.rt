@@ -18,7 +18,7 @@ ghost use Rattle.rv_link.specs.Linked.{AreSelected, AreThere};
 use elf_image::{Bytes, Image, Symbol, Symbols, Words, is_lawful};
 use functions::program;
 use reg_alloc::{Home, assign};
-use rv_link::{Function, blocks_there, link};
+use rv_link::{Function, blocks_there, is_near, link};
 use rv_machine::{Stop, TEXT, run_image};
 use rv_select::{all_has_code, push_instruction, select};
 use std::alloc::Global;
@@ -110,6 +110,9 @@ fn numbers(alloc: Global, code: &[u32]) -> Result<String, NoMemory> {
 /// What comes of a program.
 fn program_answer(alloc: Global, words: &[&str]) -> Result<String, NoMemory> {
     let functions = selected(alloc, program(alloc, word_at(words, 1))?)?;
+    if !is_near(&functions) {
+        return Ok(String::from_str(alloc, "no jump reaches so far")?);
+    }
     let text = link(alloc, &functions)?.words;
     let mut arguments = Vec::new(alloc);
     for place in 2..words.len() {

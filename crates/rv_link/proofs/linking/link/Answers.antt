@@ -16,5 +16,5 @@ returns c =
       words = c.in_ok-words.ensures;
       starts = c.in_ok-places.ensures.starts;
       frame = c.largest_frame.ensures;
-      near = subst (λ n. 65536 + 4 * n + 256 ≤ 2 ^ 30) (sym (text-length (places_of fs) 65536 fs c.requires.selected)) c.in_ok-places.ensures.near;
+      near = subst (λ n. 65536 + 4 * n + 256 ≤ 2 ^ 30) (sym (text-length (places_of fs) 65536 fs c.requires.selected)) c.requires.near;
     }
