@@ -4,6 +4,7 @@ pub mod Compiles
 pub mod Counted
 pub mod Composes
 pub mod Extends
+pub mod Fitting
 pub mod Following
 pub mod Growing
 pub mod Making

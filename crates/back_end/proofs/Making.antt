@@ -133,7 +133,7 @@ values-words types (x' ∷ xs) [] h k x e = absurd h
 
 -- ---- functions of a text
 
-starts-are : (xs : List Function) (at : ℕ) (f : FnId) → start_among (map id_of xs) (starts_in at xs) f ≡ (placed_in at xs f).at
+pub starts-are : (xs : List Function) (at : ℕ) (f : FnId) → start_among (map id_of xs) (starts_in at xs) f ≡ (placed_in at xs f).at
 starts-are [] at f = refl
 starts-are (x ∷ xs) at f = by (nat_eq x.id.0 f.0) refl (starts-are xs (at + 4 * length x.code.words.items) f)
   where
@@ -149,7 +149,7 @@ starts-are (x ∷ xs) at f = by (nat_eq x.id.0 f.0) refl (starts-are xs (at + 4 
         ap (λ b. if b then at else start_among (map id_of xs) (starts_in next xs) f) q ∙ later
         ∙ sym (ap (λ b. (if b then record { homes = x.homes; at = at } else placed_in next xs f).at) q)
 
-same-nodes : (store : Contents) (k : Callable) → (lowered store [] k).nodes ≡ (body_size k.body).nodes
+pub same-nodes : (store : Contents) (k : Callable) → (lowered store [] k).nodes ≡ (body_size k.body).nodes
 same-nodes store k = by (are_narrow store.types (parameter_types k))
   where
     by : (b : Bool) → (if b then code_of store [] k else unreached k).nodes ≡ (body_size k.body).nodes
@@ -163,7 +163,7 @@ module _ (store : Contents) where
       subst (λ n. code_words x.tac ≤ 250 * n)
       (ap (λ (t : Tac). t.nodes) h.tac ∙ same-nodes store h.term ∙ sym (ap nodes_of h.is)) h.good.sized.in_words
 
-  text-short : (places : FnId → ℕ) (at : ℕ) (xs : List Function) → AreFunctions store xs →
+  pub text-short : (places : FnId → ℕ) (at : ℕ) (xs : List Function) → AreFunctions store xs →
       length (text_from places at xs) ≤ 250 * nodes_in store (map id_of xs)
   text-short places at [] h = omega arith
   text-short places at (x ∷ xs) h =

@@ -1,5 +1,5 @@
 -- Machine code can be made of the code of functions that are compiled, and links.
-use Rattle.std.proofs.Common.{◌≡◌, ℕ, zero, suc, ◌≤◌, Bool, true, false, List, [], ◌∷◌, length, Option, Some, refl, sym, ap, ◌∙◌, subst, arith}
+use Rattle.std.proofs.Common.{◌≡◌, ℕ, zero, suc, ◌≤◌, Bool, true, false, List, [], ◌∷◌, length, Option, None, Some, refl, sym, ap, ◌∙◌, subst, arith}
 use Rattle.std.specs.Prelude.{◌&&◌, ◌^◌, IfSome, nat_eq, nat_le, nat_lt, if◌then◌else◌, option_map, slice_get, unwrap_or}
 use Rattle.std.specs.List.{list_all}
 use Rattle.std.proofs.lemmas.Bool.{and_parts, leb-true, le-leb}
@@ -24,7 +24,7 @@ use Rattle.rv_select.specs.Calls.{all_has_code, block_has_code, has_code, has_ex
 use Rattle.rv_select.specs.Waiting.{PassesAll}
 use Rattle.rv_link.specs.declared.function.Function.{Function}
 use Rattle.rv_link.specs.Linked.{AreSelected, AreSound, AreThere, block_there, code_in, edge_there, exit_there, program_of}
-use Rattle.back_end.specs.Compiled.{IsReady}
+use Rattle.back_end.specs.Compiled.{IsOutward, IsReady}
 use Rattle.back_end.specs.Plain.{all_plain}
 use Rattle.back_end.specs.Working.{AreFunctions, IsFunction}
 use Rattle.back_end.proofs.Coded.{AllBlocks, AllNamed, Exits, Named, block-at, instruction-at, lowered-names}
@@ -218,3 +218,18 @@ module _ (store : Contents) (typed : AreTyped store) where
   lowered-has-code f r types found tac is good here =
       let g = lowered-good f r types found tac is good here in
       subst (λ t. all_has_code t ≡ true) (sym g.0) (has-code f r.term r.is r (subst IsGood g.0 g.1))
+
+-- ---- functions that are there
+
+pub lowers : (store : Contents) (f : FnId) → IsReady store f → (made : Option Tac) → made ≡ option_map (lowered store []) (callable_of store f) →
+    made ≡ None → ⊥
+lowers store f h made e n = no (lowered store [] h.term) (sym n ∙ e ∙ ap (option_map (lowered store [])) h.is)
+  where
+    no : (x : Tac) → None ≡ Some x → ⊥
+    no x q = cc
+
+pub is-there : (store : Contents) (f : FnId) → IsOutward store f → callable_of store f ≡ None → ⊥
+is-there store f h n = no h.term (sym n ∙ h.is)
+  where
+    no : (x : Callable) → None ≡ Some x → ⊥
+    no x q = cc

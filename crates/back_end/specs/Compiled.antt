@@ -1,9 +1,9 @@
 -- What compiling gives: one lawful image, whose exports are the given ones and agree with their terms.
-use Rattle.std.specs.Prelude.{◌≡◌, ℕ, ◌+◌, ◌*◌, ◌≤◌, Bool, true, false, ◌&&◌, List, [], ◌∷◌, length, map, Option, Some, None, slice_get}
+use Rattle.std.specs.Prelude.{◌≡◌, ℕ, ◌+◌, ◌*◌, ◌≤◌, Bool, true, false, ◌&&◌, IsTrue, List, [], ◌∷◌, length, map, Option, Some, None, slice_get}
 use Rattle.tl_base.specs.declared.ids.FnId.{FnId}
 use Rattle.elf_image.specs.declared.image.Image.{Image}
 use Rattle.elf_image.specs.declared.image.Symbol.{Symbol}
-use Rattle.elf_image.specs.Lawful.{IsLawful}
+use Rattle.elf_image.specs.Lawful.{IsLawful, is_name}
 use Rattle.terra_words.specs.Runs.{word}
 use Rattle.terra_types.specs.declared.types.TypeForm.{TypeForm}
 use Rattle.terra_types.specs.declared.types.TypeForm.TheVariants as forms
@@ -84,6 +84,22 @@ pub record IsOutward (store : Contents) (f : FnId) : Type 0 where
 
 abbrev pub AreExports : Contents → List Export → Type 0
 AreExports store exports = (i : ℕ) (e : Export) → slice_get exports i ≡ Some e → IsOutward store e.function
+
+-- At most 131,072 typed nodes are reached, where each function counts once.
+abbrev pub AreFew : Contents → List Export → Type 0
+AreFew store exports = (fs : List FnId) → AreReached store exports fs → nodes_in store fs ≤ 131072
+
+-- how many bytes names have, with one more for each
+abbrev pub name_bytes : List Export → ℕ
+name_bytes [] = 0
+name_bytes (e ∷ es) = length e.name + 1 + name_bytes es
+
+-- Names that the exports of an image can have: of 1 to 255 bytes, none of them zero; no two are the same, and with one byte more for each
+-- they have at most 4,000,000,000 bytes.
+pub record AreNamed (exports : List Export) : Type 0 where
+  pub names : (i : ℕ) (e : Export) → slice_get exports i ≡ Some e → IsTrue (is_name e.name)
+  pub differ : (i j : ℕ) (e f : Export) → slice_get exports i ≡ Some e → slice_get exports j ≡ Some f → e.name ≡ f.name → i ≡ j
+  pub few : name_bytes exports ≤ 4000000000
 
 -- ---- the symbols of exports
 

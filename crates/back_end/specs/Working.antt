@@ -1,5 +1,5 @@
 -- What holds while functions are compiled in turn.
-use Rattle.std.specs.Prelude.{◌≡◌, ℕ, List, [], ◌∷◌, ◌++◌, map, Some, slice_get}
+use Rattle.std.specs.Prelude.{◌≡◌, ℕ, ◌≤◌, List, [], ◌∷◌, ◌++◌, length, map, Some, slice_get}
 use Rattle.tl_base.specs.declared.place.Place.{Place}
 use Rattle.tl_base.specs.declared.ids.FnId.{FnId}
 use Rattle.reg_alloc.specs.Right.{IsRight}
@@ -30,6 +30,7 @@ pub record IsFunction (store : Contents) (x : Function) : Type 0 where
   pub tac : x.tac ≡ lowered store [] term
   pub good : IsGood x.tac
   pub right : IsRight x.tac x.homes
+  pub homes_few : length x.homes ≤ x.tac.temps
   pub selected : IsSelected x.tac x.homes x.code
   pub within : KeepsWithin x.tac x.homes x.code
 

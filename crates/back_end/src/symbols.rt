@@ -3,7 +3,7 @@
 ghost use Rattle.std.specs.Prelude.{◌≡◌, ◌++◌, IfOk, OnOk};
 ghost use Rattle.terra_meaning.specs.Values.{form_at};
 ghost use Rattle.terra_term.specs.Stores.{contents_of};
-ghost use Rattle.back_end.specs.Compiled.{codes_of, integer_code, type_code};
+ghost use Rattle.back_end.specs.Compiled.{AreExports, IsOutward, codes_of, integer_code, type_code};
 ghost use Rattle.back_end.specs.Symbols.{start_among, symbol_of, symbols_of};
 
 use elf_image::{Bytes, Symbol};
@@ -69,11 +69,14 @@ fn start_of(ids: &IndexSet<FnId>, starts: &[u64], f: FnId) -> u64
     }
 }
 
-/// The symbol of an export whose function begins at an address. The function is typed.
+/// The symbol of an export whose function begins at an address.
 fn symbol_of(alloc: Global, store: &Store, at: u64, export: &Export) -> Result<Symbol, NoMemory>
+    requires { IsOutward (contents_of store.now) export.now.function }
     ensures { IfOk result (λ symbol. symbol ≡ symbol_of (contents_of store.now) at export.now) }
 {
-    let function = callable_of(store, export.function).ok_or(NoMemory)?;
+    let Some(function) = callable_of(store, export.function) else {
+        unreachable!()
+    };
     let mut name = Vec::new(alloc);
     name.extend_from_slice(export.name.bytes())?;
     let mut params = Vec::new(alloc);
@@ -95,6 +98,7 @@ pub fn push_symbols(
     starts: &[u64],
     exports: &[Export],
 ) -> Result<(), NoMemory>
+    requires { AreExports (contents_of store.now) exports.now }
     ensures { OnOk result (symbols.new.items ≡ symbols.old.items ++ symbols_of (contents_of store.now) ids.now.keys starts.now exports.now) }
 {
     for export in exports {

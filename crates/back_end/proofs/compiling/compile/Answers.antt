@@ -1,14 +1,18 @@
-use Rattle.std.proofs.Common.{rules, ◌∙◌, ◌+◌, ◌*◌, ◌++◌, map, ap, subst, sym, List, ℕ, arith}
-use Rattle.std.specs.Prelude.{◌/◌}
+use Rattle.std.proofs.Common.{rules, refl, ◌∙◌, ◌≡◌, ◌+◌, ◌*◌, ◌++◌, ◌^◌, ◌<◌, ◌≤◌, map, ap, subst, sym, List, ℕ, arith}
+use Rattle.std.specs.Prelude.{◌/◌, length, slice_index}
 use Rattle.tl_base.specs.declared.ids.FnId.{FnId}
 use Rattle.terra_term.specs.Stores.{contents_of}
+use Rattle.terra_memory.specs.Region.{IsMemorySize}
 use Rattle.terra_types.specs.Opening.{AreTypes}
 use Rattle.elf_image.specs.declared.image.Image.{Image}
+use Rattle.elf_image.specs.Layout.{heap_start}
 use Rattle.elf_image.specs.Lawful.{IsLawful}
 use Rattle.rv_link.specs.declared.function.Function.{Function}
+use Rattle.rv_link.specs.Filling.{words_in}
 use Rattle.rv_link.specs.Linked.{AreSelected, AreThere, IsLinkedText}
 use Rattle.back_end.specs.Symbols.{symbols_of}
 use Rattle.back_end.specs.Working.{id_of}
+use Rattle.back_end.proofs.Fitting.{frame-fits, lawful, text-near}
 use Rattle.back_end.proofs.Making.{compiled}
 use Rattle.back_end.proofs.Sounds.{are-selected, are-there}
 use Rattle.back_end.proofs.compiling.compile.Goals as goal
@@ -23,6 +27,20 @@ link-requires-clause-there c =
     subst AreThere (sym c.deref.ensures.value)
     (are-there (contents_of c.args.store.now) c.in_ok-compiled.compiled.functions.items c.in_ok-compiled.ensures.whole.made)
 
+pub link-requires-clause-near : goal.link-requires-clause-near
+link-requires-clause-near c =
+    subst (λ (xs : List Function). 65536 + 4 * words_in xs + 256 ≤ 2 ^ 30) (sym c.deref.ensures.value)
+    (text-near (contents_of c.args.store.now) c.args.exports.now c.in_ok-compiled.compiled.functions.items c.requires.few
+    c.in_ok-compiled.ensures.whole)
+
+pub overflow_mul-result-2 : goal.overflow_mul-result-2
+overflow_mul-result-2 c =
+    let few : c.in_ok-linked.linked.frame ≤ 1179648 =
+    frame-fits (contents_of c.args.store.now) c.args.exports.now c.in_ok-compiled.compiled.functions.items c.in_ok-linked.linked
+    c.requires.exports c.requires.names c.requires.few c.in_ok-compiled.ensures.whole
+    (subst (λ (xs : List Function). IsLinkedText xs c.in_ok-linked.linked) c.deref.ensures.value c.in_ok-linked.ensures) in
+    omega (arith, few)
+
 pub returns : goal.returns
 returns c =
     let image : Image = record {
@@ -33,16 +51,29 @@ returns c =
       private = 512 * c.in_ok-linked.linked.frame;
       exports = c.from-3.result;
     } in
-    let lawful : IsLawful image = search rules in
-    compiled (contents_of c.args.store.now) c.args.exports.now c.in_ok-compiled.compiled.functions.items c.in_ok-linked.linked image
-    (subst AreTypes c.types.ensures c.are_types.ensures) c.requires.typed
-    (c.requires.limits.whole_kib, c.requires.limits.least_memory, c.requires.limits.most_memory) c.requires.half c.requires.exports
-    c.in_ok-compiled.ensures.whole
-    (subst (λ (xs : List Function). IsLinkedText xs c.in_ok-linked.linked) c.deref.ensures.value c.in_ok-linked.ensures) lawful
-    (c.from-2.ensures ∙ c.in_ok-statics.ensures) c.from.ensures (omega arith)
-    (c.from-3.ensures ∙ c.in_ok-push_symbols.ensures
+    let memory : IsMemorySize image.memory =
+    (c.requires.limits.whole_kib, c.requires.limits.least_memory, c.requires.limits.most_memory) in
+    let text : IsLinkedText c.in_ok-compiled.compiled.functions.items c.in_ok-linked.linked =
+    subst (λ (xs : List Function). IsLinkedText xs c.in_ok-linked.linked) c.deref.ensures.value c.in_ok-linked.ensures in
+    let symbols : image.exports ≡ symbols_of (contents_of c.args.store.now) (map id_of c.in_ok-compiled.compiled.functions.items)
+    c.in_ok-linked.linked.starts.items c.args.exports.now =
+    c.from-3.ensures ∙ c.in_ok-push_symbols.ensures
     ∙ ap (λ l. l ++ symbols_of (contents_of c.args.store.now) c.in_ok-compiled.compiled.ids.keys c.deref-2.result.now c.args.exports.now)
     c.new-symbols.ensures.items
     ∙ ap (λ (fs : List FnId). symbols_of (contents_of c.args.store.now) fs c.deref-2.result.now c.args.exports.now) c.in_ok-compiled.ensures.ids
     ∙ ap (λ (s : List ℕ). symbols_of (contents_of c.args.store.now) (map id_of c.in_ok-compiled.compiled.functions.items) s c.args.exports.now)
-    c.deref-2.ensures.value)
+    c.deref-2.ensures.value in
+    let count : c.len.result ≡ length c.in_ok-statics.statics.items = search rules in
+    let heap : image.heap ≡ heap_start (length image.statics) = ap heap_start (count ∙ sym (ap length c.from-2.ensures)) in
+    let words : (k : ℕ) → slice_index image.text k < 2 ^ 32 =
+    λ k. subst (λ (xs : List ℕ). slice_index xs k < 2 ^ 32) (c.deref-3.ensures.value ∙ sym c.from.ensures) (c.are_words.ensures k) in
+    let bytes : (k : ℕ) → slice_index image.statics k < 2 ^ 8 =
+    λ k. subst (λ (xs : List ℕ). slice_index xs k < 2 ^ 8) (c.deref-4.ensures.value ∙ sym c.from-2.ensures) (c.are_bytes.ensures k) in
+    let can : IsLawful image =
+    lawful (contents_of c.args.store.now) c.args.exports.now c.in_ok-compiled.compiled.functions.items c.in_ok-linked.linked c.requires.exports
+    c.requires.names c.requires.few c.in_ok-compiled.ensures.whole text image c.from.ensures (c.from-2.ensures ∙ c.in_ok-statics.ensures) memory
+    c.requires.half heap refl symbols words bytes in
+    compiled (contents_of c.args.store.now) c.args.exports.now c.in_ok-compiled.compiled.functions.items c.in_ok-linked.linked image
+    (subst AreTypes c.types.ensures c.are_types.ensures) c.requires.typed
+    memory c.requires.half c.requires.exports c.in_ok-compiled.ensures.whole text can
+    (c.from-2.ensures ∙ c.in_ok-statics.ensures) c.from.ensures (omega arith) symbols
