@@ -35,7 +35,7 @@ use Rattle.terra_term.proofs.Staying.{kept-front}
 use Rattle.exotype.specs.World.{StageState, with_store}
 use Rattle.exotype.specs.Types.{is_type, pointer_id, with_pointer}
 use Rattle.check_model.specs.Typing.{function_at}
-use Rattle.check_sound.specs.Sound.{foreseen, IsThere, IsSound, HasBodyOf, typed_body, body_in}
+use Rattle.check_model.specs.Sound.{foreseen, IsThere, IsSound, HasBodyOf, typed_body, body_in}
 use Rattle.check_sound.proofs.Tests.{no, none-some, same-some, same-refl}
 use Rattle.check_sound.proofs.Shapes.{size-kept}
 use Rattle.check_sound.proofs.Foreseen.{body-item, count-trees}

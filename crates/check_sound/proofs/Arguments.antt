@@ -25,7 +25,7 @@ use Rattle.check_model.specs.declared.rule.Mode.TheVariants.{Implicit}
 use Rattle.check_model.specs.Typing.{TypingState, made_of}
 use Rattle.check_model.specs.Plans.{BodyPlan, give, gives, operand, operands, untyped}
 use Rattle.check_model.specs.Calls.{argument, arguments}
-use Rattle.check_sound.specs.Sound.{foreseen, IsThere, IsSound}
+use Rattle.check_model.specs.Sound.{foreseen, IsThere, IsSound}
 use Rattle.check_sound.proofs.Scalars.{byte-at, long-at, unit-at, word-at}
 use Rattle.check_sound.proofs.Running.{Known, Holds}
 use Rattle.check_sound.proofs.Combining.{In, Step, Refuses, Makes, step-itself, step-twice, refuses-on, still, there-still, holds-make, holds-typing}

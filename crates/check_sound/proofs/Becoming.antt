@@ -31,7 +31,7 @@ use Rattle.exotype.specs.declared.fault.Fault.TheVariants as faults
 use Rattle.exotype.specs.World.{StageState, with_store}
 use Rattle.exotype.specs.Becoming.{Becoming, Leaf, Text, Spliced, Again, Not, fits_int32, number, library_function, quoted, constant_leaf, quote_found, constant_found, becoming, after, with_term_of}
 use Rattle.check_model.specs.Calls.{params_of}
-use Rattle.check_sound.specs.Sound.{foreseen, TermIsThere, ExpressionIsSound, TermIsSound, QuoteIsSound, ConstantIsSound, ValueIsSound, IsTypedSomewhere, IsSound, HasBodyOf}
+use Rattle.check_model.specs.Sound.{foreseen, TermIsThere, ExpressionIsSound, TermIsSound, QuoteIsSound, ConstantIsSound, ValueIsSound, IsTypedSomewhere, IsSound, HasBodyOf}
 use Rattle.check_sound.proofs.Tests.{none-some, same-some}
 use Rattle.check_sound.proofs.Grows.{Grows, grows-itself, get-same, longer}
 use Rattle.check_sound.proofs.Worlds.{Fair, fair-of, term-grows, sound-from}

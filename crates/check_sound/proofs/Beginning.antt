@@ -9,7 +9,7 @@ use Rattle.terra_types.specs.Layouts.{entries_in}
 use Rattle.terra_types.specs.Opening.{AreTypes, opening_types}
 use Rattle.terra_types.proofs.Begun.{held-opening}
 use Rattle.terra_term.specs.WellTyped.{struct_form}
-use Rattle.check_sound.specs.Sound.{BeginsSound}
+use Rattle.check_model.specs.Sound.{BeginsSound}
 use Rattle.check_sound.proofs.Tests.{none-some, no}
 
 -- types among which is no struct have no entries

@@ -13,7 +13,7 @@ use Rattle.check_model.specs.declared.end.PartEnd.TheVariants as ends
 use Rattle.check_model.specs.Typing.{TypingState, cut_to}
 use Rattle.check_model.specs.Plans.{BodyPlan, on_stated}
 use Rattle.check_model.specs.Expressions.{statements}
-use Rattle.check_sound.specs.Sound.{foreseen, IsSound, AreStatements}
+use Rattle.check_model.specs.Sound.{foreseen, IsSound, AreStatements}
 use Rattle.check_sound.proofs.Grows.{Grows, AllBelow, all-below, block-same, grows-twice, grows-itself}
 use Rattle.check_sound.proofs.Worlds.{block-grows, fair-of, any-grows, statements-grow}
 use Rattle.check_sound.proofs.Running.{AllThere, scope_of, Did, Fits, ResultThere, where_it_stands, Holds, LeavesStated}

@@ -18,7 +18,7 @@ use Rattle.exotype.specs.World.{StageState, with_store}
 use Rattle.check_model.specs.declared.known.KnownResult.TheVariants.{Is}
 use Rattle.check_model.specs.Typing.{function_at}
 use Rattle.check_model.specs.Calls.{known_result, parameter_types, parameters_of, result_of, parameters_in_state, result_in_state}
-use Rattle.check_sound.specs.Sound.{foreseen, IsThereIfAny, TermIsThere, IsSound, HasBodyOf, typed_body}
+use Rattle.check_model.specs.Sound.{foreseen, IsThereIfAny, TermIsThere, IsSound, HasBodyOf, typed_body}
 use Rattle.check_sound.proofs.Tests.{none-some, same-some}
 use Rattle.check_sound.proofs.Grows.{Grows, keeps-types-of}
 use Rattle.check_sound.proofs.Worlds.{Fair, fair-of, sound-from, body-grows}

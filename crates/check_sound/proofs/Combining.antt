@@ -27,7 +27,7 @@ use Rattle.check_model.specs.declared.question.CheckAnswer.TheVariants as answer
 use Rattle.check_model.specs.Typing.{TypingState, form_in, is_aggregate_form, is_place_form, made_of}
 use Rattle.check_model.specs.Plans.{BodyPlan, refuse, on_made, typing, make, pointing, laid_out, on_layout}
 use Rattle.check_model.specs.Keeping as keeping
-use Rattle.check_sound.specs.Sound.{foreseen, IsThere, IsSound, AnswerIsSound}
+use Rattle.check_model.specs.Sound.{foreseen, IsThere, IsSound, AnswerIsSound}
 use Rattle.check_sound.proofs.Shapes.{struct-stays}
 use Rattle.check_sound.proofs.Scalars.{flat-layout, sized-layout}
 use Rattle.check_sound.proofs.Grows.{Grows, grows-itself, grows-twice, tree-same, longer}

@@ -20,7 +20,7 @@ use Rattle.terra_term.specs.WellTyped.{same, has_layout, struct_form, has_entry,
 use Rattle.exotype.specs.World.{StageState}
 use Rattle.check_model.specs.Typing.{form_in, struct_if, struct_behind}
 use Rattle.check_model.specs.Expressions.{in_order, by_name}
-use Rattle.check_sound.specs.Sound.{foreseen, IsThere, IsSound}
+use Rattle.check_model.specs.Sound.{foreseen, IsThere, IsSound}
 use Rattle.check_sound.proofs.Tests.{no, none-some, same-some, same-refl, get-past}
 use Rattle.check_sound.proofs.Passing.{entry-lies}
 use Rattle.check_sound.proofs.Worlds.{fair-of}

@@ -16,7 +16,7 @@ use Rattle.terra_term.proofs.Staying.{kept-front}
 use Rattle.exotype.specs.World.{StageState}
 use Rattle.check_model.specs.Typing.{function_at}
 use Rattle.check_model.specs.Calls.{found_in}
-use Rattle.check_sound.specs.Sound.{foreseen, foreseen_all, foreseen_of, with_foreseen, as_typed, body_in, typed_body}
+use Rattle.check_model.specs.Sound.{foreseen, foreseen_all, foreseen_of, with_foreseen, as_typed, body_in, typed_body}
 use Rattle.check_sound.proofs.Tests.{none-some, same-some, get-past, past-get}
 
 -- ---- what the functions become

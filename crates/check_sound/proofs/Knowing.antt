@@ -17,7 +17,7 @@ use Rattle.check_model.specs.declared.known.KnownResult.{KnownResult}
 use Rattle.check_model.specs.declared.known.KnownResult.TheVariants.{Is, NotYet, BeingTyped}
 use Rattle.check_model.specs.Typing.{function_at}
 use Rattle.check_model.specs.Calls.{known_result, parameter_types, known_or, parameters_of, result_of, parameters_in_state, result_in_state}
-use Rattle.check_sound.specs.Sound.{foreseen, foreseen_of, as_typed, bare, bare_if, bare_names, is_typed_state, typed_body, HasBodyOf}
+use Rattle.check_model.specs.Sound.{foreseen, foreseen_of, as_typed, bare, bare_if, bare_names, is_typed_state, typed_body, HasBodyOf}
 use Rattle.check_sound.proofs.Tests.{no, same-id, same-refl, same-ids, ids-refl, none-some, same-some}
 use Rattle.check_sound.proofs.Foreseen.{typed-kept, FoundAs, base, found, not-found, body-item, body-result}
 

@@ -12,7 +12,7 @@ use Rattle.exotype.specs.World.{StageState}
 use Rattle.check_model.specs.declared.made.Made.{Made}
 use Rattle.check_model.specs.Plans.{ids_of}
 use Rattle.check_model.specs.Statements.{meet_from, meet_of}
-use Rattle.check_sound.specs.Sound.{foreseen, IsSound}
+use Rattle.check_model.specs.Sound.{foreseen, IsSound}
 use Rattle.check_sound.proofs.Tests.{no, same-refl}
 use Rattle.check_sound.proofs.Grows.{Grows}
 use Rattle.check_sound.proofs.Running.{Known}

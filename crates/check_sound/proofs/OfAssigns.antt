@@ -20,7 +20,7 @@ use Rattle.check_model.specs.declared.rule.Mode.TheVariants.{Implicit}
 use Rattle.check_model.specs.Typing.{TypingState}
 use Rattle.check_model.specs.Plans.{BodyPlan, refuse, states, ids_of}
 use Rattle.check_model.specs.Statements.{typing_all, targets, converting_all, assign_plan}
-use Rattle.check_sound.specs.Sound.{foreseen}
+use Rattle.check_model.specs.Sound.{foreseen}
 use Rattle.check_sound.proofs.Tests.{ids-refl}
 use Rattle.check_sound.proofs.Running.{Holds, ResultThere}
 use Rattle.check_sound.proofs.Combining.{In, Step, Refuses, step-itself, step-twice, refuses-on, holds-refuse, holds-if, holds-typing}

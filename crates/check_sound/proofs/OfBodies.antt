@@ -30,7 +30,7 @@ use Rattle.check_model.specs.Plans.{BodyPlan, then_on, on_made, refuse}
 use Rattle.check_model.specs.Calls.{call_value, params_of, written_in, types_of}
 use Rattle.check_model.specs.Expressions.{statements, expression_job}
 use Rattle.check_model.specs.Bodies.{body, body_job, parameters, names_of, is_too_large, made_function, definition_plan}
-use Rattle.check_sound.specs.Sound.{foreseen, IsThere, IsThereIfAny, ParametersAreThere, IsSound, typed_body, body_in}
+use Rattle.check_model.specs.Sound.{foreseen, IsThere, IsThereIfAny, ParametersAreThere, IsSound, typed_body, body_in}
 use Rattle.check_sound.proofs.Grows.{Grows, grows-itself, grows-twice}
 use Rattle.check_sound.proofs.Worlds.{fair-of, any-grows, there-grows, body-grows, statements-grow}
 use Rattle.check_sound.proofs.Running.{AllThere, scope_of, Fits, ResultThere, LeavesMade, Leaves, Holds, Outcome, EachHolds, SeesAll}

@@ -18,7 +18,7 @@ use Rattle.check_model.specs.declared.made.Made.{Made}
 use Rattle.check_model.specs.Typing.{TypingState, cut_to}
 use Rattle.check_model.specs.Plans.{states, leaving}
 use Rattle.check_model.specs.Statements.{block, in_loop, condition, repeat_plan, else_plan}
-use Rattle.check_sound.specs.Sound.{foreseen, AreStatements, AreStatementsIfAny, IsSound}
+use Rattle.check_model.specs.Sound.{foreseen, AreStatements, AreStatementsIfAny, IsSound}
 use Rattle.check_sound.proofs.Grows.{Grows}
 use Rattle.check_sound.proofs.Worlds.{fair-of, statements-grow}
 use Rattle.check_sound.proofs.Running.{Known, Holds, ResultThere, where_it_stands}

@@ -19,7 +19,7 @@ use Rattle.check_model.specs.Typing.{TypingState, expression_at, function_at}
 use Rattle.check_model.specs.Structs.{metamethod}
 use Rattle.check_model.specs.Plans.{refuse}
 use Rattle.check_model.specs.Calls.{is_called, call_named, call_term, call_value}
-use Rattle.check_sound.specs.Sound.{ExpressionIsSound, IsSound}
+use Rattle.check_model.specs.Sound.{ExpressionIsSound, IsSound}
 use Rattle.check_sound.proofs.Grows.{Grows}
 use Rattle.check_sound.proofs.Running.{Known, Holds, LeavesMade, scope_of}
 use Rattle.check_sound.proofs.Combining.{In, Refuses, step-to, refuses-on, holds-refuse, holds-if, sees}

@@ -26,7 +26,7 @@ use Rattle.check_model.specs.Typing.{TypingState, bytes_in, expression_at, place
 use Rattle.check_model.specs.Plans.{reading, give, gives}
 use Rattle.check_model.specs.Converting.{convert}
 use Rattle.check_model.specs.Calls.{cast, size_constant, size_of_type, call_size}
-use Rattle.check_sound.specs.Sound.{IsThere, ExpressionIsSound, IsSound}
+use Rattle.check_model.specs.Sound.{IsThere, ExpressionIsSound, IsSound}
 use Rattle.check_sound.proofs.Scalars.{word-at, size-limited}
 use Rattle.check_sound.proofs.Running.{Known, Holds}
 use Rattle.check_sound.proofs.Combining.{In, Refuses, Makes, step-twice, refuses-on, there-still, holds-refuse, holds-laid}

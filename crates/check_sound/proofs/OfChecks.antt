@@ -31,7 +31,7 @@ use Rattle.check_model.specs.Typing.{function_at}
 use Rattle.check_model.specs.Calls.{parameters_of, parameters_in_state}
 use Rattle.check_model.specs.Keeping.{ChecksAnswer, FollowsCheck, FollowsCheckSeen}
 use Rattle.check_model.specs.Checks.{CheckPlan, CheckGiven, was_reached, with_mentions, mentions_at, take_next, past, refused_at, on_body, by_state, taken, at_index, check_job, check_first}
-use Rattle.check_sound.specs.Sound.{IsSound, ChecksAreSound, LeavesReady}
+use Rattle.check_model.specs.Sound.{IsSound, ChecksAreSound, LeavesReady}
 use Rattle.check_sound.proofs.Tests.{none-some, same-some, got}
 use Rattle.check_sound.proofs.Grows.{Grows, grows-of}
 use Rattle.check_sound.proofs.Meeting.{Meets, FollowsRun, AllFine, meets}

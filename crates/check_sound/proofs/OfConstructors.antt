@@ -22,7 +22,7 @@ use Rattle.check_model.specs.Typing.{TypingState, form_in, bytes_in}
 use Rattle.check_model.specs.Plans.{BodyPlan, reading, refuse, laid_out}
 use Rattle.check_model.specs.Converting.{convert}
 use Rattle.check_model.specs.Expressions.{in_order, by_name, into, constructed, initialised, new_plan}
-use Rattle.check_sound.specs.Sound.{foreseen}
+use Rattle.check_model.specs.Sound.{foreseen}
 use Rattle.check_sound.proofs.Tests.{no}
 use Rattle.check_sound.proofs.Shapes.{struct-stays}
 use Rattle.check_sound.proofs.Scalars.{in-range, narrow-usable}

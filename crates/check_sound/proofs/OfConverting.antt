@@ -31,7 +31,7 @@ use Rattle.check_model.specs.Typing.{TypingState, form_in, bytes_in, is_aggregat
 use Rattle.check_model.specs.Structs.{metamethod_of_either}
 use Rattle.check_model.specs.Plans.{BodyPlan, reading, refuse, make, as_value, is_wide}
 use Rattle.check_model.specs.Converting.{conv_of, by_conv, is_same, takes_type, converted, convert, fit}
-use Rattle.check_sound.specs.Sound.{foreseen, IsThere, IsSound}
+use Rattle.check_model.specs.Sound.{foreseen, IsThere, IsSound}
 use Rattle.check_sound.proofs.Tests.{no, same-id}
 use Rattle.check_sound.proofs.Scalars.{is_scalar, scalar-usable, flat-usable, narrow-usable}
 use Rattle.check_sound.proofs.Conversions.{Fact, conversion-fact}

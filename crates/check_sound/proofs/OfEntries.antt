@@ -26,7 +26,7 @@ use Rattle.check_model.specs.Typing.{TypingState, form_in, struct_of}
 use Rattle.check_model.specs.Structs.{metamethod}
 use Rattle.check_model.specs.Plans.{reading, gives, refuse, as_value}
 use Rattle.check_model.specs.Expressions.{entry, missing_entry, entry_or, select_plan}
-use Rattle.check_sound.specs.Sound.{foreseen, IsSound}
+use Rattle.check_model.specs.Sound.{foreseen, IsSound}
 use Rattle.check_sound.proofs.Tests.{no}
 use Rattle.check_sound.proofs.Shapes.{struct-stays}
 use Rattle.check_sound.proofs.Passing.{entry-stays}

@@ -30,7 +30,7 @@ use Rattle.check_model.specs.Plans.{reading, gives, typing, as_value, untyped, l
 use Rattle.check_model.specs.Calls.{is_called, call_named}
 use Rattle.check_model.specs.Operators.{binary_plan, unary_plan}
 use Rattle.check_model.specs.Expressions.{index_plan, select_plan, method_plan, let_plan, call_plan, expression_plan, node_plan, expression_job}
-use Rattle.check_sound.specs.Sound.{foreseen, IsThere, AreStatements, ExpressionIsSound, IsSound}
+use Rattle.check_model.specs.Sound.{foreseen, IsThere, AreStatements, ExpressionIsSound, IsSound}
 use Rattle.check_sound.proofs.Tests.{same-refl}
 use Rattle.check_sound.proofs.Scalars.{in-range, text-at, boolean-at}
 use Rattle.check_sound.proofs.Grows.{grows-twice}

@@ -28,7 +28,7 @@ use Rattle.check_model.specs.Typing.{TypingState, function_at}
 use Rattle.check_model.specs.Plans.{BodyPlan, gives, refuse}
 use Rattle.check_model.specs.Calls.{known_result, parameter_types, parameters_of, result_of, parameters_in_state, result_in_state, on_result, by_result, arguments, with_params, call_function, call_by, call_primitive}
 use Rattle.check_model.specs.Keeping as keeping
-use Rattle.check_sound.specs.Sound.{foreseen, IsThere, IsSound, AnswerIsSound}
+use Rattle.check_model.specs.Sound.{foreseen, IsThere, IsSound, AnswerIsSound}
 use Rattle.check_sound.proofs.Knowing.{knows-to}
 use Rattle.check_sound.proofs.Passing.{points-stays}
 use Rattle.check_sound.proofs.Grows.{Grows}

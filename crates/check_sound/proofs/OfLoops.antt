@@ -22,7 +22,7 @@ use Rattle.check_model.specs.declared.rule.Mode.TheVariants.{Implicit}
 use Rattle.check_model.specs.Typing.{TypingState, form_in, with_variable, cut_to}
 use Rattle.check_model.specs.Plans.{BodyPlan, reading, refuse, states, leaving}
 use Rattle.check_model.specs.Statements.{block, in_loop, integers, meet_of, all_to, counting, for_plan}
-use Rattle.check_sound.specs.Sound.{foreseen, IsThere, AreStatements}
+use Rattle.check_model.specs.Sound.{foreseen, IsThere, AreStatements}
 use Rattle.check_sound.proofs.Grows.{grows-itself}
 use Rattle.check_sound.proofs.Worlds.{fair-of, statements-grow}
 use Rattle.check_sound.proofs.Running.{Holds, ResultThere}

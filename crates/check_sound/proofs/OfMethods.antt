@@ -20,7 +20,7 @@ use Rattle.check_model.specs.Structs.{metamethod, method_at}
 use Rattle.check_model.specs.Plans.{BodyPlan, reading, refuse, becoming, on_became, ready, untyped}
 use Rattle.check_model.specs.Calls.{call_term}
 use Rattle.check_model.specs.Expressions.{missing_method, call_method, method_plan}
-use Rattle.check_sound.specs.Sound.{ValueIsSound}
+use Rattle.check_model.specs.Sound.{ValueIsSound}
 use Rattle.check_sound.proofs.Running.{Known, Holds}
 use Rattle.check_sound.proofs.Combining.{In, Step, Refuses, step-to, refuses-on, still, holds-refuse, holds-if}
 use Rattle.check_sound.proofs.Arguments.{are-untyped, Gives, gives-on}

@@ -33,7 +33,7 @@ use Rattle.check_model.specs.Structs.{metamethod_of_either}
 use Rattle.check_model.specs.Plans.{BodyPlan, reading, make, gives, refuse, laid_out}
 use Rattle.check_model.specs.Converting.{convert}
 use Rattle.check_model.specs.Operators.{event_of, rule_of, both, at_type, retyped, same_pointers, meeting, by_rule, by_metamethod, binary_plan}
-use Rattle.check_sound.specs.Sound.{foreseen, IsThere, IsSound}
+use Rattle.check_model.specs.Sound.{foreseen, IsThere, IsSound}
 use Rattle.check_sound.proofs.Tests.{same-id, same-refl}
 use Rattle.check_sound.proofs.Shapes.{form-stays, stays-is}
 use Rattle.check_sound.proofs.Scalars.{target-there, long-at}

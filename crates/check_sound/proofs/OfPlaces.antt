@@ -21,7 +21,7 @@ use Rattle.check_model.specs.declared.made.Made.{Made}
 use Rattle.check_model.specs.Typing.{TypingState, form_in, variable_at}
 use Rattle.check_model.specs.Plans.{gives, refuse}
 use Rattle.check_model.specs.Expressions.{variable, global, indexed, is_lost_array, index_has, index_plan}
-use Rattle.check_sound.specs.Sound.{foreseen}
+use Rattle.check_model.specs.Sound.{foreseen}
 use Rattle.check_sound.proofs.Tests.{no, same-refl}
 use Rattle.check_sound.proofs.Shapes.{form-stays}
 use Rattle.check_sound.proofs.Scalars.{target-there, element-there}

@@ -21,7 +21,7 @@ use Rattle.check_model.specs.declared.rule.Mode.TheVariants.{Implicit}
 use Rattle.check_model.specs.Typing.{TypingState}
 use Rattle.check_model.specs.Plans.{refuse, states, typing, as_value}
 use Rattle.check_model.specs.Statements.{return_value, return_nothing, returned, return_plan}
-use Rattle.check_sound.specs.Sound.{foreseen, IsThere, IsThereIfAny, IsSound}
+use Rattle.check_model.specs.Sound.{foreseen, IsThere, IsThereIfAny, IsSound}
 use Rattle.check_sound.proofs.Tests.{no, same-refl}
 use Rattle.check_sound.proofs.Running.{Known, Holds, Fits, ResultThere}
 use Rattle.check_sound.proofs.Combining.{In, Step, Refuses, step-itself, step-twice, refuses-on, there-still, holds-refuse, holds-if, holds-typing}

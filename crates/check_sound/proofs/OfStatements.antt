@@ -11,7 +11,7 @@ use Rattle.check_model.specs.declared.site.Site.{Site}
 use Rattle.check_model.specs.declared.end.PartEnd.{PartEnd}
 use Rattle.check_model.specs.Typing.{TypingState}
 use Rattle.check_model.specs.Statements.{doing_plan, node_plan, statement_job}
-use Rattle.check_sound.specs.Sound.{StatementIsSound, is_statement}
+use Rattle.check_model.specs.Sound.{StatementIsSound, is_statement}
 use Rattle.check_sound.proofs.Tests.{no}
 use Rattle.check_sound.proofs.Running.{Holds, ResultThere}
 use Rattle.check_sound.proofs.Combining.{In, Refuses}

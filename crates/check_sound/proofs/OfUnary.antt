@@ -24,7 +24,7 @@ use Rattle.check_model.specs.Typing.{TypingState, form_in}
 use Rattle.check_model.specs.Structs.{metamethod}
 use Rattle.check_model.specs.Plans.{gives, refuse, pointing}
 use Rattle.check_model.specs.Operators.{by_own, unary_plan}
-use Rattle.check_sound.specs.Sound.{foreseen}
+use Rattle.check_model.specs.Sound.{foreseen}
 use Rattle.check_sound.proofs.Tests.{same-refl}
 use Rattle.check_sound.proofs.Scalars.{target-there, truth-is}
 use Rattle.check_sound.proofs.Running.{Known, Holds}

@@ -24,7 +24,7 @@ use Rattle.check_model.specs.declared.rule.Mode.TheVariants.{Implicit}
 use Rattle.check_model.specs.Typing.{TypingState, is_nil_made, with_variables}
 use Rattle.check_model.specs.Plans.{BodyPlan, refuse, states, laid_out, as_value}
 use Rattle.check_model.specs.Statements.{value_for, values_for, may_be, name_for, names_for, declaring, var_plan}
-use Rattle.check_sound.specs.Sound.{foreseen, IsThere, IsThereIfAny, NamesAreThere, IsSound}
+use Rattle.check_model.specs.Sound.{foreseen, IsThere, IsThereIfAny, NamesAreThere, IsSound}
 use Rattle.check_sound.proofs.Tests.{ids-refl}
 use Rattle.check_sound.proofs.Passing.{names-laid}
 use Rattle.check_sound.proofs.Grows.{Grows, grows-itself}

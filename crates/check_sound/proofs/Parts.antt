@@ -12,7 +12,7 @@ use Rattle.terra_term.specs.TypedTerms.{type_of, is_place}
 use Rattle.terra_term.specs.WellTyped.{Within, Scope, is_typed, are_typed, is_placed, is_usable, all_usable, types_in, operation_typed}
 use Rattle.exotype.specs.World.{StageState}
 use Rattle.check_model.specs.declared.made.Made.{Made}
-use Rattle.check_sound.specs.Sound.{foreseen, IsThere, IsSound}
+use Rattle.check_model.specs.Sound.{foreseen, IsThere, IsSound}
 use Rattle.check_sound.proofs.Grows.{Grows, tree-same, longer, AllBelow}
 use Rattle.check_sound.proofs.Worlds.{fair-of, typed-grows, there-grows}
 use Rattle.check_sound.proofs.Passing.{all-usable}

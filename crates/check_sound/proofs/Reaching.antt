@@ -22,7 +22,7 @@ use Rattle.check_model.specs.declared.job.Reached.{Reached}
 use Rattle.check_model.specs.Typing.{function_at}
 use Rattle.check_model.specs.Calls.{parameters_of}
 use Rattle.check_model.specs.Checks.{was_reached, with_mentions, mentions_of, typed_mentions, mentions_at, mentions_in_state}
-use Rattle.check_sound.specs.Sound.{foreseen, IsSound, IsReady, HasBodyOf}
+use Rattle.check_model.specs.Sound.{foreseen, IsSound, IsReady, HasBodyOf}
 use Rattle.check_sound.proofs.Tests.{none-some, same-some, no}
 use Rattle.check_sound.proofs.Knowing.{typed-callable, knows-from, called-as}
 use Rattle.check_sound.proofs.Foreseen.{body-item, count-trees}

@@ -16,7 +16,7 @@ use Rattle.exotype.specs.World.{StageState}
 use Rattle.check_model.specs.declared.job.Reached.{Reached}
 use Rattle.check_model.specs.Typing.{function_at}
 use Rattle.check_model.specs.Checks.{was_reached, mentions_of, mentions_at, typed_mentions, mentions_in_state}
-use Rattle.check_sound.specs.Sound.{IsSound, IsReady}
+use Rattle.check_model.specs.Sound.{IsSound, IsReady}
 use Rattle.check_sound.specs.Reached.{unreached, reached_from, only_reached, ReachedStoresAreTyped}
 use Rattle.check_sound.proofs.Tests.{none-some, same-some}
 use Rattle.check_sound.proofs.Knowing.{called-as, uncalled}

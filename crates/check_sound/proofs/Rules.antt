@@ -23,7 +23,7 @@ use Rattle.check_model.specs.declared.made.Made.{Made}
 use Rattle.check_model.specs.declared.rule.Rule.{Rule}
 use Rattle.check_model.specs.declared.rule.Rule.TheVariants.{Meets, Compares, Shifts, Tells, Ands, Ors, Addresses, Forward, Back, Differs, Unknown}
 use Rattle.check_model.specs.Operators.{on_integers, on_truths, on_pointer, on_pointers, rule_of}
-use Rattle.check_sound.specs.Sound.{foreseen, IsThere, IsSound}
+use Rattle.check_model.specs.Sound.{foreseen, IsThere, IsSound}
 use Rattle.check_sound.proofs.Tests.{no, same-id, same-refl}
 use Rattle.check_sound.proofs.Scalars.{is_scalar, scalar-usable, in-range, boolean-at, truth-is}
 use Rattle.check_sound.proofs.Running.{Known}

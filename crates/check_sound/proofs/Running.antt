@@ -23,7 +23,7 @@ use Rattle.check_model.specs.Plans.{BodyPlan}
 use Rattle.check_model.specs.Keeping as keeping
 use Rattle.check_model.specs.declared.end.BodyEnd.{BodyEnd}
 use Rattle.check_model.specs.Bodies.{BodyGiven, body_job, body_first, body, close_body}
-use Rattle.check_sound.specs.Sound.{foreseen, IsThere, IsThereIfAny, is_statement, IsSound, AnswerIsSound, AreSound}
+use Rattle.check_model.specs.Sound.{foreseen, IsThere, IsThereIfAny, is_statement, IsSound, AnswerIsSound, AreSound}
 use Rattle.check_sound.proofs.Grows.{Grows, grows-of}
 use Rattle.check_sound.proofs.Meeting.{Meets, FollowsRun, AllFine, meets}
 

@@ -12,7 +12,7 @@ use Rattle.terra_term.specs.TypedTerms as typed
 use Rattle.terra_term.specs.WellTyped.{Within, Scope, same, in_scope, with_names, after_one, after_all, one_typed, all_typed}
 use Rattle.exotype.specs.World.{StageState}
 use Rattle.check_model.specs.Typing.{found_in}
-use Rattle.check_sound.specs.Sound.{IsThere}
+use Rattle.check_model.specs.Sound.{IsThere}
 use Rattle.check_sound.proofs.Tests.{same-refl, none-some, same-some}
 use Rattle.check_sound.proofs.Running.{AllThere}
 

@@ -20,7 +20,7 @@ use Rattle.check_model.specs.declared.known.KnownResult.{KnownResult}
 use Rattle.check_model.specs.declared.known.KnownResult.TheVariants.{Is, NotYet, BeingTyped}
 use Rattle.check_model.specs.Typing.{function_at, expression_at, expression_in}
 use Rattle.check_model.specs.Calls.{known_result, parameter_types, params_of, params_in, result_in, declared_params, declared_result, written_in, found_in, types_of, result_of, result_in_state, known_or}
-use Rattle.check_sound.specs.Sound.{IsThere, IsThereIfAny, ParametersAreThere, ExpressionIsSound, IsSound}
+use Rattle.check_model.specs.Sound.{IsThere, IsThereIfAny, ParametersAreThere, ExpressionIsSound, IsSound}
 use Rattle.check_sound.proofs.Tests.{none-some, same-some}
 use Rattle.check_sound.proofs.Knowing.{known-some, not-yet, being}
 use Rattle.check_sound.proofs.Foreseen.{body-result}

@@ -22,7 +22,7 @@ use Rattle.check_model.specs.declared.made.Made.{Made}
 use Rattle.check_model.specs.Typing.{TypingState, cut_to}
 use Rattle.check_model.specs.Plans.{BodyPlan, refuse, states, leaving}
 use Rattle.check_model.specs.Statements.{block, condition}
-use Rattle.check_sound.specs.Sound.{foreseen, IsThereIfAny, AreStatements, IsSound}
+use Rattle.check_model.specs.Sound.{foreseen, IsThereIfAny, AreStatements, IsSound}
 use Rattle.check_sound.proofs.Grows.{grows-twice}
 use Rattle.check_sound.proofs.Worlds.{fair-of, one-grows}
 use Rattle.check_sound.proofs.Running.{Known, Fits, ResultThere, where_it_stands, Holds}

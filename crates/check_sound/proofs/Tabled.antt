@@ -14,7 +14,7 @@ use Rattle.lua_table.specs.Pairs.{Pairs, value_in}
 use Rattle.exotype.specs.World.{StageState}
 use Rattle.exotype.specs.Types.{is_struct, tables_of}
 use Rattle.check_model.specs.Structs.{method_at}
-use Rattle.check_sound.specs.Sound.{ValueIsSound, IsSound}
+use Rattle.check_model.specs.Sound.{ValueIsSound, IsSound}
 use Rattle.check_sound.proofs.Tests.{none-some}
 
 -- ---- values in tables

@@ -24,7 +24,7 @@ use Rattle.check_model.specs.Typing.{TypingState, function_at}
 use Rattle.check_model.specs.Plans.{BodyPlan}
 use Rattle.check_model.specs.Calls.{known_or, known_result, parameter_types, written_in}
 use Rattle.check_model.specs.Bodies.{definition_plan, stage_after, close_function, site_of, begun_in, function_plan, for_function}
-use Rattle.check_sound.specs.Sound.{foreseen, TermIsThere, IsSound, HasBodyOf, typed_body, KeepsSound}
+use Rattle.check_model.specs.Sound.{foreseen, TermIsThere, IsSound, HasBodyOf, typed_body, KeepsSound}
 use Rattle.check_sound.proofs.Tests.{same-some}
 use Rattle.check_sound.proofs.Foreseen.{body-result}
 use Rattle.check_sound.proofs.Knowing.{known-some, not-yet, being}

@@ -35,7 +35,7 @@ use Rattle.terra_term.specs.Events.{Event, events_of, doing_events, block_events
 use Rattle.terra_term.specs.WellTyped.{Within, Scope, is_typed, one_typed, all_typed, body_typed, constant_typed, has_layout, is_usable, is_placed}
 use Rattle.exotype.specs.World.{StageState}
 use Rattle.check_model.specs.Typing.{function_at}
-use Rattle.check_sound.specs.Sound.{foreseen, outermost, IsTypedSomewhere, QuoteIsSound, IsThere, IsThereIfAny, TermIsThere, ParametersAreThere, NamesAreThere, is_statement, AreStatements, AreStatementsIfAny, ExpressionIsSound, StatementIsSound, TermIsSound, ConstantIsSound, ValueIsSound, IsSound, typed_body}
+use Rattle.check_model.specs.Sound.{foreseen, outermost, IsTypedSomewhere, QuoteIsSound, IsThere, IsThereIfAny, TermIsThere, ParametersAreThere, NamesAreThere, is_statement, AreStatements, AreStatementsIfAny, ExpressionIsSound, StatementIsSound, TermIsSound, ConstantIsSound, ValueIsSound, IsSound, typed_body}
 use Rattle.check_sound.proofs.Tests.{got, keep_or, stay, no}
 use Rattle.check_sound.proofs.Knowing.{BodiesThere, knows-to, knows-from}
 use Rattle.check_sound.proofs.Passing.{Lies, constant-stays, layout-stays, usable-stays}

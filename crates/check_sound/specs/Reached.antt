@@ -8,7 +8,7 @@ use Rattle.terra_term.specs.WellTyped.{body_typed}
 use Rattle.exotype.specs.World.{StageState}
 use Rattle.check_model.specs.declared.job.Reached.{Reached}
 use Rattle.check_model.specs.Checks.{was_reached}
-use Rattle.check_sound.specs.Sound.{IsSound, IsReady}
+use Rattle.check_model.specs.Sound.{IsSound, IsReady}
 
 -- a function that wasn't reached is there, and isn't defined
 abbrev pub unreached : Function → Function

@@ -1,6 +1,6 @@
 // What typing promises of typed terms. Each function does nothing, and its clause is a law.
 
-ghost use Rattle.check_sound.specs.Sound.{BeginsSound, KeepsSound, LeavesReady};
+ghost use Rattle.check_model.specs.Sound.{BeginsSound, KeepsSound, LeavesReady};
 ghost use Rattle.check_sound.specs.Reached.{ReachedStoresAreTyped};
 
 /// A staging begins in a sound world, whatever memory within the limit its runs have.
