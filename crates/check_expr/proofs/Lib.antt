@@ -1,0 +1,31 @@
+-- Lemmas.
+pub mod Keeping
+pub mod Doing
+pub mod Composing
+pub mod Making
+-- What is behind a conversion or a value.
+pub mod Behind
+-- Layouts.
+pub mod Laying
+-- Types that are made.
+pub mod Typing
+-- Lists that are made of others.
+pub mod Lists
+-- Values that became terms.
+pub mod Becoming
+-- Worlds of which a part is another.
+pub mod Worlds
+-- The entries of constructors.
+pub mod Ordering
+-- Variables that are declared, and scopes that are left.
+pub mod Declaring
+-- Ends and answers that pass by.
+pub mod Passing
+-- How far functions have come.
+pub mod Standing
+-- What is called by its name.
+pub mod Calling
+-- Comparisons of pointers.
+pub mod Retyped
+-- Definitions, by their parts.
+pub mod Defining

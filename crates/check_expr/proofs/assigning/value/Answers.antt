@@ -1,0 +1,16 @@
+use Rattle.std.proofs.Common.{◌≡◌, List, [], ◌∷◌, ◌++◌, refl, sym, ap}
+use Rattle.check_model.specs.declared.made.Made.{Made}
+use Rattle.check_model.specs.Plans.{BodyPlan}
+use Rattle.check_expr.specs.Frames as waiting
+use Rattle.check_expr.proofs.Doing.{moved}
+use Rattle.check_expr.proofs.assigning.value.Goals as goal
+
+pub returns-clause-means : goal.returns-clause-means
+returns-clause-means c = λ left.
+    let a = c.args in
+    let f = a.frame in
+    let w = a.typing.now in
+    let plan : List Made → BodyPlan = λ ms. waiting.assigned_values f ms in
+    moved a.frames.now.items c.values_left.new.frames.items (plan (f.made ++ a.made ∷ [])) (plan c.push.new.self) w w
+    c.values_left.new.typing left left
+    c.in_ok-step.step (ap plan (sym c.in_ok-push.ensures)) refl (c.in_ok-step.ensures.means left)

@@ -1,0 +1,17 @@
+use Rattle.std.proofs.Common.{◌≡◌, List, [], ◌∷◌, ◌++◌, refl, sym, ap}
+use Rattle.tl_base.specs.declared.ids.TermId.{TermId}
+use Rattle.check_model.specs.Plans.{BodyPlan}
+use Rattle.std.specs.Prelude.{false}
+use Rattle.check_expr.specs.Frames as waiting
+use Rattle.check_expr.proofs.Doing.{moved}
+use Rattle.check_expr.proofs.calls.fitted.Goals as goal
+
+pub returns-clause-means : goal.returns-clause-means
+returns-clause-means c = λ left.
+    let a = c.args in
+    let f = a.frame in
+    let w = a.typing.now in
+    let plan : List TermId → BodyPlan = λ ids. waiting.operands_from f false ids a.of in
+    moved a.frames.now.items c.operands_left.new.frames.items (plan (f.ids ++ a.made.id ∷ [])) (plan c.push.new.self) w
+    w c.operands_left.new.typing left left
+    c.in_ok-step.step (ap plan (sym c.in_ok-push.ensures)) refl (c.in_ok-step.ensures.means left)

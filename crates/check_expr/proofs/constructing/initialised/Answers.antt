@@ -1,0 +1,18 @@
+use Rattle.std.proofs.Common.{◌≡◌, ℕ, List, [], ◌∷◌, ◌++◌, refl, sym, ap, ◌∙◌}
+use Rattle.tl_base.specs.declared.ids.TermId.{TermId}
+use Rattle.check_model.specs.Plans.{BodyPlan}
+use Rattle.check_expr.specs.Frames.{values_from}
+use Rattle.check_expr.proofs.Doing.{moved}
+use Rattle.check_expr.proofs.constructing.initialised.Goals as goal
+
+pub returns-clause-means : goal.returns-clause-means
+returns-clause-means c = λ left.
+    let a = c.args in
+    let f = a.frame in
+    let w = a.typing.now in
+    let all = f.ids ++ a.made.id ∷ [] in
+    let plan : List ℕ → List TermId → BodyPlan = λ offsets ids. values_from f offsets ids in
+    moved a.frames.now.items c.values_left.new.frames.items (plan (f.offsets ++ a.laid.offset ∷ []) all)
+    (plan c.push.new.self c.push-2.new.self) w w c.values_left.new.typing left left c.in_ok-step.step
+    (ap (λ (offsets : List ℕ). plan offsets all) (sym c.in_ok-push.ensures) ∙ ap (plan c.push.new.self) (sym c.in_ok-push-2.ensures)) refl
+    (c.in_ok-step.ensures.means left)

@@ -1,0 +1,16 @@
+use Rattle.std.proofs.Common.{◌≡◌, List, [], ◌∷◌, ◌++◌, refl, sym, ap}
+use Rattle.tl_base.specs.declared.ids.TermId.{TermId}
+use Rattle.check_model.specs.Plans.{BodyPlan}
+use Rattle.check_expr.specs.Frames as waiting
+use Rattle.check_expr.proofs.Doing.{moved}
+use Rattle.check_expr.proofs.loops.converted.Goals as goal
+
+pub returns-clause-means : goal.returns-clause-means
+returns-clause-means c = λ left.
+    let a = c.args in
+    let f = a.frame in
+    let w = a.typing.now in
+    let plan : List TermId → BodyPlan = λ ids. waiting.counted_from f ids in
+    moved a.frames.now.items c.conversions_left.new.frames.items (plan (f.ids ++ a.made.id ∷ [])) (plan
+    c.push.new.self) w w c.conversions_left.new.typing left left
+    c.in_ok-step.step (ap plan (sym c.in_ok-push.ensures)) refl (c.in_ok-step.ensures.means left)

@@ -1,0 +1,21 @@
+-- What forms of types say.
+use Rattle.std.specs.Prelude.{Bool, true, false, Option, Some, None}
+use Rattle.tl_base.specs.declared.ids.TypeId.{TypeId}
+use Rattle.terra_types.specs.declared.types.TypeForm.{TypeForm}
+use Rattle.terra_types.specs.declared.types.TypeForm.TheVariants as forms
+use Rattle.check_expr.specs.declared.entries.Elements.{Elements}
+use Rattle.check_expr.specs.declared.entries.Elements.TheVariants as elements
+
+abbrev pub bool_form : TypeForm → Bool
+bool_form forms.Bool = true
+bool_form _ = false
+
+abbrev pub target_in : TypeForm → Option TypeId
+target_in (forms.Pointer t) = Some t
+target_in _ = None
+
+-- what a type has elements of
+abbrev pub elements_in : TypeForm → Elements
+elements_in (forms.Pointer t) = elements.Behind t
+elements_in (forms.Array t n) = elements.Within t
+elements_in _ = elements.Nothing

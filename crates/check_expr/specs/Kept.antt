@@ -1,0 +1,60 @@
+-- What is kept by nothing, and by one step and the next: the laws that the machine's `keeps` has.
+use Rattle.std.proofs.Common.{refl, ◌∙◌}
+use Rattle.lua_table.proofs.Keeping.{front_self, front_then}
+use Rattle.terra_term.specs.declared.store.FunctionState.{FunctionState}
+use Rattle.terra_term.specs.Held.{Held, state_of}
+use Rattle.terra_term.specs.Keeping.{Stays}
+use Rattle.terra_term.proofs.Staying.{stays-same}
+use Rattle.exotype.specs.World.{StageState}
+use Rattle.check_model.specs.Typing.{TypingState}
+use Rattle.check_expr.specs.Keeping.{KeepsTyping, KeepsStage, KeepsStore}
+
+pub store_itself : (s : Held) → KeepsStore s s
+store_itself s = record {
+  functions = λ f. stays-same (state_of s f);
+  types = front_self s.types;
+  terms = front_self s.terms;
+  typed = front_self s.typed;
+  statics = front_self s.statics;
+  symbols = refl;
+  quotes = refl;
+  names = refl;
+  constants = refl;
+  globals = refl;
+}
+
+stays_then : (a b c : FunctionState) → Stays a b → Stays b c → Stays a c
+stays_then a b c f g = record {
+  term = λ t h. g.term t (f.term t h);
+  typed = λ t h. g.typed t (f.typed t h);
+  refusal = λ w h. g.refusal w (f.refusal w h);
+}
+
+pub store_then : (a b c : Held) → KeepsStore a b → KeepsStore b c → KeepsStore a c
+store_then a b c f g = record {
+  functions = λ x. stays_then (state_of a x) (state_of b x) (state_of c x) (f.functions x) (g.functions x);
+  types = front_then a.types b.types c.types f.types g.types;
+  terms = front_then a.terms b.terms c.terms f.terms g.terms;
+  typed = front_then a.typed b.typed c.typed f.typed g.typed;
+  statics = front_then a.statics b.statics c.statics f.statics g.statics;
+  symbols = g.symbols ∙ f.symbols;
+  quotes = g.quotes ∙ f.quotes;
+  names = g.names ∙ f.names;
+  constants = g.constants ∙ f.constants;
+  globals = g.globals ∙ f.globals;
+}
+
+pub stage_itself : (w : StageState) → KeepsStage w w
+stage_itself w = record { heap = refl; store = store_itself w.store; kept = refl; exports = refl; memory = refl }
+
+pub keeps_itself : (w : TypingState) → KeepsTyping w w
+keeps_itself w = stage_itself w.stage
+
+pub keeps_then : (u v w : TypingState) → KeepsTyping u v → KeepsTyping v w → KeepsTyping u w
+keeps_then u v w f g = record {
+  heap = g.heap ∙ f.heap;
+  store = store_then u.stage.store v.stage.store w.stage.store f.store g.store;
+  kept = g.kept ∙ f.kept;
+  exports = g.exports ∙ f.exports;
+  memory = g.memory ∙ f.memory;
+}

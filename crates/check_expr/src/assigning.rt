@@ -1,0 +1,272 @@
+// Assignments: the values come first, then the targets, then the conversions.
+
+ghost use Rattle.std.specs.Prelude.{◌≡◌, ℕ, [], ◌∷◌, ◌++◌, IfOk, OnOk};
+ghost use Rattle.check_model.specs.Plans as plans;
+ghost use Rattle.check_model.specs.Statements as models;
+ghost use Rattle.check_expr.specs.Frames as waiting;
+ghost use Rattle.check_expr.specs.Keeping.{KeepsTyping};
+ghost use Rattle.check_expr.specs.Steps.{Goes, Does};
+
+use crate::converting::convert;
+use crate::frame::{AssignedFrame, BodyFrame, DoingFrame, TargetFrame, ValueFrame};
+use crate::nodes::{refuse, states};
+use crate::step::BodyStep;
+use check_model::row::{Rest, Row, term_list};
+use check_model::{BodyJob, Made, Mode, Site, Typing};
+use std::alloc::Global;
+use terra_term::{RefusalKind, TermList, TypedStatement};
+use tl_base::{NoMemory, Place, Step, TermId};
+
+/// An assignment of values to targets.
+pub fn assign(
+    frames: &mut Vec<BodyFrame>,
+    typing: &mut Typing,
+    targets: Rest<TermId>,
+    values: Rest<TermId>,
+    at: Place,
+    site: Site,
+) -> Result<BodyStep, NoMemory>
+    ensures means { IfOk result (λ step. (left : ℕ) →
+        Goes frames.old.items (models.assign_plan targets values at site)
+        typing.old left frames.new.items step typing.new left) }
+    ensures kept { OnOk result (KeepsTyping typing.old typing.new) }
+{
+    let wanted = targets.len();
+    let given = values.len();
+    if given != wanted {
+        return Ok(refuse(RefusalKind::WrongCount, at, site));
+    }
+    let frame = ValueFrame {
+        values,
+        made: Row::new(typing.world.store.allocator()),
+        targets,
+        at,
+        site,
+    };
+    let step = values_left(frames, typing, frame)?;
+    Ok(step)
+}
+
+/// Types the values that are left, and then the targets.
+fn values_left(
+    frames: &mut Vec<BodyFrame>,
+    typing: &mut Typing,
+    frame: ValueFrame,
+) -> Result<BodyStep, NoMemory>
+    ensures means { IfOk result (λ step. (left : ℕ) →
+        Goes frames.old.items (waiting.assigned_values frame frame.made)
+        typing.old left frames.new.items step typing.new left) }
+    ensures kept { OnOk result (KeepsTyping typing.old typing.new) }
+{
+    let mut frame = frame;
+    match frame.values.take() {
+        Some(value) => {
+            let site = frame.site;
+            frames.push(BodyFrame::Doing(DoingFrame::Value(frame)))?;
+            Ok(Step::Enter(BodyJob::Expression(value, site)))
+        }
+        None => {
+            let ValueFrame {
+                made,
+                targets,
+                at,
+                site,
+                ..
+            } = frame;
+            let frame = TargetFrame {
+                targets,
+                places: Row::new(typing.world.store.allocator()),
+                made,
+                at,
+                site,
+            };
+            let step = targets_left(frames, typing, frame)?;
+            Ok(step)
+        }
+    }
+}
+
+/// Goes on with the values behind one that is typed.
+pub fn value(
+    frames: &mut Vec<BodyFrame>,
+    typing: &mut Typing,
+    frame: ValueFrame,
+    made: Made,
+) -> Result<BodyStep, NoMemory>
+    ensures means { IfOk result (λ step. (left : ℕ) →
+        Goes frames.old.items (waiting.assigned_values frame (frame.made ++ made ∷ []))
+        typing.old left frames.new.items step typing.new left) }
+    ensures kept { OnOk result (KeepsTyping typing.old typing.new) }
+{
+    let mut frame = frame;
+    frame.made.push(made)?;
+    let step = values_left(frames, typing, frame)?;
+    Ok(step)
+}
+
+/// Types the targets that are left, and converts the values.
+fn targets_left(
+    frames: &mut Vec<BodyFrame>,
+    typing: &mut Typing,
+    frame: TargetFrame,
+) -> Result<BodyStep, NoMemory>
+    ensures means { IfOk result (λ step. (left : ℕ) →
+        Goes frames.old.items (waiting.targets_from frame frame.places)
+        typing.old left frames.new.items step typing.new left) }
+    ensures kept { OnOk result (KeepsTyping typing.old typing.new) }
+{
+    let mut frame = frame;
+    match frame.targets.take() {
+        Some(target) => {
+            let site = frame.site;
+            frames.push(BodyFrame::Doing(DoingFrame::Target(frame)))?;
+            Ok(Step::Enter(BodyJob::Expression(target, site)))
+        }
+        None => {
+            let TargetFrame {
+                places,
+                made,
+                at,
+                site,
+                ..
+            } = frame;
+            let alloc = typing.world.store.allocator();
+            let nodes = ids_of(alloc, places.as_slice())?;
+            let values = made.into_rest();
+            let kept = places.into_rest();
+            let frame = AssignedFrame {
+                made: values,
+                places: kept,
+                targets: nodes,
+                ids: Row::new(alloc),
+                at,
+                site,
+            };
+            let step = conversions_left(frames, typing, frame)?;
+            Ok(step)
+        }
+    }
+}
+
+/// The nodes of typed expressions.
+fn ids_of(alloc: Global, made: &[Made]) -> Result<TermList, NoMemory>
+    ensures { IfOk result (λ list. list ≡ plans.ids_of made.now) }
+{
+    let mut ids = Row::new(alloc);
+    'made: for one in made {
+        ids.push(one.id)?;
+    }
+    term_list(ids)
+}
+
+/// Goes on with the targets behind one that is typed, which is a place.
+pub fn target(
+    frames: &mut Vec<BodyFrame>,
+    typing: &mut Typing,
+    frame: TargetFrame,
+    made: Made,
+) -> Result<BodyStep, NoMemory>
+    ensures means { IfOk result (λ step. (left : ℕ) →
+        Goes frames.old.items (waiting.with_doing (DoingFrame.Target frame) made)
+        typing.old left frames.new.items step typing.new left) }
+    ensures kept { OnOk result (KeepsTyping typing.old typing.new) }
+{
+    if made.is_place {
+        let mut frame = frame;
+        frame.places.push(made)?;
+        let step = targets_left(frames, typing, frame)?;
+        Ok(step)
+    } else {
+        Ok(refuse(RefusalKind::NotPlace, made.at, frame.site))
+    }
+}
+
+/// Converts the values that are left, each to the type of its target.
+fn conversions_left(
+    frames: &mut Vec<BodyFrame>,
+    typing: &mut Typing,
+    frame: AssignedFrame,
+) -> Result<BodyStep, NoMemory>
+    ensures means { IfOk result (λ step. (left : ℕ) →
+        Goes frames.old.items (waiting.assigned_from frame frame.ids)
+        typing.old left frames.new.items step typing.new left) }
+    ensures kept { OnOk result (KeepsTyping typing.old typing.new) }
+{
+    let mut frame = frame;
+    match frame.made.take() {
+        None => {
+            let step = assigned(typing, frame)?;
+            Ok(step)
+        }
+        Some(made) => {
+            let step = conversion_left(frames, typing, made, frame)?;
+            Ok(step)
+        }
+    }
+}
+
+/// Converts a value and those behind it, each to the type of its target.
+fn conversion_left(
+    frames: &mut Vec<BodyFrame>,
+    typing: &mut Typing,
+    made: Made,
+    frame: AssignedFrame,
+) -> Result<BodyStep, NoMemory>
+    ensures means { IfOk result (λ step. (left : ℕ) →
+        Goes frames.old.items
+        (models.converting_all (made ∷ frame.made) frame.places frame.site frame.ids
+        (λ all. waiting.assigned frame.targets all frame.at frame.site))
+        typing.old left frames.new.items step typing.new left) }
+    ensures kept { OnOk result (KeepsTyping typing.old typing.new) }
+{
+    let mut frame = frame;
+    match frame.places.take() {
+        None => {
+            let step = assigned(typing, frame)?;
+            Ok(step)
+        }
+        Some(place) => {
+            let site = frame.site;
+            frames.push(BodyFrame::Doing(DoingFrame::Assigned(frame)))?;
+            let step = convert(frames, typing, Mode::Implicit, made, place.of, site)?;
+            Ok(step)
+        }
+    }
+}
+
+/// Goes on with the values behind one that is converted.
+pub fn converted(
+    frames: &mut Vec<BodyFrame>,
+    typing: &mut Typing,
+    frame: AssignedFrame,
+    made: Made,
+) -> Result<BodyStep, NoMemory>
+    ensures means { IfOk result (λ step. (left : ℕ) →
+        Goes frames.old.items (waiting.assigned_from frame (frame.ids ++ made.id ∷ []))
+        typing.old left frames.new.items step typing.new left) }
+    ensures kept { OnOk result (KeepsTyping typing.old typing.new) }
+{
+    let mut frame = frame;
+    frame.ids.push(made.id)?;
+    let step = conversions_left(frames, typing, frame)?;
+    Ok(step)
+}
+
+/// Makes the assignment.
+fn assigned(typing: &mut Typing, frame: AssignedFrame) -> Result<BodyStep, NoMemory>
+    ensures means { IfOk result (λ step. (left : ℕ) →
+        Does (waiting.assigned frame.targets frame.ids frame.at frame.site) typing.old left step typing.new left) }
+    ensures kept { OnOk result (KeepsTyping typing.old typing.new) }
+{
+    let AssignedFrame {
+        targets,
+        ids,
+        at,
+        site,
+        ..
+    } = frame;
+    let list = term_list(ids)?;
+    let form = TypedStatement::Assign(targets, list);
+    let step = states(typing, at, form, site.result)?;
+    Ok(step)
+}

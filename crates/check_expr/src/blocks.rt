@@ -1,0 +1,238 @@
+// Blocks, and what is done with their statements.
+
+ghost use Rattle.std.specs.Prelude.{◌≡◌, ℕ, [], ◌∷◌, ◌++◌, Some, IfOk, OnOk};
+ghost use Rattle.check_model.specs.Expressions as expressions;
+ghost use Rattle.check_model.specs.Plans as plans;
+ghost use Rattle.check_model.specs.Statements as models;
+ghost use Rattle.check_expr.specs.Frames as waiting;
+ghost use Rattle.check_expr.specs.Keeping.{KeepsTyping};
+ghost use Rattle.check_expr.specs.Steps.{Goes, Does};
+
+use crate::frame::{BlockFrame, BlockThen, BodyFrame, DoingFrame, MadeFrame};
+use crate::functions::function;
+use crate::nodes::states;
+use crate::step::BodyStep;
+use check_model::row::{Rest, Row, term_list};
+use check_model::{BodyJob, Made, PartEnd, Site, Typing};
+use terra_term::{TermList, TypedStatement};
+use tl_base::{NoMemory, Place, Step, TermId, TypeId};
+
+/// Types the statements of a block, and does that with them.
+pub fn block(
+    frames: &mut Vec<BodyFrame>,
+    typing: &mut Typing,
+    statements: Rest<TermId>,
+    site: Site,
+    then: BlockThen,
+) -> Result<BodyStep, NoMemory>
+    ensures means { IfOk result (λ step. (left : ℕ) →
+        Goes frames.old.items
+        (expressions.statements statements site [] (λ ids last. waiting.block_then then ids last))
+        typing.old left frames.new.items step typing.new left) }
+    ensures kept { OnOk result (KeepsTyping typing.old typing.new) }
+{
+    let ids = Row::new(typing.world.store.allocator());
+    let frame = BlockFrame {
+        rest: statements,
+        ids,
+        then,
+        site,
+    };
+    let step = statements_left(frames, typing, frame)?;
+    Ok(step)
+}
+
+/// Types the statements of a block that are left.
+fn statements_left(
+    frames: &mut Vec<BodyFrame>,
+    typing: &mut Typing,
+    frame: BlockFrame,
+) -> Result<BodyStep, NoMemory>
+    ensures means { IfOk result (λ step. (left : ℕ) →
+        Goes frames.old.items (waiting.block_from frame frame.site.result frame.ids)
+        typing.old left frames.new.items step typing.new left) }
+    ensures kept { OnOk result (KeepsTyping typing.old typing.new) }
+{
+    let mut frame = frame;
+    match frame.rest.take() {
+        Some(statement) => {
+            let site = frame.site;
+            frames.push(BodyFrame::Block(frame))?;
+            Ok(Step::Enter(BodyJob::Statement(statement, site)))
+        }
+        None => {
+            let BlockFrame {
+                ids,
+                then,
+                site,
+                ..
+            } = frame;
+            let step = with_statements(frames, typing, then, ids, site.result)?;
+            Ok(step)
+        }
+    }
+}
+
+/// Goes on with a block, given how a statement of it ended.
+pub fn after_statement(
+    frames: &mut Vec<BodyFrame>,
+    typing: &mut Typing,
+    frame: BlockFrame,
+    end: PartEnd,
+) -> Result<BodyStep, NoMemory>
+    ensures means { IfOk result (λ step. (left : ℕ) →
+        Goes frames.old.items
+        (plans.on_stated end (λ id found. waiting.block_from frame found (frame.ids ++ id ∷ [])))
+        typing.old left frames.new.items step typing.new left) }
+    ensures kept { OnOk result (KeepsTyping typing.old typing.new) }
+{
+    match end {
+        PartEnd::Stated(id, found) => {
+            let mut frame = frame;
+            frame.ids.push(id)?;
+            frame.site.result = found;
+            let step = statements_left(frames, typing, frame)?;
+            Ok(step)
+        }
+        end => Ok(Step::Return(end)),
+    }
+}
+
+/// What is done with the statements of a block.
+fn with_statements(
+    frames: &mut Vec<BodyFrame>,
+    typing: &mut Typing,
+    then: BlockThen,
+    ids: Row<TermId>,
+    found: Option<TypeId>,
+) -> Result<BodyStep, NoMemory>
+    ensures means { IfOk result (λ step. (left : ℕ) →
+        Goes frames.old.items (waiting.block_then then ids found)
+        typing.old left frames.new.items step typing.new left) }
+    ensures kept { OnOk result (KeepsTyping typing.old typing.new) }
+{
+    match then {
+        BlockThen::Do(count, at) => {
+            typing.leave(count);
+            let list = term_list(ids)?;
+            let step = states(typing, at, TypedStatement::Do(list), found)?;
+            Ok(step)
+        }
+        BlockThen::Then(count, test, more, at, site) => {
+            typing.leave(count);
+            let step = with_else(frames, typing, test, ids, more, at, site, found)?;
+            Ok(step)
+        }
+        BlockThen::Else(count, test, before, at) => {
+            typing.leave(count);
+            let first = term_list(before)?;
+            let others = term_list(ids)?;
+            let form = TypedStatement::If(test.id, first, Some(others));
+            let step = states(typing, at, form, found)?;
+            Ok(step)
+        }
+        BlockThen::While(count, test, at) => {
+            typing.leave(count);
+            let list = term_list(ids)?;
+            let form = TypedStatement::While(test.id, list);
+            let step = states(typing, at, form, found)?;
+            Ok(step)
+        }
+        BlockThen::Repeat(count, test, at, site) => {
+            let frame = DoingFrame::Repeat(count, ids, found, at, site);
+            frames.push(BodyFrame::Doing(frame))?;
+            Ok(Step::Enter(BodyJob::Expression(test, site)))
+        }
+        BlockThen::For(count, name, bounds, at) => {
+            typing.leave(count);
+            let limits = term_list(bounds)?;
+            let list = term_list(ids)?;
+            let form = TypedStatement::For(name, limits, list);
+            let step = states(typing, at, form, found)?;
+            Ok(step)
+        }
+        BlockThen::Let(count, value, node) => {
+            frames.push(BodyFrame::Made(MadeFrame::Let(count, ids, node)))?;
+            Ok(Step::Enter(BodyJob::Expression(value, node.site)))
+        }
+        BlockThen::Function(names, at, site) => {
+            let step = function(typing, names, found, ids, at, site)?;
+            Ok(step)
+        }
+    }
+}
+
+/// Goes on with an `if` behind its first block.
+fn with_else(
+    frames: &mut Vec<BodyFrame>,
+    typing: &mut Typing,
+    test: Made,
+    ids: Row<TermId>,
+    more: Option<Rest<TermId>>,
+    at: Place,
+    site: Site,
+    found: Option<TypeId>,
+) -> Result<BodyStep, NoMemory>
+    ensures means { IfOk result (λ step. (left : ℕ) →
+        Goes frames.old.items (models.else_plan more test ids found at site)
+        typing.old left frames.new.items step typing.new left) }
+    ensures kept { OnOk result (KeepsTyping typing.old typing.new) }
+{
+    match more {
+        None => {
+            let first = term_list(ids)?;
+            let none: Option<TermList> = None;
+            let form = TypedStatement::If(test.id, first, none);
+            let step = states(typing, at, form, found)?;
+            Ok(step)
+        }
+        Some(statements) => {
+            let site = Site {
+                result: found,
+                ..site
+            };
+            let step = else_block(frames, typing, test, ids, statements, at, site)?;
+            Ok(step)
+        }
+    }
+}
+
+/// Types the block behind `else`.
+fn else_block(
+    frames: &mut Vec<BodyFrame>,
+    typing: &mut Typing,
+    test: Made,
+    ids: Row<TermId>,
+    statements: Rest<TermId>,
+    at: Place,
+    site: Site,
+) -> Result<BodyStep, NoMemory>
+    ensures means { IfOk result (λ step. (left : ℕ) →
+        Goes frames.old.items (models.else_plan (Some statements) test ids site.result at site)
+        typing.old left frames.new.items step typing.new left) }
+    ensures kept { OnOk result (KeepsTyping typing.old typing.new) }
+{
+    let count = typing.count();
+    let mut rest = statements;
+    let others = Row::new(typing.world.store.allocator());
+    match rest.take() {
+        Some(statement) => {
+            let frame = BlockFrame {
+                rest,
+                ids: others,
+                then: BlockThen::Else(count, test, ids, at),
+                site,
+            };
+            frames.push(BodyFrame::Block(frame))?;
+            Ok(Step::Enter(BodyJob::Statement(statement, site)))
+        }
+        None => {
+            typing.leave(count);
+            let first = term_list(ids)?;
+            let list = term_list(others)?;
+            let form = TypedStatement::If(test.id, first, Some(list));
+            let step = states(typing, at, form, site.result)?;
+            Ok(step)
+        }
+    }
+}

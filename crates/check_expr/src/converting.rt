@@ -1,0 +1,180 @@
+// Conversions, and how the receiver of a method is made to fit.
+
+ghost use Rattle.std.specs.Prelude.{◌≡◌, ℕ, [], ◌∷◌, codes, IfOk, OnOk};
+ghost use Rattle.check_model.specs.Converting as models;
+ghost use Rattle.check_model.specs.Plans as plans;
+ghost use Rattle.check_model.specs.Plans.{give};
+ghost use Rattle.check_model.specs.Structs as structs;
+ghost use Rattle.check_expr.specs.Keeping.{KeepsTyping};
+ghost use Rattle.check_expr.specs.Steps.{Goes, Does};
+
+use crate::frame::BodyFrame;
+use crate::layouts::as_value;
+use crate::nodes::{gives, make, refuse, without_lua};
+use crate::reading::{is_nil, is_pointer, metamethod_of_either, points_to};
+use crate::step::BodyStep;
+use check_cast::{Conv, explicit, implicit};
+use check_model::row::{Row, term_list};
+use check_model::{Made, Mode, Site, Typing};
+use terra_term::{Constant, Operation, RefusalKind, TermList, TypedExpression};
+use tl_base::{NoMemory, Place, TermId, TypeId};
+
+/// A list of one node.
+pub fn one(typing: &Typing, id: TermId) -> Result<TermList, NoMemory>
+    ensures { IfOk result (λ list. list ≡ id ∷ []) }
+{
+    let mut ids = Row::new(typing.world.store.allocator());
+    ids.push(id)?;
+    term_list(ids)
+}
+
+/// A list of two nodes.
+pub fn two(typing: &Typing, first: TermId, second: TermId) -> Result<TermList, NoMemory>
+    ensures { IfOk result (λ list. list ≡ first ∷ second ∷ []) }
+{
+    let mut ids = Row::new(typing.world.store.allocator());
+    ids.push(first)?;
+    ids.push(second)?;
+    term_list(ids)
+}
+
+/// How a value of a type becomes one of another.
+fn conversion(typing: &Typing, mode: Mode, from: TypeId, to: TypeId) -> Conv
+    ensures { result ≡ models.conv_of mode typing.now.stage from to }
+{
+    let types = typing.world.store.types();
+    match mode {
+        Mode::Implicit => implicit(types, from, to),
+        Mode::Explicit => explicit(types, from, to),
+    }
+}
+
+/// Converts an expression to a type.
+pub fn convert(
+    frames: &mut Vec<BodyFrame>,
+    typing: &mut Typing,
+    mode: Mode,
+    made: Made,
+    to: TypeId,
+    site: Site,
+) -> Result<BodyStep, NoMemory>
+    ensures means { IfOk result (λ step. (left : ℕ) →
+        Goes frames.old.items (models.convert mode made to site give) typing.old left frames.new.items step typing.new left) }
+    ensures kept { OnOk result (KeepsTyping typing.old typing.new) }
+{
+    let conv = conversion(typing, mode, made.of, to);
+    if conv != Conv::Same && is_nil(&typing.world, made) && is_pointer(&typing.world, to) {
+        let step = remade(typing, made, to, TypedExpression::Constant(Constant::Nil))?;
+        Ok(step)
+    } else {
+        let step = by_conversion(frames, typing, conv, made, to, site)?;
+        Ok(step)
+    }
+}
+
+/// Converts an expression to a type in this way.
+fn by_conversion(
+    frames: &mut Vec<BodyFrame>,
+    typing: &mut Typing,
+    conv: Conv,
+    made: Made,
+    to: TypeId,
+    site: Site,
+) -> Result<BodyStep, NoMemory>
+    ensures means { IfOk result (λ step. (left : ℕ) →
+        Goes frames.old.items (models.by_conv conv typing.old.stage made to site give)
+        typing.old left frames.new.items step typing.new left) }
+    ensures kept { OnOk result (KeepsTyping typing.old typing.new) }
+{
+    match conv {
+        Conv::Same => {
+            let step = as_value(frames, typing, made, site)?;
+            Ok(step)
+        }
+        Conv::Array => {
+            if made.is_place {
+                let step = remade(typing, made, to, TypedExpression::Decay(made.id))?;
+                Ok(step)
+            } else {
+                Ok(refuse(RefusalKind::NotPlace, made.at, site))
+            }
+        }
+        Conv::No => Ok(cast(typing, made, to, site)),
+        _ => {
+            let list = one(typing, made.id)?;
+            let form = TypedExpression::Operate(Operation::Convert, list);
+            let step = remade(typing, made, to, form)?;
+            Ok(step)
+        }
+    }
+}
+
+/// Makes another expression of the same term, which is the end.
+fn remade(
+    typing: &mut Typing,
+    made: Made,
+    of: TypeId,
+    form: TypedExpression,
+) -> Result<BodyStep, NoMemory>
+    ensures means { IfOk result (λ step. (left : ℕ) →
+        Does (plans.make made.source made.at of form give) typing.old left step typing.new left) }
+    ensures kept { OnOk result (KeepsTyping typing.old typing.new) }
+{
+    let step = gives(typing, made.source, made.at, of, form)?;
+    Ok(step)
+}
+
+/// An expression that is converted by `__cast` alone.
+fn cast(typing: &Typing, made: Made, to: TypeId, site: Site) -> BodyStep
+    ensures means { (left : ℕ) →
+        Does (models.cast_to (structs.metamethod_of_either typing.now.stage made.of to (codes "__cast")) made to site give)
+        typing.now left result typing.now left }
+{
+    let handler = metamethod_of_either(&typing.world, made.of, to, b"__cast");
+    without_lua(handler, RefusalKind::Mismatch, made.at, site)
+}
+
+/// Makes a receiver fit the first parameter: it is passed as it is, by address or by target, or else converted.
+pub fn fit(
+    frames: &mut Vec<BodyFrame>,
+    typing: &mut Typing,
+    made: Made,
+    to: TypeId,
+    at: Place,
+    site: Site,
+) -> Result<BodyStep, NoMemory>
+    ensures means { IfOk result (λ step. (left : ℕ) →
+        Goes frames.old.items (models.fit made to at site give) typing.old left frames.new.items step typing.new left) }
+    ensures kept { OnOk result (KeepsTyping typing.old typing.new) }
+{
+    if made.of.0 == to.0 {
+        let step = as_value(frames, typing, made, site)?;
+        Ok(step)
+    } else if points_to(&typing.world, to, made.of) {
+        if made.is_place {
+            let step = gives(
+                typing,
+                made.source,
+                at,
+                to,
+                TypedExpression::Address(made.id),
+            )?;
+            Ok(step)
+        } else {
+            Ok(refuse(RefusalKind::NotPlace, made.at, site))
+        }
+    } else if points_to(&typing.world, made.of, to) {
+        let target = make(
+            typing,
+            made.source,
+            at,
+            to,
+            TypedExpression::Dereference(made.id),
+        )?;
+        let step = as_value(frames, typing, target, site)?;
+        Ok(step)
+    } else {
+        let step = convert(frames, typing, Mode::Implicit, made, to, site)?;
+        Ok(step)
+    }
+}

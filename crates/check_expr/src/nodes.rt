@@ -1,0 +1,152 @@
+// Typed nodes, and the ends of plans.
+
+ghost use Rattle.std.specs.Prelude.{◌≡◌, ℕ, IfOk, OnOk};
+ghost use Rattle.terra_term.specs.Held.{next_typed, with_typed};
+ghost use Rattle.terra_term.specs.declared.typed.Typed.TheVariants as typed_kinds;
+ghost use Rattle.exotype.specs.Becoming as becoming;
+ghost use Rattle.exotype.specs.Types.{pointer_id, with_pointer};
+ghost use Rattle.exotype.specs.World.{with_store};
+ghost use Rattle.check_model.specs.Plans as plans;
+ghost use Rattle.check_model.specs.Typing.{TypingState, is_place_form, made_of};
+ghost use Rattle.check_expr.specs.Callees as callees;
+ghost use Rattle.check_expr.specs.Keeping.{KeepsStage, KeepsTyping};
+ghost use Rattle.check_expr.specs.Steps.{Does, with_node, with_stage};
+
+use crate::step::BodyStep;
+use check_model::{Made, PartEnd, Site, Typing};
+use exotype::{Became, World};
+use lua_value::Value;
+use terra_term::{Refusal, RefusalKind, Typed, TypedExpression, TypedStatement};
+use tl_base::{NoMemory, Place, Step, TermId, TypeId};
+
+/// Whether an expression is a place.
+fn is_place(form: &TypedExpression) -> bool
+    ensures { result ≡ is_place_form form.now }
+{
+    match form {
+        TypedExpression::Variable(_) => true,
+        TypedExpression::Global(_) => true,
+        TypedExpression::Dereference(_) => true,
+        TypedExpression::Select(_, _) => true,
+        TypedExpression::Follow(_, _) => true,
+        TypedExpression::Element(_, _) => true,
+        TypedExpression::Index(_, _) => true,
+        _ => false,
+    }
+}
+
+/// Adds a typed node to the store.
+fn add_node(world: &mut World, node: Typed) -> Result<TermId, NoMemory>
+    ensures id { IfOk result (λ id. id ≡ next_typed world.old.store) }
+    ensures ok { OnOk result (world.new ≡ with_store world.old (with_typed world.old.store node)) }
+    ensures kept { OnOk result (KeepsStage world.old world.new) }
+{
+    let id = world.store.new_typed(node)?;
+    Ok(id)
+}
+
+/// Adds a typed node.
+pub fn new_node(typing: &mut Typing, node: Typed) -> Result<TermId, NoMemory>
+    ensures id { IfOk result (λ id. id ≡ next_typed typing.old.stage.store) }
+    ensures ok { OnOk result (typing.new ≡ with_node typing.old node) }
+    ensures kept { OnOk result (KeepsTyping typing.old typing.new) }
+{
+    let id = add_node(&mut typing.world, node)?;
+    Ok(id)
+}
+
+/// Makes the type of pointers to a type.
+pub fn pointer_to(typing: &mut Typing, of: TypeId) -> Result<TypeId, NoMemory>
+    ensures id { IfOk result (λ id. id ≡ pointer_id typing.old.stage of) }
+    ensures ok { OnOk result (typing.new ≡ with_stage typing.old (with_pointer typing.old.stage of)) }
+    ensures kept { OnOk result (KeepsTyping typing.old typing.new) }
+{
+    let id = typing.world.pointer_to(of)?;
+    Ok(id)
+}
+
+/// Makes a value a term, at the place of what it stands for.
+pub fn term_of(typing: &mut Typing, value: Value, at: Place) -> Result<Became, NoMemory>
+    ensures term { IfOk result (λ became. became ≡ becoming.term_of typing.old.stage value) }
+    ensures ok { OnOk result (typing.new ≡ with_stage typing.old (becoming.with_term_of typing.old.stage value at)) }
+    ensures kept { OnOk result (KeepsTyping typing.old typing.new) }
+{
+    let became = typing.world.term_of(value, at)?;
+    Ok(became)
+}
+
+/// Makes a typed expression of a term.
+pub fn make(
+    typing: &mut Typing,
+    source: TermId,
+    at: Place,
+    of: TypeId,
+    form: TypedExpression,
+) -> Result<Made, NoMemory>
+    ensures made { IfOk result (λ made. made ≡ made_of (next_typed typing.old.stage.store) source at of form) }
+    ensures ok { OnOk result (typing.new ≡ with_node typing.old (typed_kinds.Expression at of form)) }
+    ensures kept { OnOk result (KeepsTyping typing.old typing.new) }
+{
+    let is_place = is_place(&form);
+    let id = new_node(typing, Typed::Expression(at, of, form))?;
+    Ok(Made {
+        id,
+        source,
+        at,
+        of,
+        is_place,
+    })
+}
+
+/// Makes a typed expression of a term, which is the end.
+pub fn gives(
+    typing: &mut Typing,
+    source: TermId,
+    at: Place,
+    of: TypeId,
+    form: TypedExpression,
+) -> Result<BodyStep, NoMemory>
+    ensures means { IfOk result (λ step. (left : ℕ) →
+        Does (plans.gives source at of form) typing.old left step typing.new left) }
+    ensures kept { OnOk result (KeepsTyping typing.old typing.new) }
+{
+    let made = make(typing, source, at, of, form)?;
+    Ok(Step::Return(PartEnd::Made(made)))
+}
+
+/// Makes a typed statement, which is the end.
+pub fn states(
+    typing: &mut Typing,
+    at: Place,
+    form: TypedStatement,
+    result_type: Option<TypeId>,
+) -> Result<BodyStep, NoMemory>
+    ensures means { IfOk result (λ step. (left : ℕ) →
+        Does (plans.states at form result_type) typing.old left step typing.new left) }
+    ensures kept { OnOk result (KeepsTyping typing.old typing.new) }
+{
+    let id = new_node(typing, Typed::Statement(at, form))?;
+    Ok(Step::Return(PartEnd::Stated(id, result_type)))
+}
+
+/// The end that is this refusal.
+pub fn refuse(kind: RefusalKind, at: Place, site: Site) -> BodyStep
+    ensures means { (w : TypingState) (left : ℕ) → Does (plans.refuse kind at site) w left result w left }
+{
+    Step::Return(PartEnd::Refused(Refusal {
+        kind,
+        place: at,
+        function: site.function,
+    }))
+}
+
+/// The end where a rule wants a metamethod: this refusal where there is none. Lua isn't asked for it yet.
+pub fn without_lua(handler: Value, kind: RefusalKind, at: Place, site: Site) -> BodyStep
+    ensures means { (w : TypingState) (left : ℕ) → Does (callees.without_lua handler kind at site) w left result w left }
+{
+    if handler.is_nil() {
+        refuse(kind, at, site)
+    } else {
+        refuse(RefusalKind::NotBuilt, at, site)
+    }
+}

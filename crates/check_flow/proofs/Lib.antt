@@ -1,0 +1,2 @@
+-- Lemmas: what is to be gone through.
+pub mod Mentioning

@@ -1,0 +1,311 @@
+// The steps of a layout.
+
+ghost use Rattle.std.specs.Prelude.{◌≡◌, ℕ, List, codes, IfOk, OnOk};
+ghost use Rattle.terra_types.specs.Layouts.{layout_of};
+ghost use Rattle.terra_types.specs.Sizes.{size_of};
+ghost use Rattle.exotype.specs.Properties.{known_of};
+ghost use Rattle.check_model.specs.Layouts as models;
+ghost use Rattle.check_model.specs.Structs as structs;
+ghost use Rattle.check_flow.specs.LayoutFrames.{layout_rules, parts_from, is_go};
+ghost use Rattle.check_model.specs.Typing.{form_in};
+ghost use Rattle.check_flow.specs.Keeping.{KeepsLayouts};
+ghost use Rattle.check_flow.specs.Kinds.{kind_in};
+ghost use Rattle.check_flow.specs.Steps.{LaysOn};
+
+use crate::entries::entries_from;
+use crate::layout_frame::LayoutFrame;
+use check_model::{CheckAnswer, LayoutEnd, LayoutQuestion, LayoutTask, Rest};
+use exotype::{Known, Property, World};
+use lua_value::Value;
+use std::alloc::Global;
+use terra_term::RefusalKind;
+use terra_types::{Entry, Settled, TypeForm};
+use tl_base::{Budget, Machine, NoMemory, Place, Step, TypeId};
+
+/// What a layout does next.
+pub type LayoutStep = Step<(), LayoutEnd, LayoutQuestion>;
+
+/// The steps of a layout.
+#[derive(Drop)]
+pub(crate) struct LayoutSteps {
+    pub(crate) alloc: Global,
+}
+
+/// A struct's metamethod for its entries.
+fn entries_metamethod(world: &World, of: TypeId) -> Value
+    ensures { result ≡ structs.metamethod world.now of (codes "__getentries") }
+{
+    if world.is_struct(of) {
+        let tables = world.struct_tables(of);
+        match world.heap.find(b"__getentries") {
+            Some(text) => world.heap.get(tables.metamethods, Value::Text(text)),
+            None => Value::Nil,
+        }
+    } else {
+        Value::Nil
+    }
+}
+
+/// A struct's own entries.
+fn own_entries(world: &World, of: TypeId) -> Value
+    ensures { result ≡ structs.entries_at world.now of }
+{
+    if world.is_struct(of) {
+        Value::Table(world.struct_tables(of).entries)
+    } else {
+        Value::Nil
+    }
+}
+
+/// What is known of the entries of a struct from now on, where they are being asked for.
+fn settle_entries(world: &mut World, of: TypeId, known: Known)
+    ensures { world.new ≡ record world.old { kept = models.settled_as (known_of world.old.kept (Property.Entries of)) world.old.kept of known } }
+{
+    if world.kept.known(Property::Entries(of)) == Known::Asked {
+        world.kept.settle(Property::Entries(of), known);
+    }
+}
+
+/// Refuses a layout; a refusal is kept but for that of what is incomplete.
+fn keep(world: &mut World, of: TypeId, kind: RefusalKind) -> LayoutStep
+    ensures { (left : ℕ) → (fs : List LayoutFrame) → LaysOn fs (models.keep of kind) world.old left fs result world.new left }
+{
+    let known = match kind {
+        RefusalKind::Incomplete => Known::Unasked,
+        _ => Known::Refused(kind),
+    };
+    settle_entries(world, of, known);
+    Step::Return(LayoutEnd::Refused(kind))
+}
+
+/// Asks for the layouts of the entries that are left, and settles the struct.
+fn parts_left(
+    frames: &mut Vec<LayoutFrame>,
+    world: &mut World,
+    of: TypeId,
+    value: Value,
+    rest: Rest<Entry>,
+    entries: Vec<Entry>,
+    at: Place,
+) -> Result<LayoutStep, NoMemory>
+    ensures means { IfOk result (λ step. (left : ℕ) →
+        LaysOn frames.old.items (parts_from of value rest entries.items at) world.old left frames.new.items step world.new left) }
+    ensures kept { OnOk result (KeepsLayouts world.old world.new) }
+{
+    let mut rest = rest;
+    match rest.take() {
+        Some(entry) => {
+            frames.push(LayoutFrame::Part(of, value, rest, entries, at))?;
+            Ok(Step::Stop(LayoutQuestion::LayoutOf(entry.of, at)))
+        }
+        None => {
+            let step = settle(world, of, value, entries)?;
+            Ok(step)
+        }
+    }
+}
+
+/// Settles a struct, once the layouts of all its entries are.
+fn settle(
+    world: &mut World,
+    of: TypeId,
+    value: Value,
+    entries: Vec<Entry>,
+) -> Result<LayoutStep, NoMemory>
+    ensures means { IfOk result (λ step. (left : ℕ) → (fs : List LayoutFrame) →
+        LaysOn fs (models.unless_settled world.old of value (layout_of world.old.store.types entries.items))
+        world.old left fs step world.new left) }
+    ensures kept { OnOk result (KeepsLayouts world.old world.new) }
+{
+    if world.store.types().is_unsettled(of) {
+        match world.store.types_mut().settle(of, entries)? {
+            Settled::Done => {}
+            Settled::Bad => return Ok(keep(world, of, RefusalKind::BadEntries)),
+        }
+    }
+    settle_entries(world, of, Known::Value(value));
+    Ok(Step::Return(LayoutEnd::Done))
+}
+
+/// Lays a struct out by the value that has its entries.
+fn by_entries(
+    frames: &mut Vec<LayoutFrame>,
+    world: &mut World,
+    of: TypeId,
+    value: Value,
+    at: Place,
+) -> Result<LayoutStep, NoMemory>
+    ensures means { IfOk result (λ step. (left : ℕ) →
+        LaysOn frames.old.items (models.by_entries of value at) world.old left frames.new.items step world.new left) }
+    ensures kept { OnOk result (KeepsLayouts world.old world.new) }
+{
+    match entries_from(&world.heap, copy(&value))? {
+        None => Ok(keep(world, of, RefusalKind::BadEntries)),
+        Some(entries) => {
+            let rest = Rest::copy(world.store.allocator(), &entries)?;
+            let step = parts_left(frames, world, of, value, rest, entries, at)?;
+            Ok(step)
+        }
+    }
+}
+
+/// The same value, for what goes on with it behind a call that takes it.
+fn copy(value: &Value) -> Value
+    ensures { result ≡ value.now }
+{
+    *value
+}
+
+/// Lays a struct out, by what is known of its entries.
+fn lay_out_struct(
+    frames: &mut Vec<LayoutFrame>,
+    world: &mut World,
+    of: TypeId,
+    at: Place,
+) -> Result<LayoutStep, NoMemory>
+    ensures means { IfOk result (λ step. (left : ℕ) →
+        LaysOn frames.old.items (models.by_known world.old (known_of world.old.kept (Property.Entries of)) of at)
+        world.old left frames.new.items step world.new left) }
+    ensures kept { OnOk result (KeepsLayouts world.old world.new) }
+{
+    match world.kept.known(Property::Entries(of)) {
+        Known::Value(_) => Ok(Step::Return(LayoutEnd::Done)),
+        Known::Refused(kind) => Ok(Step::Return(LayoutEnd::Refused(kind))),
+        Known::Asked => Ok(Step::Return(LayoutEnd::Refused(RefusalKind::Incomplete))),
+        Known::Unasked => {
+            let asks_lua = !entries_metamethod(world, of).is_nil();
+            let own = own_entries(world, of);
+            world.kept.begin(Property::Entries(of))?;
+            if asks_lua {
+                Ok(keep(world, of, RefusalKind::NotBuilt))
+            } else {
+                let step = by_entries(frames, world, of, own, at)?;
+                Ok(step)
+            }
+        }
+    }
+}
+
+/// How a type is laid out.
+#[derive(Clone, Copy, Debug)]
+enum Kind {
+    Struct,
+    Array(TypeId),
+    Other,
+}
+
+/// How a type is laid out.
+fn kind_of(world: &World, of: TypeId) -> Kind
+    ensures { result ≡ kind_in (form_in world.now of) }
+{
+    match world.store.types().form(of) {
+        Some(TypeForm::Struct(_, _, _)) => Kind::Struct,
+        Some(TypeForm::Array(elements, _)) => Kind::Array(*elements),
+        _ => Kind::Other,
+    }
+}
+
+/// Ends the layout of an array, once that of its elements is settled.
+fn sized(world: &World, of: TypeId) -> LayoutStep
+    ensures { (left : ℕ) → (fs : List LayoutFrame) →
+        LaysOn fs (models.sized (size_of world.now.store.types of)) world.now left fs result world.now left }
+{
+    match world.store.types().size_of(of) {
+        Some(_) => Step::Return(LayoutEnd::Done),
+        None => Step::Return(LayoutEnd::Refused(RefusalKind::BadEntries)),
+    }
+}
+
+impl Machine for LayoutSteps {
+    ghost use Rattle.check_flow.specs.Kept.{keeps_itself, keeps_then};
+
+    type World = World;
+
+    type Task = LayoutTask;
+
+    type Job = ();
+
+    type Frame = LayoutFrame;
+
+    type Question = LayoutQuestion;
+
+    type Answer = CheckAnswer;
+
+    type Return = LayoutEnd;
+
+    type End = LayoutEnd;
+
+    ghost rules = { λ steps. layout_rules };
+
+    ghost keeps = { KeepsLayouts };
+
+    ghost is_go = { is_go };
+
+    ghost keeps_self = { keeps_itself };
+
+    ghost keeps_on = { keeps_then };
+
+    fn open(
+        &self,
+        frames: &mut Vec<LayoutFrame>,
+        world: &mut World,
+        budget: &mut Budget,
+        task: LayoutTask,
+    ) -> Result<LayoutStep, NoMemory> {
+        match kind_of(world, task.of) {
+            Kind::Struct => {
+                let step = lay_out_struct(frames, world, task.of, task.at)?;
+                Ok(step)
+            }
+            Kind::Array(elements) => {
+                frames.push(LayoutFrame::Elements(task.of))?;
+                Ok(Step::Stop(LayoutQuestion::LayoutOf(elements, task.at)))
+            }
+            Kind::Other => Ok(Step::Return(LayoutEnd::Done)),
+        }
+    }
+
+    fn begin(
+        &self,
+        frames: &mut Vec<LayoutFrame>,
+        world: &mut World,
+        budget: &mut Budget,
+        job: (),
+    ) -> Result<LayoutStep, NoMemory> {
+        Ok(Step::Return(LayoutEnd::Done))
+    }
+
+    fn go_on(
+        &self,
+        frames: &mut Vec<LayoutFrame>,
+        world: &mut World,
+        budget: &mut Budget,
+        frame: LayoutFrame,
+        end: LayoutEnd,
+    ) -> Result<LayoutStep, NoMemory> {
+        match frame {
+            LayoutFrame::Part(of, value, rest, entries, at) => match end {
+                LayoutEnd::Refused(kind) => Ok(keep(world, of, kind)),
+                LayoutEnd::Done => {
+                    let step = parts_left(frames, world, of, value, rest, entries, at)?;
+                    Ok(step)
+                }
+            },
+            LayoutFrame::Elements(of) => match end {
+                LayoutEnd::Refused(kind) => Ok(Step::Return(LayoutEnd::Refused(kind))),
+                LayoutEnd::Done => Ok(sized(world, of)),
+            },
+        }
+    }
+
+    fn reply(&self, answer: CheckAnswer) -> LayoutEnd {
+        match answer {
+            CheckAnswer::NoLayout(kind) => LayoutEnd::Refused(kind),
+            _ => LayoutEnd::Done,
+        }
+    }
+
+    fn close(&self, end: LayoutEnd) -> LayoutEnd {
+        end
+    }
+}
