@@ -1,0 +1,6 @@
+-- What each call keeps.
+pub mod Kept
+-- How the walks over entries, functions and bytes go on.
+pub mod Walking
+-- The text of a refusal is short.
+pub mod Shortness
