@@ -4,3 +4,5 @@ pub mod Kept
 pub mod Walking
 -- The text of a refusal is short.
 pub mod Shortness
+-- Whether there is room for one more static.
+pub mod Room

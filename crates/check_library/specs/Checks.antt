@@ -3,7 +3,7 @@ use Rattle.std.specs.Prelude.{List, [], ◌∷◌, Option, Some, None}
 use Rattle.tl_base.specs.declared.ids.FnId.{FnId}
 use Rattle.tl_base.specs.declared.ids.TypeId.{TypeId}
 use Rattle.tl_base.specs.declared.place.Place.{Place}
-use Rattle.tl_base.specs.Layer.{State}
+use Rattle.tl_base.specs.Layer.{State, state}
 use Rattle.lua_value.specs.declared.library.LibFn.TheVariants as library
 use Rattle.lua_value.specs.declared.primitive.Primitive.{Primitive}
 use Rattle.lua_value.specs.declared.primitive.Primitive.TheVariants.{PutByte, Write, Alloc}
@@ -39,25 +39,28 @@ compile_backed s answer place = on_check s answer (λ r. place) (said (gives s s
 
 -- ---- `gettype`
 
--- gives the type of functions of these parameters and this result, in a world
-abbrev pub function_of : State StageState → StageState → List TypeId → TypeId → Turned
-function_of s w params result = gives_one s (with_function w params result) (values.TerraType (function_id w params result))
+-- gives the type of functions of these parameters and this result
+abbrev pub function_of : State StageState → List TypeId → TypeId → Turned
+function_of s params result =
+    gives_one s (with_function s.world params result) (values.TerraType (function_id s.world params result))
 
 abbrev pub typed_or : State StageState → Option (List TypeId) → KnownResult → Asked → Asked
-typed_or s (Some params) (Is result) other = said (function_of s s.world params result)
+typed_or s (Some params) (Is result) other = said (function_of s params result)
 typed_or s params result other = other
 
 -- gives a function's type, as far as it is known
 abbrev pub type_or : State StageState → FnId → Asked → Asked
 type_or s f other = typed_or s (parameters_of s.world f) (result_of s.world f) other
 
+-- with the type of pointers to bytes
+abbrev pub with_bytes : State StageState → State StageState
+with_bytes s = state (with_pointer s.world uint8) s.left
+
 -- `putbyte : {uint8} -> {}`, `write : {&uint8, int64} -> {}` and `alloc : {int64} -> &uint8`
 abbrev pub primitive_type : State StageState → Primitive → Turned
-primitive_type s PutByte = function_of s s.world (uint8 ∷ []) unit
-primitive_type s Write =
-    function_of s (with_pointer s.world uint8) (pointer_id s.world uint8 ∷ int64 ∷ []) unit
-primitive_type s Alloc =
-    function_of s (with_pointer s.world uint8) (int64 ∷ []) (pointer_id s.world uint8)
+primitive_type s PutByte = function_of s (uint8 ∷ []) unit
+primitive_type s Write = function_of (with_bytes s) (pointer_id s.world uint8 ∷ int64 ∷ []) unit
+primitive_type s Alloc = function_of (with_bytes s) (int64 ∷ []) (pointer_id s.world uint8)
 
 -- A function whose type isn't known is checked first. No quote has a type yet.
 abbrev pub gettype_of : State StageState → Value → Place → Asked

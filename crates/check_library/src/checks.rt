@@ -1,10 +1,10 @@
 // Checks, and the types of functions.
 
-ghost use Rattle.std.specs.Prelude.{◌≡◌, ◌≤◌, ℕ, IfOk, OnOk};
+ghost use Rattle.std.specs.Prelude.{◌≡◌, ◌≤◌, IfOk, OnOk};
 ghost use Rattle.tl_base.specs.Layer.{state};
 ghost use Rattle.check_model.specs.Calls.{parameters_of, result_of};
 ghost use Rattle.check_library.specs.Answers.{asked, said};
-ghost use Rattle.check_library.specs.Checks.{compile_asked, compile_backed, gettype_asked, gettype_backed, gettype_of, type_or};
+ghost use Rattle.check_library.specs.Checks.{compile_asked, compile_backed, gettype_asked, gettype_backed, type_or};
 ghost use Rattle.check_library.specs.Checks.{function_of, primitive_type};
 ghost use Rattle.check_library.specs.Keeping.{KeepsAsked};
 
@@ -86,9 +86,9 @@ pub fn get_type(
                 function: f,
                 next: AskNext::GetType(f),
             };
-            give_type_or(world, f, other)
+            give_type_or(world, budget, f, other)
         }
-        Value::Primitive(primitive) => give_primitive_type(world, primitive),
+        Value::Primitive(primitive) => give_primitive_type(world, budget, primitive),
         Value::Quote(_) => raise(world, budget, place, Fault::QuoteWithoutType),
         _ => bad_argument(world, budget, place, 1, LibFn::GetType),
     }
@@ -113,20 +113,25 @@ pub fn get_type_back(
         }
         _ => {
             let other = give_nothing(world);
-            give_type_or(world, f, other)
+            give_type_or(world, budget, f, other)
         }
     }
 }
 
-/// Gives the type of a function, where it is known, and does something else where it isn't.
-fn give_type_or(world: &mut World, f: FnId, other: AskTurn) -> Result<AskTurn, NoMemory>
-    ensures does { IfOk result (λ turn. (left : ℕ) →
-        asked turn (state world.new left) ≡ type_or (state world.old left) f (asked other (state world.old left))) }
+/// Gives the type of a function, where it is known, and does something else where it isn't. This pays nothing.
+fn give_type_or(
+    world: &mut World,
+    budget: &Budget,
+    f: FnId,
+    other: AskTurn,
+) -> Result<AskTurn, NoMemory>
+    ensures does { IfOk result (λ turn. asked turn (state world.new budget.now)
+        ≡ type_or (state world.old budget.now) f (asked other (state world.old budget.now))) }
     ensures kept { OnOk result (KeepsAsked world.old world.new) }
 {
     match parameter_types(world, f)? {
         Some(params) => match result_type(world, f) {
-            KnownResult::Is(of) => give_function_type(world, params.as_slice(), of),
+            KnownResult::Is(of) => give_function_type(world, budget, params.as_slice(), of),
             _ => Ok(other),
         },
         None => Ok(other),
@@ -136,11 +141,12 @@ fn give_type_or(world: &mut World, f: FnId, other: AskTurn) -> Result<AskTurn, N
 /// Gives the type of functions of these parameters and this result.
 fn give_function_type(
     world: &mut World,
+    budget: &Budget,
     params: &[TypeId],
     of: TypeId,
 ) -> Result<AskTurn, NoMemory>
-    ensures does { IfOk result (λ turn. (left : ℕ) →
-        asked turn (state world.new left) ≡ said (function_of (state world.old left) world.old params.now of)) }
+    ensures does { IfOk result (λ turn. asked turn (state world.new budget.now)
+        ≡ said (function_of (state world.old budget.now) params.now of)) }
     ensures kept { OnOk result (KeepsAsked world.old world.new) }
 {
     let function = world.function_of(params, of)?;
@@ -148,20 +154,24 @@ fn give_function_type(
 }
 
 /// Gives the type of a primitive.
-fn give_primitive_type(world: &mut World, primitive: Primitive) -> Result<AskTurn, NoMemory>
-    ensures does { IfOk result (λ turn. (left : ℕ) →
-        asked turn (state world.new left) ≡ said (primitive_type (state world.old left) primitive)) }
+fn give_primitive_type(
+    world: &mut World,
+    budget: &Budget,
+    primitive: Primitive,
+) -> Result<AskTurn, NoMemory>
+    ensures does { IfOk result (λ turn. asked turn (state world.new budget.now)
+        ≡ said (primitive_type (state world.old budget.now) primitive)) }
     ensures kept { OnOk result (KeepsAsked world.old world.new) }
 {
     match primitive {
-        Primitive::PutByte => give_function_type(world, &[UINT8], UNIT),
+        Primitive::PutByte => give_function_type(world, budget, &[UINT8], UNIT),
         Primitive::Write => {
             let bytes = world.pointer_to(UINT8)?;
-            give_function_type(world, &[bytes, INT64], UNIT)
+            give_function_type(world, budget, &[bytes, INT64], UNIT)
         }
         Primitive::Alloc => {
             let bytes = world.pointer_to(UINT8)?;
-            give_function_type(world, &[INT64], bytes)
+            give_function_type(world, budget, &[INT64], bytes)
         }
     }
 }

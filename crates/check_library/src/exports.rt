@@ -104,6 +104,7 @@ fn next_of(world: &World, at_end: bool, rest: &mut Rest<(Value, Value)>) -> Fate
             Fate::LeftOut => {}
         }
     }
+    *rest = Rest::from_vec(Vec::new(world.heap.allocator()));
     Fate::LeftOut
 }
 

@@ -1,9 +1,9 @@
 // Sizes, offsets and globals.
 
-ghost use Rattle.std.specs.Prelude.{◌≡◌, ◌≤◌, length, IfOk, OnOk};
+ghost use Rattle.std.specs.Prelude.{◌≡◌, ◌≤◌, ◌<◌, ◌^◌, length, IfOk, OnOk};
 ghost use Rattle.tl_base.specs.Layer.{state};
 ghost use Rattle.terra_types.specs.Layouts.{offset_of};
-ghost use Rattle.terra_term.specs.Held.{placed_global};
+ghost use Rattle.terra_term.specs.Held.{placed_global, has_room, statics_end};
 ghost use Rattle.check_model.specs.Typing.{bytes_in};
 ghost use Rattle.check_library.specs.Answers.{asked, said};
 ghost use Rattle.check_library.specs.Keeping.{KeepsAsked};
@@ -21,8 +21,12 @@ use std::alloc::Global;
 use terra_lib::answers::type_in;
 use terra_lib::fields::whole;
 use terra_lib::symbols::scalar_bits;
+use terra_term::Static;
 use terra_types::{TypeForm, Types};
 use tl_base::{Budget, GlobalId, NoMemory, Place, Text2, TextId, TypeId};
+
+/// The address of the first static.
+const FIRST_STATIC: u64 = 0x4000_0000;
 
 /// The place of what has none in the text.
 const NOWHERE: Place = Place { line: 0, word: 0 };
@@ -243,10 +247,48 @@ pub fn global_back(
             let own = struct_place(world.store.types(), of);
             refuse(world, budget, kind, own, place)
         }
-        _ => {
-            let bytes = first_bytes(world.heap.allocator(), bytes_of(world, of), bits)?;
-            give_global(world, budget, of, bytes, place)
-        }
+        _ => place_global(world, budget, of, bits, place),
+    }
+}
+
+/// Gives a new global of a type whose layout is settled, or raises that statics are full, in which case no bytes are made.
+fn place_global(
+    world: &mut World,
+    budget: &mut Budget,
+    of: TypeId,
+    bits: u64,
+    place: Place,
+) -> Result<AskTurn, NoMemory>
+    ensures does { IfOk result (λ turn. asked turn (state world.new budget.new)
+        ≡ said (global_turned (state world.old budget.old) of (first_bytes (bytes_in world.old of) bits) place)) }
+    ensures kept { OnOk result (KeepsAsked world.old world.new) }
+    ensures paid { OnOk result (budget.new ≤ budget.old) }
+{
+    let size = bytes_of(world, of);
+    if !has_room(world, size) {
+        return raise(world, budget, place, Fault::StaticsFull);
+    }
+    let bytes = first_bytes(world.heap.allocator(), size, bits)?;
+    give_global(world, budget, of, bytes, place)
+}
+
+/// Whether there is room for one more static of so many bytes.
+fn has_room(world: &World, size: u64) -> bool
+    ensures { result ≡ has_room world.now.memory world.now.store.statics size }
+{
+    let next = (statics_end(world.store.statics()) + 15) / 16 * 16;
+    next + u128::from(size) <= u128::from(FIRST_STATIC + world.memory() / 2)
+}
+
+/// The first address behind all statics.
+#[tactic(auto, using(crate::proofs::Room::end_of_last, crate::proofs::Room::end_of_none))]
+fn statics_end(statics: &[Static]) -> u128
+    ensures end { result ≡ statics_end statics.now }
+    ensures within { result < 2 ^ 65 }
+{
+    match statics.last() {
+        Some(last) => u128::from(last.address) + last.bytes.bytes().len() as u128,
+        None => u128::from(FIRST_STATIC),
     }
 }
 
