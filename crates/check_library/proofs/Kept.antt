@@ -1,5 +1,5 @@
 -- What each change of the world keeps.
-use Rattle.std.proofs.Common.{◌≡◌, ℕ, List, ◌∷◌, [], ◌++◌, Option, Some, None, OnOk, refl, sym, ◌∙◌, ap, subst}
+use Rattle.std.proofs.Common.{◌≡◌, ℕ, false, List, ◌∷◌, [], ◌++◌, Option, Some, None, OnOk, refl, sym, ◌∙◌, ap, subst}
 use Rattle.std.specs.Prelude.{Result, Ok, Err, length}
 use Rattle.std.proofs.lemmas.Result.{on_ok_weaker}
 use Rattle.tl_base.specs.declared.ids.FnId.{FnId}

@@ -115,12 +115,15 @@ abbrev pub added_to : State StageState → ExportNext → CountedState → Place
 added_to s next counted place =
     exported (state (with_exported s.world next.key next.function) s.left) next.at_end counted next.rest place
 
--- Exports with all that they reach have no more typed nodes than there may be: one that has is refused, at the function that passes these.
+-- exports are refused that reach too much, at the function that passes the most typed nodes that they may have
+abbrev pub too_large : State StageState → Bool → FnId → Place → Asked
+too_large s at_end f place =
+    let own = place_of_function s.world f in
+    said (refused s TooLarge own (raised_at at_end own place))
+
 abbrev pub added_by : State StageState → ExportNext → CountedState → Option ℕ → Place → Asked
 added_by s next counted None place = added_to s next counted place
-added_by s next counted (Some f) place =
-    let own = place_of_function s.world (numbered f) in
-    said (refused s TooLarge own (raised_at next.at_end own place))
+added_by s next counted (Some f) place = too_large s next.at_end (numbered f) place
 
 abbrev pub added : State StageState → ExportNext → Place → Asked
 added s next place =

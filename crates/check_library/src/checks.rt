@@ -60,12 +60,10 @@ pub fn compile_back(
     ensures kept { OnOk result (KeepsAsked world.old world.new) }
     ensures paid { OnOk result (budget.new ≤ budget.old) }
 {
-    match answer {
-        CheckAnswer::Refused(refusal) => {
-            refuse(world, budget, refusal.kind, refusal.place, place)
-        }
-        _ => Ok(give_nothing(world)),
+    if let CheckAnswer::Refused(refusal) = answer {
+        return refuse(world, budget, refusal.kind, refusal.place, place);
     }
+    Ok(give_nothing(world))
 }
 
 /// `gettype` gives the type of a function, where it is known, and asks for the check of one whose type isn't. No quote has a type.

@@ -8,7 +8,7 @@ ghost use Rattle.terra_lib.specs.Exports.{gives_scalar, marked};
 ghost use Rattle.check_model.specs.Calls.{result_of};
 ghost use Rattle.check_library.specs.Answers.{asked, said};
 ghost use Rattle.check_library.specs.Exports.{fate_by, fate_of_function, fate_of, fate_after, found_result, next_of, fared, exported, raised_at};
-ghost use Rattle.check_library.specs.Exports.{place_of_function, checked, export_backed, saveobj_asked, taken, taken_at, table_exported, chunk_ended, added};
+ghost use Rattle.check_library.specs.Exports.{place_of_function, checked, export_backed, saveobj_asked, taken, taken_at, table_exported, chunk_ended, too_large, added};
 ghost use Rattle.check_library.specs.Keeping.{KeepsAsked};
 
 use crate::answers::{bad_argument, give_nothing, raise, refuse};
@@ -226,16 +226,30 @@ fn export_counted(
         rest,
     } = next;
     match counted.count_with(world, function)? {
-        Some(passing) => {
-            let own = place_of_function(world, passing);
-            let at = raised_at(at_end, own, place);
-            refuse(world, budget, RefusalKind::TooLarge, own, at)
-        }
+        Some(passing) => refuse_too_large(world, budget, at_end, passing, place),
         None => {
             export(world, key, function)?;
             go_on(world, budget, at_end, counted, rest, place)
         }
     }
+}
+
+/// Exports are refused that reach too much, at the function that passes the most typed nodes that they may have.
+fn refuse_too_large(
+    world: &mut World,
+    budget: &mut Budget,
+    at_end: bool,
+    passing: FnId,
+    place: Place,
+) -> Result<AskTurn, NoMemory>
+    ensures does { IfOk result (λ turn.
+        asked turn (state world.new budget.new) ≡ too_large (state world.old budget.old) at_end passing place) }
+    ensures kept { OnOk result (KeepsAsked world.old world.new) }
+    ensures paid { OnOk result (budget.new ≤ budget.old) }
+{
+    let own = place_of_function(world, passing);
+    let at = raised_at(at_end, own, place);
+    refuse(world, budget, RefusalKind::TooLarge, own, at)
 }
 
 /// The entries that are taken of a table, in its order.

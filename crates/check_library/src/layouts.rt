@@ -1,6 +1,6 @@
 // Sizes, offsets and globals.
 
-ghost use Rattle.std.specs.Prelude.{◌≡◌, ◌≤◌, ◌<◌, ◌^◌, length, IfOk, OnOk};
+ghost use Rattle.std.specs.Prelude.{◌≡◌, ◌≤◌, ◌<◌, ◌+◌, ◌^◌, length, IfOk, OnOk};
 ghost use Rattle.tl_base.specs.Layer.{state};
 ghost use Rattle.terra_types.specs.Layouts.{offset_of};
 ghost use Rattle.terra_term.specs.Held.{placed_global, has_room, statics_end};
@@ -93,13 +93,11 @@ pub fn size_back(
     ensures kept { OnOk result (KeepsAsked world.old world.new) }
     ensures paid { OnOk result (budget.new ≤ budget.old) }
 {
-    match answer {
-        CheckAnswer::NoLayout(kind) => {
-            let own = struct_place(world.store.types(), of);
-            refuse(world, budget, kind, own, place)
-        }
-        _ => give_one(world, whole(bytes_of(world, of))),
+    if let CheckAnswer::NoLayout(kind) = answer {
+        let own = struct_place(world.store.types(), of);
+        return refuse(world, budget, kind, own, place);
     }
+    give_one(world, whole(bytes_of(world, of)))
 }
 
 /// The struct that an argument is.
@@ -265,11 +263,11 @@ fn place_global(
     ensures paid { OnOk result (budget.new ≤ budget.old) }
 {
     let size = bytes_of(world, of);
-    if !has_room(world, size) {
-        return raise(world, budget, place, Fault::StaticsFull);
+    if has_room(world, size) {
+        let bytes = first_bytes(world.heap.allocator(), size, bits)?;
+        return give_global(world, budget, of, bytes, place);
     }
-    let bytes = first_bytes(world.heap.allocator(), size, bits)?;
-    give_global(world, budget, of, bytes, place)
+    raise(world, budget, place, Fault::StaticsFull)
 }
 
 /// Whether there is room for one more static of so many bytes.
@@ -287,9 +285,16 @@ fn statics_end(statics: &[Static]) -> u128
     ensures within { result < 2 ^ 65 }
 {
     match statics.last() {
-        Some(last) => u128::from(last.address) + last.bytes.bytes().len() as u128,
+        Some(last) => sum(last.address, last.bytes.bytes().len() as u64),
         None => u128::from(FIRST_STATIC),
     }
+}
+
+fn sum(a: u64, b: u64) -> u128
+    ensures sum { result ≡ a + b }
+    ensures within { result < 2 ^ 65 }
+{
+    u128::from(a) + u128::from(b)
 }
 
 /// So many bytes of a number, the lowest first.
