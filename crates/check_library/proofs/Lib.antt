@@ -6,3 +6,5 @@ pub mod Walking
 pub mod Shortness
 -- Whether there is room for one more static.
 pub mod Room
+-- At which place it is raised that exports reach too much.
+pub mod Raising
