@@ -105,13 +105,7 @@ fn struct_in(world: &World, value: Value) -> Option<TypeId>
     ensures { result ≡ struct_in world.now value }
 {
     match type_in(value) {
-        Some(of) => {
-            if world.is_struct(of) {
-                Some(of)
-            } else {
-                None
-            }
-        }
+        Some(of) => { if world.is_struct(of) { Some(of) } else { None } }
         None => None,
     }
 }
