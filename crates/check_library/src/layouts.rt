@@ -284,6 +284,7 @@ fn statics_end(statics: &[Static]) -> u128
     }
 }
 
+/// The sum of two numbers, which may be one of 65 bits.
 fn sum(a: u64, b: u64) -> u128
     ensures sum { result ≡ a + b }
     ensures within { result < 2 ^ 65 }
