@@ -1,5 +1,5 @@
 -- Whether there is room for one more static, and a global without room.
-use Rattle.std.proofs.Common.{◌≡◌, ℕ, zero, suc, ◌+◌, ◌-◌, ◌/◌, Bool, true, false, List, [], ◌∷◌, length}
+use Rattle.std.proofs.Common.{◌≡◌, ℕ, zero, suc, ◌+◌, ◌-◌, ◌/◌, Bool, false, List, [], ◌∷◌, length}
 use Rattle.std.proofs.Common.{Option, Some, None, if◌then◌else◌, ◌++◌, refl, sym, ap, ◌∙◌, arith}
 use Rattle.std.specs.Prelude.{slice_get}
 use Rattle.tl_base.specs.declared.ids.GlobalId.{GlobalId}

@@ -2,7 +2,7 @@
 use Rattle.std.specs.Prelude.{ℕ, List, ◌++◌, codes, Option, Some, None}
 use Rattle.std.specs.Fmt.{decimal}
 use Rattle.tl_base.specs.declared.place.Place.{Place}
-use Rattle.tl_base.specs.Layer.{State, state}
+use Rattle.tl_base.specs.Layer.{State}
 use Rattle.lua_table.specs.declared.call.LibTurn.TheVariants as turns
 use Rattle.lua_base.specs.Calls as base
 use Rattle.terra_term.specs.declared.refusal.Refusal.{Refusal}

@@ -15,7 +15,6 @@ use Rattle.lua_table.specs.Heap.{text_at, table_at}
 use Rattle.lua_table.specs.Pairs.{Pairs}
 use Rattle.lua_base.specs.Arguments.{argument, table_in}
 use Rattle.lua_base.specs.Opening.{globals}
-use Rattle.terra_term.specs.declared.refusal.Refusal.{Refusal}
 use Rattle.terra_term.specs.declared.refusal.RefusalKind.TheVariants.{TooLarge}
 use Rattle.terra_term.specs.declared.store.Function.{Function}
 use Rattle.terra_term.specs.Planted.{nowhere}
