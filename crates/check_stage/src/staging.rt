@@ -1,0 +1,126 @@
+// The staging of a source with checks, and its outcome.
+
+ghost use Rattle.std.specs.Prelude.{ℕ, ◌≡◌, ◌≤◌, ◌×◌, [], IfOk, OnOk, Some};
+ghost use Rattle.tl_base.specs.Layer.{State, state};
+ghost use Rattle.tl_base.specs.declared.place.Place.{Place as PlaceOf};
+ghost use Rattle.stage_form.specs.Stage.{Final, Finished, Exhausted, final_of};
+ghost use Rattle.tl_tree.specs.Arena.{items_of, end_of as finish_of};
+ghost use Rattle.tl_tree.specs.Code.{Items};
+ghost use Rattle.check_model.specs.Typing.{TypingState};
+ghost use Rattle.check_stage.specs.declared.staging.Mode.{Mode as ModeOf};
+ghost use Rattle.check_stage.specs.Keeping.{KeepsChecking};
+ghost use Rattle.check_stage.specs.Staging.{Ending, Checked, ending, begun, by_mode, checks, checked_final, line_of, outcome};
+
+use crate::jobs::{Job, JobEnd};
+use crate::staged::CheckStage;
+use check_model::Typing;
+use exotype::World;
+use lua_model::LuaJob;
+use lua_table::Heap;
+use lua_value::{Value, Values};
+use stage_form::{Outcome as Staging, run};
+use stage_library::Task;
+use std::alloc::Global;
+use terra_term::{Refusal, Standing};
+use terra_types::Types;
+use tl_base::{Budget, FnId, NoMemory, Place, Text2};
+use tl_rename::resolve;
+use tl_tree::Tree;
+
+/// How a staging goes on behind the chunk.
+#[derive(Clone, Copy, Debug, PartialEq, Eq)]
+pub enum Mode {
+    /// It makes the exports at the end of the chunk.
+    Exports,
+    /// It makes no exports there, and checks each function that is defined.
+    CheckAll,
+}
+
+/// What a check came to.
+#[derive(Clone, Copy, Debug, PartialEq, Eq)]
+pub struct CheckLine {
+    pub function: FnId,
+    /// `None` where it has no refusal.
+    pub refusal: Option<Refusal>,
+}
+
+/// How a staging ends.
+#[derive(Debug, Drop)]
+pub enum End {
+    Done,
+    /// By an error: its text, and the place of what raised it.
+    Raised { text: Text2, place: Place },
+    /// Before a payment above what was left of the budget.
+    Spent,
+}
+
+/// What a staging comes to: the end, the checks that were made in order where all functions were to be checked, and the world and the units
+/// that are left then.
+#[derive(Drop)]
+pub struct Outcome {
+    pub end: End,
+    pub checks: Vec<CheckLine>,
+    pub typing: Typing,
+    pub left: u64,
+}
+
+/// What a source's staging comes to, it comes to at each larger n.
+pub fn larger_changes_nothing()
+    ensures { (items : Items) (place : PlaceOf) (mode : ModeOf) (n m units memory : ℕ) (out : Ending) →
+        outcome items place mode n units memory ≡ Some out → n ≤ m → outcome items place mode m units memory ≡ Some out }
+{}
+
+/// Stages a source with so many units, for a program with so many bytes of memory: its chunk is evaluated over the opening
+/// globals, and where it ends without an error, its exports are made, or its functions are checked.
+pub fn stage(
+    alloc: Global,
+    tree: &Tree<'_>,
+    units: u64,
+    memory: u64,
+    mode: Mode,
+) -> Result<Outcome, NoMemory>
+    requires { memory ≤ 67108864 }
+    ensures means { IfOk result (λ it. (n : ℕ) × (outcome (items_of tree.now) (finish_of tree.now) mode n units memory
+        ≡ Some (ending it.end it.checks.items (state it.typing.now it.left)))) }
+    ensures paid { IfOk result (λ it. it.left ≤ units) }
+{
+    let slots = resolve(alloc, tree)?;
+    let mut typing = open(alloc, memory)?;
+    let mut budget = Budget::new(units);
+    let stages = CheckStage::new(&*tree, &slots);
+    let chunk = run(
+        alloc,
+        &stages,
+        Job::Stage(Task::Evaluate(LuaJob::Chunk)),
+        &mut typing,
+        &mut budget,
+    )?;
+    let mut lines = Vec::new(alloc);
+    let staging = finish(
+        alloc,
+        &stages,
+        &mut typing,
+        &mut budget,
+        chunk,
+        &mut lines,
+        mode,
+        tree.finish(),
+    )?;
+    let end = end_of(&typing.world.heap, &staging)?;
+    Ok(Outcome {
+        end,
+        checks: lines,
+        typing,
+        left: budget.left(),
+    })
+}
+
+/// What bodies are typed in at the begin of a source.
+fn open(alloc: Global, memory: u64) -> Result<Typing, NoMemory>
+    requires { memory ≤ 67108864 }
+    ensures { IfOk result (λ typing. typing ≡ begun memory) }
+{
+    let mut world = World::new(alloc, Types::new(alloc)?, memory);
+    world.heap = terra_lib::opening(alloc)?;
+    Ok(Typing::new(alloc, world))
+}
