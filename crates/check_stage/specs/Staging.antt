@@ -3,6 +3,8 @@ use Rattle.std.specs.Prelude.{ℕ, zero, suc, ◌+◌, nat_lt, if◌then◌else�
 use Rattle.tl_base.specs.declared.ids.FnId.{FnId}
 use Rattle.tl_base.specs.declared.place.Place.{Place}
 use Rattle.tl_base.specs.Layer.{State, state}
+use Rattle.stage_form.specs.declared.staging.Outcome.{Outcome as Staging}
+use Rattle.stage_form.specs.declared.staging.Outcome.TheVariants as stagings
 use Rattle.stage_form.specs.Stage.{Final, Finished, Exhausted, staged}
 use Rattle.tl_tree.specs.Code.{Items}
 use Rattle.lua_table.specs.LuaState.{LuaState}
@@ -62,6 +64,11 @@ checks items (suc n) i lines s =
 
 -- ---- the two ways to end
 
+-- how what was run for the checks ended, as an end with its lines
+abbrev pub checked_final : List CheckLine → Final TypingState JobEnd → Final TypingState Checked
+checked_final lines (Finished e s) = Finished (checked_with e lines) s
+checked_final lines (Exhausted s) = Exhausted s
+
 abbrev pub by_mode : Mode → Items → ℕ → Place → JobEnd → State TypingState → Option (Final TypingState Checked)
 by_mode Exports items n place end s = after_check (exported items n place end s) (λ e last. Some (Finished (checked_with e []) last))
 by_mode CheckAll items n place (ends.Values vs) s = checks items n 0 [] s
@@ -81,6 +88,10 @@ ending end lines left = record { end = end; lines = lines; left = left }
 abbrev pub end_of : LuaState → JobEnd → End
 end_of heap (ends.Raised v place) = Raised (raised_text heap v) place
 end_of heap end = Done
+
+abbrev pub end_in : LuaState → Staging JobEnd → End
+end_in heap (stagings.Ends end) = end_of heap end
+end_in heap stagings.Spent = Spent
 
 abbrev pub ending_of : Final TypingState Checked → Ending
 ending_of (Finished c s) = ending (end_of s.world.stage.heap c.end) c.lines s

@@ -1,15 +1,16 @@
 // The staging of a source with checks, and its outcome.
 
 ghost use Rattle.std.specs.Prelude.{ℕ, ◌≡◌, ◌≤◌, ◌×◌, [], IfOk, OnOk, Some};
-ghost use Rattle.tl_base.specs.Layer.{State, state};
+ghost use Rattle.tl_base.specs.Layer.{state};
 ghost use Rattle.tl_base.specs.declared.place.Place.{Place as PlaceOf};
-ghost use Rattle.stage_form.specs.Stage.{Final, Finished, Exhausted, final_of};
+ghost use Rattle.stage_form.specs.Stage.{final_of};
 ghost use Rattle.tl_tree.specs.Arena.{items_of, end_of as finish_of};
 ghost use Rattle.tl_tree.specs.Code.{Items};
 ghost use Rattle.check_model.specs.Typing.{TypingState};
 ghost use Rattle.check_stage.specs.declared.staging.Mode.{Mode as ModeOf};
 ghost use Rattle.check_stage.specs.Keeping.{KeepsChecking};
-ghost use Rattle.check_stage.specs.Staging.{Ending, Checked, ending, begun, by_mode, checks, checked_final, line_of, outcome};
+ghost use Rattle.check_stage.specs.Staging.{Ending, ending, begun, after_check, by_mode, checks};
+ghost use Rattle.check_stage.specs.Staging.{checked_final, line_of, end_in, outcome};
 
 use crate::jobs::{Job, JobEnd};
 use crate::staged::CheckStage;
@@ -123,4 +124,91 @@ fn open(alloc: Global, memory: u64) -> Result<Typing, NoMemory>
     let mut world = World::new(alloc, Types::new(alloc)?, memory);
     world.heap = terra_lib::opening(alloc)?;
     Ok(Typing::new(alloc, world))
+}
+
+/// Goes on behind a chunk, as the mode says.
+fn finish(
+    alloc: Global,
+    stages: &CheckStage<'_>,
+    typing: &mut Typing,
+    budget: &mut Budget,
+    chunk: Staging<JobEnd>,
+    lines: &mut Vec<CheckLine>,
+    mode: Mode,
+    place: Place,
+) -> Result<Staging<JobEnd>, NoMemory>
+    requires { lines.old.items ≡ [] }
+    ensures means { IfOk result (λ it. (n : ℕ) × (
+        after_check (Some (final_of chunk (state typing.old budget.old))) (by_mode mode (items_of stages.now.inner.tree.now) n place)
+        ≡ Some (checked_final lines.new.items (final_of it (state typing.new budget.new))))) }
+    ensures kept { OnOk result (KeepsChecking typing.old typing.new) }
+    ensures paid { OnOk result (budget.new ≤ budget.old) }
+{
+    match chunk {
+        Staging::Ends(JobEnd::Values(values)) => match mode {
+            Mode::Exports => run(alloc, stages, Job::Export(place), typing, budget),
+            Mode::CheckAll => check_all(alloc, stages, typing, budget, lines),
+        },
+        chunk => Ok(chunk),
+    }
+}
+
+/// Checks each function that is defined when its number comes, in order of number.
+fn check_all(
+    alloc: Global,
+    stages: &CheckStage<'_>,
+    typing: &mut Typing,
+    budget: &mut Budget,
+    lines: &mut Vec<CheckLine>,
+) -> Result<Staging<JobEnd>, NoMemory>
+    requires { lines.old.items ≡ [] }
+    ensures means { IfOk result (λ it. (n : ℕ) × (
+        checks (items_of stages.now.inner.tree.now) n 0 [] (state typing.old budget.old)
+        ≡ Some (checked_final lines.new.items (final_of it (state typing.new budget.new))))) }
+    ensures kept { OnOk result (KeepsChecking typing.old typing.new) }
+    ensures paid { OnOk result (budget.new ≤ budget.old) }
+{
+    for number in 0..u64::MAX {
+        let f = FnId(number);
+        if number >= typing.world.store.function_count() {
+            return Ok(Staging::Ends(JobEnd::Values(Values::new(alloc))));
+        }
+        if typing.world.store.standing(f) != Standing::Undefined {
+            match run(alloc, stages, Job::Check(f), typing, budget)? {
+                Staging::Spent => return Ok(Staging::Spent),
+                Staging::Ends(end) => lines.push(line_of(f, &end))?,
+            }
+        }
+    }
+    Err(NoMemory)
+}
+
+/// What a check came to.
+fn line_of(function: FnId, end: &JobEnd) -> CheckLine
+    ensures { result ≡ line_of function end.now }
+{
+    CheckLine {
+        function,
+        refusal: match end {
+            JobEnd::Refused(refusal) => Some(*refusal),
+            _ => None,
+        },
+    }
+}
+
+/// How a staging ended.
+fn end_of(heap: &Heap, staging: &Staging<JobEnd>) -> Result<End, NoMemory>
+    ensures { IfOk result (λ end. end ≡ end_in heap.now staging.now) }
+{
+    match staging {
+        Staging::Spent => Ok(End::Spent),
+        Staging::Ends(JobEnd::Raised(value, place)) => {
+            let text = raised_text(heap, *value)?;
+            Ok(End::Raised {
+                text,
+                place: *place,
+            })
+        }
+        Staging::Ends(_) => Ok(End::Done),
+    }
 }
