@@ -34,7 +34,7 @@ use Rattle.check_model.specs.Checks.{check}
 use Rattle.check_model.specs.Layouts.{layout}
 use Rattle.check_expr.specs.Rest.{body_rest, BodyFits}
 use Rattle.check_flow.specs.Rest.{check_rest, CheckFits, layout_rest, LayoutFits}
-use Rattle.check_library.specs.Library.{asks}
+use Rattle.check_library.specs.Calls.{asks}
 use Rattle.check_stage.specs.declared.jobs.Job.{Job}
 use Rattle.check_stage.specs.declared.jobs.Job.TheVariants as jobs
 use Rattle.check_stage.specs.declared.jobs.JobEnd.{JobEnd}

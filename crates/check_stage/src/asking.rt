@@ -4,14 +4,16 @@ ghost use Rattle.std.specs.Prelude.{◌≡◌, ◌≤◌, List, [], ◌∷◌, I
 ghost use Rattle.tl_base.specs.Layer.{State, state, Given, given, seen, OnAsk, UnlessAsk};
 ghost use Rattle.exotype.specs.World.{StageState};
 ghost use Rattle.stage_library.specs.Keeping.{KeepsStaging};
-ghost use Rattle.check_library.specs.Library.{ask_turned, ask_backed};
-ghost use Rattle.check_stage.specs.Asking.{asking_turned, asking_rest, asking_seen, turn_seen, begun, place_of};
+ghost use Rattle.check_library.specs.Answers.{asked};
+ghost use Rattle.check_library.specs.Calls.{backed};
+ghost use Rattle.check_stage.specs.Asking.{asking_turned, asking_rest, asking_seen, end_seen, turn_seen, begun, place_of};
 
 use crate::jobs::{Job, JobEnd};
 use check_library::{AskNext, AskTurn};
 use check_model::CheckAnswer;
 use exotype::World;
-use lua_table::LibCall;
+use lua_table::{Heap, LibCall, LibTurn};
+use lua_value::Values;
 use tl_base::{Budget, NoMemory, Place, Turn};
 
 /// What asks.
@@ -60,7 +62,7 @@ impl Asking {
         ensures paid { OnOk result (budget.new ≤ budget.old) }
     {
         let turn = self.go_on(world, budget, answer)?;
-        Ok(self.show(turn))
+        Ok(self.show(&world.heap, turn))
     }
 
     /// Begins, or goes on with an answer.
@@ -70,7 +72,7 @@ impl Asking {
         budget: &mut Budget,
         answer: CheckAnswer,
     ) -> Result<AskTurn, NoMemory>
-        ensures does { IfOk result (λ turn. ask_turned turn (state world.new budget.new)
+        ensures does { IfOk result (λ turn. asked turn (state world.new budget.new)
             ≡ asking_turned self.old.what self.old.waiting (given answer world.old budget.old)) }
         ensures what { self.new.what ≡ self.old.what }
         ensures kept { OnOk result (KeepsStaging world.old world.new) }
@@ -93,7 +95,7 @@ impl Asking {
     }
 
     /// What shows of what it comes to. Where it asks, it waits for that.
-    fn show(&mut self, turn: AskTurn) -> Turn<Job, JobEnd>
+    fn show(&mut self, heap: &Heap, turn: AskTurn) -> Turn<Job, JobEnd>
         ensures seen { (s : State StageState) → seen result s ≡ turn_seen (place_of self.old.what) turn s }
         ensures reads_no_more { UnlessAsk result ((s : State StageState) (later : List (Given StageState CheckAnswer)) →
             asking_seen (place_of self.old.what) later turn s ≡ seen result s) }
@@ -102,9 +104,7 @@ impl Asking {
             asking_seen (place_of self.old.what) (next ∷ later) turn s ≡ asking_rest self.new next later) }
     {
         match turn {
-            AskTurn::Values(values) => Turn::End(JobEnd::Values(values)),
-            AskTurn::Raise(value, place) => Turn::End(JobEnd::Raised(value, place)),
-            AskTurn::Spent => Turn::Spent,
+            AskTurn::Turn(turn) => end_of(heap, turn),
             AskTurn::Check { function, next } => {
                 self.waiting = Some(next);
                 Turn::Ask(Job::Check(function))
@@ -117,10 +117,24 @@ impl Asking {
     }
 }
 
+/// What shows of an end.
+fn end_of(heap: &Heap, turn: LibTurn) -> Turn<Job, JobEnd>
+    ensures seen { (s : State StageState) → seen result s ≡ end_seen turn s }
+    ensures ends { OnAsk result (λ _. ⊥) }
+{
+    match turn {
+        LibTurn::Values(values) => Turn::End(JobEnd::Values(values)),
+        LibTurn::Raise(value, place) => Turn::End(JobEnd::Raised(value, place)),
+        LibTurn::Spent => Turn::Spent,
+        // A function that asks neither calls a function of Lua nor asks for a text.
+        _ => Turn::End(JobEnd::Values(Values::new(heap.allocator()))),
+    }
+}
+
 /// Begins what asks.
 fn begin(world: &mut World, what: &Asked, budget: &mut Budget) -> Result<AskTurn, NoMemory>
     ensures does { IfOk result (λ turn.
-        ask_turned turn (state world.new budget.new) ≡ begun what.now (state world.old budget.old)) }
+        asked turn (state world.new budget.new) ≡ begun what.now (state world.old budget.old)) }
     ensures kept { OnOk result (KeepsStaging world.old world.new) }
     ensures paid { OnOk result (budget.new ≤ budget.old) }
 {
@@ -138,8 +152,8 @@ fn back(
     place: Place,
     budget: &mut Budget,
 ) -> Result<AskTurn, NoMemory>
-    ensures does { IfOk result (λ turn. ask_turned turn (state world.new budget.new)
-        ≡ ask_backed (state world.old budget.old) next answer place) }
+    ensures does { IfOk result (λ turn. asked turn (state world.new budget.new)
+        ≡ backed (state world.old budget.old) next answer place) }
     ensures kept { OnOk result (KeepsStaging world.old world.new) }
     ensures paid { OnOk result (budget.new ≤ budget.old) }
 {
