@@ -2,10 +2,12 @@
 
 use crate::rows::Row;
 use crate::stack::{Ended, run};
-use crate::checks::{check, kind_word};
-use crate::terra::function_type;
+use crate::checks::check;
+use check_library::answers::kind_name;
+use crate::terra::{export_globals, function_type};
 use check_model::{CheckEnd, Typing};
 use exotype::World;
+use lua_model::LuaAnswer;
 use lua_value::Value;
 use std::alloc::Global;
 use terra_term::Standing;
@@ -23,7 +25,7 @@ pub fn answer(alloc: Global, row: &Row) -> Result<Text2, NoMemory> {
     out.push_bytes(line.as_bytes())?;
     match parse(alloc, row.source.as_str()) {
         Ok(tree) => {
-            push_staging(alloc, &mut out, &tree, row.units)?;
+            push_staging(alloc, &mut out, &tree, row.units, row.name.as_str().starts_with("T "))?;
             Ok(out)
         }
         Err(SyntaxError::NoMemory) => Err(NoMemory),
@@ -41,6 +43,7 @@ fn push_staging(
     out: &mut Text2,
     tree: &Tree<'_>,
     units: u64,
+    exports: bool,
 ) -> Result<(), NoMemory> {
     let slots = resolve(alloc, tree)?;
     let types = Types::new(alloc)?;
@@ -48,11 +51,29 @@ fn push_staging(
     world.heap = terra_lib::opening(alloc)?;
     let mut typing = Typing::new(alloc, world);
     let mut budget = Budget::new(units);
-    let end = run(alloc, tree, &slots, &mut typing, &mut budget)?;
+    let mut end = run(alloc, tree, &slots, &mut typing, &mut budget)?;
+    if exports {
+        if let Ended::Done = &end {
+            end = match export_globals(alloc, &mut typing, &mut budget, tree.finish())? {
+                Some(LuaAnswer::Raise(value, at)) => Ended::Raised(value, at),
+                Some(_) => Ended::Done,
+                None => Ended::Spent,
+            };
+        }
+    }
     let mut lines = Text2::new(alloc);
     let mut spent = false;
     let mut raised = false;
     match &end {
+        Ended::Done if exports => {
+            for export in typing.world.exports.as_slice().iter() {
+                lines.push_bytes(b"export ")?;
+                lines.push_bytes(export.name.bytes())?;
+                let n = export.function.0 + 1;
+                let text = format!(in alloc; " = f{n}\n")?;
+                lines.push_bytes(text.as_bytes())?;
+            }
+        }
         Ended::Done => {
             let mut f = 0;
             while f < typing.world.store.function_count() && !spent {
@@ -114,7 +135,7 @@ fn push_check(alloc: Global, out: &mut Text2, typing: &mut Typing, budget: &mut 
             out.push_bytes(b"\n")?;
         }
         CheckEnd::Refused(why) => {
-            let kind = kind_word(why.kind);
+            let kind = kind_name(why.kind);
             let (l, w, g) = (why.place.line, why.place.word, why.function.0 + 1);
             let text = format!(in alloc; "function {n} at {line}:{word}: refused {kind} at {l}:{w} in function {g}\n")?;
             out.push_bytes(text.as_bytes())?;

@@ -4,7 +4,7 @@ use check_flow::{Check, Layout};
 use check_expr::Body;
 use check_model::{BodyEnd, BodyQuestion, CheckAnswer, CheckEnd, CheckQuestion, LayoutEnd, LayoutQuestion, Typing};
 use std::alloc::Global;
-use terra_term::{FunctionState, Refusal, RefusalKind, Typed};
+use terra_term::{FunctionState, Typed};
 use tl_base::{Budget, FnId, Layer, NoMemory, Place, Turn, TypeId};
 
 /// The answer to LayoutOf; none where units lack.
@@ -78,29 +78,4 @@ pub fn check(alloc: Global, typing: &mut Typing, budget: &mut Budget, f: FnId) -
         }
     }
     Err(NoMemory)
-}
-
-/// The word of a kind of refusal.
-pub fn kind_word(kind: RefusalKind) -> &'static str {
-    match kind {
-        RefusalKind::Undefined => "Undefined",
-        RefusalKind::Mismatch => "Mismatch",
-        RefusalKind::NotCallable => "NotCallable",
-        RefusalKind::NoField => "NoField",
-        RefusalKind::NoMethod => "NoMethod",
-        RefusalKind::BadOperand => "BadOperand",
-        RefusalKind::NotPlace => "NotPlace",
-        RefusalKind::WrongCount => "WrongCount",
-        RefusalKind::OutOfScope => "OutOfScope",
-        RefusalKind::Misplaced => "Misplaced",
-        RefusalKind::RecursiveNeedsType => "RecursiveNeedsType",
-        RefusalKind::Incomplete => "Incomplete",
-        RefusalKind::BadEntries => "BadEntries",
-        RefusalKind::TooWide => "TooWide",
-        RefusalKind::TooLarge => "TooLarge",
-        RefusalKind::NotConstant => "NotConstant",
-        RefusalKind::CallbackRaised => "CallbackRaised",
-        RefusalKind::FunctionValue => "FunctionValue",
-        RefusalKind::NotBuilt => "NotBuilt",
-    }
 }

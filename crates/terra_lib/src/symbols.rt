@@ -125,7 +125,7 @@ pub fn is_scalar(types: &Types, of: TypeId) -> bool
 }
 
 /// The 64 bits of a value as one of a scalar type, where it is one.
-fn scalar_bits(types: &Types, of: TypeId, value: Value) -> Option<u64>
+pub fn scalar_bits(types: &Types, of: TypeId, value: Value) -> Option<u64>
     ensures { result ≡ scalar_bits (slice_get types.now of.0) value }
 {
     match types.form(of) {
