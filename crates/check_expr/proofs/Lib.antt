@@ -29,3 +29,5 @@ pub mod Calling
 pub mod Retyped
 -- Definitions, by their parts.
 pub mod Defining
+-- Conditions.
+pub mod Conditions
