@@ -29,3 +29,5 @@ pub mod Calling
 pub mod Retyped
 -- Definitions, by their parts.
 pub mod Defining
+-- The expressions that terms are.
+pub mod Expressing
