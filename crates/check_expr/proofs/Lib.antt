@@ -31,3 +31,5 @@ pub mod Retyped
 pub mod Defining
 -- Conditions.
 pub mod Conditions
+-- The expressions that terms are.
+pub mod Expressing
