@@ -98,7 +98,7 @@ size_one (p ∷ []) o at source site one = ap (λ (x : Operand). models.size_of_
 size_one (p ∷ q ∷ os) o at source site one = absurd (cc one)
 
 -- the type that a callee is
-type_or : TypeId → Callee → TypeId
+abbrev type_or : TypeId → Callee → TypeId
 type_or t (callees.Type u) = u
 type_or t _ = t
 

@@ -29,3 +29,7 @@ pub mod Calling
 pub mod Retyped
 -- Definitions, by their parts.
 pub mod Defining
+-- Conditions.
+pub mod Conditions
+-- The expressions that terms are.
+pub mod Expressing

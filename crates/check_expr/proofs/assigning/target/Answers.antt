@@ -17,16 +17,16 @@ returns-in_ok-step-clause-means c = λ left.
     let w2 = c.targets_left.new.typing in
     let step = c.in_ok-step.step in
     let plan : List Made → BodyPlan = λ ps. waiting.targets_from f ps in
-    chosen fs fs2 m.is_place true (plan (f.places ++ m ∷ [])) (refuse NotPlace m.at f.site) w w2 left left step c.if-is_place.true
+    chosen fs fs2 m.is_place true (plan (f.places ++ m ∷ [])) (refuse NotPlace m.at f.site) w w2 left left step c.if-made.true
     (moved fs fs2 (plan (f.places ++ m ∷ [])) (plan c.push.new.self) w w w2 left left step (ap plan (sym c.in_ok-push.ensures)) refl
     (c.in_ok-step.ensures.means left))
 
-pub returns-else-is_place-clause-means : goal.returns-else-is_place-clause-means
-returns-else-is_place-clause-means c = λ left.
+pub returns-else-made-clause-means : goal.returns-else-made-clause-means
+returns-else-made-clause-means c = λ left.
     let a = c.args in
     let f = a.frame in
     let m = a.made in
     let fs = a.frames.now.items in
     let w = a.typing.now in
     chosen fs fs m.is_place false (waiting.targets_from f (f.places ++ m ∷ [])) (refuse NotPlace m.at f.site) w w left left c.refuse.result
-    c.if-is_place.false (c.refuse.ensures.means w left fs)
+    c.if-made.false (c.refuse.ensures.means w left fs)

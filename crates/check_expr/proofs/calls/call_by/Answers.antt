@@ -21,8 +21,8 @@ returns-then-given-wanted-clause-means c = λ left.
     (ne_eqb _ _ (λ same. c.if-given-wanted.true (c.len-given.ensures ∙ same ∙ sym c.len-wanted.ensures)))
     (c.refuse.ensures.means w left fs)
 
-pub returns-in_ok-step-clause-means : goal.returns-in_ok-step-clause-means
-returns-in_ok-step-clause-means c = λ left.
+pub returns-clause-means : goal.returns-in_ok-step-clause-means
+returns-clause-means c = λ left.
     let a = c.args in
     let n = a.node in
     let fs = a.frames.now.items in

@@ -34,7 +34,7 @@ returns-then-given-wanted-clause-means c = λ left.
     let w = a.typing.now in
     let x = function_at w.stage a.f in
     let ps = c.in-Some.types in
-    let step = c.refuse-in-Some.result in
+    let step = c.refuse-then-given-wanted.result in
     let body : BodyPlan = models.by_result (models.result_of w.stage a.f) a.f n.at n.site (λ result.
     models.arguments a.fitting a.operands ps n.at n.site [] (λ ids. gives n.source n.at result (te.Operate (operations.Call a.f) ids))) in
     moved fs fs (models.call_function w.stage a.f x a.operands n.at a.fitting n.source n.site)
@@ -43,7 +43,7 @@ returns-then-given-wanted-clause-means c = λ left.
     (ap (λ (v : TypingState). models.parameters_of v.stage a.f) (sym c.typing.view_is) ∙ sym c.in_ok-known.ensures ∙ c.in-Some.is)) refl
     (chosen fs fs (nat_eq (length a.operands) (length ps)) false body (refuse WrongCount n.at n.site) w w left left step
     (ne_eqb _ _ (λ same. c.if-given-wanted.true (c.len-given.ensures ∙ same ∙ sym c.len-wanted.ensures)))
-    (c.refuse-in-Some.ensures.means w left fs))
+    (c.refuse-then-given-wanted.ensures.means w left fs))
 
 pub returns-in_ok-step-in-Some-clause-means : goal.returns-in_ok-step-in-Some-clause-means
 returns-in_ok-step-in-Some-clause-means c = λ left.

@@ -28,7 +28,7 @@ returns-then-is_function-clause-means c = λ left.
     let s = c.in-Some in
     let fs = a.frames.now.items in
     let w = a.typing.now in
-    let step = c.refuse-in-Some.result in
+    let step = c.refuse-then-is_function.result in
     let go : TypedName → BodyPlan = λ one. waiting.names_from f (f.named ++ one ∷ []) in
     let typed : TypedName = record { symbol = n.symbol; of = s.of } in
     moved fs fs (models.name_for n.of n f.at f.site go) (models.name_for (Some s.of) n f.at f.site go) w w w left left step
@@ -37,7 +37,7 @@ returns-then-is_function-clause-means c = λ left.
     (laid_out s.of n.place f.site (go typed)) w w left left step
     (ap (λ (v : TypingState). layouts.is_function v.stage.store.types s.of) (sym c.typing.view_is) ∙ sym c.is_function.ensures
     ∙ c.if-is_function.true)
-    (c.refuse-in-Some.ensures.means w left fs))
+    (c.refuse-then-is_function.ensures.means w left fs))
 
 pub returns-in_ok-step-in-Some-clause-means : goal.returns-in_ok-step-in-Some-clause-means
 returns-in_ok-step-in-Some-clause-means c = λ left.
