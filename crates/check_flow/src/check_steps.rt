@@ -53,15 +53,18 @@ fn refused_at(kind: RefusalKind, reached: Reached, own: Place) -> CheckStep
     ensures { (w : StageState) (left : ℕ) → (fs : List CheckFrame) →
         ChecksOn fs (models.refused_at kind reached reached.by own) w left fs result w left }
 {
-    let (place, function) = match reached.by {
-        Some(by) => by,
-        None => (own, reached.function),
-    };
-    Step::Return(CheckEnd::Refused(Refusal {
-        kind,
-        place,
-        function,
-    }))
+    match reached.by {
+        Some((place, function)) => Step::Return(CheckEnd::Refused(Refusal {
+            kind,
+            place,
+            function,
+        })),
+        None => Step::Return(CheckEnd::Refused(Refusal {
+            kind,
+            place: own,
+            function: reached.function,
+        })),
+    }
 }
 
 /// Takes a function from the queue, whose unit is paid.

@@ -1,8 +1,12 @@
 // The steps of a layout.
 
-ghost use Rattle.std.specs.Prelude.{◌≡◌, ℕ, List, codes, IfOk, OnOk};
+ghost use Rattle.std.specs.Prelude.{◌≡◌, ℕ, List, codes, IsTrue, IfOk, OnOk};
+ghost use Rattle.tl_base.specs.Plan.{Give};
 ghost use Rattle.terra_types.specs.Layouts.{layout_of};
+ghost use Rattle.terra_types.specs.Making.{is_unsettled, settled_answer, with_settled};
 ghost use Rattle.terra_types.specs.Sizes.{size_of};
+ghost use Rattle.terra_term.specs.Held.{with_types};
+ghost use Rattle.exotype.specs.World.{with_store};
 ghost use Rattle.exotype.specs.Properties.{known_of};
 ghost use Rattle.check_model.specs.Layouts as models;
 ghost use Rattle.check_model.specs.Structs as structs;
@@ -14,7 +18,7 @@ ghost use Rattle.check_flow.specs.Steps.{LaysOn};
 
 use crate::entries::entries_from;
 use crate::layout_frame::LayoutFrame;
-use check_model::{CheckAnswer, LayoutEnd, LayoutQuestion, LayoutTask, Rest};
+use check_model::{CheckAnswer, LayoutEnd, LayoutQuestion, LayoutTask, Rest, Row};
 use exotype::{Known, Property, World};
 use lua_value::Value;
 use std::alloc::Global;
@@ -61,21 +65,39 @@ fn own_entries(world: &World, of: TypeId) -> Value
 fn settle_entries(world: &mut World, of: TypeId, known: Known)
     ensures { world.new ≡ record world.old { kept = models.settled_as (known_of world.old.kept (Property.Entries of)) world.old.kept of known } }
 {
-    if world.kept.known(Property::Entries(of)) == Known::Asked {
-        world.kept.settle(Property::Entries(of), known);
+    match world.kept.known(Property::Entries(of)) {
+        Known::Asked => world.kept.settle(Property::Entries(of), known),
+        _ => {}
+    }
+}
+
+/// What is kept of a refusal: nothing of that of what is incomplete.
+fn kept_as(kind: RefusalKind) -> Known
+    ensures { result ≡ models.kept_as kind }
+{
+    match kind {
+        RefusalKind::Incomplete => Known::Unasked,
+        kind => Known::Refused(kind),
     }
 }
 
 /// Refuses a layout; a refusal is kept but for that of what is incomplete.
 fn keep(world: &mut World, of: TypeId, kind: RefusalKind) -> LayoutStep
-    ensures { (left : ℕ) → (fs : List LayoutFrame) → LaysOn fs (models.keep of kind) world.old left fs result world.new left }
+    ensures means { (left : ℕ) → (fs : List LayoutFrame) → LaysOn fs (models.keep of kind) world.old left fs result world.new left }
+    ensures kept { KeepsLayouts world.old world.new }
 {
-    let known = match kind {
-        RefusalKind::Incomplete => Known::Unasked,
-        _ => Known::Refused(kind),
-    };
-    settle_entries(world, of, known);
+    settle_entries(world, of, kept_as(kind));
     Step::Return(LayoutEnd::Refused(kind))
+}
+
+/// Ends the layout of a struct that is settled, whose entries the value has.
+fn finish(world: &mut World, of: TypeId, value: Value) -> LayoutStep
+    ensures means { (left : ℕ) → (fs : List LayoutFrame) →
+        LaysOn fs (models.settling of (Known.Value value) (Give LayoutEnd.Done)) world.old left fs result world.new left }
+    ensures kept { KeepsLayouts world.old world.new }
+{
+    settle_entries(world, of, Known::Value(value));
+    Step::Return(LayoutEnd::Done)
 }
 
 /// Asks for the layouts of the entries that are left, and settles the struct.
@@ -85,11 +107,11 @@ fn parts_left(
     of: TypeId,
     value: Value,
     rest: Rest<Entry>,
-    entries: Vec<Entry>,
+    entries: Row<Entry>,
     at: Place,
 ) -> Result<LayoutStep, NoMemory>
     ensures means { IfOk result (λ step. (left : ℕ) →
-        LaysOn frames.old.items (parts_from of value rest entries.items at) world.old left frames.new.items step world.new left) }
+        LaysOn frames.old.items (parts_from of value rest entries at) world.old left frames.new.items step world.new left) }
     ensures kept { OnOk result (KeepsLayouts world.old world.new) }
 {
     let mut rest = rest;
@@ -110,21 +132,47 @@ fn settle(
     world: &mut World,
     of: TypeId,
     value: Value,
-    entries: Vec<Entry>,
+    entries: Row<Entry>,
 ) -> Result<LayoutStep, NoMemory>
     ensures means { IfOk result (λ step. (left : ℕ) → (fs : List LayoutFrame) →
-        LaysOn fs (models.unless_settled world.old of value (layout_of world.old.store.types entries.items))
+        LaysOn fs (models.unless_settled world.old of value (layout_of world.old.store.types entries))
         world.old left fs step world.new left) }
     ensures kept { OnOk result (KeepsLayouts world.old world.new) }
 {
     if world.store.types().is_unsettled(of) {
-        match world.store.types_mut().settle(of, entries)? {
-            Settled::Done => {}
-            Settled::Bad => return Ok(keep(world, of, RefusalKind::BadEntries)),
-        }
+        let step = settle_now(world, of, value, entries)?;
+        Ok(step)
+    } else {
+        Ok(finish(world, of, value))
     }
-    settle_entries(world, of, Known::Value(value));
-    Ok(Step::Return(LayoutEnd::Done))
+}
+
+/// Settles a struct that isn't settled yet.
+fn settle_now(
+    world: &mut World,
+    of: TypeId,
+    value: Value,
+    entries: Row<Entry>,
+) -> Result<LayoutStep, NoMemory>
+    requires { IsTrue (is_unsettled world.old.store.types of) }
+    ensures means { IfOk result (λ step. (left : ℕ) → (fs : List LayoutFrame) →
+        LaysOn fs (models.settle of value (layout_of world.old.store.types entries)) world.old left fs step world.new left) }
+    ensures kept { OnOk result (KeepsLayouts world.old world.new) }
+{
+    match put_layout(world, of, entries)? {
+        Settled::Done => Ok(finish(world, of, value)),
+        Settled::Bad => Ok(keep(world, of, RefusalKind::BadEntries)),
+    }
+}
+
+/// Gives a struct the layout that its entries have, unless they are bad.
+fn put_layout(world: &mut World, of: TypeId, entries: Row<Entry>) -> Result<Settled, NoMemory>
+    requires { IsTrue (is_unsettled world.old.store.types of) }
+    ensures answer { IfOk result (λ settled. settled ≡ settled_answer (layout_of world.old.store.types entries)) }
+    ensures ok { OnOk result (world.new ≡ with_store world.old
+        (with_types world.old.store (with_settled world.old.store.types of (layout_of world.old.store.types entries)))) }
+{
+    world.store.types_mut().settle(of, entries.into_vec())
 }
 
 /// Lays a struct out by the value that has its entries.
@@ -142,7 +190,7 @@ fn by_entries(
     match entries_from(&world.heap, copy(&value))? {
         None => Ok(keep(world, of, RefusalKind::BadEntries)),
         Some(entries) => {
-            let rest = Rest::copy(world.store.allocator(), &entries)?;
+            let rest = Rest::copy(world.store.allocator(), entries.as_slice())?;
             let step = parts_left(frames, world, of, value, rest, entries, at)?;
             Ok(step)
         }

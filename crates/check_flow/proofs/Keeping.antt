@@ -1,0 +1,112 @@
+-- What a layout keeps of the world, whatever it puts there: what is known of entries that aren't known yet, and a layout that isn't settled.
+use Rattle.std.proofs.Common.{ℕ, ◌≡◌, Bool, true, false, ◌==◌, ◌&&◌, refl, sym, subst, ap, ◌∙◌, Option}
+use Rattle.std.specs.Prelude.{IsTrue}
+use Rattle.std.proofs.lemmas.Bool.Decides.{Decides-eqb}
+use Rattle.tl_base.specs.declared.ids.TypeId.{TypeId}
+use Rattle.terra_types.specs.declared.layout.Layout.{Layout}
+use Rattle.terra_types.specs.Keeping.{KeepsTypes}
+use Rattle.terra_types.specs.Making.{is_unsettled, with_settled}
+use Rattle.terra_types.proofs.Staying.{keeps-settled}
+use Rattle.terra_term.specs.Held.{Held, with_types}
+use Rattle.exotype.specs.World.{StageState, KeptState, with_store}
+use Rattle.exotype.specs.Properties.{rank, type_number, name_number, same_property, known_of, with_known}
+use Rattle.exotype.specs.declared.property.Property.{Property}
+use Rattle.exotype.specs.declared.property.Property.TheVariants.{Entries, Method}
+use Rattle.exotype.specs.declared.property.Known.{Known}
+use Rattle.exotype.specs.declared.property.Known.TheVariants as known
+use Rattle.exotype.proofs.Keeping.{known_there, known_elsewhere}
+use Rattle.check_model.specs.Keeping.{StaysKnown}
+use Rattle.check_model.specs.Layouts.{settled_as}
+use Rattle.check_flow.specs.Keeping.{KeepsLayouts}
+use Rattle.check_flow.specs.Kept.{keeps_itself, keeps_then}
+
+-- ---- what is known of entries
+
+middle : (a b c : Bool) → (a && b && c) ≡ true → b ≡ true
+middle true true c h = refl
+middle true false c h = absurd (cc h)
+middle false b c h = absurd (cc h)
+
+first : (a b c : Bool) → (a && b && c) ≡ true → a ≡ true
+first true b c h = refl
+first false b c h = absurd (cc h)
+
+-- the property of a struct's entries is the same as no other
+same_entries : (p : Property) (t : TypeId) → same_property p (Entries t) ≡ true → p ≡ Entries t
+same_entries (Entries u) t h =
+    ap (λ (n : ℕ). Entries (record { 0 = n }))
+    ((Decides-eqb u.0 t.0).0 (middle (rank (Entries u) == rank (Entries t)) (u.0 == t.0) (name_number (Entries u) == name_number (Entries t)) h))
+same_entries (Method u x) t h =
+    absurd (apart ((Decides-eqb 1 0).0 (first (1 == 0) (u.0 == t.0) (x.0 == 0) h)))
+  where
+    apart : 1 ≡ 0 → ⊥
+    apart e = cc
+
+-- what is known of them may be put where they aren't known yet
+put_kept : (w : StageState) (t : TypeId) (k : Known) (p : Property) → StaysKnown (known_of w.kept (Entries t)) k
+    → StaysKnown (known_of w.kept p) (known_of (with_known w.kept (Entries t) k) p)
+put_kept w t k p free =
+    by_test (same_property p (Entries t)) refl
+  where
+    kept : KeptState
+    kept = w.kept
+
+    there : StaysKnown (known_of kept (Entries t)) (known_of (with_known kept (Entries t) k) (Entries t))
+    there = subst (StaysKnown (known_of kept (Entries t))) (sym (known_there kept.properties (Entries t) k)) free
+
+    by_test : (c : Bool) → same_property p (Entries t) ≡ c → StaysKnown (known_of kept p) (known_of (with_known kept (Entries t) k) p)
+    by_test true is =
+        subst (λ (q : Property). StaysKnown (known_of kept q) (known_of (with_known kept (Entries t) k) q)) (sym (same_entries p t is)) there
+    by_test false is =
+        subst (StaysKnown (known_of kept p)) (sym (known_elsewhere kept.properties (Entries t) p k is))
+        ((keeps_itself w).known p)
+
+pub keeps_put : (w : StageState) (t : TypeId) (k : Known) → StaysKnown (known_of w.kept (Entries t)) k
+    → KeepsLayouts w (record w { kept = with_known w.kept (Entries t) k })
+keeps_put w t k free =
+    let same = keeps_itself w in
+    record {
+      types = same.types;
+      store = refl;
+      known = λ p. put_kept w t k p free;
+      structs = refl;
+      heap = refl;
+      exports = refl;
+      memory = refl;
+    }
+
+-- the entries of a struct that are being asked for
+pub keeps_known : (w : StageState) (t : TypeId) (k : Known)
+    → KeepsLayouts w (record w { kept = settled_as (known_of w.kept (Entries t)) w.kept t k })
+keeps_known w t k =
+    by_known (known_of w.kept (Entries t)) refl
+  where
+    by_known : (c : Known) → known_of w.kept (Entries t) ≡ c → KeepsLayouts w (record w { kept = settled_as c w.kept t k })
+    by_known known.Asked is = keeps_put w t k (subst (λ (x : Known). StaysKnown x k) (sym is) tt)
+    by_known known.Unasked is = keeps_itself w
+    by_known (known.Value v) is = keeps_itself w
+    by_known (known.Refused kind) is = keeps_itself w
+
+-- ---- a layout that isn't settled
+
+pub keeps_layout : (w : StageState) (t : TypeId) (layout : Option Layout) → IsTrue (is_unsettled w.store.types t)
+    → KeepsLayouts w (with_store w (with_types w.store (with_settled w.store.types t layout)))
+keeps_layout w t layout unsettled =
+    let same = keeps_itself w in
+    record {
+      types = keeps-settled w.store.types t layout unsettled;
+      store = refl;
+      known = same.known;
+      structs = refl;
+      heap = refl;
+      exports = refl;
+      memory = refl;
+    }
+
+-- ---- one step and the next
+
+pub kept_as : (u v w : StageState) → v ≡ w → KeepsLayouts u w → KeepsLayouts u v
+kept_as u v w is kept = subst (KeepsLayouts u) (sym is) kept
+
+pub kept_from : (u v w : StageState) → v ≡ u → KeepsLayouts v w → KeepsLayouts u w
+kept_from u v w is kept = subst (λ (x : StageState). KeepsLayouts x w) is kept
