@@ -31,6 +31,7 @@ with_both queue by (m ∷ ms) ns =
     either (was_reached m.1 queue) (with_both queue by ms ns)
     (with_both (queue ++ record { function = m.1; by = Some (m.0, by) } ∷ []) by ms ns)
   where
+    more : List Reached
     more = queue ++ record { function = m.1; by = Some (m.0, by) } ∷ []
 
     either : (c : Bool) → with_mentions queue by (ms ++ ns) ≡ with_mentions (with_mentions queue by ms) by ns

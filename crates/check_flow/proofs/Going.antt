@@ -1,5 +1,5 @@
 -- What is to be gone through for a node: its own mention, and its parts, of which the first is the next.
-use Rattle.std.proofs.Common.{◌≡◌, ℕ, Bool, true, false, List, [], ◌∷◌, ◌++◌, refl, sym, ap, ◌∙◌, append_assoc, append-nil, Some, None}
+use Rattle.std.proofs.Common.{◌≡◌, ℕ, Bool, true, false, List, [], ◌∷◌, ◌++◌, refl, sym, ap, ◌∙◌, append_assoc, append-nil, Option, Some, None}
 use Rattle.tl_base.specs.declared.place.Place.{Place}
 use Rattle.tl_base.specs.declared.ids.TermId.{TermId}
 use Rattle.terra_term.specs.declared.lists.TypedName.{TypedName}
@@ -65,14 +65,13 @@ operate_gone w at below op es new old is =
 
 -- two expressions
 pub two_gone : (w : StageState) (below : ℕ) (a b : TermId) (new old : Mentions)
-    → new ≡ expression_mentions w below a ++ (expression_mentions w below b ++ old)
+    → new ≡ expression_mentions w below a ++ expression_mentions w below b ++ old
     → new ≡ mentions_in (events_of (typed_at (trees_below w below) a) ++ events_of (typed_at (trees_below w below) b)) ++ old
 two_gone w below a b new old is =
     let first = expression_mentions w below a in
     let second = expression_mentions w below b in
     joined (mentions_in (events_of (typed_at (trees_below w below) a) ++ events_of (typed_at (trees_below w below) b))) (first ++ second) new old
-    (in_both (events_of (typed_at (trees_below w below) a)) (events_of (typed_at (trees_below w below) b)))
-    (is ∙ sym (append_assoc first second old))
+    (in_both (events_of (typed_at (trees_below w below) a)) (events_of (typed_at (trees_below w below) b))) is
 
 pub address_gone : (w : StageState) (at : Place) (below : ℕ) (e : TermId) (new old : Mentions)
     → new ≡ expression_mentions w below e ++ old → new ≡ form_mentions w at below (te.Address e) ++ old
@@ -123,30 +122,37 @@ tested w below test block =
     in_both (events_of (typed_at (trees_below w below) test)) (scope body)
     ∙ ap (λ (ms : Mentions). expression_mentions w below test ++ ms) (in_scope body ∙ in_block w below block)
 
-pub if_gone : (w : StageState) (below : ℕ) (test : TermId) (block : List TermId) (new between old : Mentions)
-    → between ≡ all_mentions true w below block ++ old → new ≡ expression_mentions w below test ++ between
-    → new ≡ doing_mentions w below (ts.If test block None) ++ old
-if_gone w below test block new between old later sooner =
-    joined_two (doing_mentions w below (ts.If test block None)) (expression_mentions w below test) (all_mentions true w below block)
-    new between old (tested w below test block) later sooner
+pub if_gone : (w : StageState) (below : ℕ) (test : TermId) (block : List TermId) (others : Option (List TermId)) (new between old : Mentions)
+    → others ≡ None → between ≡ all_mentions true w below block ++ old → new ≡ expression_mentions w below test ++ between
+    → new ≡ doing_mentions w below (ts.If test block others) ++ old
+if_gone w below test block others new between old none later sooner =
+    joined_two (doing_mentions w below (ts.If test block others)) (expression_mentions w below test) (all_mentions true w below block)
+    new between old
+    (ap (λ (o : Option (List TermId)). doing_mentions w below (ts.If test block o)) none ∙ tested w below test block) later sooner
 
-pub if_else_gone : (w : StageState) (below : ℕ) (test : TermId) (block others : List TermId) (new second first old : Mentions)
-    → first ≡ all_mentions true w below others ++ old → second ≡ all_mentions true w below block ++ first
-    → new ≡ expression_mentions w below test ++ second
-    → new ≡ doing_mentions w below (ts.If test block (Some others)) ++ old
-if_else_gone w below test block others new second first old last later sooner =
-    let trees = trees_below w below in
-    let condition = events_of (typed_at trees test) in
-    let then_block = block_events (typed_block_at trees block) in
-    let else_block = block_events (typed_block_at trees others) in
+else_tested : (w : StageState) (below : ℕ) (test : TermId) (block others : List TermId)
+    → doing_mentions w below (ts.If test block (Some others))
+    ≡ expression_mentions w below test ++ (all_mentions true w below block ++ all_mentions true w below others)
+else_tested w below test block others =
     let here = all_mentions true w below block in
     let there = all_mentions true w below others in
-    joined_two (doing_mentions w below (ts.If test block (Some others))) (expression_mentions w below test) (here ++ there) new second old
-    (in_both condition (scope then_block ++ scope else_block)
-    ∙ ap (λ (ms : Mentions). mentions_in condition ++ ms)
-    (in_both (scope then_block) (scope else_block)
-    ∙ ap (λ (ms : Mentions). ms ++ mentions_in (scope else_block)) (in_scope then_block ∙ in_block w below block)
-    ∙ ap (λ (ms : Mentions). here ++ ms) (in_scope else_block ∙ in_block w below others)))
+    let body = block_events (typed_block_at (trees_below w below) block) in
+    let else_body = block_events (typed_block_at (trees_below w below) others) in
+    in_both (events_of (typed_at (trees_below w below) test) ++ scope body) (scope else_body)
+    ∙ ap (λ (ms : Mentions). ms ++ mentions_in (scope else_body)) (tested w below test block)
+    ∙ ap (λ (ms : Mentions). expression_mentions w below test ++ here ++ ms) (in_scope else_body ∙ in_block w below others)
+    ∙ append_assoc (expression_mentions w below test) here there
+
+pub if_else_gone : (w : StageState) (below : ℕ) (test : TermId) (block : List TermId) (otherwise : Option (List TermId)) (others : List TermId)
+    (new second first old : Mentions)
+    → otherwise ≡ Some others → first ≡ all_mentions true w below others ++ old → second ≡ all_mentions true w below block ++ first
+    → new ≡ expression_mentions w below test ++ second
+    → new ≡ doing_mentions w below (ts.If test block otherwise) ++ old
+if_else_gone w below test block otherwise others new second first old some last later sooner =
+    let here = all_mentions true w below block in
+    let there = all_mentions true w below others in
+    joined_two (doing_mentions w below (ts.If test block otherwise)) (expression_mentions w below test) (here ++ there) new second old
+    (ap (λ (o : Option (List TermId)). doing_mentions w below (ts.If test block o)) some ∙ else_tested w below test block others)
     (later ∙ ap (λ (ms : Mentions). here ++ ms) last ∙ sym (append_assoc here there old)) sooner
 
 pub while_gone : (w : StageState) (below : ℕ) (test : TermId) (block : List TermId) (new between old : Mentions)

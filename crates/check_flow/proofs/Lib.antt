@@ -1,6 +1,8 @@
 -- Lemmas: what steps do by themselves.
 pub mod Doing
 pub mod Answering
+pub mod Laying
+pub mod Taking
 -- What is to be gone through, and what it mentions.
 pub mod Mentioning
 pub mod Nodes

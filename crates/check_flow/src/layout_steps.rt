@@ -7,7 +7,7 @@ ghost use Rattle.terra_types.specs.Making.{is_unsettled, settled_answer, with_se
 ghost use Rattle.terra_types.specs.Sizes.{size_of};
 ghost use Rattle.terra_term.specs.Held.{with_types};
 ghost use Rattle.exotype.specs.World.{with_store};
-ghost use Rattle.exotype.specs.Properties.{known_of};
+ghost use Rattle.exotype.specs.Properties.{known_of, with_known};
 ghost use Rattle.check_model.specs.Layouts as models;
 ghost use Rattle.check_model.specs.Structs as structs;
 ghost use Rattle.check_flow.specs.LayoutFrames.{layout_rules, parts_from, is_go};
@@ -187,21 +187,21 @@ fn by_entries(
         LaysOn frames.old.items (models.by_entries of value at) world.old left frames.new.items step world.new left) }
     ensures kept { OnOk result (KeepsLayouts world.old world.new) }
 {
-    match entries_from(&world.heap, copy(&value))? {
+    match entries_from(&world.heap, value)? {
         None => Ok(keep(world, of, RefusalKind::BadEntries)),
         Some(entries) => {
-            let rest = Rest::copy(world.store.allocator(), entries.as_slice())?;
+            let rest = copied(world.store.allocator(), &entries)?;
             let step = parts_left(frames, world, of, value, rest, entries, at)?;
             Ok(step)
         }
     }
 }
 
-/// The same value, for what goes on with it behind a call that takes it.
-fn copy(value: &Value) -> Value
-    ensures { result ≡ value.now }
+/// The same entries, to be taken one after the other.
+fn copied(alloc: Global, entries: &Row<Entry>) -> Result<Rest<Entry>, NoMemory>
+    ensures { IfOk result (λ rest. rest ≡ entries.now) }
 {
-    *value
+    Rest::copy(alloc, entries.as_slice())
 }
 
 /// Lays a struct out, by what is known of its entries.
@@ -221,17 +221,42 @@ fn lay_out_struct(
         Known::Refused(kind) => Ok(Step::Return(LayoutEnd::Refused(kind))),
         Known::Asked => Ok(Step::Return(LayoutEnd::Refused(RefusalKind::Incomplete))),
         Known::Unasked => {
-            let asks_lua = !entries_metamethod(world, of).is_nil();
-            let own = own_entries(world, of);
-            world.kept.begin(Property::Entries(of))?;
-            if asks_lua {
-                Ok(keep(world, of, RefusalKind::NotBuilt))
-            } else {
-                let step = by_entries(frames, world, of, own, at)?;
-                Ok(step)
-            }
+            let step = ask_entries(frames, world, of, at)?;
+            Ok(step)
         }
     }
+}
+
+/// Lays a struct out, whose entries weren't asked for yet.
+fn ask_entries(
+    frames: &mut Vec<LayoutFrame>,
+    world: &mut World,
+    of: TypeId,
+    at: Place,
+) -> Result<LayoutStep, NoMemory>
+    requires { known_of world.old.kept (Property.Entries of) ≡ Known.Unasked }
+    ensures means { IfOk result (λ step. (left : ℕ) →
+        LaysOn frames.old.items (models.by_known world.old (known_of world.old.kept (Property.Entries of)) of at)
+        world.old left frames.new.items step world.new left) }
+    ensures kept { OnOk result (KeepsLayouts world.old world.new) }
+{
+    let is_own = entries_metamethod(world, of).is_nil();
+    let own = own_entries(world, of);
+    begin_entries(world, of)?;
+    if is_own {
+        let step = by_entries(frames, world, of, own, at)?;
+        Ok(step)
+    } else {
+        Ok(keep(world, of, RefusalKind::NotBuilt))
+    }
+}
+
+/// The entries of a struct are being asked for from now on. They weren't before.
+fn begin_entries(world: &mut World, of: TypeId) -> Result<(), NoMemory>
+    requires { known_of world.old.kept (Property.Entries of) ≡ Known.Unasked }
+    ensures { OnOk result (world.new ≡ record world.old { kept = with_known world.old.kept (Property.Entries of) Known.Asked }) }
+{
+    world.kept.begin(Property::Entries(of))
 }
 
 /// How a type is laid out.
@@ -247,9 +272,23 @@ fn kind_of(world: &World, of: TypeId) -> Kind
     ensures { result ≡ kind_in (form_in world.now of) }
 {
     match world.store.types().form(of) {
-        Some(TypeForm::Struct(_, _, _)) => Kind::Struct,
-        Some(TypeForm::Array(elements, _)) => Kind::Array(*elements),
-        _ => Kind::Other,
+        Some(form) => kind_from(form),
+        None => Kind::Other,
+    }
+}
+
+/// How a type of this form is laid out.
+fn kind_from(form: &TypeForm) -> Kind
+    ensures { result ≡ kind_in form.now }
+{
+    match form {
+        TypeForm::Struct(_, _, _) => Kind::Struct,
+        TypeForm::Array(elements, _) => Kind::Array(*elements),
+        TypeForm::Integer(_) => Kind::Other,
+        TypeForm::Bool => Kind::Other,
+        TypeForm::Unit => Kind::Other,
+        TypeForm::Pointer(_) => Kind::Other,
+        TypeForm::Function(_, _) => Kind::Other,
     }
 }
 

@@ -17,25 +17,23 @@ returns-in_ok-all-in-Assign-2 c = λ w.
     (rw c.as_slice-in-Assign.ensures at (c.in_ok-all-in-Assign.ensures w))
     (rw c.as_slice-in-Assign-2.ensures at (c.in_ok-all-in-Assign-2.ensures w)))
 
-pub returns-in_ok-expression-in-If-default-default-None : goal.returns-in_ok-expression-in-If-default-default-None
-returns-in_ok-expression-in-If-default-default-None c = λ w.
-    let m = c.in-If-default-default-None in
-    rw (m.is, m.field-2-is)
-    (if_gone w c.args.below m.test m.block (parts_mentions w c.expression.new.parts.items)
-    (parts_mentions w c.all-in-If-default-default-None.new.parts.items) (parts_mentions w c.args.parts.now.items)
-    (rw c.as_slice-in-If-default-default-None.ensures at (c.in_ok-all-in-If-default-default-None.ensures w))
-    (c.in_ok-expression-in-If-default-default-None.ensures w))
+pub returns-in_ok-expression-in-None : goal.returns-in_ok-expression-in-None
+returns-in_ok-expression-in-None c = λ w.
+    let m = c.in-If in
+    rw m.is
+    (if_gone w c.args.below m.test m.block m.others (parts_mentions w c.expression.new.parts.items)
+    (parts_mentions w c.all-in-None.new.parts.items) (parts_mentions w c.args.parts.now.items) c.in-None.is
+    (rw c.as_slice-in-None.ensures at (c.in_ok-all-in-None.ensures w)) (c.in_ok-expression-in-None.ensures w))
 
-pub returns-in_ok-expression-in-If-default-default-Some : goal.returns-in_ok-expression-in-If-default-default-Some
-returns-in_ok-expression-in-If-default-default-Some c = λ w.
-    let m = c.in-If-default-default-Some in
-    rw (m.is, m.field-2-is)
-    (if_else_gone w c.args.below m.test m.block m.others (parts_mentions w c.expression-in-If-default-default-Some.new.parts.items)
-    (parts_mentions w c.all-in-If-default-default-Some-2.new.parts.items) (parts_mentions w c.all-in-If-default-default-Some.new.parts.items)
-    (parts_mentions w c.args.parts.now.items)
-    (rw c.as_slice-in-If-default-default-Some.ensures at (c.in_ok-all-in-If-default-default-Some.ensures w))
-    (rw c.as_slice-in-If-default-default-Some-2.ensures at (c.in_ok-all-in-If-default-default-Some-2.ensures w))
-    (c.in_ok-expression-in-If-default-default-Some.ensures w))
+pub returns-in_ok-expression-in-Some : goal.returns-in_ok-expression-in-Some
+returns-in_ok-expression-in-Some c = λ w.
+    let m = c.in-If in
+    rw m.is
+    (if_else_gone w c.args.below m.test m.block m.others c.in-Some.others (parts_mentions w c.expression-in-Some.new.parts.items)
+    (parts_mentions w c.all-in-Some-2.new.parts.items) (parts_mentions w c.all-in-Some.new.parts.items)
+    (parts_mentions w c.args.parts.now.items) c.in-Some.is
+    (rw c.as_slice-in-Some.ensures at (c.in_ok-all-in-Some.ensures w))
+    (rw c.as_slice-in-Some-2.ensures at (c.in_ok-all-in-Some-2.ensures w)) (c.in_ok-expression-in-Some.ensures w))
 
 pub returns-in_ok-expression-in-While : goal.returns-in_ok-expression-in-While
 returns-in_ok-expression-in-While c = λ w.
