@@ -19,7 +19,7 @@ ghost use Rattle.check_flow.specs.Steps.{LaysOn};
 use crate::entries::entries_from;
 use crate::layout_frame::LayoutFrame;
 use check_model::{CheckAnswer, LayoutEnd, LayoutQuestion, LayoutTask, Rest, Row};
-use exotype::{Known, Property, World};
+use exotype::{Known, Property, World, what_is_kept_is_known};
 use lua_value::Value;
 use std::alloc::Global;
 use terra_term::RefusalKind;
@@ -86,6 +86,7 @@ fn keep(world: &mut World, of: TypeId, kind: RefusalKind) -> LayoutStep
     ensures means { (left : ℕ) → (fs : List LayoutFrame) → LaysOn fs (models.keep of kind) world.old left fs result world.new left }
     ensures kept { KeepsLayouts world.old world.new }
 {
+    what_is_kept_is_known();
     settle_entries(world, of, kept_as(kind));
     Step::Return(LayoutEnd::Refused(kind))
 }
@@ -96,6 +97,7 @@ fn finish(world: &mut World, of: TypeId, value: Value) -> LayoutStep
         LaysOn fs (models.settling of (Known.Value value) (Give LayoutEnd.Done)) world.old left fs result world.new left }
     ensures kept { KeepsLayouts world.old world.new }
 {
+    what_is_kept_is_known();
     settle_entries(world, of, Known::Value(value));
     Step::Return(LayoutEnd::Done)
 }
@@ -187,21 +189,21 @@ fn by_entries(
         LaysOn frames.old.items (models.by_entries of value at) world.old left frames.new.items step world.new left) }
     ensures kept { OnOk result (KeepsLayouts world.old world.new) }
 {
-    match entries_from(&world.heap, value)? {
+    match entries_from(&world.heap, copied(&value))? {
         None => Ok(keep(world, of, RefusalKind::BadEntries)),
         Some(entries) => {
-            let rest = copied(world.store.allocator(), &entries)?;
+            let rest = Rest::copy(world.store.allocator(), entries.as_slice())?;
             let step = parts_left(frames, world, of, value, rest, entries, at)?;
             Ok(step)
         }
     }
 }
 
-/// The same entries, to be taken one after the other.
-fn copied(alloc: Global, entries: &Row<Entry>) -> Result<Rest<Entry>, NoMemory>
-    ensures { IfOk result (λ rest. rest ≡ entries.now) }
+/// The same value, for what goes on with it behind a call that takes it.
+fn copied(value: &Value) -> Value
+    ensures { result ≡ value.now }
 {
-    Rest::copy(alloc, entries.as_slice())
+    *value
 }
 
 /// Lays a struct out, by what is known of its entries.
@@ -240,6 +242,7 @@ fn ask_entries(
         world.old left frames.new.items step world.new left) }
     ensures kept { OnOk result (KeepsLayouts world.old world.new) }
 {
+    what_is_kept_is_known();
     let is_own = entries_metamethod(world, of).is_nil();
     let own = own_entries(world, of);
     begin_entries(world, of)?;
