@@ -44,14 +44,6 @@ own_operation at (operations.Primitive p) es = refl
 own_operation at operations.CallValue es = refl
 own_operation at (operations.Construct offsets) es = refl
 
-pub constant_gone : (w : StageState) (at : Place) (below : ℕ) (c : Constant) (old : Mentions)
-    → own_mention at (te.Constant c) ++ old ≡ form_mentions w at below (te.Constant c) ++ old
-constant_gone w at below (constants.Number bits) old = refl
-constant_gone w at below (constants.Truth b) old = refl
-constant_gone w at below constants.Nil old = refl
-constant_gone w at below (constants.Static address) old = refl
-constant_gone w at below (constants.FnValue f) old = refl
-
 pub operate_gone : (w : StageState) (at : Place) (below : ℕ) (op : Operation) (es : List TermId) (new old : Mentions)
     → new ≡ all_mentions false w below es ++ old
     → own_mention at (te.Operate op es) ++ new ≡ form_mentions w at below (te.Operate op es) ++ old
@@ -72,11 +64,6 @@ two_gone w below a b new old is =
     let second = expression_mentions w below b in
     joined (mentions_in (events_of (typed_at (trees_below w below) a) ++ events_of (typed_at (trees_below w below) b))) (first ++ second) new old
     (in_both (events_of (typed_at (trees_below w below) a)) (events_of (typed_at (trees_below w below) b))) is
-
-pub address_gone : (w : StageState) (at : Place) (below : ℕ) (e : TermId) (new old : Mentions)
-    → new ≡ expression_mentions w below e ++ old → new ≡ form_mentions w at below (te.Address e) ++ old
-address_gone w at below e new old is =
-    joined (form_mentions w at below (te.Address e)) (expression_mentions w below e) new old (in_taken (typed_at (trees_below w below) e)) is
 
 pub let_gone : (w : StageState) (at : Place) (below : ℕ) (block : List TermId) (e : TermId) (new between old : Mentions)
     → between ≡ expression_mentions w below e ++ old → new ≡ all_mentions true w below block ++ between

@@ -115,6 +115,3 @@ keeps_layout w t layout unsettled =
 
 pub kept_as : (u v w : StageState) → v ≡ w → KeepsLayouts u w → KeepsLayouts u v
 kept_as u v w is kept = subst (KeepsLayouts u) (sym is) kept
-
-pub kept_from : (u v w : StageState) → v ≡ u → KeepsLayouts v w → KeepsLayouts u w
-kept_from u v w is kept = subst (λ (x : StageState). KeepsLayouts x w) is kept

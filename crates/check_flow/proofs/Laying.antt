@@ -54,64 +54,9 @@ moved fs fs2 p q w v w2 left left2 step plans worlds g = λ later.
     ap (λ (x : LayoutPlan). plug layout_rules fs (plan_run layout_rules x (state w left) later)) plans
     ∙ ap (λ (u : StageState). plug layout_rules fs (plan_run layout_rules q (state u left) later)) worlds ∙ g later
 
--- an end in a world that is this one
-pub ends_in : (fs : List LayoutFrame) (r : LayoutEnd) (w w2 : StageState) (left : ℕ) → w2 ≡ w → LaysOn fs (Give r) w left fs (Return r) w2 left
-ends_in fs r w w2 left is = λ later. ap (λ (u : StageState). plug layout_rules fs (plan_run layout_rules (Give r) (state u left) later)) (sym is)
-
 -- ---- what is kept
 
-pub unasked_stays : (k : Known) (kept : KeptState) (t : TypeId) (x : Known) → (k ≡ known.Asked → ⊥) → settled_as k kept t x ≡ kept
-unasked_stays known.Asked kept t x not_asked = absurd (not_asked refl)
-unasked_stays known.Unasked kept t x not_asked = refl
-unasked_stays (known.Value v) kept t x not_asked = refl
-unasked_stays (known.Refused kind) kept t x not_asked = refl
-
-pub refused_kept : (kind : RefusalKind) → (kind ≡ Incomplete → ⊥) → kept_as kind ≡ known.Refused kind
-refused_kept Incomplete not_incomplete = absurd (not_incomplete refl)
-refused_kept kind not_incomplete = refl
-
--- the world in which this is known of the entries that were being asked for
-abbrev pub with_settling : StageState → TypeId → Known → StageState
-with_settling w t k = record w { kept = settled_as (known_of w.kept (Entries t)) w.kept t k }
-
-pub settles : (fs : List LayoutFrame) (t : TypeId) (k : Known) (r : LayoutEnd) (w w2 : StageState) (left : ℕ)
-    → w2 ≡ with_settling w t k → LaysOn fs (settling t k (Give r)) w left fs (Return r) w2 left
-settles fs t k r w w2 left is = ends_in fs r (with_settling w t k) w2 left is
-
 -- ---- layouts that are settled
-
--- the world in which a struct has its layout, if there is one
-abbrev pub with_laid : StageState → TypeId → Option Layout → StageState
-with_laid w t layout = with_store w (with_types w.store (with_settled w.store.types t layout))
-
-pub settles_done : (fs : List LayoutFrame) (t : TypeId) (v : Value) (layout : Option Layout) (w u w2 : StageState) (left : ℕ) (step : LayoutStep)
-    → Done ≡ settled_answer layout → u ≡ with_laid w t layout
-    → LaysOn fs (settling t (known.Value v) (Give ends.Done)) u left fs step w2 left → LaysOn fs (settle t v layout) w left fs step w2 left
-settles_done fs t v None w u w2 left step is laid g = absurd (cc)
-settles_done fs t v (Some l) w u w2 left step is laid g =
-    moved fs fs (settling t (known.Value v) (Give ends.Done)) (settling t (known.Value v) (Give ends.Done)) (with_laid w t (Some l)) u w2 left left
-    step refl (sym laid) g
-
-pub settles_bad : (fs : List LayoutFrame) (t : TypeId) (v : Value) (layout : Option Layout) (w u w2 : StageState) (left : ℕ) (step : LayoutStep)
-    → Bad ≡ settled_answer layout → u ≡ with_laid w t layout → LaysOn fs (keep t BadEntries) u left fs step w2 left
-    → LaysOn fs (settle t v layout) w left fs step w2 left
-settles_bad fs t v (Some l) w u w2 left step is laid g = absurd (cc)
-settles_bad fs t v None w u w2 left step is laid g =
-    moved fs fs (keep t BadEntries) (keep t BadEntries) w u w2 left left step refl (sym laid) g
-
-pub settles_if : (fs : List LayoutFrame) (t : TypeId) (v : Value) (layout : Option Layout) (w w2 : StageState) (left : ℕ) (step : LayoutStep)
-    → is_unsettled w.store.types t ≡ true → LaysOn fs (settle t v layout) w left fs step w2 left
-    → LaysOn fs (unless_settled w t v layout) w left fs step w2 left
-settles_if fs t v layout w w2 left step is g =
-    moved fs fs (unless_settled w t v layout) (settle t v layout) w w w2 left left step
-    (ap (λ (c : Bool). if c then settle t v layout else settling t (known.Value v) (Give ends.Done)) is) refl g
-
-pub settled_before : (fs : List LayoutFrame) (t : TypeId) (v : Value) (layout : Option Layout) (w w2 : StageState) (left : ℕ) (step : LayoutStep)
-    → is_unsettled w.store.types t ≡ false → LaysOn fs (settling t (known.Value v) (Give ends.Done)) w left fs step w2 left
-    → LaysOn fs (unless_settled w t v layout) w left fs step w2 left
-settled_before fs t v layout w w2 left step is g =
-    moved fs fs (unless_settled w t v layout) (settling t (known.Value v) (Give ends.Done)) w w w2 left left step
-    (ap (λ (c : Bool). if c then settle t v layout else settling t (known.Value v) (Give ends.Done)) is) refl g
 
 -- ---- the entries of a struct
 
@@ -130,45 +75,7 @@ asks_elements fs pushed t of n at w left is =
 
 -- ---- what is known of the entries
 
--- the world in which they are being asked for
-abbrev pub with_asking : StageState → TypeId → StageState
-with_asking w t = record w { kept = with_known w.kept (Entries t) known.Asked }
-
-begins : (fs fs2 : List LayoutFrame) (k : Known) (t : TypeId) (at : Place) (p : LayoutPlan) (w u w2 : StageState) (left : ℕ) (step : LayoutStep)
-    → k ≡ known.Unasked → u ≡ with_asking w t → asked_entries w (metamethod w t (codes "__getentries")) t at ≡ p
-    → LaysOn fs p u left fs2 step w2 left → LaysOn fs (by_known w k t at) w left fs2 step w2 left
-begins fs fs2 k t at p w u w2 left step unasked asking plan g =
-    moved fs fs2 (by_known w k t at) (by_known w known.Unasked t at) w w w2 left left step (ap (λ (x : Known). by_known w x t at) unasked) refl
-    (moved fs fs2 (asked_entries w (metamethod w t (codes "__getentries")) t at) p (with_asking w t) u w2 left left step plan (sym asking) g)
-
--- its own entries are read where it has no metamethod for them
-pub begins_own : (fs fs2 : List LayoutFrame) (k : Known) (t : TypeId) (own : Value) (at : Place) (w u w2 : StageState) (left : ℕ) (step : LayoutStep)
-    → k ≡ known.Unasked → u ≡ with_asking w t → is_nil (metamethod w t (codes "__getentries")) ≡ true → own ≡ entries_at w t
-    → LaysOn fs (by_entries t own at) u left fs2 step w2 left → LaysOn fs (by_known w k t at) w left fs2 step w2 left
-begins_own fs fs2 k t own at w u w2 left step unasked asking none is g =
-    begins fs fs2 k t at (by_entries t own at) w u w2 left step unasked asking
-    (ap (λ (c : Bool). if c then by_entries t (entries_at w t) at else keep t NotBuilt) none
-    ∙ ap (λ (v : Value). by_entries t v at) (sym is)) g
-
-pub begins_asking : (fs fs2 : List LayoutFrame) (k : Known) (t : TypeId) (at : Place) (w u w2 : StageState) (left : ℕ) (step : LayoutStep)
-    → k ≡ known.Unasked → u ≡ with_asking w t → is_nil (metamethod w t (codes "__getentries")) ≡ false
-    → LaysOn fs (keep t NotBuilt) u left fs2 step w2 left → LaysOn fs (by_known w k t at) w left fs2 step w2 left
-begins_asking fs fs2 k t at w u w2 left step unasked asking some g =
-    begins fs fs2 k t at (keep t NotBuilt) w u w2 left step unasked asking
-    (ap (λ (c : Bool). if c then by_entries t (entries_at w t) at else keep t NotBuilt) some) g
-
 -- ---- each form
-
-pub form_laid : (fs fs2 : List LayoutFrame) (form : TypeForm) (t : TypeId) (at : Place) (w w2 : StageState) (left : ℕ) (step : LayoutStep)
-    → kinds.Struct ≡ kind_in form → LaysOn fs (by_known w (known_of w.kept (Entries t)) t at) w left fs2 step w2 left
-    → LaysOn fs (by_form w form t at) w left fs2 step w2 left
-form_laid fs fs2 (forms.Struct number place layout) t at w w2 left step is g = g
-form_laid fs fs2 (forms.Integer i) t at w w2 left step is g = absurd (cc)
-form_laid fs fs2 forms.Bool t at w w2 left step is g = absurd (cc)
-form_laid fs fs2 forms.Unit t at w w2 left step is g = absurd (cc)
-form_laid fs fs2 (forms.Pointer u) t at w w2 left step is g = absurd (cc)
-form_laid fs fs2 (forms.Array u n) t at w w2 left step is g = absurd (cc)
-form_laid fs fs2 (forms.Function ps r) t at w w2 left step is g = absurd (cc)
 
 same_elements : (a b : TypeId) → kinds.Array a ≡ kinds.Array b → a ≡ b
 same_elements a b is = cc
@@ -189,13 +96,3 @@ form_asked fs pushed forms.Bool t of at w left is pushes = absurd (cc)
 form_asked fs pushed forms.Unit t of at w left is pushes = absurd (cc)
 form_asked fs pushed (forms.Pointer u) t of at w left is pushes = absurd (cc)
 form_asked fs pushed (forms.Function ps r) t of at w left is pushes = absurd (cc)
-
-pub form_done : (fs : List LayoutFrame) (form : TypeForm) (t : TypeId) (at : Place) (w : StageState) (left : ℕ)
-    → kinds.Other ≡ kind_in form → LaysOn fs (by_form w form t at) w left fs (Return ends.Done) w left
-form_done fs (forms.Struct number place layout) t at w left is = absurd (cc)
-form_done fs (forms.Array u n) t at w left is = absurd (cc)
-form_done fs (forms.Integer i) t at w left is = λ later. refl
-form_done fs forms.Bool t at w left is = λ later. refl
-form_done fs forms.Unit t at w left is = λ later. refl
-form_done fs (forms.Pointer u) t at w left is = λ later. refl
-form_done fs (forms.Function ps r) t at w left is = λ later. refl

@@ -8,15 +8,6 @@ use Rattle.terra_types.specs.declared.layout.Entry.{Entry}
 use Rattle.terra_types.specs.Sizes.{for_some}
 use Rattle.check_model.specs.Layouts.{entry_in, entries_to}
 
--- one entry more
-pub entries_more : (s : LuaState) (pairs : Pairs) (n : ℕ) (before : List Entry) (x : Entry)
-    → entries_to s pairs n ≡ Some before → entry_in s (value_at pairs (n + 1)) ≡ Some x → entries_to s pairs (n + 1) ≡ Some (before ++ x ∷ [])
-entries_more s pairs n before x so_far is =
-    ap (λ (k : ℕ). entries_to s pairs k) (add-one n)
-    ∙ ap (λ (o : Option (List Entry)). for_some o (λ them. for_some (entry_in s (value_at pairs (suc n))) (λ one. Some (them ++ one ∷ [])))) so_far
-    ∙ ap (λ (o : Option Entry). for_some o (λ one. Some (before ++ one ∷ [])))
-    (ap (λ (k : ℕ). entry_in s (value_at pairs k)) (sym (add-one n)) ∙ is)
-
 none_behind : (o : Option (List Entry)) → for_some o (λ them. for_some {A = Entry} None (λ one. Some (them ++ one ∷ []))) ≡ None
 none_behind None = refl
 none_behind (Some them) = refl

@@ -32,13 +32,6 @@ pub moved : (fs fs2 : List CheckFrame) (p q : CheckPlan) (w : StageState) (left 
     → p ≡ q → ChecksOn fs q w left fs2 step w left → ChecksOn fs p w left fs2 step w left
 moved fs fs2 p q w left step is g = λ later. ap (λ (x : CheckPlan). plug check_rules fs (plan_run check_rules x (state w left) later)) is ∙ g later
 
--- there is none
-pub takes_none : (fs : List CheckFrame) (queue : List Reached) (i : ℕ) (w : StageState) (left : ℕ)
-    → None ≡ slice_get queue i → ChecksOn fs (check_job (Take queue i)) w left fs (Return ends.Done) w left
-takes_none fs queue i w left none =
-    moved fs fs (at_index (slice_get queue i) queue i) (at_index None queue i) w left (Return ends.Done)
-    (ap (λ (o : Option Reached). at_index o queue i) (sym none)) (λ later. refl)
-
 -- it is this one, of which the store says this
 pub takes : (fs fs2 : List CheckFrame) (queue : List Reached) (i : ℕ) (r : Reached) (g : Option Function) (w : StageState) (left : ℕ) (step : CheckStep)
     → Some r ≡ slice_get queue i → g ≡ slice_get w.store.functions r.function.0
@@ -64,11 +57,3 @@ pub asks_body : (fs pushed : List CheckFrame) (queue : List Reached) (i : ℕ) (
 asks_body fs pushed queue i r own t w left is =
     doing.asks check_rules fs pushed (record { queue = queue; place = i; function = r.function }) (Body r.function) _ (state w left)
     (body_answered queue i r.function) is
-
--- behind a function that is typed
-pub goes_past : (fs : List CheckFrame) (queue queue2 : List Reached) (i j : ℕ) (f : FnId) (w : StageState) (left : ℕ) (step : CheckStep)
-    → queue2 ≡ with_mentions queue f (mentions_at w f) → j ≡ i + 1
-    → ChecksOn fs (take_next queue2 j) w left fs step w left → ChecksOn fs (past queue i f) w left fs step w left
-goes_past fs queue queue2 i j f w left step mentioned next goes =
-    moved fs fs (take_next (with_mentions queue f (mentions_at w f)) (i + 1)) (take_next queue2 j) w left step
-    (ap (λ (q : List Reached). take_next q (i + 1)) (sym mentioned) ∙ ap (take_next queue2) (sym next)) goes

@@ -94,12 +94,6 @@ none_mentioned : (c : Bool) → mentions_as_item c None ≡ []
 none_mentioned true = refl
 none_mentioned false = refl
 
-pub past_mentions : (w : StageState) (part : Part) → part.below ≤ part.term.0 → part_mentions w part ≡ []
-past_mentions w part past =
-    as_item part.is_statement w part.below part.term
-    ∙ ap (mentions_as_item part.is_statement) (none_past (typed_trees w.store.typed) part.below part.term.0 past)
-    ∙ none_mentioned part.is_statement
-
 pub absent_mentions : (w : StageState) (part : Part) → part.term.0 < part.below → None ≡ slice_get w.store.typed part.term.0 → part_mentions w part ≡ []
 absent_mentions w part under is = found w part None under is ∙ none_mentioned part.is_statement
 
@@ -193,22 +187,6 @@ no_body_statement w made at doing is = ap mentions_of (tree_at w.store.typed mad
 pub no_body_there : (w : StageState) (made : TermId)
     → None ≡ slice_get w.store.typed made.0 → mentions_of (slice_get (typed_trees w.store.typed) made.0) ≡ []
 no_body_there w made is = ap mentions_of (tree_at w.store.typed made.0 None is)
-
--- what a function mentions that is typed
-pub typed_mentioned : (v w : StageState) (f : FnId) (g : Function) (t made : TermId) → v ≡ w → Some g ≡ slice_get v.store.functions f.0
-    → g.state ≡ standing.Typed t made → mentions_at w f ≡ mentions_of (slice_get (typed_trees w.store.typed) made.0)
-typed_mentioned v w f g t made same found is =
-    ap (mentions_in_state w) (sym (found ∙ ap (λ (u : StageState). slice_get u.store.functions f.0) same)) ∙ ap (typed_mentions w) is
-
-none_typed : (w : StageState) (s : FunctionState) → ((t made : TermId) → s ≡ standing.Typed t made → ⊥) → typed_mentions w s ≡ []
-none_typed w (standing.Typed t made) not_typed = absurd (not_typed t made refl)
-none_typed w s not_typed = refl
-
--- and one that isn't
-pub untyped_mentioned : (v w : StageState) (f : FnId) (g : Function) → v ≡ w → Some g ≡ slice_get v.store.functions f.0
-    → ((t made : TermId) → g.state ≡ standing.Typed t made → ⊥) → mentions_at w f ≡ []
-untyped_mentioned v w f g same found not_typed =
-    ap (mentions_in_state w) (sym (found ∙ ap (λ (u : StageState). slice_get u.store.functions f.0) same)) ∙ none_typed w g.state not_typed
 
 -- what comes before what was there
 pub before_old : (new them these old : Mentions) → these ≡ them → new ≡ them ++ old → new ≡ these ++ old
