@@ -1,26 +1,15 @@
 -- What the nodes of typed terms mention, by their parts.
-use Rattle.std.proofs.Common.{◌≡◌, ℕ, Bool, true, false, List, [], ◌∷◌, ◌++◌, refl, sym, ap, ◌∙◌, append_assoc, append-nil, Option, Some, None, slice_get}
+use Rattle.std.proofs.Common.{◌≡◌, ℕ, Bool, true, false, List, [], ◌∷◌, ◌++◌, refl, ap, ◌∙◌, append-nil, Some, slice_get}
 use Rattle.std.specs.Prelude.{if◌then◌else◌}
-use Rattle.tl_base.specs.declared.place.Place.{Place}
 use Rattle.tl_base.specs.declared.ids.FnId.{FnId}
 use Rattle.tl_base.specs.declared.ids.TermId.{TermId}
-use Rattle.tl_base.specs.declared.ids.TypeId.{TypeId}
 use Rattle.terra_term.specs.declared.lists.TypedName.{TypedName}
-use Rattle.terra_term.specs.declared.operators.Operation.{Operation}
-use Rattle.terra_term.specs.declared.operators.Operation.TheVariants as operations
-use Rattle.terra_term.specs.declared.operators.Constant.{Constant}
-use Rattle.terra_term.specs.declared.operators.Constant.TheVariants as constants
-use Rattle.terra_term.specs.declared.typed.TypedExpression.{TypedExpression}
-use Rattle.terra_term.specs.declared.typed.TypedExpression.TheVariants as te
-use Rattle.terra_term.specs.declared.typed.TypedStatement.{TypedStatement}
-use Rattle.terra_term.specs.declared.typed.TypedStatement.TheVariants as ts
-use Rattle.terra_term.specs.TypedTerms.{Item, Expression, Form, typed, Constant', Variable, Global, Operate, Both, Either, Dereference, Select, Follow, Element, Index, Address, Decay, Let, Statement, statement}
 use Rattle.terra_term.specs.Planted.{typed_at, typed_doing_in, typed_list_at, typed_block_at}
-use Rattle.terra_term.specs.Events.{Event, Opens, Closes, Declares, Takes, Uses, Mentions, events_of, list_events, doing_events, block_events, operation_events, takes, declares, declares_all, scope, mentions_in}
+use Rattle.terra_term.specs.Events.{Event, Opens, Closes, Declares, Takes, Uses, Mentions, events_of, list_events, doing_events, block_events, declares_all, scope, mentions_in}
 use Rattle.exotype.specs.World.{StageState}
 use Rattle.check_model.specs.declared.job.Reached.{Reached}
 use Rattle.check_model.specs.Checks.{with_mentions, was_reached}
-use Rattle.check_flow.specs.Parts.{Mentions as Mentioned, trees_below, expression_mentions, statement_mentions, all_mentions, form_mentions, doing_mentions, own_mention}
+use Rattle.check_flow.specs.Parts.{Mentions as Mentioned, trees_below, expression_mentions, statement_mentions, all_mentions}
 
 -- ---- the queue
 
@@ -54,22 +43,6 @@ in_both (Uses at x t ∷ a) b = in_both a b
 
 pub in_scope : (a : List Event) → mentions_in (scope a) ≡ mentions_in a
 in_scope a = in_both a (Closes ∷ []) ∙ append-nil (mentions_in a)
-
-pub in_taken : (e : Expression) → mentions_in (takes e ++ events_of e) ≡ mentions_in (events_of e)
-in_taken (typed at of (Constant' c)) = refl
-in_taken (typed at of (Variable x)) = refl
-in_taken (typed at of (Global a)) = refl
-in_taken (typed at of (Operate op es)) = refl
-in_taken (typed at of (Both a b)) = refl
-in_taken (typed at of (Either a b)) = refl
-in_taken (typed at of (Dereference p)) = refl
-in_taken (typed at of (Select offset e)) = refl
-in_taken (typed at of (Follow offset p)) = refl
-in_taken (typed at of (Element a i)) = refl
-in_taken (typed at of (Index p i)) = refl
-in_taken (typed at of (Address e)) = refl
-in_taken (typed at of (Decay a)) = refl
-in_taken (typed at of (Let block e)) = refl
 
 -- declarations mention nothing
 pub in_declared : (names : List TypedName) → mentions_in (declares_all names) ≡ []

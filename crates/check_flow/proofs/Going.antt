@@ -1,21 +1,17 @@
 -- What is to be gone through for a node: its own mention, and its parts, of which the first is the next.
-use Rattle.std.proofs.Common.{◌≡◌, ℕ, Bool, true, false, List, [], ◌∷◌, ◌++◌, refl, sym, ap, ◌∙◌, append_assoc, append-nil, Option, Some, None}
+use Rattle.std.proofs.Common.{◌≡◌, ℕ, true, false, List, ◌++◌, refl, sym, ap, ◌∙◌, append_assoc, append-nil, Option, Some, None}
 use Rattle.tl_base.specs.declared.place.Place.{Place}
 use Rattle.tl_base.specs.declared.ids.TermId.{TermId}
 use Rattle.terra_term.specs.declared.lists.TypedName.{TypedName}
 use Rattle.terra_term.specs.declared.operators.Operation.{Operation}
 use Rattle.terra_term.specs.declared.operators.Operation.TheVariants as operations
-use Rattle.terra_term.specs.declared.operators.Constant.{Constant}
-use Rattle.terra_term.specs.declared.operators.Constant.TheVariants as constants
-use Rattle.terra_term.specs.declared.typed.TypedExpression.{TypedExpression}
 use Rattle.terra_term.specs.declared.typed.TypedExpression.TheVariants as te
-use Rattle.terra_term.specs.declared.typed.TypedStatement.{TypedStatement}
 use Rattle.terra_term.specs.declared.typed.TypedStatement.TheVariants as ts
 use Rattle.terra_term.specs.Planted.{typed_at, typed_list_at, typed_block_at}
-use Rattle.terra_term.specs.Events.{Event, events_of, list_events, block_events, operation_events, declares, declares_all, scope, mentions_in}
+use Rattle.terra_term.specs.Events.{events_of, list_events, block_events, operation_events, declares, declares_all, scope, mentions_in}
 use Rattle.exotype.specs.World.{StageState}
 use Rattle.check_flow.specs.Parts.{Mentions, trees_below, expression_mentions, all_mentions, form_mentions, doing_mentions, own_mention}
-use Rattle.check_flow.proofs.Events.{in_both, in_scope, in_taken, in_declared, in_list, in_block}
+use Rattle.check_flow.proofs.Events.{in_both, in_scope, in_declared, in_list, in_block}
 
 -- parts before what was there
 joined : (form parts new old : Mentions) → form ≡ parts → new ≡ parts ++ old → new ≡ form ++ old

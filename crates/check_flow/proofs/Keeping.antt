@@ -1,15 +1,15 @@
--- What a layout keeps of the world, whatever it puts there: what is known of entries that aren't known yet, and a layout that isn't settled.
-use Rattle.std.proofs.Common.{ℕ, ◌≡◌, Bool, true, false, ◌==◌, ◌&&◌, refl, sym, subst, ap, ◌∙◌, arith, Option}
+-- What a layout keeps of the world, whatever it puts there: what is known of entries that aren't known yet, and a
+-- layout that isn't settled.
+use Rattle.std.proofs.Common.{ℕ, ◌≡◌, Bool, true, false, ◌==◌, ◌&&◌, refl, sym, subst, ap, arith, Option}
 use Rattle.std.specs.Prelude.{IsTrue}
 use Rattle.std.proofs.lemmas.Bool.Decides.{Decides-eqb}
 use Rattle.tl_base.specs.declared.ids.TypeId.{TypeId}
 use Rattle.terra_types.specs.declared.layout.Layout.{Layout}
-use Rattle.terra_types.specs.Keeping.{KeepsTypes}
 use Rattle.terra_types.specs.Making.{is_unsettled, with_settled}
 use Rattle.terra_types.proofs.Staying.{keeps-settled}
-use Rattle.terra_term.specs.Held.{Held, with_types}
+use Rattle.terra_term.specs.Held.{with_types}
 use Rattle.exotype.specs.World.{StageState, KeptState, with_store}
-use Rattle.exotype.specs.Properties.{rank, type_number, name_number, same_property, known_of, with_known}
+use Rattle.exotype.specs.Properties.{rank, name_number, same_property, known_of, with_known}
 use Rattle.exotype.specs.declared.property.Property.{Property}
 use Rattle.exotype.specs.declared.property.Property.TheVariants.{Entries, Method}
 use Rattle.exotype.specs.declared.property.Known.{Known}
@@ -17,7 +17,7 @@ use Rattle.exotype.specs.declared.property.Known.TheVariants as known
 use Rattle.check_model.specs.Keeping.{StaysKnown}
 use Rattle.check_model.specs.Layouts.{settled_as}
 use Rattle.check_flow.specs.Keeping.{KeepsLayouts}
-use Rattle.check_flow.specs.Kept.{keeps_itself, keeps_then}
+use Rattle.check_flow.specs.Kept.{keeps_itself}
 
 -- ---- what is known of entries
 

@@ -1,5 +1,5 @@
--- Lemmas: what steps do by themselves.
-pub mod Doing
+-- Lemmas: what steps do that ask.
+pub mod Asking
 pub mod Answering
 pub mod Laying
 pub mod Taking

@@ -1,7 +1,6 @@
 -- Entries that are read one after the other.
-use Rattle.std.proofs.Common.{◌≡◌, ℕ, zero, suc, ◌+◌, ◌<◌, ◌≤◌, List, [], ◌∷◌, ◌++◌, refl, sym, ap, ◌∙◌, arith, add-one, Option, Some, None, inl, inr}
+use Rattle.std.proofs.Common.{◌≡◌, ℕ, zero, suc, ◌+◌, ◌<◌, List, [], ◌∷◌, ◌++◌, refl, ap, ◌∙◌, arith, Option, Some, None, inl, inr}
 use Rattle.std.proofs.lemmas.Bool.{cases_lt}
-use Rattle.lua_value.specs.declared.value.Value.{Value}
 use Rattle.lua_table.specs.LuaState.{LuaState}
 use Rattle.lua_table.specs.Pairs.{Pairs, value_at}
 use Rattle.terra_types.specs.declared.layout.Entry.{Entry}

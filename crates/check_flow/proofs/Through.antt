@@ -1,5 +1,5 @@
 -- A node that is gone through: what it mentions is what its tree does, and that comes behind the queue.
-use Rattle.std.proofs.Common.{◌≡◌, ℕ, ◌<◌, ◌≤◌, Bool, true, false, List, [], ◌∷◌, ◌++◌, refl, sym, ap, ◌∙◌, not, Option, Some, None, slice_get, take}
+use Rattle.std.proofs.Common.{◌≡◌, ℕ, ◌<◌, Bool, true, false, List, [], ◌++◌, refl, sym, ap, ◌∙◌, not, Option, Some, None, slice_get}
 use Rattle.std.specs.Prelude.{option_map}
 use Rattle.tl_base.specs.declared.place.Place.{Place}
 use Rattle.tl_base.specs.declared.ids.FnId.{FnId}
@@ -13,17 +13,14 @@ use Rattle.terra_term.specs.declared.typed.TypedExpression.TheVariants as te
 use Rattle.terra_term.specs.declared.typed.TypedStatement.{TypedStatement}
 use Rattle.terra_term.specs.declared.typed.TypedStatement.TheVariants as ts
 use Rattle.terra_term.specs.TypedTerms.{Item}
-use Rattle.terra_term.specs.declared.store.Function.{Function}
-use Rattle.terra_term.specs.declared.store.FunctionState.{FunctionState}
-use Rattle.terra_term.specs.declared.store.FunctionState.TheVariants as standing
 use Rattle.terra_term.specs.Planted.{typed_in, typed_doing_in, typed_block_at, typed_planted, typed_trees, nowhere}
 use Rattle.terra_term.specs.Events.{events_of, doing_events, block_events, declares_all, mentions_in}
 use Rattle.exotype.specs.World.{StageState}
 use Rattle.check_model.specs.declared.job.Reached.{Reached}
-use Rattle.check_model.specs.Checks.{with_mentions, mentions_of, typed_mentions, mentions_in_state, mentions_at}
+use Rattle.check_model.specs.Checks.{with_mentions, mentions_of}
 use Rattle.check_flow.specs.declared.mentions.Part.{Part}
 use Rattle.check_flow.specs.Parts.{Mentions, trees_below, item_mentions, mentions_as, all_mentions, part_mentions, form_mentions, doing_mentions, own_mention}
-use Rattle.check_flow.proofs.Nodes.{tree_at, tree_below, none_past}
+use Rattle.check_flow.proofs.Nodes.{tree_at, tree_below}
 use Rattle.check_flow.proofs.Events.{with_both, in_both, in_declared, in_block}
 
 -- the type of an expression mentions nothing

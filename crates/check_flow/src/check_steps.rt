@@ -25,7 +25,8 @@ pub(crate) struct CheckSteps {
 
 /// Takes the function at a place of the queue, or ends behind the last one.
 fn take_next(queue: ReachedList, place: u64) -> CheckStep
-    ensures { (w : StageState) (left : ℕ) → (fs : List CheckFrame) → ChecksOn fs (models.take_next queue place) w left fs result w left }
+    ensures { (w : StageState) (left : ℕ) → (fs : List CheckFrame) →
+        ChecksOn fs (models.take_next queue place) w left fs result w left }
 {
     if place < queue.len() {
         Step::Enter(CheckJob::Take(queue, place))

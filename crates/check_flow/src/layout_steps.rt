@@ -63,7 +63,9 @@ fn own_entries(world: &World, of: TypeId) -> Value
 
 /// What is known of the entries of a struct from now on, where they are being asked for.
 fn settle_entries(world: &mut World, of: TypeId, known: Known)
-    ensures { world.new ≡ record world.old { kept = models.settled_as (known_of world.old.kept (Property.Entries of)) world.old.kept of known } }
+    ensures { world.new ≡ record world.old {
+      kept = models.settled_as (known_of world.old.kept (Property.Entries of)) world.old.kept of known;
+    } }
 {
     match world.kept.known(Property::Entries(of)) {
         Known::Asked => world.kept.settle(Property::Entries(of), known),

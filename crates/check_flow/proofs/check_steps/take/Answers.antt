@@ -1,4 +1,4 @@
-use Rattle.std.proofs.Common.{◌≡◌, ◌∙◌, ap}
+use Rattle.std.proofs.Common.{◌∙◌, ap}
 use Rattle.std.specs.Prelude.{slice_get}
 use Rattle.exotype.specs.World.{StageState}
 use Rattle.terra_term.specs.declared.store.FunctionState.TheVariants as standing

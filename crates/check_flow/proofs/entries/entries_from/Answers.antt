@@ -1,4 +1,4 @@
-use Rattle.std.proofs.Common.{◌≡◌, ◌∙◌, sym, ap, arith}
+use Rattle.std.proofs.Common.{◌∙◌, sym, ap, arith}
 use Rattle.lua_table.specs.Heap.{table_at}
 use Rattle.lua_table.specs.Pairs.{border_of}
 use Rattle.check_model.specs.Layouts.{entry_in}

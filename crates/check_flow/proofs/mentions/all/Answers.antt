@@ -1,5 +1,4 @@
-use Rattle.std.proofs.Common.{◌≡◌, ℕ, ◌+◌, ◌-◌, ◌<◌, ◌++◌, ◌∙◌, ap, arith, length, get_or, List, ◌∷◌, []}
-use Rattle.tl_base.specs.declared.ids.TermId.{TermId}
+use Rattle.std.proofs.Common.{ℕ, ◌+◌, ◌-◌, ◌++◌, ◌∙◌, ap, arith, length, get_or, ◌∷◌, []}
 use Rattle.check_flow.specs.declared.mentions.Part.{Part}
 use Rattle.check_flow.specs.Parts.{parts_mentions}
 use Rattle.check_flow.proofs.Mentioning.{all_more}

@@ -1,8 +1,4 @@
-use Rattle.std.proofs.Common.{◌≡◌}
-use Rattle.std.specs.Prelude.{slice_get}
-use Rattle.terra_term.specs.Planted.{typed_trees}
-use Rattle.check_model.specs.Checks.{mentions_of}
-use Rattle.check_flow.specs.Parts.{parts_mentions, all_mentions}
+use Rattle.check_flow.specs.Parts.{parts_mentions}
 use Rattle.check_flow.proofs.Through.{node_there, node_absent, body_mentioned, no_body_expression, no_body_statement, no_body_there, none_before, before_old}
 use Rattle.check_flow.proofs.mentions.body_of.Goals as goal
 

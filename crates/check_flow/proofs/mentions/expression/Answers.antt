@@ -1,4 +1,4 @@
-use Rattle.std.proofs.Common.{◌≡◌, ◌++◌, ◌∙◌, ap}
+use Rattle.std.proofs.Common.{◌∙◌, ap}
 use Rattle.check_flow.specs.Parts.{parts_mentions}
 use Rattle.check_flow.proofs.Mentioning.{parts_more}
 use Rattle.check_flow.proofs.mentions.expression.Goals as goal

@@ -1,4 +1,3 @@
-use Rattle.std.proofs.Common.{◌≡◌, ◌++◌, ◌∙◌, ap, sym}
 use Rattle.check_flow.specs.Parts.{parts_mentions}
 use Rattle.check_flow.proofs.Going.{operate_gone, two_gone, let_gone}
 use Rattle.check_flow.proofs.mentions.parts_of_expression.Goals as goal

@@ -1,4 +1,3 @@
-use Rattle.std.proofs.Common.{◌≡◌, ◌++◌, ◌∙◌, ap, sym}
 use Rattle.check_flow.specs.Parts.{parts_mentions}
 use Rattle.check_flow.proofs.Going.{var_gone, assign_gone, if_gone, if_else_gone, while_gone, repeat_gone, for_gone, do_gone}
 use Rattle.check_flow.proofs.mentions.parts_of_statement.Goals as goal

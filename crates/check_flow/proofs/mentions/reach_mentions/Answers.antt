@@ -1,4 +1,4 @@
-use Rattle.std.proofs.Common.{◌≡◌, ◌∙◌, ap, sym}
+use Rattle.std.proofs.Common.{◌∙◌, ap, sym}
 use Rattle.check_model.specs.Checks.{with_mentions}
 use Rattle.check_flow.specs.Parts.{parts_mentions}
 use Rattle.check_flow.proofs.Mentioning.{parts_more}

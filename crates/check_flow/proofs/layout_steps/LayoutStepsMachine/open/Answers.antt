@@ -1,4 +1,4 @@
-use Rattle.std.proofs.Common.{◌≡◌, ◌∙◌, sym}
+use Rattle.std.proofs.Common.{◌∙◌, sym}
 use Rattle.check_model.specs.Typing.{form_in}
 use Rattle.check_flow.proofs.Laying.{form_asked}
 use Rattle.check_flow.proofs.layout_steps.LayoutStepsMachine.open.Goals as goal

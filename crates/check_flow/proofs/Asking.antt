@@ -1,13 +1,10 @@
--- What a step does by itself, in any language: it returns an end, enters a job or asks; and what it does where its plan is known by an
--- equation.
-use Rattle.std.proofs.Common.{◌≡◌, ℕ, Bool, true, false, List, [], ◌∷◌, ◌++◌, refl, sym, ap, ◌∙◌}
-use Rattle.std.specs.Prelude.{if◌then◌else◌}
-use Rattle.tl_base.specs.Layer.{State, Given, state}
-use Rattle.tl_base.specs.declared.machine.Step.{Step}
-use Rattle.tl_base.specs.declared.machine.Step.TheVariants.{Enter, Return, Stop}
-use Rattle.tl_base.specs.Plan.{Plan, Give, Do, AskFor, then_do, run, run_job}
+-- What a step does that asks, in any language.
+use Rattle.std.proofs.Common.{◌≡◌, List, [], ◌∷◌, ◌++◌, refl, sym, ap, ◌∙◌}
+use Rattle.tl_base.specs.Layer.{State, Given}
+use Rattle.tl_base.specs.declared.machine.Step.TheVariants.{Stop}
+use Rattle.tl_base.specs.Plan.{Plan, AskFor, then_do}
 use Rattle.tl_base.specs.Machine.{Rules, GoesOn, plug, plan_run, ask}
-use Rattle.tl_base.proofs.Steps.{plug-push, then_do-give}
+use Rattle.tl_base.proofs.Steps.{plug-push}
 
 asked : {T J W Q A R E F : Type 0} (rules : Rules T J W Q A R E F) (f : F) (q : Q) (go : A → Plan J W Q A R)
     (same : (a : A) → go a ≡ rules.after f (rules.reply a)) (s : State W) (later : List (Given W A))
