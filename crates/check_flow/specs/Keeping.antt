@@ -1,7 +1,7 @@
 -- What a layout keeps of the world.
 use Rattle.std.specs.Prelude.{◌≡◌}
 use Rattle.terra_types.specs.Keeping.{KeepsTypes}
-use Rattle.terra_term.specs.Held.{Held, with_types}
+use Rattle.terra_term.specs.Held.{with_types}
 use Rattle.exotype.specs.World.{StageState}
 use Rattle.exotype.specs.declared.property.Property.{Property}
 use Rattle.exotype.specs.Properties.{known_of}

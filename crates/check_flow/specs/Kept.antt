@@ -1,6 +1,5 @@
 -- What a layout keeps, by nothing, and by one step and the next: the laws that the machine's `keeps` has.
-use Rattle.std.proofs.Common.{ℕ, ◌≡◌, List, Option, Some, None, refl, sym, subst, ◌∙◌, ap}
-use Rattle.std.specs.Prelude.{slice_get}
+use Rattle.std.proofs.Common.{ℕ, List, Option, Some, None, refl, subst, ◌∙◌, ap}
 use Rattle.tl_base.specs.declared.place.Place.{Place}
 use Rattle.terra_types.specs.declared.layout.Layout.{Layout}
 use Rattle.terra_types.specs.declared.types.TypeForm.{TypeForm}
@@ -8,7 +7,6 @@ use Rattle.terra_types.specs.declared.types.TypeForm.TheVariants as forms
 use Rattle.terra_types.specs.Keeping.{KeepsForm, KeepsTypes}
 use Rattle.terra_term.specs.Held.{Held, with_types}
 use Rattle.exotype.specs.World.{StageState}
-use Rattle.exotype.specs.declared.property.Property.{Property}
 use Rattle.exotype.specs.declared.property.Known.{Known}
 use Rattle.exotype.specs.declared.property.Known.TheVariants as known
 use Rattle.exotype.specs.Properties.{known_of}

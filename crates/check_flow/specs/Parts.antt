@@ -10,9 +10,9 @@ use Rattle.terra_term.specs.declared.typed.TypedStatement.{TypedStatement}
 use Rattle.terra_term.specs.declared.operators.Operation.TheVariants as operations
 use Rattle.terra_term.specs.declared.operators.Constant.TheVariants as constants
 use Rattle.terra_term.specs.declared.typed.Typed.TheVariants as typed_kinds
-use Rattle.terra_term.specs.Planted.{nowhere, typed_at, typed_doing_in, typed_list_at, typed_block_at, typed_trees, typed_planted}
+use Rattle.terra_term.specs.Planted.{nowhere, typed_at, typed_doing_in, typed_trees, typed_planted}
 use Rattle.terra_term.specs.TypedTerms as typed
-use Rattle.terra_term.specs.Events.{events_of, doing_events, list_events, block_events, mentions_in}
+use Rattle.terra_term.specs.Events.{events_of, doing_events, mentions_in}
 use Rattle.exotype.specs.World.{StageState}
 use Rattle.check_flow.specs.declared.mentions.Part.{Part}
 

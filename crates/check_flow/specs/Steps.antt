@@ -17,8 +17,10 @@ use Rattle.check_flow.specs.CheckFrames.{check_rules}
 use Rattle.check_flow.specs.LayoutFrames.{layout_rules}
 
 -- frames and a plan do what other frames and a step do
-abbrev pub ChecksOn : List CheckFrame → CheckPlan → StageState → ℕ → List CheckFrame → Step CheckJob CheckEnd CheckQuestion → StageState → ℕ → Type 0
+abbrev pub ChecksOn :
+    List CheckFrame → CheckPlan → StageState → ℕ → List CheckFrame → Step CheckJob CheckEnd CheckQuestion → StageState → ℕ → Type 0
 ChecksOn fs plan w left fs2 step w2 left2 = GoesOn check_rules fs plan (state w left) fs2 step (state w2 left2)
 
-abbrev pub LaysOn : List LayoutFrame → LayoutPlan → StageState → ℕ → List LayoutFrame → Step (Unit {0}) LayoutEnd LayoutQuestion → StageState → ℕ → Type 0
+abbrev pub LaysOn :
+    List LayoutFrame → LayoutPlan → StageState → ℕ → List LayoutFrame → Step (Unit {0}) LayoutEnd LayoutQuestion → StageState → ℕ → Type 0
 LaysOn fs plan w left fs2 step w2 left2 = GoesOn layout_rules fs plan (state w left) fs2 step (state w2 left2)

@@ -25,7 +25,8 @@ pub(crate) struct CheckSteps {
 
 /// Takes the function at a place of the queue, or ends behind the last one.
 fn take_next(queue: ReachedList, place: u64) -> CheckStep
-    ensures { (w : StageState) (left : ℕ) → (fs : List CheckFrame) → ChecksOn fs (models.take_next queue place) w left fs result w left }
+    ensures { (w : StageState) (left : ℕ) → (fs : List CheckFrame) →
+        ChecksOn fs (models.take_next queue place) w left fs result w left }
 {
     if place < queue.len() {
         Step::Enter(CheckJob::Take(queue, place))
@@ -53,15 +54,18 @@ fn refused_at(kind: RefusalKind, reached: Reached, own: Place) -> CheckStep
     ensures { (w : StageState) (left : ℕ) → (fs : List CheckFrame) →
         ChecksOn fs (models.refused_at kind reached reached.by own) w left fs result w left }
 {
-    let (place, function) = match reached.by {
-        Some(by) => by,
-        None => (own, reached.function),
-    };
-    Step::Return(CheckEnd::Refused(Refusal {
-        kind,
-        place,
-        function,
-    }))
+    match reached.by {
+        Some((place, function)) => Step::Return(CheckEnd::Refused(Refusal {
+            kind,
+            place,
+            function,
+        })),
+        None => Step::Return(CheckEnd::Refused(Refusal {
+            kind,
+            place: own,
+            function: reached.function,
+        })),
+    }
 }
 
 /// Takes a function from the queue, whose unit is paid.

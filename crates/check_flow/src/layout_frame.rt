@@ -1,6 +1,6 @@
 // What waits in a layout.
 
-use check_model::Rest;
+use check_model::{Rest, Row};
 use lua_value::Value;
 use terra_types::Entry;
 use tl_base::{Place, TypeId};
@@ -9,7 +9,7 @@ use tl_base::{Place, TypeId};
 #[derive(Debug, Drop)]
 pub enum LayoutFrame {
     /// A struct, at one of its entries: its type, the value that has the entries, those behind the one, all of them, and who asked.
-    Part(TypeId, Value, Rest<Entry>, Vec<Entry>, Place),
+    Part(TypeId, Value, Rest<Entry>, Row<Entry>, Place),
     /// An array.
     Elements(TypeId),
 }

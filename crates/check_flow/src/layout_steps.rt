@@ -1,9 +1,13 @@
 // The steps of a layout.
 
-ghost use Rattle.std.specs.Prelude.{◌≡◌, ℕ, List, codes, IfOk, OnOk};
+ghost use Rattle.std.specs.Prelude.{◌≡◌, ℕ, List, codes, IsTrue, IfOk, OnOk};
+ghost use Rattle.tl_base.specs.Plan.{Give};
 ghost use Rattle.terra_types.specs.Layouts.{layout_of};
+ghost use Rattle.terra_types.specs.Making.{is_unsettled, settled_answer, with_settled};
 ghost use Rattle.terra_types.specs.Sizes.{size_of};
-ghost use Rattle.exotype.specs.Properties.{known_of};
+ghost use Rattle.terra_term.specs.Held.{with_types};
+ghost use Rattle.exotype.specs.World.{with_store};
+ghost use Rattle.exotype.specs.Properties.{known_of, with_known};
 ghost use Rattle.check_model.specs.Layouts as models;
 ghost use Rattle.check_model.specs.Structs as structs;
 ghost use Rattle.check_flow.specs.LayoutFrames.{layout_rules, parts_from, is_go};
@@ -14,8 +18,8 @@ ghost use Rattle.check_flow.specs.Steps.{LaysOn};
 
 use crate::entries::entries_from;
 use crate::layout_frame::LayoutFrame;
-use check_model::{CheckAnswer, LayoutEnd, LayoutQuestion, LayoutTask, Rest};
-use exotype::{Known, Property, World};
+use check_model::{CheckAnswer, LayoutEnd, LayoutQuestion, LayoutTask, Rest, Row};
+use exotype::{Known, Property, World, what_is_kept_is_known};
 use lua_value::Value;
 use std::alloc::Global;
 use terra_term::RefusalKind;
@@ -59,23 +63,45 @@ fn own_entries(world: &World, of: TypeId) -> Value
 
 /// What is known of the entries of a struct from now on, where they are being asked for.
 fn settle_entries(world: &mut World, of: TypeId, known: Known)
-    ensures { world.new ≡ record world.old { kept = models.settled_as (known_of world.old.kept (Property.Entries of)) world.old.kept of known } }
+    ensures { world.new ≡ record world.old {
+      kept = models.settled_as (known_of world.old.kept (Property.Entries of)) world.old.kept of known;
+    } }
 {
-    if world.kept.known(Property::Entries(of)) == Known::Asked {
-        world.kept.settle(Property::Entries(of), known);
+    match world.kept.known(Property::Entries(of)) {
+        Known::Asked => world.kept.settle(Property::Entries(of), known),
+        _ => {}
+    }
+}
+
+/// What is kept of a refusal: nothing of that of what is incomplete.
+fn kept_as(kind: RefusalKind) -> Known
+    ensures { result ≡ models.kept_as kind }
+{
+    match kind {
+        RefusalKind::Incomplete => Known::Unasked,
+        kind => Known::Refused(kind),
     }
 }
 
 /// Refuses a layout; a refusal is kept but for that of what is incomplete.
 fn keep(world: &mut World, of: TypeId, kind: RefusalKind) -> LayoutStep
-    ensures { (left : ℕ) → (fs : List LayoutFrame) → LaysOn fs (models.keep of kind) world.old left fs result world.new left }
+    ensures means { (left : ℕ) → (fs : List LayoutFrame) → LaysOn fs (models.keep of kind) world.old left fs result world.new left }
+    ensures kept { KeepsLayouts world.old world.new }
 {
-    let known = match kind {
-        RefusalKind::Incomplete => Known::Unasked,
-        _ => Known::Refused(kind),
-    };
-    settle_entries(world, of, known);
+    what_is_kept_is_known();
+    settle_entries(world, of, kept_as(kind));
     Step::Return(LayoutEnd::Refused(kind))
+}
+
+/// Ends the layout of a struct that is settled, whose entries the value has.
+fn finish(world: &mut World, of: TypeId, value: Value) -> LayoutStep
+    ensures means { (left : ℕ) → (fs : List LayoutFrame) →
+        LaysOn fs (models.settling of (Known.Value value) (Give LayoutEnd.Done)) world.old left fs result world.new left }
+    ensures kept { KeepsLayouts world.old world.new }
+{
+    what_is_kept_is_known();
+    settle_entries(world, of, Known::Value(value));
+    Step::Return(LayoutEnd::Done)
 }
 
 /// Asks for the layouts of the entries that are left, and settles the struct.
@@ -85,11 +111,11 @@ fn parts_left(
     of: TypeId,
     value: Value,
     rest: Rest<Entry>,
-    entries: Vec<Entry>,
+    entries: Row<Entry>,
     at: Place,
 ) -> Result<LayoutStep, NoMemory>
     ensures means { IfOk result (λ step. (left : ℕ) →
-        LaysOn frames.old.items (parts_from of value rest entries.items at) world.old left frames.new.items step world.new left) }
+        LaysOn frames.old.items (parts_from of value rest entries at) world.old left frames.new.items step world.new left) }
     ensures kept { OnOk result (KeepsLayouts world.old world.new) }
 {
     let mut rest = rest;
@@ -110,21 +136,47 @@ fn settle(
     world: &mut World,
     of: TypeId,
     value: Value,
-    entries: Vec<Entry>,
+    entries: Row<Entry>,
 ) -> Result<LayoutStep, NoMemory>
     ensures means { IfOk result (λ step. (left : ℕ) → (fs : List LayoutFrame) →
-        LaysOn fs (models.unless_settled world.old of value (layout_of world.old.store.types entries.items))
+        LaysOn fs (models.unless_settled world.old of value (layout_of world.old.store.types entries))
         world.old left fs step world.new left) }
     ensures kept { OnOk result (KeepsLayouts world.old world.new) }
 {
     if world.store.types().is_unsettled(of) {
-        match world.store.types_mut().settle(of, entries)? {
-            Settled::Done => {}
-            Settled::Bad => return Ok(keep(world, of, RefusalKind::BadEntries)),
-        }
+        let step = settle_now(world, of, value, entries)?;
+        Ok(step)
+    } else {
+        Ok(finish(world, of, value))
     }
-    settle_entries(world, of, Known::Value(value));
-    Ok(Step::Return(LayoutEnd::Done))
+}
+
+/// Settles a struct that isn't settled yet.
+fn settle_now(
+    world: &mut World,
+    of: TypeId,
+    value: Value,
+    entries: Row<Entry>,
+) -> Result<LayoutStep, NoMemory>
+    requires { IsTrue (is_unsettled world.old.store.types of) }
+    ensures means { IfOk result (λ step. (left : ℕ) → (fs : List LayoutFrame) →
+        LaysOn fs (models.settle of value (layout_of world.old.store.types entries)) world.old left fs step world.new left) }
+    ensures kept { OnOk result (KeepsLayouts world.old world.new) }
+{
+    match put_layout(world, of, entries)? {
+        Settled::Done => Ok(finish(world, of, value)),
+        Settled::Bad => Ok(keep(world, of, RefusalKind::BadEntries)),
+    }
+}
+
+/// Gives a struct the layout that its entries have, unless they are bad.
+fn put_layout(world: &mut World, of: TypeId, entries: Row<Entry>) -> Result<Settled, NoMemory>
+    requires { IsTrue (is_unsettled world.old.store.types of) }
+    ensures answer { IfOk result (λ settled. settled ≡ settled_answer (layout_of world.old.store.types entries)) }
+    ensures ok { OnOk result (world.new ≡ with_store world.old
+        (with_types world.old.store (with_settled world.old.store.types of (layout_of world.old.store.types entries)))) }
+{
+    world.store.types_mut().settle(of, entries.into_vec())
 }
 
 /// Lays a struct out by the value that has its entries.
@@ -139,10 +191,10 @@ fn by_entries(
         LaysOn frames.old.items (models.by_entries of value at) world.old left frames.new.items step world.new left) }
     ensures kept { OnOk result (KeepsLayouts world.old world.new) }
 {
-    match entries_from(&world.heap, copy(&value))? {
+    match entries_from(&world.heap, copied(&value))? {
         None => Ok(keep(world, of, RefusalKind::BadEntries)),
         Some(entries) => {
-            let rest = Rest::copy(world.store.allocator(), &entries)?;
+            let rest = Rest::copy(world.store.allocator(), entries.as_slice())?;
             let step = parts_left(frames, world, of, value, rest, entries, at)?;
             Ok(step)
         }
@@ -150,7 +202,7 @@ fn by_entries(
 }
 
 /// The same value, for what goes on with it behind a call that takes it.
-fn copy(value: &Value) -> Value
+fn copied(value: &Value) -> Value
     ensures { result ≡ value.now }
 {
     *value
@@ -173,17 +225,43 @@ fn lay_out_struct(
         Known::Refused(kind) => Ok(Step::Return(LayoutEnd::Refused(kind))),
         Known::Asked => Ok(Step::Return(LayoutEnd::Refused(RefusalKind::Incomplete))),
         Known::Unasked => {
-            let asks_lua = !entries_metamethod(world, of).is_nil();
-            let own = own_entries(world, of);
-            world.kept.begin(Property::Entries(of))?;
-            if asks_lua {
-                Ok(keep(world, of, RefusalKind::NotBuilt))
-            } else {
-                let step = by_entries(frames, world, of, own, at)?;
-                Ok(step)
-            }
+            let step = ask_entries(frames, world, of, at)?;
+            Ok(step)
         }
     }
+}
+
+/// Lays a struct out, whose entries weren't asked for yet.
+fn ask_entries(
+    frames: &mut Vec<LayoutFrame>,
+    world: &mut World,
+    of: TypeId,
+    at: Place,
+) -> Result<LayoutStep, NoMemory>
+    requires { known_of world.old.kept (Property.Entries of) ≡ Known.Unasked }
+    ensures means { IfOk result (λ step. (left : ℕ) →
+        LaysOn frames.old.items (models.by_known world.old (known_of world.old.kept (Property.Entries of)) of at)
+        world.old left frames.new.items step world.new left) }
+    ensures kept { OnOk result (KeepsLayouts world.old world.new) }
+{
+    what_is_kept_is_known();
+    let is_own = entries_metamethod(world, of).is_nil();
+    let own = own_entries(world, of);
+    begin_entries(world, of)?;
+    if is_own {
+        let step = by_entries(frames, world, of, own, at)?;
+        Ok(step)
+    } else {
+        Ok(keep(world, of, RefusalKind::NotBuilt))
+    }
+}
+
+/// The entries of a struct are being asked for from now on. They weren't before.
+fn begin_entries(world: &mut World, of: TypeId) -> Result<(), NoMemory>
+    requires { known_of world.old.kept (Property.Entries of) ≡ Known.Unasked }
+    ensures { OnOk result (world.new ≡ record world.old { kept = with_known world.old.kept (Property.Entries of) Known.Asked }) }
+{
+    world.kept.begin(Property::Entries(of))
 }
 
 /// How a type is laid out.
@@ -199,9 +277,23 @@ fn kind_of(world: &World, of: TypeId) -> Kind
     ensures { result ≡ kind_in (form_in world.now of) }
 {
     match world.store.types().form(of) {
-        Some(TypeForm::Struct(_, _, _)) => Kind::Struct,
-        Some(TypeForm::Array(elements, _)) => Kind::Array(*elements),
-        _ => Kind::Other,
+        Some(form) => kind_from(form),
+        None => Kind::Other,
+    }
+}
+
+/// How a type of this form is laid out.
+fn kind_from(form: &TypeForm) -> Kind
+    ensures { result ≡ kind_in form.now }
+{
+    match form {
+        TypeForm::Struct(_, _, _) => Kind::Struct,
+        TypeForm::Array(elements, _) => Kind::Array(*elements),
+        TypeForm::Integer(_) => Kind::Other,
+        TypeForm::Bool => Kind::Other,
+        TypeForm::Unit => Kind::Other,
+        TypeForm::Pointer(_) => Kind::Other,
+        TypeForm::Function(_, _) => Kind::Other,
     }
 }
 

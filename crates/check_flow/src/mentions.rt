@@ -1,7 +1,8 @@
 // The functions that a typed function mentions, in the order of evaluation.
 
-ghost use Rattle.std.specs.Prelude.{◌≡◌, ℕ, ◌++◌, OnOk};
-ghost use Rattle.check_model.specs.Checks.{with_mentions, mentions_at};
+ghost use Rattle.std.specs.Prelude.{◌≡◌, ℕ, ◌++◌, slice_get, OnOk};
+ghost use Rattle.terra_term.specs.Planted.{typed_trees};
+ghost use Rattle.check_model.specs.Checks.{with_mentions, mentions_at, mentions_of};
 ghost use Rattle.exotype.specs.World.{StageState};
 ghost use Rattle.check_flow.specs.Parts.{parts_mentions, part_mentions, expression_mentions, all_mentions, form_mentions, doing_mentions, own_mention};
 
@@ -75,15 +76,29 @@ fn statements_of(world: &World, parts: &mut Parts, f: FnId) -> Result<(), NoMemo
 {
     match world.store.function(f) {
         Some(function) => match function.state {
-            FunctionState::Typed(_, made) => match world.store.typed(made) {
-                Some(Typed::Function(_, _, body)) => {
-                    all(parts, body.as_slice(), made.0, true)?;
-                    Ok(())
-                }
-                _ => Ok(()),
-            },
+            FunctionState::Typed(_, made) => {
+                body_of(world, parts, made)?;
+                Ok(())
+            }
             _ => Ok(()),
         },
+        None => Ok(()),
+    }
+}
+
+/// Puts the statements of a typed term before what is to be gone through.
+fn body_of(world: &World, parts: &mut Parts, made: TermId) -> Result<(), NoMemory>
+    ensures { OnOk result (
+        parts_mentions world.now parts.new.items
+        ≡ mentions_of (slice_get (typed_trees world.now.store.typed) made.0) ++ parts_mentions world.now parts.old.items) }
+{
+    match world.store.typed(made) {
+        Some(Typed::Function(_, _, body)) => {
+            all(parts, body.as_slice(), made.0, true)?;
+            Ok(())
+        }
+        Some(Typed::Expression(_, _, _)) => Ok(()),
+        Some(Typed::Statement(_, _)) => Ok(()),
         None => Ok(()),
     }
 }
@@ -105,16 +120,23 @@ fn go_through(
     }
     let below = part.term.0;
     match world.store.typed(part.term) {
-        Some(Typed::Expression(at, _, form)) if !part.is_statement => {
+        Some(Typed::Expression(at, _, form)) => {
+            if part.is_statement {
+                return Ok(());
+            }
             mention(queue, form, *at, by)?;
             parts_of_expression(parts, form, below)?;
             Ok(())
         }
-        Some(Typed::Statement(_, doing)) if part.is_statement => {
+        Some(Typed::Statement(_, doing)) => {
+            if !part.is_statement {
+                return Ok(());
+            }
             parts_of_statement(parts, doing, below)?;
             Ok(())
         }
-        _ => Ok(()),
+        Some(Typed::Function(_, _, _)) => Ok(()),
+        None => Ok(()),
     }
 }
 
@@ -228,17 +250,19 @@ fn parts_of_statement(parts: &mut Parts, doing: &TypedStatement, below: u64) -> 
             all(parts, values.as_slice(), below, false)?;
             Ok(())
         }
-        TypedStatement::If(test, block, None) => {
-            all(parts, block.as_slice(), below, true)?;
-            expression(parts, *test, below)?;
-            Ok(())
-        }
-        TypedStatement::If(test, block, Some(others)) => {
-            all(parts, others.as_slice(), below, true)?;
-            all(parts, block.as_slice(), below, true)?;
-            expression(parts, *test, below)?;
-            Ok(())
-        }
+        TypedStatement::If(test, block, others) => match others {
+            None => {
+                all(parts, block.as_slice(), below, true)?;
+                expression(parts, *test, below)?;
+                Ok(())
+            }
+            Some(others) => {
+                all(parts, others.as_slice(), below, true)?;
+                all(parts, block.as_slice(), below, true)?;
+                expression(parts, *test, below)?;
+                Ok(())
+            }
+        },
         TypedStatement::While(test, block) => {
             all(parts, block.as_slice(), below, true)?;
             expression(parts, *test, below)?;

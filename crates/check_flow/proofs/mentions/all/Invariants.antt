@@ -1,4 +1,4 @@
-use Rattle.std.proofs.Common.{◌≡◌, ◌+◌, ◌-◌, ◌++◌, drop, length}
+use Rattle.std.proofs.Common.{◌≡◌, ◌-◌, ◌++◌, drop, length}
 use Rattle.exotype.specs.World.{StageState}
 use Rattle.check_flow.specs.Parts.{parts_mentions, all_mentions}
 use Rattle.check_flow.proofs.mentions.all.Given as goal
