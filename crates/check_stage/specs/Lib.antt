@@ -1,5 +1,7 @@
 -- The promise: the outcome of a source's staging with checks.
 pub mod Staging
+-- What is written of it.
+pub mod Texts
 -- The layers as one stage.
 pub mod Layers
 -- Layers of their own: functions of the library that ask, and result types.

@@ -5,7 +5,8 @@
 //! - `asking`: functions of the library that ask, and the exports at the end of the chunk, as layers;
 //! - `results`: the result type of a function, as a layer;
 //! - `staged`: all layers as one stage;
-//! - `staging`: the call, and its outcome.
+//! - `staging`: the call, and its outcome;
+//! - `texts`: the same call for its texts alone.
 #![tactic(auto)]
 
 pub mod asking;
@@ -13,5 +14,7 @@ pub mod jobs;
 pub mod results;
 pub mod staged;
 pub mod staging;
+pub mod texts;
 
 pub use staging::{CheckLine, End, Mode, Outcome, stage};
+pub use texts::{Checks, Terms, stage_checks, stage_terms};

@@ -62,10 +62,10 @@ module _ (left : Option (List ℕ)) (Rose : Type 0) where
   -- `check` on what was read of a source
   pub check_ends : (limits : Limits) (text : List ℕ) (new : Option (List ℕ)) (ended : Ended) (out_old out_new : Option (List ℕ)) (f0 f1 : ℕ) (Same : Type 0) →
       IsEnough (longest + 1) text left new →
-      Ends (IsCheckDue limits.budget text) ended out_old out_new f0 f1 Same → Ends (Owed (Some (Check limits)) left Rose) ended out_old out_new f0 f1 Same
+      Ends (IsCheckDue limits text) ended out_old out_new f0 f1 Same → Ends (Owed (Some (Check limits)) left Rose) ended out_old out_new f0 f1 Same
   check_ends limits text new ended out_old out_new f0 f1 Same enough h =
       let w = whole (longest + 1) text left new enough in
-      ends_into _ _ (λ due is. Answered w.bytes w.told (IsWhole (check_whole limits.budget text w.bytes due w.same is))) ended out_old out_new f0 f1 Same h
+      ends_into _ _ (λ due is. Answered w.bytes w.told (IsWhole (check_whole limits text w.bytes due w.same is))) ended out_old out_new f0 f1 Same h
 
   -- `terms` on what was read of a source
   pub terms_ends : (limits : Limits) (text : List ℕ) (new : Option (List ℕ)) (ended : Ended) (out_old out_new : Option (List ℕ))
