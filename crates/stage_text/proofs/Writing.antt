@@ -95,7 +95,8 @@ made_text types form =
     ∙ ap (λ (bs : List (List ℕ)). type_made bs form)
     (take_all (length types) (type_texts types) (omega (arith, length-grown type_made [] types)))
 
-pub written_text : (types : List TypeForm) (out : List ℕ) (ps : List Part) (form : TypeForm) → ps ≡ type_parts (length types) form
-    → out ++ text_in types ps ≡ out ++ type_made (type_texts types) form
-written_text types out ps form same =
-    ap (λ (bs : List ℕ). out ++ bs) (ap (λ (qs : List Part). text_in types qs) same ∙ made_text types form)
+pub written_text : (types : List TypeForm) (out : List ℕ) (ps : List Part) (below : ℕ) (form : TypeForm) → below ≡ length types
+    → ps ≡ type_parts below form → out ++ text_in types ps ≡ out ++ type_made (type_texts types) form
+written_text types out ps below form all same =
+    ap (λ (bs : List ℕ). out ++ bs)
+    (ap (λ (qs : List Part). text_in types qs) (same ∙ ap (λ (k : ℕ). type_parts k form) all) ∙ made_text types form)

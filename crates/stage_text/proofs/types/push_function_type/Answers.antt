@@ -8,5 +8,6 @@ pub returns : goal.returns
 returns c =
     let types = c.args.types.now in
     let form = forms.Function c.args.parameters.now c.args.of in
+    let parts = c.in_ok-parts.parts.items in
     on-ok c.push_parts.result c.push_parts.ensures
-    (λ put. put ∙ written_text types c.args.out.now c.in_ok-parts.parts.items form c.in_ok-parts.ensures)
+    (λ put. put ∙ written_text types c.args.out.now parts c.len.result form c.len.ensures c.in_ok-parts.ensures)
