@@ -37,7 +37,7 @@ abbrev pub placed : Option Function → List ℕ
 placed None = []
 placed (Some g) = codes " at " ++ place_text g.place
 
--- the type of functions of these parameters and this result, where both are known, whether it is a type that is there or not
+-- the type of functions of these parameters and this result, where both are known; it needn't be a type that is there
 abbrev pub type_if_known : List TypeForm → Option (List TypeId) → KnownResult → List ℕ
 type_if_known types (Some params) (Is result) = type_made (type_texts types) (forms.Function params result)
 type_if_known types params result = []
@@ -49,7 +49,8 @@ function_type w f = type_if_known w.store.types (parameters_of w f) (result_of w
 -- a refusal has its own place, and the function in whose body it is
 abbrev pub refusal_text : Refusal → List ℕ
 refusal_text why =
-    codes "refused " ++ kind_text why.kind ++ codes " at " ++ place_text why.place ++ codes " in function " ++ number_text why.function
+    codes "refused " ++ kind_text why.kind ++ codes " at " ++ place_text why.place
+    ++ codes " in function " ++ number_text why.function
 
 abbrev pub verdict : StageState → FnId → Option Refusal → List ℕ
 verdict w f None = codes "ok " ++ function_type w f
@@ -66,8 +67,8 @@ checks_text w (line ∷ lines) = check_text w line ++ checks_text w lines
 
 -- ---- what is written
 
--- The texts are those of the ending to which the staging comes: what was printed until then, how it ended, and the lines of the checks
--- that were made, with types as they are known then.
+-- The texts are those of the ending to which the staging comes: what was printed until then, how it ended, and the lines
+-- of the checks that were made, with types as they are known then.
 pub record AreChecks (items : Items) (place : Place) (units memory : ℕ) (it : Checks) : Type 0 where
   pub n : ℕ
   pub ending : Ending

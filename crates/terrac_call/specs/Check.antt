@@ -1,5 +1,5 @@
--- What is due for `check`: a source is staged with a budget and a memory, and each function that is defined is checked. What was printed
--- is told, and then a line for each check, or how the staging ended.
+-- What is due for `check`: a source is staged with a budget and a memory, and each function that is defined is checked.
+-- What was printed is told, and then a line for each check, or how the staging ended.
 use Rattle.std.specs.Prelude.{ℕ, ◌≡◌, List, [], Some}
 use Rattle.tl_base.specs.declared.place.Place.{Place}
 use Rattle.tl_tree.specs.Code.{Items}

@@ -1,5 +1,5 @@
--- What is due for `terms`: a source is staged with a budget and a memory, and its exports are made. What was printed is told, and then
--- the exports with their terms, or how the staging ended.
+-- What is due for `terms`: a source is staged with a budget and a memory, and its exports are made. What was printed is
+-- told, and then the exports with their terms, or how the staging ended.
 use Rattle.std.specs.Prelude.{ℕ, ◌≡◌, List, [], Some}
 use Rattle.tl_base.specs.declared.place.Place.{Place}
 use Rattle.tl_tree.specs.Code.{Items}
