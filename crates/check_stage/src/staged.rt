@@ -6,13 +6,14 @@ ghost use Rattle.stage_form.specs.Within.{given_part, within};
 ghost use Rattle.tl_tree.specs.Arena.{items_of};
 ghost use Rattle.lua_eval.specs.Slots.{ArePaths};
 ghost use Rattle.terra_stage.specs.Layers.{staged_rest, StagedFits, turn_within};
+ghost use Rattle.check_expr.specs.Frames.{is_go};
 ghost use Rattle.check_expr.specs.Rest.{body_rest, BodyFits};
 ghost use Rattle.check_flow.specs.Rest.{check_rest, CheckFits, layout_rest, LayoutFits};
 ghost use Rattle.check_stage.specs.Asking.{asking_rest};
 ghost use Rattle.check_stage.specs.Results.{result_rest, ResultFits};
 ghost use Rattle.check_stage.specs.Keeping.{KeepsChecking};
 ghost use Rattle.check_stage.specs.Layers as models;
-ghost use Rattle.check_stage.specs.Layers.{JobGiven, is_go, stage_fitting, asking_fitting, check_fitting};
+ghost use Rattle.check_stage.specs.Layers.{JobGiven, stage_fitting, asking_fitting, check_fitting};
 ghost use Rattle.check_stage.specs.Layers.{body_fitting, result_fitting, layout_fitting};
 
 use crate::asking::{Asked, Asking};
@@ -365,7 +366,7 @@ impl<'a> CheckStage<'a> {
 }
 
 impl<'a> Stages for CheckStage<'a> {
-    ghost use Rattle.check_stage.proofs.Keeping.{keeps_itself, keeps_then};
+    ghost use Rattle.stage_library.proofs.Keeping.{keeps_itself, keeps_then};
     ghost use Rattle.check_stage.specs.Layers.{check_stage, ends_follow};
 
     type World = Typing;
@@ -382,9 +383,9 @@ impl<'a> Stages for CheckStage<'a> {
 
     ghost ends_follow = { λ stages question asked now end kept paid. ends_follow end };
 
-    ghost keeps_self = { keeps_itself };
+    ghost keeps_self = { λ w. keeps_itself w.stage };
 
-    ghost keeps_on = { keeps_then };
+    ghost keeps_on = { λ u v w. keeps_then u.stage v.stage w.stage };
 
     fn start(&self, alloc: Global, job: Job) -> Staged<'a> {
         match job {

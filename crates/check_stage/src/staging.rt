@@ -1,6 +1,6 @@
 // The staging of a source with checks, and its outcome.
 
-ghost use Rattle.std.specs.Prelude.{ℕ, ◌≡◌, ◌≤◌, ◌×◌, [], IfOk, OnOk, Some};
+ghost use Rattle.std.specs.Prelude.{ℕ, ◌≡◌, ◌≤◌, [], IfOk, OnOk, Some};
 ghost use Rattle.tl_base.specs.Layer.{state};
 ghost use Rattle.tl_base.specs.declared.place.Place.{Place as PlaceOf};
 ghost use Rattle.stage_form.specs.Stage.{final_of};
@@ -10,7 +10,7 @@ ghost use Rattle.check_model.specs.Typing.{TypingState};
 ghost use Rattle.check_stage.specs.declared.staging.Mode.{Mode as ModeOf};
 ghost use Rattle.check_stage.specs.Keeping.{KeepsChecking};
 ghost use Rattle.check_stage.specs.Staging.{Ending, ending, begun, after_check, by_mode, checks};
-ghost use Rattle.check_stage.specs.Staging.{checked_final, line_of, end_in, outcome};
+ghost use Rattle.check_stage.specs.Staging.{checked_final, line_of, lines_in, end_in, outcome};
 
 use crate::jobs::{Job, JobEnd};
 use crate::staged::CheckStage;
@@ -22,6 +22,7 @@ use lua_value::{Value, Values};
 use stage_form::{Outcome as Staging, run};
 use stage_library::Task;
 use std::alloc::Global;
+use terra_stage::raised_text;
 use terra_term::{Refusal, Standing};
 use terra_types::Types;
 use tl_base::{Budget, FnId, NoMemory, Place, Text2};
@@ -55,8 +56,8 @@ pub enum End {
     Spent,
 }
 
-/// What a staging comes to: the end, the checks that were made in order where all functions were to be checked, and the world and the units
-/// that are left then.
+/// What a staging comes to: the end, the checks that were made in order where all functions were to be checked and units lacked for none,
+/// and the world and the units that are left then.
 #[derive(Drop)]
 pub struct Outcome {
     pub end: End,
@@ -107,6 +108,7 @@ pub fn stage(
         mode,
         tree.finish(),
     )?;
+    settle(&mut lines, &staging);
     let end = end_of(&typing.world.heap, &staging)?;
     Ok(Outcome {
         end,
@@ -181,6 +183,15 @@ fn check_all(
         }
     }
     Err(NoMemory)
+}
+
+/// No check counts where units lacked.
+fn settle(lines: &mut Vec<CheckLine>, staging: &Staging<JobEnd>)
+    ensures { lines.new.items ≡ lines_in staging.now lines.old.items }
+{
+    if let Staging::Spent = staging {
+        lines.clear();
+    }
 }
 
 /// What a check came to.
