@@ -1,5 +1,5 @@
 -- Outcomes of stagings with checks.
-use Rattle.std.proofs.Common.{◌≡◌, ℕ, ◌≤◌, List, [], Option, Some, None, refl, ap, ◌∙◌}
+use Rattle.std.proofs.Common.{◌≡◌, ℕ, ◌+◌, ◌≤◌, List, [], Option, Some, None, refl, ap, ◌∙◌, arith}
 use Rattle.tl_base.specs.declared.place.Place.{Place}
 use Rattle.tl_base.specs.Layer.{State, state}
 use Rattle.stage_form.specs.declared.staging.Outcome.{Outcome as Staging}
@@ -7,6 +7,7 @@ use Rattle.stage_form.specs.declared.staging.Outcome.TheVariants as stagings
 use Rattle.stage_form.specs.Stage.{Final, Finished, Exhausted, final_of, staged}
 use Rattle.tl_tree.specs.Code.{Items}
 use Rattle.check_model.specs.Typing.{TypingState}
+use Rattle.check_stage.specs.declared.jobs.Job.{Job}
 use Rattle.check_stage.specs.declared.jobs.Job.TheVariants as jobs
 use Rattle.check_stage.specs.declared.jobs.JobEnd.{JobEnd}
 use Rattle.check_stage.specs.declared.jobs.JobEnd.TheVariants as ends
@@ -57,3 +58,21 @@ pub ending_by : (ended : Staging JobEnd) (lines : List CheckLine) (w : TypingSta
     ≡ ending_of (checked_final lines (final_of ended (state w left)))
 ending_by (stagings.Ends e) lines w left = refl
 ending_by stagings.Spent lines w left = refl
+
+-- exports are all that is said of them
+pub exports_final : (it : Staging JobEnd) (s : State TypingState)
+    → after_check (Some (final_of it s)) (λ e last. Some (Finished (checked_with e []) last)) ≡ Some (checked_final [] (final_of it s))
+exports_final (stagings.Ends e) s = refl
+exports_final stagings.Spent s = refl
+
+-- ---- the chunk, and what goes on behind it
+
+pub joined : (items : Items) (place : Place) (mode : Mode) (n m : ℕ) (job : Job) (s : State TypingState)
+    (chunk : Final TypingState JobEnd) (final : Final TypingState Checked)
+    → staged (check_stage items) n job s ≡ Some chunk → after_check (Some chunk) (by_mode mode items m place) ≡ Some final
+    → ending_if_any (after_check (staged (check_stage items) (n + m) job s) (by_mode mode items (n + m) place)) ≡ Some (ending_of final)
+joined items place mode n m job s chunk final ran ended =
+    ap (λ (o : Option (Final TypingState JobEnd)). ending_if_any (after_check o (by_mode mode items (n + m) place)))
+    (staged-more items n (n + m) job s chunk ran (omega arith))
+    ∙ ap ending_if_any (after-more (Some chunk) (Some chunk) (by_mode mode items m place) (by_mode mode items (n + m) place)
+    (λ o k. k) (λ e next o k. by_mode-more mode items m (n + m) place e next o k (omega arith)) final ended)

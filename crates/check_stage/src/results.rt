@@ -54,13 +54,15 @@ impl ResultOf {
             ResultOf::Types(body) => types(body, typing, budget, answer),
             ResultOf::Begins(f) => {
                 let f = *f;
-                if let Some(refusal) = refusal_of(typing, f) {
-                    return Ok(Turn::End(JobEnd::Refused(refusal)));
+                match refusal_of(typing, f) {
+                    Some(refusal) => Ok(Turn::End(JobEnd::Refused(refusal))),
+                    None => {
+                        let mut body = Body::start(typing.world.heap.allocator(), f);
+                        let turn = types(&mut body, typing, budget, answer)?;
+                        *self = ResultOf::Types(body);
+                        Ok(turn)
+                    }
                 }
-                let mut body = Body::start(typing.world.heap.allocator(), f);
-                let turn = types(&mut body, typing, budget, answer)?;
-                *self = ResultOf::Types(body);
-                Ok(turn)
             }
         }
     }

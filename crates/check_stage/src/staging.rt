@@ -6,6 +6,7 @@ ghost use Rattle.tl_base.specs.declared.place.Place.{Place as PlaceOf};
 ghost use Rattle.stage_form.specs.Stage.{final_of};
 ghost use Rattle.tl_tree.specs.Arena.{items_of, end_of as finish_of};
 ghost use Rattle.tl_tree.specs.Code.{Items};
+ghost use Rattle.spec_model.specs.Making.{is_undefined};
 ghost use Rattle.check_model.specs.Typing.{TypingState};
 ghost use Rattle.check_stage.specs.declared.staging.Mode.{Mode as ModeOf};
 ghost use Rattle.check_stage.specs.Keeping.{KeepsChecking};
@@ -23,7 +24,7 @@ use stage_form::{Outcome as Staging, run};
 use stage_library::Task;
 use std::alloc::Global;
 use terra_stage::raised_text;
-use terra_term::{Refusal, Standing};
+use terra_term::{FunctionState, Refusal};
 use terra_types::Types;
 use tl_base::{Budget, FnId, NoMemory, Place, Text2};
 use tl_rename::resolve;
@@ -147,9 +148,15 @@ fn finish(
     ensures paid { OnOk result (budget.new ≤ budget.old) }
 {
     match chunk {
-        Staging::Ends(JobEnd::Values(values)) => match mode {
-            Mode::Exports => run(alloc, stages, Job::Export(place), typing, budget),
-            Mode::CheckAll => check_all(alloc, stages, typing, budget, lines),
+        Staging::Ends(JobEnd::Values(_values)) => match mode {
+            Mode::Exports => {
+                let it = run(alloc, stages, Job::Export(place), typing, budget)?;
+                Ok(it)
+            }
+            Mode::CheckAll => {
+                let it = check_all(alloc, stages, typing, budget, lines)?;
+                Ok(it)
+            }
         },
         chunk => Ok(chunk),
     }
@@ -175,14 +182,25 @@ fn check_all(
         if number >= typing.world.store.function_count() {
             return Ok(Staging::Ends(JobEnd::Values(Values::new(alloc))));
         }
-        if typing.world.store.standing(f) != Standing::Undefined {
-            match run(alloc, stages, Job::Check(f), typing, budget)? {
-                Staging::Spent => return Ok(Staging::Spent),
-                Staging::Ends(end) => lines.push(line_of(f, &end))?,
-            }
+        if is_undefined(typing, f) {
+            continue;
+        }
+        match run(alloc, stages, Job::Check(f), typing, budget)? {
+            Staging::Spent => return Ok(Staging::Spent),
+            Staging::Ends(end) => lines.push(line_of(f, &end))?,
         }
     }
     Err(NoMemory)
+}
+
+/// Whether a function is not defined.
+fn is_undefined(typing: &Typing, f: FnId) -> bool
+    ensures { result ≡ is_undefined typing.now.stage f }
+{
+    match typing.world.store.state(f) {
+        FunctionState::Undefined => true,
+        _ => false,
+    }
 }
 
 /// No check counts where units lacked.
