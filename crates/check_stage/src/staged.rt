@@ -52,14 +52,14 @@ fn job_of(task: Task) -> Job
 }
 
 /// An answer of the stage for Lua code, for the specialisation of Terra code and for the library.
-fn lua_answer(alloc: Global, answer: CheckAnswer) -> LuaAnswer
+fn lua_answer(typing: &Typing, answer: CheckAnswer) -> LuaAnswer
     ensures { result ≡ models.lua_answer answer }
 {
     match answer {
         CheckAnswer::Go => LuaAnswer::Go,
         CheckAnswer::Values(values) => LuaAnswer::Values(values),
         CheckAnswer::Raise(value, place) => LuaAnswer::Raise(value, place),
-        _ => LuaAnswer::Values(Values::new(alloc)),
+        _ => LuaAnswer::Values(Values::new(typing.world.heap.allocator())),
     }
 }
 
@@ -105,7 +105,7 @@ fn resume_stage(
     ensures kept { OnOk result (KeepsChecking typing.old typing.new) }
     ensures paid { OnOk result (budget.new ≤ budget.old) }
 {
-    let answer = lua_answer(typing.world.heap.allocator(), answer);
+    let answer = lua_answer(typing, answer);
     let turn = staged.resume(&mut typing.world, budget, answer)?;
     Ok(stage_turn(turn))
 }
