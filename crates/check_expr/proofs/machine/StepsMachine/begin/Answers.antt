@@ -20,6 +20,9 @@ returns-in_ok-step-in-Callee-clause-means c =
     let m = c.in-Callee in
     let f = frames.Made (of_made.Callee m.operands m.at m.source m.site) in
     let q = expression_job m.term m.site in
-    rw m.is (below a.frames.now.items c.push.new.self.items c.expression-in-Callee.new.frames.items f (then_on q (λ r. after f r)) q
-    a.world.now c.expression-in-Callee.new.typing a.budget.now c.expression-in-Callee.new.budget c.in_ok-step-in-Callee.step
-    (λ s later. run_then_on jobs q (λ r. after f r) s later) c.in_ok-push-in-Callee.ensures.items c.in_ok-step-in-Callee.ensures.means)
+    rw m.is (below a.frames.now.items c.push.new.self.items c.expression-in-Callee.new.frames.items f
+    (then_on q (λ r. after f r)) q
+    a.world.now c.expression-in-Callee.new.typing a.budget.now c.expression-in-Callee.new.budget
+    c.in_ok-step-in-Callee.step
+    (λ s later. run_then_on jobs q (λ r. after f r) s later) c.in_ok-push-in-Callee.ensures.items
+    c.in_ok-step-in-Callee.ensures.means)
