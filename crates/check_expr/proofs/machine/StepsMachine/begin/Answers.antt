@@ -7,12 +7,6 @@ use Rattle.check_expr.specs.Frames.{after}
 use Rattle.check_expr.proofs.Doing.{jobs, below}
 use Rattle.check_expr.proofs.machine.StepsMachine.begin.Goals as goal
 
-pub returns-in_ok-step-in-Expression-clause-means : goal.returns-in_ok-step-in-Expression-clause-means
-returns-in_ok-step-in-Expression-clause-means c = rw c.in-Expression.is c.in_ok-step-in-Expression.ensures.means
-
-pub returns-in_ok-step-in-Statement-clause-means : goal.returns-in_ok-step-in-Statement-clause-means
-returns-in_ok-step-in-Statement-clause-means c = rw c.in-Statement.is c.in_ok-step-in-Statement.ensures.means
-
 -- what is called is typed below the frame that waits for it
 pub returns-in_ok-step-in-Callee-clause-means : goal.returns-in_ok-step-in-Callee-clause-means
 returns-in_ok-step-in-Callee-clause-means c =
