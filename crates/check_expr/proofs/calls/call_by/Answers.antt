@@ -21,7 +21,7 @@ returns-then-given-wanted-clause-means c = λ left.
     (ne_eqb _ _ (λ same. c.if-given-wanted.true (c.len-given.ensures ∙ same ∙ sym c.len-wanted.ensures)))
     (c.refuse.ensures.means w left fs)
 
-pub returns-clause-means : goal.returns-in_ok-step-clause-means
+pub returns-clause-means : goal.returns-clause-means
 returns-clause-means c = λ left.
     let a = c.args in
     let n = a.node in

@@ -50,8 +50,8 @@ returns-then-not-pay-clause-means c =
     (ap plan (others_called x (λ value. c.in_default.not-Value (sym same ∙ value)))) refl
     (unpaid fs 1 call w left c.pay.new.self c.if-not-pay.ensures.short c.if-not-pay.ensures.refused)
 
-pub returns-in_ok-step-in_default-clause-means : goal.returns-in_ok-step-in_default-clause-means
-returns-in_ok-step-in_default-clause-means c =
+pub returns : goal.returns
+returns c =
     let a = c.args in
     let n = a.node in
     let fs = a.frames.now.items in
@@ -69,11 +69,15 @@ returns-in_ok-step-in_default-clause-means c =
     let plan : Bool → BodyPlan = λ b. if b then Pay 1 call else Do (jobs.Callee a.f os n.at n.source n.site) Give in
     let named : Callee → List Operand → BodyPlan = λ k all. named_plan k w.stage all n.at false n.source n.site in
     let same = ap (λ (v : TypingState). callee_in (expression_at v.stage a.f)) (sym c.typing.view_is) ∙ sym c.callee_of.ensures in
-    moved fs fs2 (plan (models.is_called x)) (plan true) w w w2 left left2 step
-    (ap plan (others_called x (λ value. c.in_default.not-Value (sym same ∙ value)))) refl
-    (pays fs fs2 1 call w w2 left after left2 step (grind (arith, c.if-not-pay.ensures.enough)) c.if-not-pay.ensures.paid
-    (moved fs fs2 call (named c.callee_of.result last) w w w2 after left2 step
-    (named_means x w.stage os n.at false n.source n.site ∙ ap (λ (k : Callee). named k os) same
-    ∙ ap (λ (ts : List TermId). named c.callee_of.result (untyped ts)) (sym c.as_slice.ensures)
-    ∙ ap (named c.callee_of.result) (sym c.in_ok-operands.ensures ∙ sym c.from_vec-operands-in_default.ensures)) refl
-    c.in_ok-step-in_default.ensures.means))
+    record {
+      means =
+          moved fs fs2 (plan (models.is_called x)) (plan true) w w w2 left left2 step
+          (ap plan (others_called x (λ value. c.in_default.not-Value (sym same ∙ value)))) refl
+          (pays fs fs2 1 call w w2 left after left2 step (grind (arith, c.if-not-pay.ensures.enough)) c.if-not-pay.ensures.paid
+          (moved fs fs2 call (named c.callee_of.result last) w w w2 after left2 step
+          (named_means x w.stage os n.at false n.source n.site ∙ ap (λ (k : Callee). named k os) same
+          ∙ ap (λ (ts : List TermId). named c.callee_of.result (untyped ts)) (sym c.as_slice.ensures)
+          ∙ ap (named c.callee_of.result) (sym c.in_ok-operands.ensures ∙ sym c.from_vec-operands-in_default.ensures)) refl
+          c.in_ok-step-in_default.ensures.means));
+      kept = c.in_ok-step-in_default.ensures.kept;
+    }

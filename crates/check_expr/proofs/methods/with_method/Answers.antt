@@ -32,8 +32,8 @@ returns-then-not-pay-clause-means c =
     ∙ ap (λ (x : Value). spliced_nodes (the_view c.typing.inside).stage x) (sym c.copy.ensures) ∙ sym c.spliced_nodes-nodes.ensures)) refl
     (unpaid fs nodes then w left c.pay.new.self c.if-not-pay.ensures.short c.if-not-pay.ensures.refused)
 
-pub returns-in-Refused-clause-means : goal.returns-in-Refused-clause-means
-returns-in-Refused-clause-means c =
+pub returns-clause-means : goal.returns-clause-means
+returns-clause-means c =
     let a = c.args in
     let n = a.node in
     let fs = a.frames.now.items in
@@ -55,8 +55,8 @@ returns-in-Refused-clause-means c =
     (ap (λ (b : Became). on_became b n.at n.site go) (sym c.in_ok-became.ensures.term ∙ c.in-Refused.is)) (sym c.in_ok-became.ensures.ok)
     (c.refuse.ensures.means w2 after fs)))
 
-pub returns-in_ok-step-in-Term-clause-means : goal.returns-in_ok-step-in-Term-clause-means
-returns-in_ok-step-in-Term-clause-means c =
+pub returns-in-Term-clause-means : goal.returns-in-Term-clause-means
+returns-in-Term-clause-means c =
     let a = c.args in
     let n = a.node in
     let fs = a.frames.now.items in
@@ -86,6 +86,6 @@ returns-in_ok-step-in-Term-clause-means c =
     ∙ ap (call t) (sym c.in_ok-operands-in-Term.ensures)) (sym c.in_ok-became.ensures.ok)
     c.in_ok-step-in-Term.ensures.means))
 
-pub returns-in_ok-step-in-Term-clause-kept : goal.returns-in_ok-step-in-Term-clause-kept
-returns-in_ok-step-in-Term-clause-kept c =
+pub returns-in-Term-clause-kept : goal.returns-in-Term-clause-kept
+returns-in-Term-clause-kept c =
     keeps_then c.args.typing.now c.term_of.new.typing c.call_term.new.typing c.in_ok-became.ensures.kept c.in_ok-step-in-Term.ensures.kept
