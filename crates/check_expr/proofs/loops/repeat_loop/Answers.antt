@@ -1,4 +1,4 @@
-use Rattle.std.proofs.Common.{◌≡◌, ℕ, [], length, refl, sym, ap, ◌∙◌}
+use Rattle.std.proofs.Common.{ℕ, [], length, refl, sym, ap, ◌∙◌}
 use Rattle.check_model.specs.declared.site.Site.{Site}
 use Rattle.check_model.specs.Expressions as expressions
 use Rattle.check_model.specs.Plans.{BodyPlan}
@@ -15,7 +15,8 @@ returns-clause-means c = λ left.
     let n = c.count.result in
     let inner = models.in_loop a.site in
     let plan : Site → ℕ → BodyPlan = λ site count.
-    expressions.statements a.body site [] (λ ids last. waiting.block_then (of_block.Repeat count a.test a.at a.site) ids last) in
+    expressions.statements a.body site [] (λ ids last. waiting.block_then (of_block.Repeat count a.test a.at a.site)
+    ids last) in
     moved a.frames.now.items c.block.new.frames.items (plan inner (length w.variables)) (plan c.in_loop.result n) w w
     c.block.new.typing left left c.in_ok-step.step
     (ap (plan inner) (sym c.count.ensures) ∙ ap (λ (site : Site). plan site n) (sym c.in_loop.ensures)) refl
