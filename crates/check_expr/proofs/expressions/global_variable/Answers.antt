@@ -14,7 +14,8 @@ returns-in_ok-step-in-Some-clause-means c = λ left fs.
     let w = a.typing.now in
     let found : slice_get w.stage.store.globals a.global.0 ≡ Some c.in-Some.found = search rules in
     let plan : Option TerraGlobal → BodyPlan = λ g. models.global g n.at n.source n.site in
-    moved fs fs (plan (slice_get w.stage.store.globals a.global.0)) (plan (Some c.in-Some.found)) w w c.gives.new.typing left left
+    moved fs fs (plan (slice_get w.stage.store.globals a.global.0)) (plan (Some c.in-Some.found)) w w c.gives.new.typing
+    left left
     c.in_ok-step-in-Some.step
     (ap plan found) refl (c.in_ok-step-in-Some.ensures.means left fs)
 
@@ -25,5 +26,6 @@ returns-in-None-clause-means c = λ left fs.
     let w = a.typing.now in
     let found : slice_get w.stage.store.globals a.global.0 ≡ None = search rules in
     let plan : Option TerraGlobal → BodyPlan = λ g. models.global g n.at n.source n.site in
-    moved fs fs (plan (slice_get w.stage.store.globals a.global.0)) (refuse BadOperand n.at n.site) w w w left left c.refuse.result
+    moved fs fs (plan (slice_get w.stage.store.globals a.global.0)) (refuse BadOperand n.at n.site) w w w left left
+    c.refuse.result
     (ap plan found) refl (c.refuse.ensures.means w left fs)
