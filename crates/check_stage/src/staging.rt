@@ -99,7 +99,7 @@ pub fn stage(
         &mut budget,
     )?;
     let mut lines = Vec::new(alloc);
-    let staging = finish(
+    let staging = behind_chunk(
         alloc,
         &stages,
         &mut typing,
@@ -130,7 +130,7 @@ fn open(alloc: Global, memory: u64) -> Result<Typing, NoMemory>
 }
 
 /// Goes on behind a chunk, as the mode says.
-fn finish(
+fn behind_chunk(
     alloc: Global,
     stages: &CheckStage<'_>,
     typing: &mut Typing,
