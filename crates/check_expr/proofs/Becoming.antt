@@ -1,5 +1,5 @@
 -- What is kept where a value became a term.
-use Rattle.std.proofs.Common.{◌≡◌, ℕ, Bool, true, List, [], ◌∷◌, ◌++◌, length, Option, Some, None, refl}
+use Rattle.std.proofs.Common.{ℕ, Bool, true, List, [], ◌∷◌, length, Option, Some, None}
 use Rattle.tl_base.specs.declared.place.Place.{Place}
 use Rattle.lua_table.proofs.Keeping.{front_more}
 use Rattle.terra_term.specs.declared.term.Expression.TheVariants as expressions

@@ -15,7 +15,7 @@ use Rattle.exotype.specs.World.{StageState}
 use Rattle.check_model.specs.declared.job.Operand.{Operand}
 use Rattle.check_model.specs.declared.site.Site.{Site}
 use Rattle.check_model.specs.Calls as models
-use Rattle.check_model.specs.Plans.{BodyPlan, refuse, gives}
+use Rattle.check_model.specs.Plans.{refuse, gives}
 use Rattle.check_expr.specs.Callees.{callee_in, named_plan, only_of}
 use Rattle.check_expr.specs.declared.calls.Callee.{Callee}
 use Rattle.check_expr.specs.declared.calls.Callee.TheVariants as callees

@@ -1,17 +1,17 @@
 -- Plans that go on behind a conversion: what is behind it is what its end goes on with, so a frame may wait for it.
-use Rattle.std.proofs.Common.{◌≡◌, Bool, true, false, List, [], ◌∷◌, refl}
+use Rattle.std.proofs.Common.{refl}
 use Rattle.std.specs.Prelude.{if◌then◌else◌}
 use Rattle.tl_base.specs.declared.ids.TypeId.{TypeId}
 use Rattle.tl_base.specs.declared.place.Place.{Place}
-use Rattle.tl_base.specs.Layer.{State, state}
-use Rattle.tl_base.specs.Plan.{then_do, run}
+use Rattle.tl_base.specs.Layer.{state}
+use Rattle.tl_base.specs.Plan.{run}
 use Rattle.terra_term.specs.declared.refusal.RefusalKind.TheVariants.{Mismatch, NotPlace, NotBuilt}
 use Rattle.terra_term.specs.declared.operators.Operation.TheVariants as operations
 use Rattle.terra_term.specs.declared.operators.Constant.TheVariants as constants
 use Rattle.terra_term.specs.declared.typed.TypedExpression.TheVariants as te
 use Rattle.terra_term.specs.declared.typed.Typed.TheVariants as typed_kinds
 use Rattle.terra_term.specs.Held.{next_typed}
-use Rattle.terra_term.specs.WellTyped.{pointer_form, points_in}
+use Rattle.terra_term.specs.WellTyped.{points_in}
 use Rattle.terra_types.specs.Making.{same_type}
 use Rattle.lua_value.specs.declared.value.Value.{Value}
 use Rattle.lua_value.specs.Values.{is_nil}
@@ -24,13 +24,12 @@ use Rattle.check_model.specs.declared.end.PartEnd.{PartEnd}
 use Rattle.check_model.specs.declared.rule.Mode.{Mode}
 use Rattle.check_model.specs.declared.rule.Mode.TheVariants.{Implicit}
 use Rattle.check_model.specs.declared.site.Site.{Site}
-use Rattle.check_model.specs.Typing.{TypingState, form_in, is_nil_made, made_of}
-use Rattle.check_model.specs.Plans.{BodyPlan, give, refuse, make, as_value, on_made, reading}
+use Rattle.check_model.specs.Typing.{form_in, made_of}
+use Rattle.check_model.specs.Plans.{BodyPlan, give, refuse, make, as_value, on_made}
 use Rattle.check_model.specs.Converting as converting
 use Rattle.check_model.specs.Converting.{convert, converted, by_conv, cast_to, conv_of, takes_type, is_same, fit}
-use Rattle.check_model.specs.Bodies.{BodyGiven}
 use Rattle.check_expr.specs.Steps.{with_node}
-use Rattle.check_model.proofs.Composing.{BodyCourse, IsWith, PassesRefused, going_on, going_on_passes, if_then, as_value_then}
+use Rattle.check_model.proofs.Composing.{BodyCourse, IsWith, going_on_passes, if_then, as_value_then}
 
 -- what a plan with something behind it does: the plan that only gives, and then what is behind it
 abbrev pub Continues : (BodyJob → BodyCourse) → ((Made → BodyPlan) → BodyPlan) → (Made → BodyPlan) → Type 0

@@ -1,5 +1,5 @@
 -- Variables that are declared one after another, and scopes that are left.
-use Rattle.std.proofs.Common.{◌≡◌, ℕ, ◌+◌, ◌<◌, ◌≤◌, List, [], ◌∷◌, ◌++◌, length, drop, get_or, take, refl, sym, ap, ◌∙◌, arith}
+use Rattle.std.proofs.Common.{◌≡◌, ℕ, ◌+◌, ◌<◌, ◌≤◌, List, [], ◌∷◌, ◌++◌, length, drop, get_or, refl, sym, ap, ◌∙◌, arith}
 use Rattle.std.proofs.lemmas.List.{append-nil, append_assoc, at_drop_more, at_drop_all, take-take}
 use Rattle.terra_term.specs.declared.lists.TypedName.{TypedName}
 use Rattle.check_model.specs.Typing.{TypingState, with_variable, with_variables, cut_to}

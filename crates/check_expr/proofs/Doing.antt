@@ -1,16 +1,15 @@
 -- What a step does by itself: it returns an end, enters a job or asks, below a frame or with nothing to wait for it.
-use Rattle.std.proofs.Common.{◌≡◌, ℕ, ◌-◌, ◌≤◌, ◌<◌, Bool, true, false, List, [], ◌∷◌, ◌++◌, refl, sym, subst, ap, ◌∙◌}
+use Rattle.std.proofs.Common.{◌≡◌, ℕ, ◌-◌, ◌≤◌, ◌<◌, Bool, List, [], ◌∷◌, ◌++◌, refl, sym, subst, ap, ◌∙◌}
 use Rattle.std.specs.Prelude.{if◌then◌else◌, Result, Ok, Err, IfOk}
 use Rattle.tl_base.specs.Layer.{State, state}
 use Rattle.tl_base.specs.declared.machine.Step.TheVariants.{Enter, Return, Stop, Spent}
-use Rattle.tl_base.specs.Plan.{Give, Do, AskFor, Read, Write, Pay, Stops, Lacks, Course, then_do, paid, run, run_job}
+use Rattle.tl_base.specs.Plan.{Give, Do, AskFor, Pay, then_do, run, run_job}
 use Rattle.tl_base.specs.Machine.{plug, plan_run, ask}
-use Rattle.tl_base.proofs.Steps.{plug-push, then_do-give, plug-stops}
+use Rattle.tl_base.proofs.Steps.{plug-push, then_do-give}
 use Rattle.tl_base.proofs.Plans.{paid-enough, paid-short}
 use Rattle.check_model.specs.declared.job.BodyJob.{BodyJob}
 use Rattle.check_model.specs.declared.end.PartEnd.{PartEnd}
 use Rattle.check_model.specs.declared.question.BodyQuestion.{BodyQuestion}
-use Rattle.check_model.specs.declared.question.CheckAnswer.{CheckAnswer}
 use Rattle.check_model.specs.Typing.{TypingState}
 use Rattle.check_model.specs.Plans.{BodyPlan}
 use Rattle.check_model.specs.Bodies.{BodyGiven, body_job}

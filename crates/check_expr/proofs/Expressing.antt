@@ -1,18 +1,13 @@
--- The expression that a term is, and what a method's value and the metamethods decide.
-use Rattle.std.proofs.Common.{◌≡◌, ℕ, Bool, true, false, List, [], ◌∷◌, Option, Some, None, refl, ap, ◌∙◌}
+-- What an expression means, by the term that it is.
+use Rattle.std.proofs.Common.{◌≡◌, ℕ, List, Option, Some, refl, ap}
 use Rattle.std.specs.Prelude.{slice_get}
 use Rattle.tl_base.specs.declared.ids.TermId.{TermId}
 use Rattle.tl_base.specs.declared.place.Place.{Place}
-use Rattle.terra_types.specs.Opening.{rawstring}
-use Rattle.terra_term.specs.Planted.{nowhere}
-use Rattle.terra_term.specs.declared.operators.Constant.TheVariants as constants
 use Rattle.terra_term.specs.declared.term.Expression.{Expression}
 use Rattle.terra_term.specs.declared.term.Term.{Term}
 use Rattle.terra_term.specs.declared.term.Term.TheVariants as kinds
-use Rattle.terra_term.specs.declared.typed.TypedExpression.TheVariants as te
 use Rattle.check_model.specs.declared.site.Site.{Site}
 use Rattle.check_model.specs.Expressions.{expression_job, expression_plan, node_plan}
-use Rattle.check_model.specs.Plans.{BodyPlan, gives}
 use Rattle.check_model.specs.Typing.{TypingState}
 use Rattle.check_expr.specs.declared.frame.BodyFrame.{BodyFrame}
 use Rattle.check_expr.specs.Steps.{BodyStep, Goes}
@@ -25,14 +20,6 @@ pub expresses : (fs fs2 : List BodyFrame) (t : TermId) (at : Place) (x : Express
     → Goes fs (expression_plan w x at t site) w left fs2 step w2 left2
     → Goes fs (expression_job t site) w left fs2 step w2 left2
 expresses fs fs2 t at x site w w2 left left2 step is g =
-    moved fs fs2 (node_plan w (slice_get w.stage.store.terms t.0) t site) (expression_plan w x at t site) w w w2 left left2 step
+    moved fs fs2 (node_plan w (slice_get w.stage.store.terms t.0) t site) (expression_plan w x at t site) w w w2 left
+    left2 step
     (ap (λ (o : Option Term). node_plan w o t site) is) refl g
-
--- any other one
-pub no_expression : (w : TypingState) (o : Option Term) (t : TermId) (site : Site)
-    → ((at : Place) (x : Expression) → o ≡ Some (kinds.Expression at x) → ⊥)
-    → node_plan w o t site ≡ gives t nowhere rawstring (te.Constant constants.Nil)
-no_expression w (Some (kinds.Expression at x)) t site other = absurd (other at x refl)
-no_expression w (Some (kinds.Statement at x)) t site other = refl
-no_expression w (Some (kinds.Function ps result body)) t site other = refl
-no_expression w None t site other = refl

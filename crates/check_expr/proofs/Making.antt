@@ -1,21 +1,18 @@
 -- Nodes that are made, as ends.
-use Rattle.std.proofs.Common.{◌≡◌, ℕ, List, [], ◌∷◌, ◌++◌, Option, refl, sym, ap, ◌∙◌}
+use Rattle.std.proofs.Common.{◌≡◌, ℕ, List, Option, sym, ap, ◌∙◌}
 use Rattle.tl_base.specs.declared.ids.TermId.{TermId}
 use Rattle.tl_base.specs.declared.ids.TypeId.{TypeId}
 use Rattle.tl_base.specs.declared.place.Place.{Place}
 use Rattle.tl_base.specs.declared.machine.Step.TheVariants.{Return}
 use Rattle.tl_base.specs.Layer.{state}
-use Rattle.tl_base.specs.Plan.{Run, Gives}
+use Rattle.tl_base.specs.Plan.{Gives}
 use Rattle.tl_base.specs.Machine.{plug}
 use Rattle.terra_term.specs.Held.{next_typed}
 use Rattle.terra_term.specs.declared.typed.Typed.TheVariants as typed_kinds
 use Rattle.terra_term.specs.declared.typed.TypedExpression.{TypedExpression}
 use Rattle.terra_term.specs.declared.typed.TypedStatement.{TypedStatement}
 use Rattle.check_model.specs.declared.made.Made.{Made}
-use Rattle.check_model.specs.declared.end.PartEnd.{PartEnd}
 use Rattle.check_model.specs.declared.end.PartEnd.TheVariants as ends
-use Rattle.check_model.specs.declared.question.BodyQuestion.{BodyQuestion}
-use Rattle.check_model.specs.declared.question.CheckAnswer.{CheckAnswer}
 use Rattle.check_model.specs.Typing.{TypingState, made_of}
 use Rattle.check_model.specs.Plans.{BodyPlan, gives, states, make}
 use Rattle.check_expr.specs.declared.frame.BodyFrame.{BodyFrame}

@@ -24,7 +24,6 @@ use Rattle.terra_term.specs.declared.typed.TypedExpression.TheVariants as te
 use Rattle.terra_term.specs.declared.typed.TypedStatement.TheVariants as ts
 use Rattle.terra_term.specs.declared.typed.Typed.TheVariants as typed_kinds
 use Rattle.terra_term.specs.WellTyped.{widest, integer_form}
-use Rattle.exotype.specs.World.{StageState}
 use Rattle.check_model.specs.declared.site.Site.{Site}
 use Rattle.check_model.specs.declared.made.Made.{Made}
 use Rattle.check_model.specs.declared.job.BodyJob.{BodyJob}
@@ -42,12 +41,12 @@ use Rattle.check_model.specs.declared.rule.Mode.TheVariants.{Implicit, Explicit}
 use Rattle.check_model.specs.Converting.{convert}
 use Rattle.check_model.specs.Calls.{argument, arguments, on_result, call_value}
 use Rattle.check_model.specs.Operators.{binary_plan, unary_plan, both}
-use Rattle.check_model.specs.Expressions.{method_plan, select_plan, index_plan, entry_or, into, in_order, by_name}
-use Rattle.check_model.specs.Expressions.{constructed, initialised, statements, let_plan}
+use Rattle.check_model.specs.Expressions.{method_plan, select_plan, index_plan, entry_or, into}
+use Rattle.check_model.specs.Expressions.{constructed, initialised, statements}
 use Rattle.check_model.specs.Statements.{block, values_for, value_for, names_for, declaring, typing_all, targets}
 use Rattle.check_model.specs.Statements.{converting_all, integers, meet_of, all_to, counting, else_plan, return_value}
 use Rattle.check_model.specs.Statements.{in_loop}
-use Rattle.check_model.specs.Bodies.{body_job, body_first, close_body, close_function, parameters, made_function, is_too_large}
+use Rattle.check_model.specs.Bodies.{body_job, body_first, close_body, close_function, parameters, made_function}
 use Rattle.check_expr.specs.declared.step.Node.{Node}
 use Rattle.check_expr.specs.declared.frame.BodyFrame.{BodyFrame}
 use Rattle.check_expr.specs.declared.frame.BodyFrame.TheVariants as frames

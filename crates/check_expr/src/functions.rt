@@ -4,6 +4,7 @@ ghost use Rattle.std.specs.Prelude.{◌≡◌, ℕ, unwrap_or, slice_get, IfOk, 
 ghost use Rattle.terra_types.specs.Opening.{unit};
 ghost use Rattle.exotype.specs.Terms.{typed_size};
 ghost use Rattle.check_model.specs.Bodies as models;
+ghost use Rattle.check_model.specs.Typing.{function_at};
 ghost use Rattle.check_expr.specs.Frames as waiting;
 ghost use Rattle.check_expr.specs.Functions.{parts_in, parts_plan, small_plan};
 ghost use Rattle.check_expr.specs.Keeping.{KeepsStage, KeepsTyping};
@@ -71,6 +72,13 @@ fn definition_of(world: &World, term: TermId) -> Result<Option<Definition>, NoMe
     }
 }
 
+/// The function of an id.
+fn function_of(world: &World, f: FnId) -> Option<terra_term::Function>
+    ensures { result ≡ function_at world.now f }
+{
+    world.store.function(f)
+}
+
 /// Types the body of a function.
 pub fn body(
     frames: &mut Vec<BodyFrame>,
@@ -90,7 +98,7 @@ pub fn body(
         in_let: false,
         result: None,
     };
-    match typing.world.store.function(f) {
+    match function_of(&typing.world, f) {
         None => Ok(refuse(RefusalKind::Undefined, Place { line: 0, word: 0 }, site)),
         Some(function) => match function.state.term() {
             None => Ok(refuse(RefusalKind::Undefined, function.place, site)),

@@ -112,6 +112,25 @@ pub fn repeat_end(
     Ok(step)
 }
 
+/// A `repeat` with these statements and this condition, which sees their variables.
+pub fn repeat_loop(
+    frames: &mut Vec<BodyFrame>,
+    typing: &mut Typing,
+    body: Rest<TermId>,
+    test: TermId,
+    at: Place,
+    site: Site,
+) -> Result<BodyStep, NoMemory>
+    ensures means { IfOk result (λ step. (left : ℕ) →
+        Goes frames.old.items (models.repeat_plan body test at site)
+        typing.old left frames.new.items step typing.new left) }
+    ensures kept { OnOk result (KeepsTyping typing.old typing.new) }
+{
+    let then = BlockThen::Repeat(typing.count(), test, at, site);
+    let step = block(frames, typing, body, in_loop(site), then)?;
+    Ok(step)
+}
+
 /// A `for` with these bounds.
 pub fn for_loop(
     frames: &mut Vec<BodyFrame>,

@@ -12,7 +12,7 @@ use crate::blocks::block;
 use crate::converting::convert;
 use crate::frame::{BlockThen, BodyFrame, DoingFrame};
 use crate::layouts::as_value;
-use crate::loops::{UNIT, for_loop, in_loop};
+use crate::loops::{UNIT, for_loop, repeat_loop};
 use crate::nodes::{refuse, states};
 use crate::step::BodyStep;
 use crate::variables::var;
@@ -77,9 +77,9 @@ pub fn statement(
                     Ok(Step::Enter(BodyJob::Expression(test, site)))
                 }
                 Statement::Repeat(body, test) => {
-                    let then = BlockThen::Repeat(typing.count(), *test, at, site);
+                    let test = *test;
                     let body = Rest::copy(alloc, body.as_slice())?;
-                    let step = block(frames, typing, body, in_loop(site), then)?;
+                    let step = repeat_loop(frames, typing, body, test, at, site)?;
                     Ok(step)
                 }
                 Statement::For(name, bounds, body) => {
@@ -91,8 +91,7 @@ pub fn statement(
                 }
                 Statement::Do(body) => {
                     let body = Rest::copy(alloc, body.as_slice())?;
-                    let then = BlockThen::Do(typing.count(), at);
-                    let step = block(frames, typing, body, site, then)?;
+                    let step = do_block(frames, typing, body, at, site)?;
                     Ok(step)
                 }
                 Statement::Break => {
@@ -121,6 +120,24 @@ pub fn statement(
             Ok(step)
         }
     }
+}
+
+/// A block within another one.
+fn do_block(
+    frames: &mut Vec<BodyFrame>,
+    typing: &mut Typing,
+    body: Rest<TermId>,
+    at: Place,
+    site: Site,
+) -> Result<BodyStep, NoMemory>
+    ensures means { IfOk result (λ step. (left : ℕ) →
+        Goes frames.old.items (models.doing_plan (doings.Do body) at site)
+        typing.old left frames.new.items step typing.new left) }
+    ensures kept { OnOk result (KeepsTyping typing.old typing.new) }
+{
+    let then = BlockThen::Do(typing.count(), at);
+    let step = block(frames, typing, body, site, then)?;
+    Ok(step)
 }
 
 /// A `break`.

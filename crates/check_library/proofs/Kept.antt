@@ -1,5 +1,6 @@
 -- What each change of the world keeps.
-use Rattle.std.proofs.Common.{◌≡◌, ℕ, false, List, ◌∷◌, [], ◌++◌, Option, Some, None, OnOk, refl, sym, ◌∙◌, ap, subst}
+use Rattle.std.proofs.Common.{◌≡◌, ℕ, false, List, ◌∷◌, [], ◌++◌, Option, Some, None, OnOk, refl, sym, ◌∙◌, ap}
+use Rattle.std.proofs.Common.{subst}
 use Rattle.std.specs.Prelude.{Result, Ok, Err, length}
 use Rattle.std.proofs.lemmas.Result.{on_ok_weaker}
 use Rattle.tl_base.specs.declared.ids.FnId.{FnId}
@@ -115,7 +116,8 @@ keeps_then a b c f g = record {
   memory = g.memory ∙ f.memory;
 }
 
-pub then_on : {T E : Type 0} (r : Result T E) (a b c : StageState) → KeepsAsked a b → OnOk r (KeepsAsked b c) → OnOk r (KeepsAsked a c)
+pub then_on : {T E : Type 0} (r : Result T E) (a b c : StageState) → KeepsAsked a b → OnOk r (KeepsAsked b c)
+    → OnOk r (KeepsAsked a c)
 then_on r a b c f g = on_ok_weaker r (keeps_then a b c f) g
 
 -- ---- each change
@@ -174,7 +176,8 @@ abbrev if_room : Option ℕ → Held → Held → Held
 if_room None s t = s
 if_room (Some address) s t = t
 
-keeps_if_room : (w : StageState) (o : Option ℕ) (t : Held) → KeepsAsked w (with_store w t) → KeepsAsked w (with_store w (if_room o w.store t))
+keeps_if_room : (w : StageState) (o : Option ℕ) (t : Held) → KeepsAsked w (with_store w t)
+    → KeepsAsked w (with_store w (if_room o w.store t))
 keeps_if_room w None t kept = keeps_itself w
 keeps_if_room w (Some address) t kept = kept
 

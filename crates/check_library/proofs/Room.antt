@@ -1,5 +1,6 @@
 -- Whether there is room for one more static, and a global without room.
-use Rattle.std.proofs.Common.{◌≡◌, ℕ, zero, suc, ◌+◌, ◌-◌, ◌/◌, Bool, true, false, List, [], ◌∷◌, length, Option, Some, None, if◌then◌else◌, ◌++◌, refl, sym, ap, ◌∙◌, arith}
+use Rattle.std.proofs.Common.{◌≡◌, ℕ, zero, suc, ◌+◌, ◌-◌, ◌/◌, Bool, true, false, List, [], ◌∷◌, length}
+use Rattle.std.proofs.Common.{Option, Some, None, if◌then◌else◌, ◌++◌, refl, sym, ap, ◌∙◌, arith}
 use Rattle.std.specs.Prelude.{slice_get}
 use Rattle.tl_base.specs.declared.ids.GlobalId.{GlobalId}
 use Rattle.tl_base.specs.declared.ids.TypeId.{TypeId}
@@ -26,7 +27,8 @@ end_of e (x ∷ []) (suc n) s len is = absurd (omega (arith, len))
 end_of e (x ∷ y ∷ ss) zero s len is = absurd (omega (arith, len))
 end_of e (x ∷ y ∷ ss) (suc n) s len is = end_of (x.address + length x.bytes) (y ∷ ss) n s (omega (arith, len)) is
 
-pub end_of_last : (e : ℕ) (ss : List Static) (s : Static) → Some s ≡ slice_get ss (length ss - 1) → s.address + length s.bytes ≡ end_from e ss
+pub end_of_last : (e : ℕ) (ss : List Static) (s : Static) → Some s ≡ slice_get ss (length ss - 1)
+    → s.address + length s.bytes ≡ end_from e ss
 end_of_last e [] s is = absurd (cc is)
 end_of_last e (x ∷ xs) s is = end_of e (x ∷ xs) (length (x ∷ xs) - 1) s (omega arith) is
 
@@ -61,7 +63,8 @@ turned_by b s made g a place =
     (if b then Some g else None) place
 
 -- without room for so many bytes, that statics are full is raised
-pub is_full : (s : State StageState) (t : TypeId) (size bits : ℕ) (place : Place) → has_room s.world.memory s.world.store.statics size ≡ false
+pub is_full : (s : State StageState) (t : TypeId) (size bits : ℕ) (place : Place)
+    → has_room s.world.memory s.world.store.statics size ≡ false
     → raised s place faults.StaticsFull ≡ global_turned s t (first_bytes size bits) place
 is_full s t size bits place none =
     let bytes = first_bytes size bits in

@@ -1,5 +1,6 @@
 -- How the walks over entries, functions and bytes go on.
-use Rattle.std.proofs.Common.{◌≡◌, ℕ, zero, suc, ◌+◌, ◌-◌, ◌<◌, ◌≤◌, ◌/◌, ◌%◌, Bool, true, false, List, [], ◌∷◌, ◌++◌, length, drop, get_or, Option, Some, None, slice_get, if◌then◌else◌}
+use Rattle.std.proofs.Common.{◌≡◌, ℕ, zero, suc, ◌+◌, ◌-◌, ◌<◌, ◌≤◌, ◌/◌, ◌%◌, Bool, true, false}
+use Rattle.std.proofs.Common.{List, [], ◌∷◌, ◌++◌, length, drop, get_or, Option, Some, None, slice_get, if◌then◌else◌}
 use Rattle.std.proofs.Common.{refl, sym, ap, ◌∙◌, arith}
 use Rattle.std.specs.Prelude.{nat_lt, not, ◌||◌}
 use Rattle.std.proofs.lemmas.Bool.Decides.{nat_tests}
@@ -131,19 +132,22 @@ sum_goes_on w n more f fs is h =
     ∙ ap (λ (b : Bool). sum_by b w n more f fs) h
 
 -- a function is added, or passes the most that there may be
-pub sum_next : (w : StageState) (n more i : ℕ) (fs : List ℕ) (d : ℕ) → i < length fs → n ≤ 131072 → more ≡ nodes_of w (get_or fs i d)
+pub sum_next : (w : StageState) (n more i : ℕ) (fs : List ℕ) (d : ℕ) → i < length fs → n ≤ 131072
+    → more ≡ nodes_of w (get_or fs i d)
     → more ≤ 131072 - n → summed w (n + more) (drop (i + 1) fs) ≡ summed w n (drop i fs)
 sum_next w n more i fs d within small is h =
     sym (at_drop_more (λ gs. summed w n gs) fs i d within
     ∙ sum_goes_on w n more (get_or fs i d) (drop (i + 1) fs) is (stays_within n more small h))
 
-pub sum_stop : (w : StageState) (n more i : ℕ) (fs : List ℕ) (d : ℕ) → i < length fs → n ≤ 131072 → more ≡ nodes_of w (get_or fs i d)
+pub sum_stop : (w : StageState) (n more i : ℕ) (fs : List ℕ) (d : ℕ) → i < length fs → n ≤ 131072
+    → more ≡ nodes_of w (get_or fs i d)
     → 131072 - n < more → record { nodes = n; passing = Some (get_or fs i d) } ≡ summed w n (drop i fs)
 sum_stop w n more i fs d within small is h =
     sym (at_drop_more (λ gs. summed w n gs) fs i d within
     ∙ sum_passes w n more (get_or fs i d) (drop (i + 1) fs) is (passes n more small h))
 
-pub sum_end : (w : StageState) (n i : ℕ) (fs : List ℕ) → length fs ≤ i → record { nodes = n; passing = None } ≡ summed w n (drop i fs)
+pub sum_end : (w : StageState) (n i : ℕ) (fs : List ℕ) → length fs ≤ i
+    → record { nodes = n; passing = None } ≡ summed w n (drop i fs)
 sum_end w n i fs past = sym (at_drop_all (λ gs. summed w n gs) fs i past)
 
 -- an export more is counted, or passes the most that there may be
@@ -190,7 +194,8 @@ taken_next w at_end made new all ps i so_far is =
     ∙ ap (λ (qs : Pairs). made ++ qs) (taken_first w at_end (slice_get ps i) (drop (i + 1) ps))
     ∙ ap (λ (qs : Pairs). made ++ taken w at_end qs) (sym (at_place ps i (slice_get ps i) refl)) ∙ so_far
 
-pub taken_end : (w : StageState) (at_end : Bool) (made all ps : Pairs) (i : ℕ) → length ps ≤ i → made ++ taken w at_end (drop i ps) ≡ all
+pub taken_end : (w : StageState) (at_end : Bool) (made all ps : Pairs) (i : ℕ) → length ps ≤ i
+    → made ++ taken w at_end (drop i ps) ≡ all
     → made ≡ all
 taken_end w at_end made all ps i past so_far =
     sym (append-nil made)

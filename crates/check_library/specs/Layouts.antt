@@ -1,5 +1,6 @@
 -- `sizeof`, `offsetof` and `global`. The forms of all arguments are tested in order, before the layout is asked for.
-use Rattle.std.specs.Prelude.{ℕ, zero, suc, ◌/◌, ◌%◌, List, [], ◌∷◌, length, Option, Some, None, slice_get, if◌then◌else◌}
+use Rattle.std.specs.Prelude.{ℕ, zero, suc, ◌/◌, ◌%◌, List, [], ◌∷◌, length, Option, Some, None, slice_get}
+use Rattle.std.specs.Prelude.{if◌then◌else◌}
 use Rattle.tl_base.specs.declared.ids.GlobalId.{GlobalId}
 use Rattle.tl_base.specs.declared.ids.TextId.{TextId}
 use Rattle.tl_base.specs.declared.ids.TypeId.{TypeId}

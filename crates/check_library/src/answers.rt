@@ -52,12 +52,7 @@ pub fn kind_name(kind: RefusalKind) -> &'static str
 }
 
 /// The text of a refusal, with its own place.
-fn refusal_text(
-    alloc: Global,
-    kind: RefusalKind,
-    line: u32,
-    word: u32,
-) -> Result<String, NoMemory>
+fn refusal_text(alloc: Global, kind: RefusalKind, line: u32, word: u32) -> Result<String, NoMemory>
     ensures text { IfOk result (λ text. string_bytes text ≡ refusal_text kind line word) }
     ensures short { IfOk result (λ text. length (string_bytes text) ≤ 65535) }
 {
@@ -112,9 +107,7 @@ pub(crate) fn refuse(
     ensures kept { OnOk result (KeepsAsked world.old world.new) }
     ensures paid { OnOk result (budget.new ≤ budget.old) }
 {
-    Ok(AskTurn::Turn(raise_refusal(
-        world, budget, kind, own, place,
-    )?))
+    Ok(AskTurn::Turn(raise_refusal(world, budget, kind, own, place)?))
 }
 
 /// Raises that the argument of a position isn't of its form, with the place of the call before the text, which is paid for.
@@ -131,9 +124,7 @@ pub(crate) fn bad_argument(
     ensures kept { OnOk result (KeepsAsked world.old world.new) }
     ensures paid { OnOk result (budget.new ≤ budget.old) }
 {
-    Ok(AskTurn::Turn(terra_lib::answers::bad_argument(
-        world, budget, place, position, function,
-    )?))
+    Ok(AskTurn::Turn(terra_lib::answers::bad_argument(world, budget, place, position, function)?))
 }
 
 /// Raises a fault, with the place of the call before its text, which is paid for.
@@ -149,17 +140,12 @@ pub(crate) fn raise(
     ensures kept { OnOk result (KeepsAsked world.old world.new) }
     ensures paid { OnOk result (budget.new ≤ budget.old) }
 {
-    Ok(AskTurn::Turn(terra_lib::answers::raise(
-        world, budget, place, fault,
-    )?))
+    Ok(AskTurn::Turn(terra_lib::answers::raise(world, budget, place, fault)?))
 }
 
 /// Gives one value.
 pub(crate) fn give_one(world: &World, value: Value) -> Result<AskTurn, NoMemory>
     ensures { IfOk result (λ turn. turn ≡ AskTurn.Turn (LibTurn.Values (value ∷ []))) }
 {
-    Ok(AskTurn::Turn(terra_lib::answers::give_one(
-        &world.heap,
-        value,
-    )?))
+    Ok(AskTurn::Turn(terra_lib::answers::give_one(&world.heap, value)?))
 }

@@ -67,11 +67,7 @@ impl Counted {
 
     /// Counts exports.
     #[tactic(auto, using(crate::proofs::Walking::count_next, crate::proofs::Walking::count_stop, crate::proofs::Walking::count_end))]
-    fn count_exports(
-        &mut self,
-        world: &World,
-        exports: &[Export],
-    ) -> Result<Option<FnId>, NoMemory>
+    fn count_exports(&mut self, world: &World, exports: &[Export]) -> Result<Option<FnId>, NoMemory>
         ensures { IfOk result (λ passing. record { counted = self.new; passing = option_map (λ f. f.0) passing }
             ≡ count_exports world.now self.old exports.now) }
     {
@@ -121,11 +117,7 @@ fn put_all(functions: &mut IndexSet<u64>, reached: &ReachedList) -> Result<(), N
 }
 
 /// Puts the function at a place behind others, if it is new.
-fn put_at(
-    functions: &mut IndexSet<u64>,
-    reached: &ReachedList,
-    place: u64,
-) -> Result<(), NoMemory>
+fn put_at(functions: &mut IndexSet<u64>, reached: &ReachedList, place: u64) -> Result<(), NoMemory>
     ensures { OnOk result (functions.new.keys ≡ with_functions functions.old.keys (one_at (slice_get reached.now place))) }
 {
     match reached.get(place) {

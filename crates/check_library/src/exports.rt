@@ -7,8 +7,10 @@ ghost use Rattle.terra_lib.specs.Answers as library;
 ghost use Rattle.terra_lib.specs.Exports.{gives_scalar, marked};
 ghost use Rattle.check_model.specs.Calls.{result_of};
 ghost use Rattle.check_library.specs.Answers.{asked, said};
-ghost use Rattle.check_library.specs.Exports.{fate_by, fate_of_function, fate_of, fate_after, found_result, next_of, fared, exported, raised_at};
-ghost use Rattle.check_library.specs.Exports.{place_of_function, checked, export_backed, saveobj_asked, taken, taken_at, table_exported, chunk_ended, too_large, added};
+ghost use Rattle.check_library.specs.Exports.{fate_by, fate_of_function, fate_of, fate_after, found_result, next_of, fared, exported};
+ghost use Rattle.check_library.specs.Exports.{raised_at};
+ghost use Rattle.check_library.specs.Exports.{place_of_function, checked, export_backed, saveobj_asked, taken, taken_at};
+ghost use Rattle.check_library.specs.Exports.{table_exported, chunk_ended, too_large, added};
 ghost use Rattle.check_library.specs.Keeping.{KeepsAsked};
 
 use crate::answers::{bad_argument, give_nothing, raise, refuse};
@@ -254,11 +256,7 @@ fn refuse_too_large(
 
 /// The entries that are taken of a table, in its order.
 #[tactic(auto, using(crate::proofs::Walking::taken_next, crate::proofs::Walking::taken_end))]
-fn entries_of(
-    world: &World,
-    at_end: bool,
-    table: TableId,
-) -> Result<Rest<(Value, Value)>, NoMemory>
+fn entries_of(world: &World, at_end: bool, table: TableId) -> Result<Rest<(Value, Value)>, NoMemory>
     ensures { IfOk result (λ entries. entries ≡ taken world.now at_end (table_at world.now.heap table)) }
 {
     let mut entries = Row::new(world.heap.allocator());

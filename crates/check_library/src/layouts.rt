@@ -105,13 +105,7 @@ fn struct_in(world: &World, value: Value) -> Option<TypeId>
     ensures { result ≡ struct_in world.now value }
 {
     match type_in(value) {
-        Some(of) => {
-            if world.is_struct(of) {
-                Some(of)
-            } else {
-                None
-            }
-        }
+        Some(of) => { if world.is_struct(of) { Some(of) } else { None } }
         None => None,
     }
 }
@@ -290,6 +284,7 @@ fn statics_end(statics: &[Static]) -> u128
     }
 }
 
+/// The sum of two numbers, which may be one of 65 bits.
 fn sum(a: u64, b: u64) -> u128
     ensures sum { result ≡ a + b }
     ensures within { result < 2 ^ 65 }

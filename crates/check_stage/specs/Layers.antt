@@ -1,5 +1,5 @@
 -- The layers as one stage: how each stands in it, and what each job means.
-use Rattle.std.specs.Prelude.{ℕ, ◌≡◌, Bool, true, false, if◌then◌else◌, [], ◌∷◌, refl}
+use Rattle.std.specs.Prelude.{◌≡◌, false, if◌then◌else◌, [], ◌∷◌, refl}
 use Rattle.tl_base.specs.declared.turn.Turn.{Turn}
 use Rattle.tl_base.specs.Layer.{Meaning, Given}
 use Rattle.stage_form.specs.Stage.{Stage}
@@ -32,6 +32,7 @@ use Rattle.check_model.specs.Typing.{TypingState}
 use Rattle.check_model.specs.Bodies.{body}
 use Rattle.check_model.specs.Checks.{check}
 use Rattle.check_model.specs.Layouts.{layout}
+use Rattle.check_expr.specs.Frames.{is_go}
 use Rattle.check_expr.specs.Rest.{body_rest, BodyFits}
 use Rattle.check_flow.specs.Rest.{check_rest, CheckFits, layout_rest, LayoutFits}
 use Rattle.check_library.specs.Calls.{asks}
@@ -159,11 +160,6 @@ Fits (layers.Check check) next = CheckFits check (given_part check_fitting next)
 Fits (layers.Body body) next = BodyFits body (given_part body_fitting next)
 Fits (layers.Result result) next = ResultFits result (given_part result_fitting next)
 Fits (layers.Layout layout) next = LayoutFits layout (given_part layout_fitting next)
-
--- tells the answer that begins
-abbrev pub is_go : CheckAnswer → Bool
-is_go answers.Go = true
-is_go _ = false
 
 -- no end begins a layer
 pub ends_follow : (end : JobEnd) → is_go (answer_of end) ≡ false

@@ -4,11 +4,8 @@ use Rattle.tl_base.specs.declared.ids.FnId.{FnId}
 use Rattle.tl_base.specs.declared.ids.TermId.{TermId}
 use Rattle.tl_base.specs.Layer.{State, Given, Seen, Ended, SpentAt, Asks, Meaning}
 use Rattle.terra_types.specs.Opening.{unit}
-use Rattle.terra_term.specs.declared.store.Function.{Function}
-use Rattle.terra_term.specs.declared.store.FunctionState.{FunctionState}
-use Rattle.terra_term.specs.declared.store.FunctionState.TheVariants as standing
 use Rattle.terra_term.specs.declared.refusal.Refusal.{Refusal}
-use Rattle.terra_term.specs.Held.{state_of}
+use Rattle.terra_term.specs.Held.{state_of, refusal_in}
 use Rattle.check_model.specs.declared.end.BodyEnd.{BodyEnd}
 use Rattle.check_model.specs.declared.end.BodyEnd.TheVariants as body_ends
 use Rattle.check_model.specs.declared.question.BodyQuestion.{BodyQuestion}
@@ -22,11 +19,6 @@ use Rattle.check_stage.specs.declared.jobs.JobEnd.{JobEnd}
 use Rattle.check_stage.specs.declared.jobs.JobEnd.TheVariants as ends
 use Rattle.check_stage.specs.declared.results.ResultOf.{ResultOf}
 use Rattle.check_stage.specs.declared.results.ResultOf.TheVariants as layers
-
--- the refusal that a function has
-abbrev pub refusal_in : FunctionState → Option Refusal
-refusal_in (standing.Refused t why) = Some why
-refusal_in _ = None
 
 -- a body that was typed has its result type; one that was refused has its refusal
 abbrev pub result_end : BodyEnd → State TypingState → JobEnd

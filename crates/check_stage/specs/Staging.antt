@@ -53,7 +53,7 @@ after_check (Some (Exhausted s)) go = Some (Exhausted s)
 
 -- Each function that is defined when its number comes is checked, in order of number, from this number on; those that are made meanwhile
 -- too. There is no value where a check, or the number of functions, goes deeper than n.
-pub checks : Items → ℕ → ℕ → List CheckLine → State TypingState → Option (Final TypingState Checked)
+unfoldable pub checks : Items → ℕ → ℕ → List CheckLine → State TypingState → Option (Final TypingState Checked)
 checks items zero i lines s = None
 checks items (suc n) i lines s =
     if nat_lt i (length s.world.stage.store.functions)
@@ -92,6 +92,11 @@ end_of heap end = Done
 abbrev pub end_in : LuaState → Staging JobEnd → End
 end_in heap (stagings.Ends end) = end_of heap end
 end_in heap stagings.Spent = Spent
+
+-- the checks that count: none where units lacked
+abbrev pub lines_in : Staging JobEnd → List CheckLine → List CheckLine
+lines_in (stagings.Ends end) lines = lines
+lines_in stagings.Spent lines = []
 
 abbrev pub ending_of : Final TypingState Checked → Ending
 ending_of (Finished c s) = ending (end_of s.world.stage.heap c.end) c.lines s

@@ -140,7 +140,7 @@ fn begin(world: &mut World, what: &Asked, budget: &mut Budget) -> Result<AskTurn
 {
     match what {
         Asked::Call(call) => check_library::call(world, call, budget),
-        Asked::Export(place) => check_library::end_of_chunk(world, *place, budget),
+        Asked::Export(place) => check_library::end_of_chunk(world, budget, *place),
     }
 }
 

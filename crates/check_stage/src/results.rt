@@ -3,13 +3,13 @@
 ghost use Rattle.std.specs.Prelude.{ℕ, ◌≡◌, ◌≤◌, List, [], ◌∷◌, slice_get, unwrap_or, false, IfOk, OnOk};
 ghost use Rattle.tl_base.specs.Layer.{state, Given, given, seen, OnAsk, UnlessAsk};
 ghost use Rattle.terra_types.specs.Opening.{unit};
-ghost use Rattle.terra_term.specs.Held.{state_of};
+ghost use Rattle.terra_term.specs.Held.{state_of, refusal_in};
 ghost use Rattle.check_expr.specs.Frames.{is_go};
 ghost use Rattle.check_expr.specs.Keeping.{KeepsTyping};
 ghost use Rattle.check_expr.specs.Rest.{body_rest, BodyFits};
 ghost use Rattle.check_model.specs.Calls.{found_in};
 ghost use Rattle.check_model.specs.Typing.{TypingState};
-ghost use Rattle.check_stage.specs.Results.{refusal_in, result_seen, result_rest, ResultFits};
+ghost use Rattle.check_stage.specs.Results.{result_seen, result_rest, ResultFits};
 
 use crate::jobs::JobEnd;
 use check_expr::Body;
@@ -54,13 +54,15 @@ impl ResultOf {
             ResultOf::Types(body) => types(body, typing, budget, answer),
             ResultOf::Begins(f) => {
                 let f = *f;
-                if let Some(refusal) = refusal_of(typing, f) {
-                    return Ok(Turn::End(JobEnd::Refused(refusal)));
+                match refusal_of(typing, f) {
+                    Some(refusal) => Ok(Turn::End(JobEnd::Refused(refusal))),
+                    None => {
+                        let mut body = Body::start(typing.world.heap.allocator(), f);
+                        let turn = types(&mut body, typing, budget, answer)?;
+                        *self = ResultOf::Types(body);
+                        Ok(turn)
+                    }
                 }
-                let mut body = Body::start(typing.world.heap.allocator(), f);
-                let turn = types(&mut body, typing, budget, answer)?;
-                *self = ResultOf::Types(body);
-                Ok(turn)
             }
         }
     }

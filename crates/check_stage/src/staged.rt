@@ -6,13 +6,14 @@ ghost use Rattle.stage_form.specs.Within.{given_part, within};
 ghost use Rattle.tl_tree.specs.Arena.{items_of};
 ghost use Rattle.lua_eval.specs.Slots.{ArePaths};
 ghost use Rattle.terra_stage.specs.Layers.{staged_rest, StagedFits, turn_within};
+ghost use Rattle.check_expr.specs.Frames.{is_go};
 ghost use Rattle.check_expr.specs.Rest.{body_rest, BodyFits};
 ghost use Rattle.check_flow.specs.Rest.{check_rest, CheckFits, layout_rest, LayoutFits};
 ghost use Rattle.check_stage.specs.Asking.{asking_rest};
 ghost use Rattle.check_stage.specs.Results.{result_rest, ResultFits};
 ghost use Rattle.check_stage.specs.Keeping.{KeepsChecking};
 ghost use Rattle.check_stage.specs.Layers as models;
-ghost use Rattle.check_stage.specs.Layers.{JobGiven, is_go, stage_fitting, asking_fitting, check_fitting};
+ghost use Rattle.check_stage.specs.Layers.{JobGiven, stage_fitting, asking_fitting, check_fitting};
 ghost use Rattle.check_stage.specs.Layers.{body_fitting, result_fitting, layout_fitting};
 
 use crate::asking::{Asked, Asking};
@@ -51,14 +52,14 @@ fn job_of(task: Task) -> Job
 }
 
 /// An answer of the stage for Lua code, for the specialisation of Terra code and for the library.
-fn lua_answer(alloc: Global, answer: CheckAnswer) -> LuaAnswer
+fn lua_answer(typing: &Typing, answer: CheckAnswer) -> LuaAnswer
     ensures { result ≡ models.lua_answer answer }
 {
     match answer {
         CheckAnswer::Go => LuaAnswer::Go,
         CheckAnswer::Values(values) => LuaAnswer::Values(values),
         CheckAnswer::Raise(value, place) => LuaAnswer::Raise(value, place),
-        _ => LuaAnswer::Values(Values::new(alloc)),
+        _ => LuaAnswer::Values(Values::new(typing.world.heap.allocator())),
     }
 }
 
@@ -104,7 +105,7 @@ fn resume_stage(
     ensures kept { OnOk result (KeepsChecking typing.old typing.new) }
     ensures paid { OnOk result (budget.new ≤ budget.old) }
 {
-    let answer = lua_answer(typing.world.heap.allocator(), answer);
+    let answer = lua_answer(typing, answer);
     let turn = staged.resume(&mut typing.world, budget, answer)?;
     Ok(stage_turn(turn))
 }
@@ -365,7 +366,7 @@ impl<'a> CheckStage<'a> {
 }
 
 impl<'a> Stages for CheckStage<'a> {
-    ghost use Rattle.check_stage.proofs.Keeping.{keeps_itself, keeps_then};
+    ghost use Rattle.stage_library.proofs.Keeping.{keeps_itself, keeps_then};
     ghost use Rattle.check_stage.specs.Layers.{check_stage, ends_follow};
 
     type World = Typing;
@@ -382,9 +383,9 @@ impl<'a> Stages for CheckStage<'a> {
 
     ghost ends_follow = { λ stages question asked now end kept paid. ends_follow end };
 
-    ghost keeps_self = { keeps_itself };
+    ghost keeps_self = { λ w. keeps_itself w.stage };
 
-    ghost keeps_on = { keeps_then };
+    ghost keeps_on = { λ u v w. keeps_then u.stage v.stage w.stage };
 
     fn start(&self, alloc: Global, job: Job) -> Staged<'a> {
         match job {

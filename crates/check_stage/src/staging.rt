@@ -1,16 +1,17 @@
 // The staging of a source with checks, and its outcome.
 
-ghost use Rattle.std.specs.Prelude.{ℕ, ◌≡◌, ◌≤◌, ◌×◌, [], IfOk, OnOk, Some};
+ghost use Rattle.std.specs.Prelude.{ℕ, ◌≡◌, ◌≤◌, [], IfOk, OnOk, Some};
 ghost use Rattle.tl_base.specs.Layer.{state};
 ghost use Rattle.tl_base.specs.declared.place.Place.{Place as PlaceOf};
 ghost use Rattle.stage_form.specs.Stage.{final_of};
 ghost use Rattle.tl_tree.specs.Arena.{items_of, end_of as finish_of};
 ghost use Rattle.tl_tree.specs.Code.{Items};
+ghost use Rattle.spec_model.specs.Making.{is_undefined};
 ghost use Rattle.check_model.specs.Typing.{TypingState};
 ghost use Rattle.check_stage.specs.declared.staging.Mode.{Mode as ModeOf};
 ghost use Rattle.check_stage.specs.Keeping.{KeepsChecking};
 ghost use Rattle.check_stage.specs.Staging.{Ending, ending, begun, after_check, by_mode, checks};
-ghost use Rattle.check_stage.specs.Staging.{checked_final, line_of, end_in, outcome};
+ghost use Rattle.check_stage.specs.Staging.{checked_final, line_of, lines_in, end_in, outcome};
 
 use crate::jobs::{Job, JobEnd};
 use crate::staged::CheckStage;
@@ -22,7 +23,8 @@ use lua_value::{Value, Values};
 use stage_form::{Outcome as Staging, run};
 use stage_library::Task;
 use std::alloc::Global;
-use terra_term::{Refusal, Standing};
+use terra_stage::raised_text;
+use terra_term::{FunctionState, Refusal};
 use terra_types::Types;
 use tl_base::{Budget, FnId, NoMemory, Place, Text2};
 use tl_rename::resolve;
@@ -55,8 +57,8 @@ pub enum End {
     Spent,
 }
 
-/// What a staging comes to: the end, the checks that were made in order where all functions were to be checked, and the world and the units
-/// that are left then.
+/// What a staging comes to: the end, the checks that were made in order where all functions were to be checked and units lacked for none,
+/// and the world and the units that are left then.
 #[derive(Drop)]
 pub struct Outcome {
     pub end: End,
@@ -97,7 +99,7 @@ pub fn stage(
         &mut budget,
     )?;
     let mut lines = Vec::new(alloc);
-    let staging = finish(
+    let staging = behind_chunk(
         alloc,
         &stages,
         &mut typing,
@@ -107,6 +109,7 @@ pub fn stage(
         mode,
         tree.finish(),
     )?;
+    settle(&mut lines, &staging);
     let end = end_of(&typing.world.heap, &staging)?;
     Ok(Outcome {
         end,
@@ -127,7 +130,7 @@ fn open(alloc: Global, memory: u64) -> Result<Typing, NoMemory>
 }
 
 /// Goes on behind a chunk, as the mode says.
-fn finish(
+fn behind_chunk(
     alloc: Global,
     stages: &CheckStage<'_>,
     typing: &mut Typing,
@@ -145,9 +148,15 @@ fn finish(
     ensures paid { OnOk result (budget.new ≤ budget.old) }
 {
     match chunk {
-        Staging::Ends(JobEnd::Values(values)) => match mode {
-            Mode::Exports => run(alloc, stages, Job::Export(place), typing, budget),
-            Mode::CheckAll => check_all(alloc, stages, typing, budget, lines),
+        Staging::Ends(JobEnd::Values(_values)) => match mode {
+            Mode::Exports => {
+                let it = run(alloc, stages, Job::Export(place), typing, budget)?;
+                Ok(it)
+            }
+            Mode::CheckAll => {
+                let it = check_all(alloc, stages, typing, budget, lines)?;
+                Ok(it)
+            }
         },
         chunk => Ok(chunk),
     }
@@ -173,14 +182,34 @@ fn check_all(
         if number >= typing.world.store.function_count() {
             return Ok(Staging::Ends(JobEnd::Values(Values::new(alloc))));
         }
-        if typing.world.store.standing(f) != Standing::Undefined {
-            match run(alloc, stages, Job::Check(f), typing, budget)? {
-                Staging::Spent => return Ok(Staging::Spent),
-                Staging::Ends(end) => lines.push(line_of(f, &end))?,
-            }
+        if is_undefined(typing, f) {
+            continue;
+        }
+        match run(alloc, stages, Job::Check(f), typing, budget)? {
+            Staging::Spent => return Ok(Staging::Spent),
+            Staging::Ends(end) => lines.push(line_of(f, &end))?,
         }
     }
     Err(NoMemory)
+}
+
+/// Whether a function is not defined.
+fn is_undefined(typing: &Typing, f: FnId) -> bool
+    ensures { result ≡ is_undefined typing.now.stage f }
+{
+    match typing.world.store.state(f) {
+        FunctionState::Undefined => true,
+        _ => false,
+    }
+}
+
+/// No check counts where units lacked.
+fn settle(lines: &mut Vec<CheckLine>, staging: &Staging<JobEnd>)
+    ensures { lines.new.items ≡ lines_in staging.now lines.old.items }
+{
+    if let Staging::Spent = staging {
+        lines.clear();
+    }
 }
 
 /// What a check came to.

@@ -1,4 +1,4 @@
-use Rattle.std.proofs.Common.{◌≡◌, Bool, true, false, List, [], length, nat_eq, refl, sym, ap, ◌∙◌}
+use Rattle.std.proofs.Common.{true, false, List, [], length, nat_eq, refl, sym, ap, ◌∙◌}
 use Rattle.std.proofs.lemmas.Bool.{eq-eqb, ne_eqb}
 use Rattle.terra_term.specs.declared.refusal.RefusalKind.TheVariants.{WrongCount}
 use Rattle.check_model.specs.declared.made.Made.{Made}

@@ -1,4 +1,4 @@
-use Rattle.std.proofs.Common.{◌≡◌, List, refl, sym, ap}
+use Rattle.std.proofs.Common.{List, sym, ap}
 use Rattle.tl_base.specs.declared.ids.TermId.{TermId}
 use Rattle.check_model.specs.Plans.{BodyPlan}
 use Rattle.check_expr.specs.Frames as waiting

@@ -1,4 +1,4 @@
-use Rattle.std.proofs.Common.{◌≡◌, ◌+◌, ◌-◌, List, ◌++◌, drop, refl, sym, ap, ◌∙◌}
+use Rattle.std.proofs.Common.{◌+◌, List, ◌++◌, drop, refl, ap, ◌∙◌}
 use Rattle.tl_base.specs.declared.ids.TermId.{TermId}
 use Rattle.check_model.specs.declared.made.Made.{Made}
 use Rattle.check_model.specs.Plans as plans

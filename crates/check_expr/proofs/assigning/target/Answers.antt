@@ -1,4 +1,4 @@
-use Rattle.std.proofs.Common.{◌≡◌, Bool, true, false, List, [], ◌∷◌, ◌++◌, refl, sym, ap}
+use Rattle.std.proofs.Common.{true, false, List, [], ◌∷◌, ◌++◌, refl, sym, ap}
 use Rattle.terra_term.specs.declared.refusal.RefusalKind.TheVariants.{NotPlace}
 use Rattle.check_model.specs.declared.made.Made.{Made}
 use Rattle.check_model.specs.Plans.{BodyPlan, refuse}

@@ -1,4 +1,4 @@
-use Rattle.std.proofs.Common.{◌≡◌, List, [], ◌∷◌, ◌++◌, refl, sym, ap}
+use Rattle.std.proofs.Common.{List, [], ◌∷◌, ◌++◌, refl, sym, ap}
 use Rattle.check_model.specs.declared.made.Made.{Made}
 use Rattle.check_model.specs.Plans.{BodyPlan}
 use Rattle.check_expr.specs.Frames as waiting

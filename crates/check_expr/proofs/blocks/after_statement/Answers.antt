@@ -1,6 +1,6 @@
 use Rattle.tl_base.specs.declared.machine.Step.TheVariants.{Return}
 use Rattle.tl_base.specs.Plan.{Give}
-use Rattle.std.proofs.Common.{◌≡◌, List, [], ◌∷◌, ◌++◌, refl, sym, ap}
+use Rattle.std.proofs.Common.{List, [], ◌∷◌, ◌++◌, refl, sym, ap}
 use Rattle.tl_base.specs.declared.ids.TermId.{TermId}
 use Rattle.check_model.specs.Plans as plans
 use Rattle.check_model.specs.Plans.{BodyPlan}
@@ -31,6 +31,8 @@ returns-in_ok-step-in-Stated-clause-means c = λ left.
     let m = c.in-Stated in
     let w = a.typing.now in
     let plan : List TermId → BodyPlan = λ ids. waiting.block_from f m.found ids in
-    rw m.is (moved a.frames.now.items c.statements_left.new.frames.items (plan (f.ids ++ m.id ∷ [])) (plan c.push.new.self) w w
-    c.statements_left.new.typing left left c.in_ok-step-in-Stated.step (ap plan (sym c.in_ok-push-in-Stated.ensures)) refl
+    rw m.is (moved a.frames.now.items c.statements_left.new.frames.items (plan (f.ids ++ m.id ∷ []))
+    (plan c.push.new.self) w w
+    c.statements_left.new.typing left left c.in_ok-step-in-Stated.step (ap plan (sym c.in_ok-push-in-Stated.ensures))
+    refl
     (c.in_ok-step-in-Stated.ensures.means left))

@@ -1,4 +1,4 @@
-use Rattle.std.proofs.Common.{◌≡◌, List, [], refl, sym, ap}
+use Rattle.std.proofs.Common.{List, [], refl, sym, ap}
 use Rattle.tl_base.specs.declared.ids.TermId.{TermId}
 use Rattle.check_model.specs.Expressions as expressions
 use Rattle.check_model.specs.Plans.{BodyPlan}
@@ -12,5 +12,6 @@ returns-clause-means c = λ left.
     let w = a.typing.now in
     let plan : List TermId → BodyPlan =
     λ before. expressions.statements a.statements a.site before (λ ids last. waiting.block_then a.then ids last) in
-    moved a.frames.now.items c.statements_left.new.frames.items (plan []) (plan c.new-ids.result) w w c.statements_left.new.typing left left
+    moved a.frames.now.items c.statements_left.new.frames.items (plan []) (plan c.new-ids.result) w w
+    c.statements_left.new.typing left left
     c.in_ok-step.step (ap plan (sym c.new-ids.ensures)) refl (c.in_ok-step.ensures.means left)

@@ -1,4 +1,4 @@
-use Rattle.std.proofs.Common.{◌≡◌, ℕ, List, [], ◌∷◌, length, Some, refl, sym, ap, ◌∙◌}
+use Rattle.std.proofs.Common.{ℕ, List, [], ◌∷◌, length, Some, refl, sym, ap, ◌∙◌}
 use Rattle.tl_base.specs.declared.ids.TermId.{TermId}
 use Rattle.tl_base.specs.declared.machine.Step.TheVariants.{Enter}
 use Rattle.terra_term.specs.declared.typed.TypedStatement.TheVariants as ts
@@ -24,12 +24,15 @@ returns-in_ok-push-in-Some-clause-means c = λ left.
     let n = c.count-count.result in
     let none = c.new-others.result in
     let job = jobs.Statement t a.site in
+    let behind = of_block.Else n a.test a.ids a.at in
     let plan : ℕ → List TermId → List TermId → BodyPlan = λ count before ss.
-    expressions.statements ss a.site before (λ all last. waiting.block_then (of_block.Else count a.test a.ids a.at) all last) in
+    expressions.statements ss a.site before (λ all last. waiting.block_then (of_block.Else count a.test a.ids a.at) all
+    last) in
     moved fs fs2 (plan (length w.variables) [] a.statements) (plan n none (t ∷ rest)) w w w left left (Enter job)
     (ap (λ (count : ℕ). plan count [] a.statements) (sym c.count-count.ensures)
-    ∙ ap (λ (before : List TermId). plan n before a.statements) (sym c.new-others.ensures) ∙ ap (plan n none) c.in-Some.ensures) refl
-    (enters fs fs2 (frames.Block (record { rest = rest; ids = none; then = of_block.Else n a.test a.ids a.at; site = a.site })) job w left
+    ∙ ap (λ (before : List TermId). plan n before a.statements) (sym c.new-others.ensures) ∙ ap (plan n none)
+    c.in-Some.ensures) refl
+    (enters fs fs2 (frames.Block (record { rest = rest; ids = none; then = behind; site = a.site })) job w left
     c.in_ok-push-in-Some.ensures.items)
 
 pub returns-in_ok-step-in-None-clause-means : goal.returns-in_ok-step-in-None-clause-means
@@ -44,13 +47,17 @@ returns-in_ok-step-in-None-clause-means c = λ left.
     let w2 = c.states.new.typing in
     let step = c.in_ok-step-in-None.step in
     let plan : ℕ → List TermId → List TermId → BodyPlan = λ count before ss.
-    expressions.statements ss a.site before (λ all last. waiting.block_then (of_block.Else count a.test a.ids a.at) all last) in
-    let form : List TermId → List TermId → BodyPlan = λ before all. states a.at (ts.If a.test.id before (Some all)) a.site.result in
+    expressions.statements ss a.site before (λ all last. waiting.block_then (of_block.Else count a.test a.ids a.at) all
+    last) in
+    let form : List TermId → List TermId → BodyPlan = λ before all. states a.at (ts.If a.test.id before (Some all))
+    a.site.result in
     moved fs fs (plan (length w.variables) [] a.statements) (plan n none []) w w w2 left left step
     (ap (λ (count : ℕ). plan count [] a.statements) (sym c.count-count.ensures)
-    ∙ ap (λ (before : List TermId). plan n before a.statements) (sym c.new-others.ensures) ∙ ap (plan n none) c.in-None.ensures) refl
+    ∙ ap (λ (before : List TermId). plan n before a.statements) (sym c.new-others.ensures) ∙ ap (plan n none)
+    c.in-None.ensures) refl
     (moved fs fs (form a.ids none) (form first.first list.list) (cut_to w n) c.leave.new.self w2 left left step
-    (ap (λ (before : List TermId). form before none) (sym first.ensures) ∙ ap (form first.first) (sym list.ensures)) (sym c.leave.ensures)
+    (ap (λ (before : List TermId). form before none) (sym first.ensures) ∙ ap (form first.first) (sym list.ensures))
+    (sym c.leave.ensures)
     (c.in_ok-step-in-None.ensures.means left fs))
 
 pub returns-in_ok-step-in-None-clause-kept : goal.returns-in_ok-step-in-None-clause-kept

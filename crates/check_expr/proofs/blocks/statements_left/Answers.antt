@@ -1,4 +1,4 @@
-use Rattle.std.proofs.Common.{◌≡◌, List, [], ◌∷◌, ◌++◌, refl, sym, ap, ◌∙◌}
+use Rattle.std.proofs.Common.{List, ◌∷◌, refl, ap}
 use Rattle.tl_base.specs.declared.ids.TermId.{TermId}
 use Rattle.tl_base.specs.declared.machine.Step.TheVariants.{Enter}
 use Rattle.check_model.specs.declared.job.BodyJob.TheVariants as jobs
@@ -18,8 +18,10 @@ returns-in_ok-push-in-Some-clause-means c = λ left.
     let fs2 = c.push.new.self.items in
     let w = a.typing.now in
     let job = jobs.Statement t f.site in
-    let plan : List TermId → BodyPlan = λ ts. expressions.statements ts f.site f.ids (λ all last. waiting.block_then f.then all last) in
-    moved fs fs2 (plan f.rest) (plan (t ∷ c.take.new.self)) w w w left left (Enter job) (ap plan c.in-Some.ensures) refl
+    let plan : List TermId → BodyPlan = λ ts. expressions.statements ts f.site f.ids
+    (λ all last. waiting.block_then f.then all last) in
+    moved fs fs2 (plan f.rest) (plan (t ∷ c.take.new.self)) w w w left left (Enter job) (ap plan c.in-Some.ensures)
+    refl
     (enters fs fs2 (frames.Block (record f { rest = c.take.new.self })) job w left c.in_ok-push-in-Some.ensures.items)
 
 pub returns-in_ok-step-in-None-clause-means : goal.returns-in_ok-step-in-None-clause-means
@@ -28,7 +30,8 @@ returns-in_ok-step-in-None-clause-means c = λ left.
     let f = a.frame in
     let fs = a.frames.now.items in
     let w = a.typing.now in
-    let plan : List TermId → BodyPlan = λ ts. expressions.statements ts f.site f.ids (λ all last. waiting.block_then f.then all last) in
+    let plan : List TermId → BodyPlan = λ ts. expressions.statements ts f.site f.ids
+    (λ all last. waiting.block_then f.then all last) in
     moved fs c.with_statements.new.frames.items (plan f.rest) (waiting.block_then f.then f.ids f.site.result) w w
     c.with_statements.new.typing left left c.in_ok-step-in-None.step
     (ap plan c.in-None.ensures) refl (c.in_ok-step-in-None.ensures.means left)

@@ -1,9 +1,8 @@
-use Rattle.std.proofs.Common.{◌≡◌, List, Option, Some, None, refl, sym, ap, ◌∙◌}
+use Rattle.std.proofs.Common.{List, None, sym, ap}
 use Rattle.tl_base.specs.declared.ids.TermId.{TermId}
 use Rattle.terra_term.specs.declared.typed.TypedStatement.TheVariants as ts
 use Rattle.check_model.specs.Plans.{BodyPlan, states}
-use Rattle.check_model.specs.Statements as models
-use Rattle.check_expr.proofs.Doing.{moved, does_as}
+use Rattle.check_expr.proofs.Doing.{does_as}
 use Rattle.check_expr.proofs.blocks.with_else.Goals as goal
 
 pub returns-in_ok-step-in-None-clause-means : goal.returns-in_ok-step-in-None-clause-means
@@ -11,7 +10,8 @@ returns-in_ok-step-in-None-clause-means c = λ left.
     let a = c.args in
     let first = c.in_ok-first-in-None in
     let plan : List TermId → BodyPlan = λ ids. states a.at (ts.If a.test.id ids None) a.found in
-    rw c.in-None.is (does_as a.frames.now.items (plan a.ids) (plan first.first) a.typing.now c.states.new.typing left left
+    rw c.in-None.is (does_as a.frames.now.items (plan a.ids) (plan first.first) a.typing.now c.states.new.typing left
+    left
     c.in_ok-step-in-None.step (ap plan (sym first.ensures)) (c.in_ok-step-in-None.ensures.means left))
 
 pub returns-in_ok-step-in-Some-clause-means : goal.returns-in_ok-step-in-Some-clause-means

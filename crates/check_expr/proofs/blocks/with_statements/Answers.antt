@@ -1,13 +1,10 @@
-use Rattle.std.proofs.Common.{◌≡◌, ℕ, ◌≤◌, ◌+◌, List, Some, refl, sym, ap, ◌∙◌, arith}
-use Rattle.std.specs.Prelude.{unwrap_or}
+use Rattle.std.proofs.Common.{◌≤◌, ◌+◌, List, Some, refl, sym, ap, ◌∙◌, arith}
 use Rattle.tl_base.specs.declared.ids.TermId.{TermId}
-use Rattle.tl_base.specs.declared.machine.Step.TheVariants.{Enter}
-use Rattle.terra_types.specs.Opening.{unit}
 use Rattle.terra_term.specs.declared.typed.TypedStatement.TheVariants as ts
 use Rattle.check_model.specs.declared.job.BodyJob.TheVariants as jobs
 use Rattle.check_model.specs.Plans.{BodyPlan, states}
 use Rattle.check_model.specs.Statements as models
-use Rattle.check_model.specs.Typing.{TypingState, cut_to}
+use Rattle.check_model.specs.Typing.{cut_to}
 use Rattle.check_expr.specs.declared.frame.BodyFrame.TheVariants as frames
 use Rattle.check_expr.specs.declared.frame.DoingFrame.TheVariants as of_doing
 use Rattle.check_expr.specs.declared.frame.MadeFrame.TheVariants as of_made
@@ -24,15 +21,18 @@ returns-in_ok-step-in-Do-clause-means c = λ left.
     let plan : List TermId → BodyPlan = λ ids. states m.at (ts.Do ids) a.found in
     rw m.is (moved fs fs (plan a.ids) (plan c.in_ok-list-in-Do.list) (cut_to a.typing.now m.count) c.leave.new.self
     c.states.new.typing left left
-    c.in_ok-step-in-Do.step (ap plan (sym c.in_ok-list-in-Do.ensures)) (sym c.leave.ensures) (c.in_ok-step-in-Do.ensures.means left fs))
+    c.in_ok-step-in-Do.step (ap plan (sym c.in_ok-list-in-Do.ensures)) (sym c.leave.ensures)
+    (c.in_ok-step-in-Do.ensures.means left fs))
 
 pub returns-in_ok-step-in-Then-clause-means : goal.returns-in_ok-step-in-Then-clause-means
 returns-in_ok-step-in-Then-clause-means c = λ left.
     let a = c.args in
     let m = c.in-Then in
     let plan = models.else_plan m.more m.test a.ids a.found m.at m.site in
-    rw m.is (moved a.frames.now.items c.with_else.new.frames.items plan plan (cut_to a.typing.now m.count) c.leave-in-Then.new.self
-    c.with_else.new.typing left left c.in_ok-step-in-Then.step refl (sym c.leave-in-Then.ensures) (c.in_ok-step-in-Then.ensures.means left))
+    rw m.is (moved a.frames.now.items c.with_else.new.frames.items plan plan (cut_to a.typing.now m.count)
+    c.leave-in-Then.new.self
+    c.with_else.new.typing left left c.in_ok-step-in-Then.step refl (sym c.leave-in-Then.ensures)
+    (c.in_ok-step-in-Then.ensures.means left))
 
 pub returns-in_ok-step-in-Else-clause-means : goal.returns-in_ok-step-in-Else-clause-means
 returns-in_ok-step-in-Else-clause-means c = λ left.
@@ -41,10 +41,13 @@ returns-in_ok-step-in-Else-clause-means c = λ left.
     let fs = a.frames.now.items in
     let first = c.in_ok-first-in-Else in
     let others = c.in_ok-others-in-Else in
-    let plan : List TermId → List TermId → BodyPlan = λ before ids. states m.at (ts.If m.test.id before (Some ids)) a.found in
-    rw m.is (moved fs fs (plan m.before a.ids) (plan first.first others.others) (cut_to a.typing.now m.count) c.leave-in-Else.new.self
+    let plan : List TermId → List TermId → BodyPlan = λ before ids. states m.at (ts.If m.test.id before (Some ids))
+    a.found in
+    rw m.is (moved fs fs (plan m.before a.ids) (plan first.first others.others) (cut_to a.typing.now m.count)
+    c.leave-in-Else.new.self
     c.states-in-Else.new.typing left left c.in_ok-step-in-Else.step
-    (ap (λ (before : List TermId). plan before a.ids) (sym first.ensures) ∙ ap (plan first.first) (sym others.ensures))
+    (ap (λ (before : List TermId). plan before a.ids) (sym first.ensures) ∙ ap (plan first.first)
+    (sym others.ensures))
     (sym c.leave-in-Else.ensures) (c.in_ok-step-in-Else.ensures.means left fs))
 
 pub returns-in_ok-step-in-While-clause-means : goal.returns-in_ok-step-in-While-clause-means
@@ -53,7 +56,8 @@ returns-in_ok-step-in-While-clause-means c = λ left.
     let m = c.in-While in
     let fs = a.frames.now.items in
     let plan : List TermId → BodyPlan = λ ids. states m.at (ts.While m.test.id ids) a.found in
-    rw m.is (moved fs fs (plan a.ids) (plan c.in_ok-list-in-While.list) (cut_to a.typing.now m.count) c.leave-in-While.new.self
+    rw m.is (moved fs fs (plan a.ids) (plan c.in_ok-list-in-While.list) (cut_to a.typing.now m.count)
+    c.leave-in-While.new.self
     c.states-in-While.new.typing left left c.in_ok-step-in-While.step (ap plan (sym c.in_ok-list-in-While.ensures))
     (sym c.leave-in-While.ensures) (c.in_ok-step-in-While.ensures.means left fs))
 
@@ -61,7 +65,8 @@ pub returns-in_ok-push-in-Repeat-clause-means : goal.returns-in_ok-push-in-Repea
 returns-in_ok-push-in-Repeat-clause-means c = λ left.
     let a = c.args in
     let m = c.in-Repeat in
-    rw m.is (enters a.frames.now.items c.push.new.self.items (frames.Doing (of_doing.Repeat m.count a.ids a.found m.at m.site))
+    rw m.is (enters a.frames.now.items c.push.new.self.items (frames.Doing
+    (of_doing.Repeat m.count a.ids a.found m.at m.site))
     (jobs.Expression m.test m.site) a.typing.now left c.in_ok-push-in-Repeat.ensures.items)
 
 -- the variable of the loop goes with the block's own
@@ -73,13 +78,16 @@ returns-in_ok-step-in-For-clause-means c = λ left.
     let w = a.typing.now in
     let limits = c.in_ok-limits-in-For in
     let list = c.in_ok-list-in-For in
-    let plan : List TermId → List TermId → BodyPlan = λ bounds ids. states m.at (ts.For m.name bounds ids) a.found in
+    let plan : List TermId → List TermId → BodyPlan = λ bounds ids. states m.at (ts.For m.name bounds ids) a.found
+    in
     let within : m.count ≤ m.count + 1 = omega arith in
     rw m.is (moved fs fs (plan m.bounds a.ids) (plan limits.limits list.list) (cut_to (cut_to w (m.count + 1)) m.count)
     c.leave-in-For.new.self
     c.states-in-For.new.typing left left c.in_ok-step-in-For.step
-    (ap (λ (bounds : List TermId). plan bounds a.ids) (sym limits.ensures) ∙ ap (plan limits.limits) (sym list.ensures))
-    (cut_twice w m.count (m.count + 1) within ∙ sym c.leave-in-For.ensures) (c.in_ok-step-in-For.ensures.means left fs))
+    (ap (λ (bounds : List TermId). plan bounds a.ids) (sym limits.ensures) ∙ ap (plan limits.limits)
+    (sym list.ensures))
+    (cut_twice w m.count (m.count + 1) within ∙ sym c.leave-in-For.ensures)
+    (c.in_ok-step-in-For.ensures.means left fs))
 
 pub returns-in_ok-push-in-Let-clause-means : goal.returns-in_ok-push-in-Let-clause-means
 returns-in_ok-push-in-Let-clause-means c = λ left.
@@ -94,7 +102,8 @@ returns-in_ok-step-in-Function-clause-means c = λ left.
 
 pub returns-in_ok-step-in-Do-clause-kept : goal.returns-in_ok-step-in-Do-clause-kept
 returns-in_ok-step-in-Do-clause-kept c =
-    kept_from (cut_to c.args.typing.now c.in-Do.count) c.leave.new.self c.states.new.typing c.leave.ensures c.in_ok-step-in-Do.ensures.kept
+    kept_from (cut_to c.args.typing.now c.in-Do.count) c.leave.new.self c.states.new.typing c.leave.ensures
+    c.in_ok-step-in-Do.ensures.kept
 
 pub returns-in_ok-step-in-Then-clause-kept : goal.returns-in_ok-step-in-Then-clause-kept
 returns-in_ok-step-in-Then-clause-kept c =

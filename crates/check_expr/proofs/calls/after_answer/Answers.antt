@@ -1,6 +1,5 @@
 use Rattle.std.proofs.Common.{refl}
 use Rattle.tl_base.specs.declared.ids.TypeId.{TypeId}
-use Rattle.tl_base.specs.declared.machine.Step.TheVariants.{Return}
 use Rattle.terra_term.specs.declared.refusal.RefusalKind.TheVariants.{Undefined}
 use Rattle.check_model.specs.Calls as models
 use Rattle.check_model.specs.Plans as plans
@@ -20,8 +19,10 @@ returns-in_default c =
     let go : TypeId → BodyPlan = λ t. operands_from f f.fitting f.ids t in
     record {
       means = λ left.
-          moved fs fs (models.on_result a.answer f.node.at f.node.site go) (plans.refuse Undefined f.node.at f.node.site) w w w left left
-          c.refuse.result (no_result a.answer f.node.at f.node.site go c.in_default.not-Result c.in_default.not-Refused) refl
+          moved fs fs (models.on_result a.answer f.node.at f.node.site go)
+          (plans.refuse Undefined f.node.at f.node.site) w w w left left
+          c.refuse.result (no_result a.answer f.node.at f.node.site go c.in_default.not-Result c.in_default.not-Refused)
+          refl
           (c.refuse.ensures.means w left fs);
       kept = keeps_itself w;
     }

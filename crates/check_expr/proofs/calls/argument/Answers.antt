@@ -1,4 +1,4 @@
-use Rattle.std.proofs.Common.{◌≡◌, Bool, false, [], ◌∷◌, ◌++◌, refl, ap}
+use Rattle.std.proofs.Common.{Bool, false, [], ◌∷◌, ◌++◌, refl, ap}
 use Rattle.check_model.specs.declared.made.Made.{Made}
 use Rattle.check_model.specs.declared.rule.Mode.TheVariants.{Implicit}
 use Rattle.check_model.specs.Calls as models
@@ -20,9 +20,11 @@ returns-in_ok-step-clause-means c = λ left.
     let w = a.typing.now in
     let w2 = c.fit.new.typing in
     let go : Made → BodyPlan = λ r. operands_from f false (f.ids ++ r.id ∷ []) a.of in
-    moved fs fs2 (models.argument f.fitting a.made a.parameter n.at n.site go) (fit a.made a.parameter n.at n.site go) w w w2 left left
+    moved fs fs2 (models.argument f.fitting a.made a.parameter n.at n.site go) (fit a.made a.parameter n.at n.site go) w
+    w w2 left left
     c.in_ok-step.step (ap (λ (b : Bool). models.argument b a.made a.parameter n.at n.site go) c.if-fitting.true) refl
-    (behind_fit fs c.push.new.self.items fs2 (of_made.Fitted f a.of) a.made a.parameter n.at n.site w w2 left left c.in_ok-step.step
+    (behind_fit fs c.push.new.self.items fs2 (of_made.Fitted f a.of) a.made a.parameter n.at n.site w w2 left left
+    c.in_ok-step.step
     c.in_ok-push.ensures.items (c.in_ok-step.ensures.means left))
 
 pub returns-in_ok-step-2-clause-means : goal.returns-in_ok-step-2-clause-means

@@ -1,10 +1,10 @@
-use Rattle.std.proofs.Common.{◌≡◌, refl, sym, ap, ◌∙◌}
+use Rattle.std.proofs.Common.{refl, sym, ap, ◌∙◌}
 use Rattle.tl_base.specs.declared.ids.TypeId.{TypeId}
 use Rattle.check_model.specs.declared.question.BodyQuestion.TheVariants.{ResultOf}
 use Rattle.tl_base.specs.declared.machine.Step.TheVariants.{Stop}
 use Rattle.terra_term.specs.declared.refusal.RefusalKind.TheVariants.{RecursiveNeedsType}
 use Rattle.check_model.specs.declared.known.KnownResult.{KnownResult}
-use Rattle.check_model.specs.declared.known.KnownResult.TheVariants.{Is, BeingTyped, NotYet}
+use Rattle.check_model.specs.declared.known.KnownResult.TheVariants.{Is, NotYet}
 use Rattle.check_model.specs.Calls as models
 use Rattle.check_model.specs.Plans.{BodyPlan, refuse}
 use Rattle.check_model.specs.Typing.{TypingState}
@@ -20,9 +20,11 @@ returns-in_ok-step-in-Is-clause-means c = λ left.
     let w = a.typing.now in
     let go : TypeId → BodyPlan = λ of. operands_from f f.fitting f.ids of in
     let plan : KnownResult → BodyPlan = λ k. models.by_result k a.f f.node.at f.node.site go in
-    moved a.frames.now.items c.operands_left.new.frames.items (plan (models.result_of w.stage a.f)) (plan (Is c.in-Is.of)) w w
+    moved a.frames.now.items c.operands_left.new.frames.items (plan (models.result_of w.stage a.f))
+    (plan (Is c.in-Is.of)) w w
     c.operands_left.new.typing left left c.in_ok-step-in-Is.step
-    (ap plan (ap (λ (v : TypingState). models.result_of v.stage a.f) (sym c.typing.view_is) ∙ sym c.result_type.ensures ∙ c.in-Is.is)) refl
+    (ap plan (ap (λ (v : TypingState). models.result_of v.stage a.f) (sym c.typing.view_is) ∙ sym c.result_type.ensures
+    ∙ c.in-Is.is)) refl
     (c.in_ok-step-in-Is.ensures.means left)
 
 pub returns-in-BeingTyped-clause-means : goal.returns-in-BeingTyped-clause-means
@@ -33,7 +35,8 @@ returns-in-BeingTyped-clause-means c = λ left.
     let w = a.typing.now in
     let go : TypeId → BodyPlan = λ of. operands_from f f.fitting f.ids of in
     let plan : KnownResult → BodyPlan = λ k. models.by_result k a.f f.node.at f.node.site go in
-    moved fs fs (plan (models.result_of w.stage a.f)) (refuse RecursiveNeedsType f.node.at f.node.site) w w w left left c.refuse.result
+    moved fs fs (plan (models.result_of w.stage a.f)) (refuse RecursiveNeedsType f.node.at f.node.site) w w w left left
+    c.refuse.result
     (ap plan (ap (λ (v : TypingState). models.result_of v.stage a.f) (sym c.typing.view_is) ∙ sym c.result_type.ensures
     ∙ c.in-BeingTyped.is))
     refl (c.refuse.ensures.means w left fs)

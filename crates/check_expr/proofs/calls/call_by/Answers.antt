@@ -1,4 +1,4 @@
-use Rattle.std.proofs.Common.{◌≡◌, Bool, true, false, List, [], length, nat_eq, refl, sym, ap, ◌∙◌}
+use Rattle.std.proofs.Common.{true, false, List, [], length, nat_eq, refl, sym, ap, ◌∙◌}
 use Rattle.std.proofs.lemmas.Bool.{eq-eqb, ne_eqb}
 use Rattle.tl_base.specs.declared.ids.TermId.{TermId}
 use Rattle.terra_term.specs.declared.operators.Operation.TheVariants as operations
@@ -17,11 +17,12 @@ returns-then-given-wanted-clause-means c = λ left.
     let w = a.typing.now in
     let body : BodyPlan = models.arguments a.fitting a.operands a.types n.at n.site []
     (λ ids. gives n.source n.at a.of (te.Operate (operations.Primitive a.primitive) ids)) in
-    chosen fs fs (nat_eq (length a.operands) (length a.types)) false body (refuse WrongCount n.at n.site) w w left left c.refuse.result
+    chosen fs fs (nat_eq (length a.operands) (length a.types)) false body (refuse WrongCount n.at n.site) w w left left
+    c.refuse.result
     (ne_eqb _ _ (λ same. c.if-given-wanted.true (c.len-given.ensures ∙ same ∙ sym c.len-wanted.ensures)))
     (c.refuse.ensures.means w left fs)
 
-pub returns-clause-means : goal.returns-in_ok-step-clause-means
+pub returns-clause-means : goal.returns-clause-means
 returns-clause-means c = λ left.
     let a = c.args in
     let n = a.node in
@@ -32,6 +33,8 @@ returns-clause-means c = λ left.
     let step = c.in_ok-step.step in
     let body : List TermId → BodyPlan = λ before. models.arguments a.fitting a.operands a.types n.at n.site before
     (λ ids. gives n.source n.at a.of (te.Operate (operations.Primitive a.primitive) ids)) in
-    chosen fs fs2 (nat_eq (length a.operands) (length a.types)) true (body []) (refuse WrongCount n.at n.site) w w2 left left step
+    chosen fs fs2 (nat_eq (length a.operands) (length a.types)) true (body []) (refuse WrongCount n.at n.site) w w2 left
+    left step
     (eq-eqb _ _ (sym c.len-given.ensures ∙ c.if-given-wanted.false ∙ c.len-wanted.ensures))
-    (moved fs fs2 (body []) (body c.new.result) w w w2 left left step (ap body (sym c.new.ensures)) refl (c.in_ok-step.ensures.means left))
+    (moved fs fs2 (body []) (body c.new.result) w w w2 left left step (ap body (sym c.new.ensures)) refl
+    (c.in_ok-step.ensures.means left))

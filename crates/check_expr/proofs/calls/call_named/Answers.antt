@@ -1,10 +1,12 @@
 use Rattle.check_expr.proofs.calls.call_named.Goals as goal
 
 pub returns-in_ok-step-in-Function-clause-means : goal.returns-in_ok-step-in-Function-clause-means
-returns-in_ok-step-in-Function-clause-means c = rw c.in-Function.is (c.in_ok-step-in-Function.ensures.means c.args.budget.now)
+returns-in_ok-step-in-Function-clause-means c = rw c.in-Function.is
+    (c.in_ok-step-in-Function.ensures.means c.args.budget.now)
 
 pub returns-in_ok-step-in-Primitive-clause-means : goal.returns-in_ok-step-in-Primitive-clause-means
-returns-in_ok-step-in-Primitive-clause-means c = rw c.in-Primitive.is (c.in_ok-step-in-Primitive.ensures.means c.args.budget.now)
+returns-in_ok-step-in-Primitive-clause-means c = rw c.in-Primitive.is
+    (c.in_ok-step-in-Primitive.ensures.means c.args.budget.now)
 
 pub returns-in_ok-step-in-Macro-clause-means : goal.returns-in_ok-step-in-Macro-clause-means
 returns-in_ok-step-in-Macro-clause-means c =

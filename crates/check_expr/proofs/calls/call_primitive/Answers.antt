@@ -1,4 +1,4 @@
-use Rattle.std.proofs.Common.{◌≡◌, List, [], ◌∷◌, refl, sym, ap, ◌∙◌}
+use Rattle.std.proofs.Common.{List, [], ◌∷◌, refl, sym, ap, ◌∙◌}
 use Rattle.tl_base.specs.declared.ids.TypeId.{TypeId}
 use Rattle.terra_types.specs.Opening.{uint8, int64, unit}
 use Rattle.lua_value.specs.declared.primitive.Primitive.{Primitive}
@@ -21,7 +21,8 @@ returns-in_ok-step-in-PutByte-clause-means c = λ left.
     let w2 = c.call_by.new.typing in
     let types = c.in_ok-types-in-PutByte.types in
     let plan : Primitive → BodyPlan = λ p. models.call_primitive p a.operands n.at a.fitting n.source n.site in
-    let by : Primitive → List TypeId → BodyPlan = λ p ts. models.call_by p ts unit a.operands n.at a.fitting n.source n.site in
+    let by : Primitive → List TypeId → BodyPlan = λ p ts. models.call_by p ts unit a.operands n.at a.fitting n.source
+    n.site in
     moved fs fs2 (plan a.primitive) (by a.primitive types) w w w2 left left c.in_ok-step-in-PutByte.step
     (ap plan c.in-PutByte.is ∙ ap (by PutByte) (sym c.in_ok-types-in-PutByte.ensures)
     ∙ ap (λ (p : Primitive). by p types) (sym c.in-PutByte.is)) refl
@@ -39,7 +40,8 @@ returns-in_ok-step-in-Write-clause-means c = λ left.
     let types = c.in_ok-types-in-Write.types in
     let step = c.in_ok-step-in-Write.step in
     let plan : Primitive → BodyPlan = λ p. models.call_primitive p a.operands n.at a.fitting n.source n.site in
-    let by : Primitive → List TypeId → BodyPlan = λ p ts. models.call_by p ts unit a.operands n.at a.fitting n.source n.site in
+    let by : Primitive → List TypeId → BodyPlan = λ p ts. models.call_by p ts unit a.operands n.at a.fitting n.source
+    n.site in
     moved fs fs2 (plan a.primitive) (plan Write) w w w2 left left step (ap plan c.in-Write.is) refl
     (moved fs fs2 (by Write (pointer_id w.stage uint8 ∷ int64 ∷ [])) (by a.primitive types)
     (with_stage w (with_pointer w.stage uint8)) v w2 left left step
@@ -50,7 +52,8 @@ returns-in_ok-step-in-Write-clause-means c = λ left.
 
 pub returns-in_ok-step-in-Write-clause-kept : goal.returns-in_ok-step-in-Write-clause-kept
 returns-in_ok-step-in-Write-clause-kept c =
-    keeps_then c.args.typing.now c.pointer_to.new.typing c.call_by-in-Write.new.typing c.in_ok-bytes-in-Write.ensures.kept
+    keeps_then c.args.typing.now c.pointer_to.new.typing c.call_by-in-Write.new.typing
+    c.in_ok-bytes-in-Write.ensures.kept
     c.in_ok-step-in-Write.ensures.kept
 
 pub returns-in_ok-step-in-Alloc-clause-means : goal.returns-in_ok-step-in-Alloc-clause-means
@@ -79,5 +82,6 @@ returns-in_ok-step-in-Alloc-clause-means c = λ left.
 
 pub returns-in_ok-step-in-Alloc-clause-kept : goal.returns-in_ok-step-in-Alloc-clause-kept
 returns-in_ok-step-in-Alloc-clause-kept c =
-    keeps_then c.args.typing.now c.pointer_to-in-Alloc.new.typing c.call_by-in-Alloc.new.typing c.in_ok-bytes-in-Alloc.ensures.kept
+    keeps_then c.args.typing.now c.pointer_to-in-Alloc.new.typing c.call_by-in-Alloc.new.typing
+    c.in_ok-bytes-in-Alloc.ensures.kept
     c.in_ok-step-in-Alloc.ensures.kept

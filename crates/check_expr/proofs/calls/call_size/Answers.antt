@@ -1,4 +1,4 @@
-use Rattle.std.proofs.Common.{◌≡◌, refl, sym, ap, ◌∙◌}
+use Rattle.std.proofs.Common.{refl, sym, ap, ◌∙◌}
 use Rattle.terra_term.specs.declared.refusal.RefusalKind.TheVariants.{WrongCount, BadOperand}
 use Rattle.check_model.specs.declared.job.Operand.{Operand}
 use Rattle.check_model.specs.declared.job.Operand.TheVariants.{Untyped}
@@ -26,10 +26,12 @@ returns-in-Typed-clause-means c =
     let left = a.budget.now in
     let o = c.in-Some.operand in
     let m = c.in-Typed.made in
-    does_as a.frames.now.items (models.call_size a.operands n.at n.source n.site) (refuse BadOperand m.at n.site) w w left left
+    does_as a.frames.now.items (models.call_size a.operands n.at n.source n.site) (refuse BadOperand m.at n.site) w w
+    left left
     c.refuse-in-Typed.result
     (size_one a.operands o n.at n.source n.site (sym c.only.ensures ∙ c.in-Some.is)
-    ∙ ap (λ (x : Operand). models.size_of_operand x n.at n.source n.site) c.in-Typed.is) (c.refuse-in-Typed.ensures.means w left)
+    ∙ ap (λ (x : Operand). models.size_of_operand x n.at n.source n.site) c.in-Typed.is)
+    (c.refuse-in-Typed.ensures.means w left)
 
 pub returns-in_ok-step-in-Untyped-clause-means : goal.returns-in_ok-step-in-Untyped-clause-means
 returns-in_ok-step-in-Untyped-clause-means c =

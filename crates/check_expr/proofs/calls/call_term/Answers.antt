@@ -1,4 +1,4 @@
-use Rattle.std.proofs.Common.{◌≡◌, Bool, true, false, List, refl, sym, ap, ◌∙◌}
+use Rattle.std.proofs.Common.{Bool, false, List, refl, sym, ap, ◌∙◌}
 use Rattle.std.specs.Prelude.{if◌then◌else◌}
 use Rattle.tl_base.specs.declared.machine.Step.TheVariants.{Enter}
 use Rattle.tl_base.specs.Plan.{Give, Do}
@@ -24,10 +24,12 @@ returns-in-Value-clause-means c =
     let os = c.from_vec-operands.result in
     let job = jobs.Callee a.term os n.at n.source n.site in
     let plan : Bool → List Operand → BodyPlan = λ b all.
-    if b then models.call_named w.stage x all n.at a.fitting n.source n.site else Do (jobs.Callee a.term all n.at n.source n.site) Give in
+    if b then models.call_named w.stage x all n.at a.fitting n.source n.site else Do
+    (jobs.Callee a.term all n.at n.source n.site) Give in
     moved fs fs (plan (models.is_called x) a.operands.items) (plan false os) w w w left left (Enter job)
     (ap (λ (b : Bool). plan b a.operands.items)
-    (value_uncalled x (ap (λ (v : TypingState). callee_in (expression_at v.stage a.term)) (sym c.typing.view_is) ∙ sym c.callee_of.ensures
+    (value_uncalled x (ap (λ (v : TypingState). callee_in (expression_at v.stage a.term)) (sym c.typing.view_is) ∙ sym
+    c.callee_of.ensures
     ∙ c.in-Value.is))
     ∙ ap (plan false) (sym c.from_vec-operands.ensures)) refl
     (tails fs job w left)
@@ -47,9 +49,11 @@ returns-in_ok-step-in_default-clause-means c =
     let os = a.operands.items in
     let last = c.from_vec-operands-in_default.result in
     let plan : Bool → BodyPlan = λ b.
-    if b then models.call_named w.stage x os n.at a.fitting n.source n.site else Do (jobs.Callee a.term os n.at n.source n.site) Give in
+    if b then models.call_named w.stage x os n.at a.fitting n.source n.site else Do
+    (jobs.Callee a.term os n.at n.source n.site) Give in
     let named : Callee → List Operand → BodyPlan = λ k all. named_plan k w.stage all n.at a.fitting n.source n.site in
-    let same = ap (λ (v : TypingState). callee_in (expression_at v.stage a.term)) (sym c.typing.view_is) ∙ sym c.callee_of.ensures in
+    let same = ap (λ (v : TypingState). callee_in (expression_at v.stage a.term)) (sym c.typing.view_is) ∙ sym
+    c.callee_of.ensures in
     moved fs fs2 (plan (models.is_called x)) (named c.callee_of.result last) w w w2 left left2 step
     (ap plan (others_called x (λ value. c.in_default.not-Value (sym same ∙ value)))
     ∙ named_means x w.stage os n.at a.fitting n.source n.site ∙ ap (λ (k : Callee). named k os) same

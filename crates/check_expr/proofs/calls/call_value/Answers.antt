@@ -1,4 +1,4 @@
-use Rattle.std.proofs.Common.{◌≡◌, refl, sym, ap, ◌∙◌}
+use Rattle.std.proofs.Common.{refl, sym, ap, ◌∙◌}
 use Rattle.std.specs.Prelude.{codes}
 use Rattle.lua_value.specs.declared.value.Value.{Value}
 use Rattle.terra_term.specs.declared.refusal.RefusalKind.TheVariants.{NotCallable}
@@ -16,7 +16,8 @@ returns c =
     let plan : Value → BodyPlan = λ h. without_lua h NotCallable a.at a.site in
     record {
       means = λ operands source left fs.
-          moved fs fs (plan (metamethod w.stage a.made.of (codes "__apply"))) (plan c.metamethod-handler.result) w w w left left c.without_lua.result
+          moved fs fs (plan (metamethod w.stage a.made.of (codes "__apply"))) (plan c.metamethod-handler.result) w w w
+          left left c.without_lua.result
           (ap plan (ap (λ (v : TypingState). metamethod v.stage a.made.of (codes "__apply")) (sym c.typing.view_is)
           ∙ sym c.metamethod-handler.ensures)) refl
           (c.without_lua.ensures.means w left fs);

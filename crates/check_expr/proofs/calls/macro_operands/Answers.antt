@@ -1,4 +1,4 @@
-use Rattle.std.proofs.Common.{◌≡◌, List, [], ◌∷◌, ◌++◌, refl, sym, subst, ap, ◌∙◌}
+use Rattle.std.proofs.Common.{List, [], ◌∷◌, ◌++◌, refl, sym, subst, ap, ◌∙◌}
 use Rattle.tl_base.specs.declared.machine.Step.TheVariants.{Enter}
 use Rattle.terra_term.specs.declared.refusal.RefusalKind.TheVariants.{NotBuilt}
 use Rattle.check_model.specs.declared.job.BodyJob.TheVariants as jobs
@@ -27,7 +27,8 @@ returns-in-Untyped c =
     record {
       means = λ w left.
           moved fs fs2 (plan a.operands) (plan (Untyped t ∷ rest)) w w w left left (Enter job)
-          (sym l.invariant.plan ∙ ap plan c.in-Some.ensures ∙ ap (λ (o : Operand). plan (o ∷ rest)) c.in-Untyped.is) refl
+          (sym l.invariant.plan ∙ ap plan c.in-Some.ensures ∙ ap (λ (o : Operand). plan (o ∷ rest)) c.in-Untyped.is)
+          refl
           (enters fs fs2 frame job w left
           (c.in_ok-push.ensures.items ∙ ap (λ (gs : List BodyFrame). gs ++ frame ∷ []) l.invariant.frames));
     }
@@ -42,6 +43,7 @@ returns c =
     record {
       means = λ w left.
           subst (λ (gs : List BodyFrame). Goes fs (plan a.operands) w left gs step w left) (sym l.invariant.frames)
-          (moved fs fs (plan a.operands) (plan []) w w w left left step (sym l.invariant.plan ∙ ap plan c.in_default.ensures) refl
+          (moved fs fs (plan a.operands) (plan []) w w w left left step
+          (sym l.invariant.plan ∙ ap plan c.in_default.ensures) refl
           (c.refuse.ensures.means w left fs));
     }

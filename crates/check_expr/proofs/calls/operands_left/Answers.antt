@@ -1,4 +1,4 @@
-use Rattle.std.proofs.Common.{◌≡◌, false, List, [], ◌∷◌, ◌++◌, Option, Some, None, refl, sym, ap, ◌∙◌}
+use Rattle.std.proofs.Common.{List, ◌∷◌, refl, ap}
 use Rattle.check_model.specs.declared.job.Operand.{Operand}
 use Rattle.check_model.specs.Calls as models
 use Rattle.check_model.specs.Plans.{BodyPlan}
@@ -12,7 +12,8 @@ returns-in_ok-step-in-None-clause-means c = λ left.
     let f = a.frame in
     let fs = a.frames.now.items in
     let w = a.typing.now in
-    let plan : List Operand → BodyPlan = λ os. models.arguments f.fitting os f.types f.node.at f.node.site f.ids (called_with f a.of) in
+    let plan : List Operand → BodyPlan = λ os. models.arguments f.fitting os f.types f.node.at f.node.site f.ids
+    (called_with f a.of) in
     moved fs fs (plan f.operands) (called_with f a.of f.ids) w w c.call.new.typing left left c.in_ok-step-in-None.step
     (ap plan c.in-None.ensures) refl (c.in_ok-step-in-None.ensures.means left fs)
 
@@ -22,7 +23,8 @@ returns-in_ok-step-in-Some-clause-means c = λ left.
     let f = a.frame in
     let fs = a.frames.now.items in
     let w = a.typing.now in
-    let plan : List Operand → BodyPlan = λ os. models.arguments f.fitting os f.types f.node.at f.node.site f.ids (called_with f a.of) in
+    let plan : List Operand → BodyPlan = λ os. models.arguments f.fitting os f.types f.node.at f.node.site f.ids
+    (called_with f a.of) in
     moved fs c.with_operand.new.frames.items (plan f.operands) (plan (c.in-Some.operand ∷ c.take.new.self)) w w
     c.with_operand.new.typing left left
     c.in_ok-step-in-Some.step (ap plan c.in-Some.ensures) refl (c.in_ok-step-in-Some.ensures.means left)

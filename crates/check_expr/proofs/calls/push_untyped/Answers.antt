@@ -1,4 +1,4 @@
-use Rattle.std.proofs.Common.{◌≡◌, ◌+◌, ◌-◌, List, ◌++◌, drop, refl, sym, ap, ◌∙◌}
+use Rattle.std.proofs.Common.{◌+◌, List, ◌++◌, drop, refl, ap, ◌∙◌}
 use Rattle.tl_base.specs.declared.ids.TermId.{TermId}
 use Rattle.check_model.specs.declared.job.Operand.{Operand}
 use Rattle.check_model.specs.declared.job.Operand.TheVariants.{Untyped}

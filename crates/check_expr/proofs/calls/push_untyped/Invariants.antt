@@ -1,4 +1,4 @@
-use Rattle.std.proofs.Common.{◌≡◌, ◌+◌, ◌-◌, ◌++◌, drop}
+use Rattle.std.proofs.Common.{◌≡◌, ◌++◌, drop}
 use Rattle.check_model.specs.Plans as plans
 use Rattle.check_expr.proofs.calls.push_untyped.Given as goal
 

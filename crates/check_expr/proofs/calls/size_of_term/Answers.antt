@@ -1,4 +1,4 @@
-use Rattle.std.proofs.Common.{◌≡◌, refl, sym, ap, ◌∙◌, arith}
+use Rattle.std.proofs.Common.{refl, sym, ap, ◌∙◌, arith}
 use Rattle.tl_base.specs.declared.ids.TypeId.{TypeId}
 use Rattle.tl_base.specs.declared.place.Place.{Place}
 use Rattle.tl_base.specs.declared.machine.Step.TheVariants.{Spent}
@@ -10,7 +10,6 @@ use Rattle.check_model.specs.Calls as models
 use Rattle.check_model.specs.Plans.{BodyPlan, refuse, gives, laid_out, reading}
 use Rattle.check_model.specs.Typing.{TypingState, expression_at, place_of, bytes_in}
 use Rattle.check_expr.specs.Callees.{callee_in}
-use Rattle.check_expr.specs.declared.calls.Callee.TheVariants as callees
 use Rattle.check_expr.proofs.Calling.{size_type, size_other}
 use Rattle.check_expr.proofs.Doing.{moved, does_as, pays, unpaid}
 use Rattle.check_expr.proofs.calls.size_of_term.Goals as goal
@@ -26,7 +25,8 @@ returns-then-not-pay-clause-means c =
     let x = expression_at w.stage a.term in
     let named = place_of w.stage a.term in
     let laid : BodyPlan =
-    laid_out t n.at n.site (reading (λ v. gives n.source n.at uint64 (te.Constant (constants.Number (bytes_in v t))))) in
+    laid_out t n.at n.site (reading (λ v. gives n.source n.at uint64 (te.Constant (constants.Number (bytes_in v t)))))
+    in
     moved fs fs (models.size_of_type x named n.at n.source n.site) (models.size_constant t n.at n.source n.site) w w w
     left c.pay.new.self Spent
     (size_type x t named n.at n.source n.site
@@ -48,8 +48,10 @@ returns-in_ok-step-in-Type-clause-means c =
     let named = place_of w.stage a.term in
     let step = c.in_ok-step-in-Type.step in
     let laid : BodyPlan =
-    laid_out t n.at n.site (reading (λ v. gives n.source n.at uint64 (te.Constant (constants.Number (bytes_in v t))))) in
-    moved fs fs2 (models.size_of_type x named n.at n.source n.site) (models.size_constant t n.at n.source n.site) w w w left after step
+    laid_out t n.at n.site (reading (λ v. gives n.source n.at uint64 (te.Constant (constants.Number (bytes_in v t)))))
+    in
+    moved fs fs2 (models.size_of_type x named n.at n.source n.site) (models.size_constant t n.at n.source n.site) w w w
+    left after step
     (size_type x t named n.at n.source n.site
     (ap (λ (v : TypingState). callee_in (expression_at v.stage a.term)) (sym c.typing.view_is) ∙ sym
     c.callee_of.ensures ∙ c.in-Type.is)) refl
@@ -65,9 +67,12 @@ returns-in_default-clause-means c =
     let left = a.budget.now in
     let x = expression_at w.stage a.term in
     let place : Place → BodyPlan = λ at. refuse BadOperand at n.site in
-    let same = ap (λ (v : TypingState). callee_in (expression_at v.stage a.term)) (sym c.typing.view_is) ∙ sym c.callee_of.ensures in
+    let same = ap (λ (v : TypingState). callee_in (expression_at v.stage a.term)) (sym c.typing.view_is) ∙ sym
+    c.callee_of.ensures in
     does_as fs (models.size_of_type x (place_of w.stage a.term) n.at n.source n.site) (place c.place_of-named.result) w
     w left left c.refuse.result
-    (size_other x (place_of w.stage a.term) n.at n.source n.site (λ (t : TypeId) is. c.in_default.not-Type t (sym same ∙ is))
-    ∙ ap place (ap (λ (v : TypingState). place_of v.stage a.term) (sym c.typing.view_is) ∙ sym c.place_of-named.ensures))
+    (size_other x (place_of w.stage a.term) n.at n.source n.site
+    (λ (t : TypeId) is. c.in_default.not-Type t (sym same ∙ is))
+    ∙ ap place (ap (λ (v : TypingState). place_of v.stage a.term) (sym c.typing.view_is) ∙ sym
+    c.place_of-named.ensures))
     (c.refuse.ensures.means w left)

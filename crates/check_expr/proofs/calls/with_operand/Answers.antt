@@ -1,4 +1,4 @@
-use Rattle.std.proofs.Common.{◌≡◌, false, List, [], ◌∷◌, ◌++◌, Option, Some, None, refl, sym, ap, ◌∙◌}
+use Rattle.std.proofs.Common.{List, ◌∷◌, refl, ap, ◌∙◌}
 use Rattle.tl_base.specs.declared.ids.TypeId.{TypeId}
 use Rattle.tl_base.specs.declared.machine.Step.TheVariants.{Enter}
 use Rattle.check_model.specs.declared.job.Operand.{Operand}
@@ -20,7 +20,8 @@ returns-in_ok-step-in-None-clause-means c = λ left.
     let w = a.typing.now in
     let plan : Operand → List TypeId → BodyPlan = λ o ps. models.arguments f.fitting (o ∷ f.operands) ps f.node.at
     f.node.site f.ids (called_with f a.of) in
-    moved fs fs (plan a.operand f.types) (called_with f a.of f.ids) w w c.call.new.typing left left c.in_ok-step-in-None.step
+    moved fs fs (plan a.operand f.types) (called_with f a.of f.ids) w w c.call.new.typing left left
+    c.in_ok-step-in-None.step
     (ap (λ (ps : List TypeId). plan a.operand ps) c.in-None.ensures) refl (c.in_ok-step-in-None.ensures.means left fs)
 
 pub returns-in_ok-push-in-Untyped-clause-means : goal.returns-in_ok-push-in-Untyped-clause-means
@@ -36,7 +37,8 @@ returns-in_ok-push-in-Untyped-clause-means c = λ left.
     let t = c.in-Untyped.term in
     let job = jobs.Expression t f.node.site in
     moved fs c.push.new.self.items (plan a.operand f.types) (plan (Untyped t) (p ∷ rest)) w w w left left (Enter job)
-    (ap (λ (ps : List TypeId). plan a.operand ps) c.in-Some.ensures ∙ ap (λ (o : Operand). plan o (p ∷ rest)) c.in-Untyped.is) refl
+    (ap (λ (ps : List TypeId). plan a.operand ps) c.in-Some.ensures ∙ ap (λ (o : Operand). plan o (p ∷ rest))
+    c.in-Untyped.is) refl
     (enters fs c.push.new.self.items (frames.Made (of_made.Argument p (record f { types = rest }) a.of)) job w left
     c.in_ok-push-in-Untyped.ensures.items)
 
@@ -51,7 +53,9 @@ returns-in_ok-step-in-Typed-clause-means c = λ left.
     let p = c.in-Some.parameter in
     let rest = c.take.new.self in
     let m = c.in-Typed.made in
-    moved fs c.argument.new.frames.items (plan a.operand f.types) (plan (Typed m) (p ∷ rest)) w w c.argument.new.typing left left
+    moved fs c.argument.new.frames.items (plan a.operand f.types) (plan (Typed m) (p ∷ rest)) w w c.argument.new.typing
+    left left
     c.in_ok-step-in-Typed.step
-    (ap (λ (ps : List TypeId). plan a.operand ps) c.in-Some.ensures ∙ ap (λ (o : Operand). plan o (p ∷ rest)) c.in-Typed.is) refl
+    (ap (λ (ps : List TypeId). plan a.operand ps) c.in-Some.ensures ∙ ap (λ (o : Operand). plan o (p ∷ rest))
+    c.in-Typed.is) refl
     (c.in_ok-step-in-Typed.ensures.means left)

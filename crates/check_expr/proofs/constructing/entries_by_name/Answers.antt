@@ -1,4 +1,4 @@
-use Rattle.std.proofs.Common.{◌≡◌, ◌+◌, ◌-◌, List, [], ◌++◌, ◌∷◌, drop, get_or, refl, sym, ap, ◌∙◌, Option}
+use Rattle.std.proofs.Common.{◌+◌, List, [], ◌++◌, ◌∷◌, drop, refl, ap, ◌∙◌, Option}
 use Rattle.tl_base.specs.declared.ids.TextId.{TextId}
 use Rattle.terra_types.specs.declared.layout.Laid.{Laid}
 use Rattle.terra_types.specs.Layouts.{entries_of, entry_named}

@@ -1,4 +1,4 @@
-use Rattle.std.proofs.Common.{◌≡◌, ◌+◌, ◌-◌, ◌++◌, drop}
+use Rattle.std.proofs.Common.{◌≡◌, ◌++◌, drop}
 use Rattle.terra_types.specs.Layouts.{entries_of}
 use Rattle.check_model.specs.Expressions as models
 use Rattle.check_expr.proofs.constructing.entries_by_name.Given as goal

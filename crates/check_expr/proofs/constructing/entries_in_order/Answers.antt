@@ -1,5 +1,4 @@
-use Rattle.std.proofs.Common.{◌≡◌, ◌+◌, ◌-◌, List, [], ◌++◌, ◌∷◌, drop, refl, sym, ap, ◌∙◌, Option, Some, None}
-use Rattle.tl_base.specs.declared.ids.TermId.{TermId}
+use Rattle.std.proofs.Common.{◌+◌, List, ◌++◌, drop, sym, ap, ◌∙◌, Option}
 use Rattle.terra_types.specs.declared.layout.Laid.{Laid}
 use Rattle.terra_types.specs.Layouts.{entries_of}
 use Rattle.check_model.specs.Expressions as models

@@ -1,4 +1,4 @@
-use Rattle.std.proofs.Common.{◌≡◌, true, false, refl, sym, ap, ◌∙◌}
+use Rattle.std.proofs.Common.{true, false, sym, ap, ◌∙◌}
 use Rattle.std.specs.Prelude.{not}
 use Rattle.terra_term.specs.WellTyped.{struct_form}
 use Rattle.terra_term.specs.declared.refusal.RefusalKind.TheVariants.{BadOperand}

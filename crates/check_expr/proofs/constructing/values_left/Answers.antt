@@ -1,4 +1,4 @@
-use Rattle.std.proofs.Common.{◌≡◌, ℕ, false, List, [], ◌∷◌, ◌++◌, Option, Some, None, refl, sym, ap, ◌∙◌}
+use Rattle.std.proofs.Common.{ℕ, List, ◌∷◌, Option, refl, ap}
 use Rattle.tl_base.specs.declared.ids.TermId.{TermId}
 use Rattle.terra_types.specs.declared.layout.Laid.{Laid}
 use Rattle.check_model.specs.Expressions as models

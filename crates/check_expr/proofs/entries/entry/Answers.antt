@@ -24,10 +24,12 @@ returns-in_ok-step-2-clause-means c = λ left.
     let placed : BodyPlan = gives n.source n.at l.of (te.Select l.offset o.id) in
     let within : BodyPlan = if o.is_place then placed else behind in
     let struct : struct_form (form_in w.stage o.of) ≡ true =
-    ap (λ (v : TypingState). struct_form (form_in v.stage o.of)) (sym c.typing.view_is) ∙ sym c.is_struct.ensures ∙ c.if-is_struct.true in
+    ap (λ (v : TypingState). struct_form (form_in v.stage o.of)) (sym c.typing.view_is) ∙ sym c.is_struct.ensures
+    ∙ c.if-is_struct.true in
     chosen fs fs2 (not (struct_form (form_in w.stage o.of))) false (gives n.source n.at l.of (te.Follow l.offset o.id))
     within w w left left step
     (ap not struct)
     (chosen fs fs2 o.is_place false placed behind w w left left step c.if-object.false
-    (behind_value fs c.push.new.self.items fs2 (of_made.Extract l n) o n.site w w left left step c.in_ok-push.ensures.items
+    (behind_value fs c.push.new.self.items fs2 (of_made.Extract l n) o n.site w w left left step
+    c.in_ok-push.ensures.items
     (c.in_ok-step-2.ensures.means left)))

@@ -22,7 +22,8 @@ returns-in_ok-step-in-Let-clause-means c =
     let step = c.in_ok-step-in-Let.step in
     let copy = c.in_ok-statements-in-Let.statements in
     let count = c.count.result in
-    let found : slice_get w.stage.store.terms a.term.0 ≡ Some (kinds.Expression at (e.Let m.statements m.value)) = search rules in
+    let found : slice_get w.stage.store.terms a.term.0 ≡ Some (kinds.Expression at (e.Let m.statements m.value)) =
+    search rules in
     let counted : count ≡ length w.variables = search rules in
     let plan : ℕ → List TermId → BodyPlan = λ k ts. models.let_plan k ts m.value at a.term a.site in
     expresses fs fs2 a.term at (e.Let m.statements m.value) a.site w w2 left left step found

@@ -1,10 +1,9 @@
-use Rattle.std.proofs.Common.{◌≡◌, Option, Some, None, refl, sym, ap, ◌∙◌}
+use Rattle.std.proofs.Common.{◌≡◌, Option, Some, None, refl, ap, rules}
 use Rattle.std.specs.Prelude.{slice_get}
 use Rattle.terra_term.specs.declared.refusal.RefusalKind.TheVariants.{BadOperand}
 use Rattle.terra_term.specs.declared.store.TerraGlobal.{TerraGlobal}
 use Rattle.check_model.specs.Expressions as models
 use Rattle.check_model.specs.Plans.{BodyPlan, refuse}
-use Rattle.check_model.specs.Typing.{TypingState}
 use Rattle.check_expr.proofs.Doing.{moved}
 use Rattle.check_expr.proofs.expressions.global_variable.Goals as goal
 
@@ -13,18 +12,20 @@ returns-in_ok-step-in-Some-clause-means c = λ left fs.
     let a = c.args in
     let n = a.node in
     let w = a.typing.now in
+    let found : slice_get w.stage.store.globals a.global.0 ≡ Some c.in-Some.found = search rules in
     let plan : Option TerraGlobal → BodyPlan = λ g. models.global g n.at n.source n.site in
-    moved fs fs (plan (slice_get w.stage.store.globals a.global.0)) (plan (Some c.in-Some.found)) w w c.gives.new.typing left left
+    moved fs fs (plan (slice_get w.stage.store.globals a.global.0)) (plan (Some c.in-Some.found)) w w c.gives.new.typing
+    left left
     c.in_ok-step-in-Some.step
-    (ap plan (ap (λ (v : TypingState). slice_get v.stage.store.globals a.global.0) (sym c.typing-inside.view_is)
-    ∙ sym c.global.ensures ∙ c.in-Some.is)) refl (c.in_ok-step-in-Some.ensures.means left fs)
+    (ap plan found) refl (c.in_ok-step-in-Some.ensures.means left fs)
 
 pub returns-in-None-clause-means : goal.returns-in-None-clause-means
 returns-in-None-clause-means c = λ left fs.
     let a = c.args in
     let n = a.node in
     let w = a.typing.now in
+    let found : slice_get w.stage.store.globals a.global.0 ≡ None = search rules in
     let plan : Option TerraGlobal → BodyPlan = λ g. models.global g n.at n.source n.site in
-    moved fs fs (plan (slice_get w.stage.store.globals a.global.0)) (refuse BadOperand n.at n.site) w w w left left c.refuse.result
-    (ap plan (ap (λ (v : TypingState). slice_get v.stage.store.globals a.global.0) (sym c.typing-inside.view_is)
-    ∙ sym c.global.ensures ∙ c.in-None.is)) refl (c.refuse.ensures.means w left fs)
+    moved fs fs (plan (slice_get w.stage.store.globals a.global.0)) (refuse BadOperand n.at n.site) w w w left left
+    c.refuse.result
+    (ap plan found) refl (c.refuse.ensures.means w left fs)

@@ -1,4 +1,4 @@
-use Rattle.std.proofs.Common.{◌≡◌, List, refl, sym, ap}
+use Rattle.std.proofs.Common.{List, sym, ap}
 use Rattle.tl_base.specs.declared.ids.TermId.{TermId}
 use Rattle.terra_term.specs.declared.typed.TypedExpression.TheVariants as te
 use Rattle.check_model.specs.Plans.{BodyPlan, gives}
@@ -18,4 +18,5 @@ returns-clause-means c = λ left fs.
 
 pub returns-clause-kept : goal.returns-clause-kept
 returns-clause-kept c =
-    kept_from (cut_to c.args.typing.now c.args.count) c.leave.new.self c.gives.new.typing c.leave.ensures c.in_ok-step.ensures.kept
+    kept_from (cut_to c.args.typing.now c.args.count) c.leave.new.self c.gives.new.typing c.leave.ensures
+    c.in_ok-step.ensures.kept

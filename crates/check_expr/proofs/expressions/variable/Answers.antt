@@ -1,4 +1,4 @@
-use Rattle.std.proofs.Common.{◌≡◌, Option, Some, None, refl, sym, ap, ◌∙◌}
+use Rattle.std.proofs.Common.{Option, Some, refl, sym, ap, ◌∙◌}
 use Rattle.tl_base.specs.declared.ids.TypeId.{TypeId}
 use Rattle.terra_term.specs.declared.refusal.RefusalKind.TheVariants.{OutOfScope}
 use Rattle.check_model.specs.Expressions as models
@@ -23,5 +23,6 @@ returns-in-None-clause-means c = λ left fs.
     let n = a.node in
     let w = a.typing.now in
     let plan : Option TypeId → BodyPlan = λ t. models.variable t a.symbol n.at n.source n.site in
-    moved fs fs (plan (variable_at w n.site.base a.symbol)) (refuse OutOfScope n.at n.site) w w w left left c.refuse.result
+    moved fs fs (plan (variable_at w n.site.base a.symbol)) (refuse OutOfScope n.at n.site) w w w left left
+    c.refuse.result
     (ap plan (sym c.variable.ensures ∙ c.in-None.is)) refl (c.refuse.ensures.means w left fs)

@@ -1,10 +1,7 @@
-use Rattle.std.proofs.Common.{◌≡◌, ℕ, List, length, Option, Some, None, refl, sym, ap, ◌∙◌}
+use Rattle.std.proofs.Common.{ℕ, length, Option, Some, None, refl, sym, ap, ◌∙◌}
 use Rattle.std.specs.Prelude.{slice_get}
 use Rattle.tl_base.specs.declared.ids.TermId.{TermId}
-use Rattle.terra_term.specs.Held.{term_in}
-use Rattle.terra_term.specs.declared.refusal.RefusalKind.TheVariants.{Undefined}
 use Rattle.terra_term.specs.declared.store.Function.{Function}
-use Rattle.terra_term.specs.declared.term.Term.{Term}
 use Rattle.check_model.specs.declared.site.Site.{Site}
 use Rattle.check_model.specs.Bodies as models
 use Rattle.check_model.specs.Plans.{BodyPlan, refuse, then_on}
@@ -15,7 +12,7 @@ use Rattle.check_expr.specs.Steps.{with_stage}
 use Rattle.check_expr.specs.declared.functions.Definition.{Definition}
 use Rattle.check_expr.proofs.Behind.{behind_function}
 use Rattle.check_expr.proofs.Defining.{parts_mean}
-use Rattle.check_expr.proofs.Doing.{moved, does_as}
+use Rattle.check_expr.proofs.Doing.{moved}
 use Rattle.check_expr.proofs.functions.body.Goals as goal
 
 pub returns-in-None-clause-means : goal.returns-in-None-clause-means
@@ -26,7 +23,8 @@ returns-in-None-clause-means c =
     let left = a.budget.now in
     let plan : Option Function → BodyPlan = λ o. models.for_function w a.f o in
     moved fs fs (plan (function_at w.stage a.f)) (plan None) w w w left left c.refuse.result
-    (ap plan (ap (λ (v : TypingState). function_at v.stage a.f) (sym c.typing-inside.view_is) ∙ sym c.function.ensures ∙ c.in-None.is)) refl
+    (ap plan (ap (λ (v : TypingState). function_at v.stage a.f) (sym c.typing.view_is) ∙ sym c.function_of.ensures
+    ∙ c.in-None.is)) refl
     (c.refuse.ensures.means w left fs)
 
 pub returns-in-None-term-clause-means : goal.returns-in-None-term-clause-means
@@ -39,7 +37,8 @@ returns-in-None-term-clause-means c =
     let plan : Option Function → BodyPlan = λ o. models.for_function w a.f o in
     let known : Option TermId → BodyPlan = λ o. models.function_plan w a.f g o in
     moved fs fs (plan (function_at w.stage a.f)) (known None) w w w left left c.refuse-in-None-term.result
-    (ap plan (ap (λ (v : TypingState). function_at v.stage a.f) (sym c.typing-inside.view_is) ∙ sym c.function.ensures ∙ c.in-Some.is)
+    (ap plan (ap (λ (v : TypingState). function_at v.stage a.f) (sym c.typing.view_is) ∙ sym c.function_of.ensures
+    ∙ c.in-Some.is)
     ∙ ap known (sym c.term.ensures ∙ c.in-None-term.is)) refl
     (c.refuse-in-None-term.ensures.means w left fs)
 
@@ -68,16 +67,19 @@ returns-in_ok-step-in-Some-term-clause-means c =
     let parts : Option Definition → BodyPlan = λ d. parts_plan d g.place (site n) in
     let definition = c.in_ok-definition-in-Some-term.definition in
     moved fs fs2 (plan (function_at w.stage a.f)) (known (Some t)) w w w2 left left2 step
-    (ap plan (ap (λ (u : TypingState). function_at u.stage a.f) (sym c.typing-inside.view_is) ∙ sym c.function.ensures ∙ c.in-Some.is)
+    (ap plan (ap (λ (u : TypingState). function_at u.stage a.f) (sym c.typing.view_is) ∙ sym c.function_of.ensures
+    ∙ c.in-Some.is)
     ∙ ap known (sym c.term.ensures ∙ c.in-Some-term.is)) refl
-    (moved fs fs2 (behind (length w.variables)) (behind n) v v w2 left left2 step (ap behind (sym c.count-base.ensures)) refl
+    (moved fs fs2 (behind (length w.variables)) (behind n) v v w2 left left2 step (ap behind (sym c.count-base.ensures))
+    refl
     (behind_function fs pushed fs2 a.f n (body n) v w2 left left2 step c.in_ok-push-in-Some-term.ensures.items
     (moved pushed fs2 (body n) (parts definition) v c.begin.new.typing w2 left left2 step
     (parts_mean term g.place (site n)
-    ∙ ap parts (ap (λ (u : TypingState). parts_in (slice_get u.stage.store.terms t.0)) (sym c.typing-inside.view_is)
+    ∙ ap parts (ap (λ (u : TypingState). parts_in (slice_get u.stage.store.terms t.0)) (sym c.typing.view_is)
     ∙ sym c.in_ok-definition-in-Some-term.ensures))
     (sym c.begin.ensures.means) c.in_ok-step-in-Some-term.ensures.means)))
 
 pub returns-in_ok-step-in-Some-term-clause-kept : goal.returns-in_ok-step-in-Some-term-clause-kept
 returns-in_ok-step-in-Some-term-clause-kept c =
-    keeps_then c.args.typing.now c.begin.new.typing c.defined.new.typing c.begin.ensures.kept c.in_ok-step-in-Some-term.ensures.kept
+    keeps_then c.args.typing.now c.begin.new.typing c.defined.new.typing c.begin.ensures.kept
+    c.in_ok-step-in-Some-term.ensures.kept

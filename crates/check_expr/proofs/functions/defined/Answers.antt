@@ -1,4 +1,4 @@
-use Rattle.std.proofs.Common.{◌≡◌, [], Some, arith}
+use Rattle.std.proofs.Common.{[], arith}
 use Rattle.std.specs.Prelude.{unwrap_or}
 use Rattle.terra_types.specs.Opening.{unit}
 use Rattle.check_model.specs.declared.site.Site.{Site}
@@ -18,8 +18,10 @@ returns-then-not-pay-clause-means c =
     let m = c.in-Some.field-0 in
     let site : Site = record a.site { result = m.written } in
     let body : BodyPlan =
-    expressions.statements m.body site [] (λ typed found. models.made_function m.named (unwrap_or found unit) typed a.at a.site) in
-    rw c.in-Some.is (unpaid a.frames.now.items 1 (models.parameters m.parameters site body) a.typing.now a.budget.now c.pay.new.self
+    expressions.statements m.body site [] (λ typed found. models.made_function m.named (unwrap_or found unit) typed
+    a.at a.site) in
+    rw c.in-Some.is (unpaid a.frames.now.items 1 (models.parameters m.parameters site body) a.typing.now a.budget.now
+    c.pay.new.self
     c.if-not-pay.ensures.short c.if-not-pay.ensures.refused)
 
 pub returns-in_ok-step-in-Some-clause-means : goal.returns-in_ok-step-in-Some-clause-means
@@ -28,7 +30,9 @@ returns-in_ok-step-in-Some-clause-means c =
     let m = c.in-Some.field-0 in
     let site : Site = record a.site { result = m.written } in
     let body : BodyPlan =
-    expressions.statements m.body site [] (λ typed found. models.made_function m.named (unwrap_or found unit) typed a.at a.site) in
-    rw c.in-Some.is (pays a.frames.now.items c.parameters_left.new.frames.items 1 (models.parameters m.parameters site body) a.typing.now
+    expressions.statements m.body site [] (λ typed found. models.made_function m.named (unwrap_or found unit) typed
+    a.at a.site) in
+    rw c.in-Some.is (pays a.frames.now.items c.parameters_left.new.frames.items 1
+    (models.parameters m.parameters site body) a.typing.now
     c.parameters_left.new.typing a.budget.now c.pay.new.self c.parameters_left.new.budget c.in_ok-step-in-Some.step
     (grind (arith, c.if-not-pay.ensures.enough)) c.if-not-pay.ensures.paid c.in_ok-step-in-Some.ensures.means)

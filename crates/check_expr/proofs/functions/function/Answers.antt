@@ -1,4 +1,4 @@
-use Rattle.std.proofs.Common.{◌≡◌, List, refl, sym, ap, ◌∙◌}
+use Rattle.std.proofs.Common.{List, refl, sym, ap, ◌∙◌}
 use Rattle.std.specs.Prelude.{unwrap_or}
 use Rattle.tl_base.specs.declared.ids.TermId.{TermId}
 use Rattle.tl_base.specs.declared.ids.TypeId.{TypeId}
@@ -31,5 +31,6 @@ returns-clause-means c = λ left fs.
     (sym c.into_vec.ensures ∙ sym c.in_ok-names.ensures)
     ∙ ap (λ (t : TypeId). plan names t a.ids) (sym c.unwrap_or-of.ensures)
     ∙ ap (plan names of) (sym c.in_ok-list.ensures)) refl
-    (moved fs fs (go (next_typed w.stage.store)) (go id) (with_node w (typed_kinds.Function names of list)) v v left left
+    (moved fs fs (go (next_typed w.stage.store)) (go id) (with_node w (typed_kinds.Function names of list)) v v left
+    left
     step (ap go (sym c.in_ok-id.ensures.id)) (sym c.in_ok-id.ensures.ok) (c.if_small.ensures.means left fs))

@@ -1,4 +1,4 @@
-use Rattle.std.proofs.Common.{◌≡◌, Bool, true, false, Some, sym, ap, ◌∙◌}
+use Rattle.std.proofs.Common.{true, false, Some, sym, ap, ◌∙◌}
 use Rattle.tl_base.specs.declared.machine.Step.TheVariants.{Return}
 use Rattle.tl_base.specs.Plan.{Give}
 use Rattle.terra_term.specs.declared.refusal.RefusalKind.TheVariants.{TooLarge}

@@ -1,7 +1,5 @@
-use Rattle.std.proofs.Common.{◌≡◌, ℕ, Bool, true, false, List, [], ◌∷◌, Option, refl, sym, ap, ◌∙◌, arith}
+use Rattle.std.proofs.Common.{true, false, List, [], ◌∷◌, refl, sym, ap, ◌∙◌, arith}
 use Rattle.std.specs.Prelude.{unwrap_or}
-use Rattle.tl_base.specs.declared.ids.TermId.{TermId}
-use Rattle.tl_base.specs.declared.ids.TypeId.{TypeId}
 use Rattle.tl_base.specs.declared.machine.Step.TheVariants.{Spent}
 use Rattle.tl_base.specs.Plan.{Read, Write}
 use Rattle.terra_types.specs.Layouts as layouts
@@ -24,9 +22,11 @@ returns-in_ok-step-in-None-clause-means c =
     let w = a.typing.now in
     let left = a.budget.now in
     let body : BodyPlan =
-    expressions.statements f.body f.site [] (λ typed found. models.made_function f.named (unwrap_or found unit) typed f.at f.site) in
+    expressions.statements f.body f.site [] (λ typed found. models.made_function f.named (unwrap_or found unit) typed
+    f.at f.site) in
     let plan : List Parameter → BodyPlan = λ ps. models.parameters ps f.site body in
-    moved fs c.block.new.frames.items (plan f.parameters) body w w c.block.new.typing left left c.in_ok-step-in-None.step
+    moved fs c.block.new.frames.items (plan f.parameters) body w w c.block.new.typing left left
+    c.in_ok-step-in-None.step
     (ap plan c.in-None.ensures) refl (c.in_ok-step-in-None.ensures.means left)
 
 pub returns-then-not-pay-clause-means : goal.returns-then-not-pay-clause-means
@@ -39,11 +39,13 @@ returns-then-not-pay-clause-means c =
     let w = a.typing.now in
     let left = a.budget.now in
     let body : BodyPlan =
-    expressions.statements f.body f.site [] (λ typed found. models.made_function f.named (unwrap_or found unit) typed f.at f.site) in
+    expressions.statements f.body f.site [] (λ typed found. models.made_function f.named (unwrap_or found unit) typed
+    f.at f.site) in
     let plan : List Parameter → BodyPlan = λ ps. models.parameters ps f.site body in
     let next : BodyPlan = Read (λ v. Write (with_variable v p.symbol p.of) (plan rest)) in
     moved fs fs (plan f.parameters) (plan (p ∷ rest)) w w w left c.pay.new.self Spent (ap plan c.in-Some.ensures) refl
-    (unpaid fs 1 (may_be p.of p.place f.site next) w left c.pay.new.self c.if-not-pay.ensures.short c.if-not-pay.ensures.refused)
+    (unpaid fs 1 (may_be p.of p.place f.site next) w left c.pay.new.self c.if-not-pay.ensures.short
+    c.if-not-pay.ensures.refused)
 
 pub returns-then-is_function-clause-means : goal.returns-then-is_function-clause-means
 returns-then-is_function-clause-means c =
@@ -57,16 +59,19 @@ returns-then-is_function-clause-means c =
     let after = c.pay.new.self in
     let step = c.refuse.result in
     let body : BodyPlan =
-    expressions.statements f.body f.site [] (λ typed found. models.made_function f.named (unwrap_or found unit) typed f.at f.site) in
+    expressions.statements f.body f.site [] (λ typed found. models.made_function f.named (unwrap_or found unit) typed
+    f.at f.site) in
     let plan : List Parameter → BodyPlan = λ ps. models.parameters ps f.site body in
     let next : BodyPlan = Read (λ v. Write (with_variable v p.symbol p.of) (plan rest)) in
     moved fs fs (plan f.parameters) (plan (p ∷ rest)) w w w left after step (ap plan c.in-Some.ensures) refl
-    (pays fs fs 1 (may_be p.of p.place f.site next) w w left after after step (grind (arith, c.if-not-pay.ensures.enough))
+    (pays fs fs 1 (may_be p.of p.place f.site next) w w left after after step
+    (grind (arith, c.if-not-pay.ensures.enough))
     c.if-not-pay.ensures.paid
     (chosen fs fs (layouts.is_function w.stage.store.types p.of) true (refuse FunctionValue p.place f.site) (laid_out
     p.of p.place f.site next)
     w w after after step
-    (ap (λ (v : TypingState). layouts.is_function v.stage.store.types p.of) (sym c.typing.view_is) ∙ sym c.is_function.ensures
+    (ap (λ (v : TypingState). layouts.is_function v.stage.store.types p.of) (sym c.typing.view_is) ∙ sym
+    c.is_function.ensures
     ∙ c.if-is_function.true)
     (c.refuse.ensures.means w after fs)))
 
@@ -83,15 +88,18 @@ returns-in_ok-step-in-Some-clause-means c =
     let after = c.pay.new.self in
     let step = c.in_ok-step-in-Some.step in
     let body : BodyPlan =
-    expressions.statements f.body f.site [] (λ typed found. models.made_function f.named (unwrap_or found unit) typed f.at f.site) in
+    expressions.statements f.body f.site [] (λ typed found. models.made_function f.named (unwrap_or found unit) typed
+    f.at f.site) in
     let plan : List Parameter → BodyPlan = λ ps. models.parameters ps f.site body in
     let next : BodyPlan = Read (λ v. Write (with_variable v p.symbol p.of) (plan rest)) in
     moved fs fs2 (plan f.parameters) (plan (p ∷ rest)) w w w left after step (ap plan c.in-Some.ensures) refl
-    (pays fs fs2 1 (may_be p.of p.place f.site next) w w left after after step (grind (arith, c.if-not-pay.ensures.enough))
+    (pays fs fs2 1 (may_be p.of p.place f.site next) w w left after after step
+    (grind (arith, c.if-not-pay.ensures.enough))
     c.if-not-pay.ensures.paid
     (chosen fs fs2 (layouts.is_function w.stage.store.types p.of) false (refuse FunctionValue p.place f.site) (laid_out
     p.of p.place f.site next)
     w w after after step
-    (ap (λ (v : TypingState). layouts.is_function v.stage.store.types p.of) (sym c.typing.view_is) ∙ sym c.is_function.ensures
+    (ap (λ (v : TypingState). layouts.is_function v.stage.store.types p.of) (sym c.typing.view_is) ∙ sym
+    c.is_function.ensures
     ∙ c.if-is_function.false)
     (c.in_ok-step-in-Some.ensures.means after)))

@@ -3,4 +3,5 @@ use Rattle.check_expr.proofs.Worlds.{stage_kept}
 use Rattle.check_expr.proofs.functions.settle.Goals as goal
 
 pub returns-clause-kept : goal.returns-clause-kept
-returns-clause-kept c = stage_kept c.args.typing.now (the_view c.typing.inside) _ c.typing.view_is c.settle_in.ensures.kept
+returns-clause-kept c = stage_kept c.args.typing.now (the_view c.typing.inside) _ c.typing.view_is
+    c.settle_in.ensures.kept

@@ -11,11 +11,13 @@ returns-clause-means c =
     let plan = waiting.parameters_from a.frame in
     moved a.frames.now.items c.parameters_left.new.frames.items plan plan (with_variable a.typing.now a.name.symbol
     a.name.of) c.declare.new.self
-    c.parameters_left.new.typing a.budget.now c.parameters_left.new.budget c.in_ok-step.step refl (sym c.in_ok-declare.ensures)
+    c.parameters_left.new.typing a.budget.now c.parameters_left.new.budget c.in_ok-step.step refl
+    (sym c.in_ok-declare.ensures)
     c.in_ok-step.ensures.means
 
 pub returns-clause-kept : goal.returns-clause-kept
 returns-clause-kept c =
     let a = c.args in
-    kept_from (with_variable a.typing.now a.name.symbol a.name.of) c.declare.new.self c.parameters_left.new.typing c.in_ok-declare.ensures
+    kept_from (with_variable a.typing.now a.name.symbol a.name.of) c.declare.new.self c.parameters_left.new.typing
+    c.in_ok-declare.ensures
     c.in_ok-step.ensures.kept

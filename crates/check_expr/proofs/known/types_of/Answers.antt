@@ -1,4 +1,4 @@
-use Rattle.std.proofs.Common.{◌≡◌, ◌+◌, ◌-◌, List, ◌++◌, drop, refl, sym, ap, ◌∙◌}
+use Rattle.std.proofs.Common.{◌+◌, ◌-◌, List, ◌++◌, drop, refl, ap, ◌∙◌}
 use Rattle.tl_base.specs.declared.ids.TypeId.{TypeId}
 use Rattle.terra_term.specs.declared.lists.Parameter.{Parameter}
 use Rattle.check_model.specs.Calls as models
@@ -10,7 +10,8 @@ parameters-preserved c =
     let ps = c.args.parameters.now in
     let l = c.parameters in
     ap (λ (ts : List TypeId). ts ++ models.types_of (drop (l.parameter-index + 1) ps)) c.in_ok-push.ensures
-    ∙ place_more models.types_of (λ (p : Parameter). p.of) (λ p rest. refl) l.types (models.types_of ps) ps l.parameter-index _
+    ∙ place_more models.types_of (λ (p : Parameter). p.of) (λ p rest. refl) l.types (models.types_of ps) ps
+    l.parameter-index _
     c.parameters-test.true l.invariant
 
 pub returns : goal.returns
@@ -18,4 +19,5 @@ returns c =
     let ps = c.args.parameters.now in
     let l = c.parameters in
     c.into_rest.ensures
-    ∙ places_end models.types_of refl l.types (models.types_of ps) ps l.parameter-index c.parameters-test.false l.invariant
+    ∙ places_end models.types_of refl l.types (models.types_of ps) ps l.parameter-index c.parameters-test.false
+    l.invariant

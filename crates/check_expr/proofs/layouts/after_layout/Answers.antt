@@ -1,9 +1,7 @@
 use Rattle.tl_base.specs.declared.machine.Step.TheVariants.{Return}
 use Rattle.tl_base.specs.Plan.{Give}
 use Rattle.std.proofs.Common.{refl}
-use Rattle.check_model.specs.declared.question.CheckAnswer.{CheckAnswer}
 use Rattle.check_model.specs.Plans as plans
-use Rattle.check_model.specs.Plans.{BodyPlan}
 use Rattle.check_expr.specs.Frames.{on_answer, laid_then}
 use Rattle.check_expr.specs.Kept.{keeps_itself}
 use Rattle.check_expr.proofs.Doing.{returns as returned, moved}

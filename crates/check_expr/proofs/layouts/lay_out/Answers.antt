@@ -1,4 +1,4 @@
-use Rattle.std.proofs.Common.{◌≡◌, sym, ap, ◌∙◌}
+use Rattle.std.proofs.Common.{sym, ap, ◌∙◌}
 use Rattle.check_model.specs.Typing.{TypingState, form_in, is_aggregate_form}
 use Rattle.check_expr.proofs.Laying.{lays_aggregate, lays_other}
 use Rattle.check_expr.proofs.layouts.lay_out.Goals as goal

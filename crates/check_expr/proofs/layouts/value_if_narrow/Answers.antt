@@ -1,4 +1,4 @@
-use Rattle.std.proofs.Common.{◌≡◌, true, false, refl, sym, ap, ◌∙◌}
+use Rattle.std.proofs.Common.{true, false, sym, ap, ◌∙◌}
 use Rattle.tl_base.specs.declared.machine.Step.TheVariants.{Return}
 use Rattle.terra_term.specs.declared.refusal.RefusalKind.TheVariants.{TooWide}
 use Rattle.check_model.specs.declared.end.PartEnd.TheVariants as ends

@@ -1,4 +1,4 @@
-use Rattle.std.proofs.Common.{◌≡◌, Bool, true, false, List, [], ◌∷◌, ◌++◌, refl, sym, ap, ◌∙◌}
+use Rattle.std.proofs.Common.{true, false, List, [], ◌∷◌, ◌++◌, refl, sym, ap, ◌∙◌}
 use Rattle.terra_term.specs.WellTyped.{integer_form}
 use Rattle.terra_term.specs.declared.refusal.RefusalKind.TheVariants.{BadOperand}
 use Rattle.check_model.specs.declared.made.Made.{Made}
@@ -19,9 +19,12 @@ returns-in_ok-step-clause-means c = λ left.
     let w2 = c.bounds_left.new.typing in
     let step = c.in_ok-step.step in
     let plan : List Made → BodyPlan = λ ms. waiting.bounds_from f ms in
-    chosen fs fs2 (integer_form (form_in w.stage m.of)) true (plan (f.made ++ m ∷ [])) (refuse BadOperand m.at f.site) w w2 left left step
-    (ap (λ (v : TypingState). integer_form (form_in v.stage m.of)) (sym c.typing.view_is) ∙ sym c.is_integer.ensures ∙ c.if-is_integer.true)
-    (moved fs fs2 (plan (f.made ++ m ∷ [])) (plan c.push.new.self) w w w2 left left step (ap plan (sym c.in_ok-push.ensures)) refl
+    chosen fs fs2 (integer_form (form_in w.stage m.of)) true (plan (f.made ++ m ∷ [])) (refuse BadOperand m.at f.site)
+    w w2 left left step
+    (ap (λ (v : TypingState). integer_form (form_in v.stage m.of)) (sym c.typing.view_is) ∙ sym c.is_integer.ensures
+    ∙ c.if-is_integer.true)
+    (moved fs fs2 (plan (f.made ++ m ∷ [])) (plan c.push.new.self) w w w2 left left step
+    (ap plan (sym c.in_ok-push.ensures)) refl
     (c.in_ok-step.ensures.means left))
 
 pub returns-else-is_integer-clause-means : goal.returns-else-is_integer-clause-means
@@ -31,8 +34,10 @@ returns-else-is_integer-clause-means c = λ left.
     let m = a.made in
     let fs = a.frames.now.items in
     let w = a.typing.now in
-    chosen fs fs (integer_form (form_in w.stage m.of)) false (waiting.bounds_from f (f.made ++ m ∷ [])) (refuse BadOperand m.at f.site) w w
+    chosen fs fs (integer_form (form_in w.stage m.of)) false (waiting.bounds_from f (f.made ++ m ∷ []))
+    (refuse BadOperand m.at f.site) w w
     left left c.refuse.result
-    (ap (λ (v : TypingState). integer_form (form_in v.stage m.of)) (sym c.typing.view_is) ∙ sym c.is_integer.ensures ∙
+    (ap (λ (v : TypingState). integer_form (form_in v.stage m.of)) (sym c.typing.view_is) ∙ sym c.is_integer.ensures
+    ∙
     c.if-is_integer.false)
     (c.refuse.ensures.means w left fs)

@@ -1,4 +1,4 @@
-use Rattle.std.proofs.Common.{◌≡◌, List, [], ◌∷◌, refl, sym, ap, ◌∙◌}
+use Rattle.std.proofs.Common.{List, [], ◌∷◌, refl, sym, ap, ◌∙◌}
 use Rattle.tl_base.specs.declared.ids.TermId.{TermId}
 use Rattle.tl_base.specs.declared.ids.TypeId.{TypeId}
 use Rattle.tl_base.specs.declared.machine.Step.TheVariants.{Enter}
@@ -28,7 +28,8 @@ returns-in_ok-push-in-Some-clause-means c = λ left.
     λ ms. reading (λ v. models.counting (models.meet_of v ms) f.name ms f.body f.at f.site) in
     let plan : List TermId → BodyPlan = λ ts. models.integers ts f.site f.made go in
     moved fs fs2 (plan f.bounds) (plan (t ∷ rest)) w w w left left (Enter job) (ap plan c.in-Some.ensures) refl
-    (enters fs fs2 (frames.Doing (of_doing.Bound (record f { bounds = rest }))) job w left c.in_ok-push-in-Some.ensures.items)
+    (enters fs fs2 (frames.Doing (of_doing.Bound (record f { bounds = rest }))) job w left
+    c.in_ok-push-in-Some.ensures.items)
 
 pub returns-in_ok-step-in-None-clause-means : goal.returns-in_ok-step-in-None-clause-means
 returns-in_ok-step-in-None-clause-means c = λ left.

@@ -1,4 +1,4 @@
-use Rattle.std.proofs.Common.{◌≡◌, false, List, [], ◌∷◌, ◌++◌, Option, Some, None, refl, sym, ap, ◌∙◌}
+use Rattle.std.proofs.Common.{List, ◌∷◌, refl, ap}
 use Rattle.tl_base.specs.declared.ids.TermId.{TermId}
 use Rattle.check_model.specs.declared.made.Made.{Made}
 use Rattle.check_model.specs.declared.rule.Mode.TheVariants.{Implicit}
@@ -18,7 +18,8 @@ returns-in_ok-step-in-None-clause-means c = λ left.
     let w = a.typing.now in
     let go : List TermId → BodyPlan = λ all. waiting.for_body f.of f.name all f.body f.at f.site in
     let plan : List Made → BodyPlan = λ ms. models.all_to f.of ms f.site f.ids go in
-    moved fs c.for_block.new.frames.items (plan f.made) (go f.ids) w w c.for_block.new.typing left left c.in_ok-step-in-None.step
+    moved fs c.for_block.new.frames.items (plan f.made) (go f.ids) w w c.for_block.new.typing left left
+    c.in_ok-step-in-None.step
     (ap plan c.in-None.ensures) refl (c.in_ok-step-in-None.ensures.means left)
 
 pub returns-in_ok-step-in-Some-clause-means : goal.returns-in_ok-step-in-Some-clause-means
@@ -35,5 +36,6 @@ returns-in_ok-step-in-Some-clause-means c = λ left.
     let w2 = c.convert.new.typing in
     let step = c.in_ok-step-in-Some.step in
     moved fs fs2 (plan f.made) (plan (m ∷ rest)) w w w2 left left step (ap plan c.in-Some.ensures) refl
-    (behind_doing_convert fs c.push.new.self.items fs2 (of_doing.Counted (record f { made = rest })) Implicit m f.of f.site w w2 left left
+    (behind_doing_convert fs c.push.new.self.items fs2 (of_doing.Counted (record f { made = rest })) Implicit m f.of
+    f.site w w2 left left
     step c.in_ok-push-in-Some.ensures.items (c.in_ok-step-in-Some.ensures.means left))

@@ -1,4 +1,4 @@
-use Rattle.std.proofs.Common.{◌≡◌, ℕ, ◌+◌, List, [], ◌∷◌, ◌++◌, length, refl, sym, ap, ◌∙◌}
+use Rattle.std.proofs.Common.{ℕ, ◌+◌, [], ◌∷◌, ◌++◌, length, sym, ap, ◌∙◌}
 use Rattle.terra_term.specs.declared.lists.TypedName.{TypedName}
 use Rattle.terra_term.specs.declared.typed.TypedStatement.TheVariants as ts
 use Rattle.check_model.specs.declared.site.Site.{Site}
@@ -18,11 +18,14 @@ returns-clause-means c = λ left.
     let w = a.typing.now in
     let n = c.count-count.result in
     let v : TypedName = record { symbol = f.name.symbol; of = f.of } in
-    let plan : Site → ℕ → ℕ → BodyPlan = λ site inner outer. expressions.statements f.body site [] (λ stats result.
+    let plan : Site → ℕ → ℕ → BodyPlan = λ site inner outer. expressions.statements f.body site []
+    (λ stats result.
     leaving inner (leaving outer (states f.at (ts.For v f.ids stats) result))) in
     let size = length w.variables in
-    moved a.frames.now.items c.block.new.frames.items (plan (models.in_loop f.site) (length (w.variables ++ v ∷ [])) size)
-    (plan c.in_loop.result (n + 1) n) (with_variable w v.symbol v.of) c.declare.new.self c.block.new.typing left left c.in_ok-step.step
+    moved a.frames.now.items c.block.new.frames.items (plan (models.in_loop f.site) (length (w.variables ++ v ∷ []))
+    size)
+    (plan c.in_loop.result (n + 1) n) (with_variable w v.symbol v.of) c.declare.new.self c.block.new.typing left left
+    c.in_ok-step.step
     (ap (λ (site : Site). plan site (length (w.variables ++ v ∷ [])) size) (sym c.in_loop.ensures)
     ∙ ap (λ (inner : ℕ). plan c.in_loop.result inner size) (length_push w.variables v)
     ∙ ap (λ (k : ℕ). plan c.in_loop.result (k + 1) k) (sym c.count-count.ensures))
@@ -31,5 +34,6 @@ returns-clause-means c = λ left.
 pub returns-clause-kept : goal.returns-clause-kept
 returns-clause-kept c =
     let a = c.args in
-    kept_from (with_variable a.typing.now a.frame.name.symbol a.frame.of) c.declare.new.self c.block.new.typing c.in_ok-declare.ensures
+    kept_from (with_variable a.typing.now a.frame.name.symbol a.frame.of) c.declare.new.self c.block.new.typing
+    c.in_ok-declare.ensures
     c.in_ok-step.ensures.kept

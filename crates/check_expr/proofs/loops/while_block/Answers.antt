@@ -25,7 +25,10 @@ returns-clause-means c = λ left.
     expressions.statements a.body site [] (λ ids last. leaving count (states a.at (ts.While m.id ids) last)) in
     let first = plan (models.in_loop a.site) (length w.variables) in
     let is : same_type m.of boolean ≡ true = first_of (search rules, grind (arith, nat_tests)) in
-    as_bool fs fs2 m a.site first w w2 left left step is
+    as_bool fs fs2 m a.site (models.block a.body (models.in_loop a.site)
+    (λ ids last. states a.at (ts.While m.id ids) last)) w w2 left left step
+    is
     (moved fs fs2 first (plan c.in_loop.result n) w w w2 left left step
-    (ap (plan (models.in_loop a.site)) (sym c.count.ensures) ∙ ap (λ (site : Site). plan site n) (sym c.in_loop.ensures)) refl
+    (ap (plan (models.in_loop a.site)) (sym c.count.ensures) ∙ ap (λ (site : Site). plan site n)
+    (sym c.in_loop.ensures)) refl
     (c.in_ok-step.ensures.means left))

@@ -20,6 +20,3 @@ returns-in_default c =
           (returned fs a.end w a.budget.now);
       kept = keeps_itself w;
     }
-
-pub returns-in_ok-step-in-Made-clause-means : goal.returns-in_ok-step-in-Made-clause-means
-returns-in_ok-step-in-Made-clause-means c = rw c.in-Made.is c.in_ok-step-in-Made.ensures.means

@@ -1,8 +1,7 @@
 use Rattle.check_model.specs.declared.job.BodyJob.TheVariants as jobs
-use Rattle.check_model.specs.declared.end.PartEnd.TheVariants as ends
 use Rattle.check_expr.specs.declared.frame.BodyFrame.TheVariants as frames
 use Rattle.check_expr.specs.declared.frame.MadeFrame.TheVariants as of_made
-use Rattle.check_expr.proofs.Doing.{enters, returns as returned}
+use Rattle.check_expr.proofs.Doing.{enters}
 use Rattle.check_expr.proofs.machine.with_made.Goals as goal
 
 pub returns-in-Left-clause-means : goal.returns-in-Left-clause-means
@@ -20,11 +19,7 @@ returns-in-Object-clause-means c =
     (jobs.Expression m.key m.node.site) a.typing.now a.budget.now c.in_ok-push-in-Object.ensures.items)
 
 pub returns-in-Callee-clause-means : goal.returns-in-Callee-clause-means
-returns-in-Callee-clause-means c = rw c.in-Callee.is (c.call_value.ensures.means c.in-Callee.field-0 c.in-Callee.field-2 c.args.budget.now
-    c.args.frames.now.items)
-
-pub returns-in-Recast-clause-means : goal.returns-in-Recast-clause-means
-returns-in-Recast-clause-means c =
+returns-in-Callee-clause-means c =
     let a = c.args in
-    let m = c.in-Recast in
-    rw m.is (returned a.frames.now.items (ends.Made (record a.made { source = m.source })) a.typing.now a.budget.now)
+    let m = c.in-Callee in
+    rw m.is (c.call_value.ensures.means m.field-0 m.field-2 a.budget.now a.frames.now.items)

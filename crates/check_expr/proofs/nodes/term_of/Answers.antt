@@ -5,4 +5,5 @@ use Rattle.check_expr.proofs.nodes.term_of.Goals as goal
 
 pub returns-clause-kept : goal.returns-clause-kept
 returns-clause-kept c =
-    stage_kept c.args.typing.now (the_view c.typing.inside) _ c.typing.view_is (rw c.in_ok-became.ensures.ok (keeps_became _ _ _))
+    stage_kept c.args.typing.now (the_view c.typing.inside) _ c.typing.view_is
+    (rw c.in_ok-became.ensures.ok (keeps_became _ _ _))

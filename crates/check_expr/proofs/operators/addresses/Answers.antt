@@ -21,13 +21,16 @@ returns-clause-means c = λ units fs.
     let last : Made → Made → BodyPlan = λ l r. models.same_pointers a.op l r n.at n.source n.site in
     retyped_goes fs fs w.stage c.is_nil-first_is_nil.result a.left a.right x (λ l. models.retyped w.stage a.right l
     (last l)) w v w2 units units step
-    (c.is_nil-first_is_nil.ensures ∙ ap (λ (t : TypingState). is_nil_made t.stage a.left) c.typing.view_is) c.in_ok-left.ensures.made
+    (c.is_nil-first_is_nil.ensures ∙ ap (λ (t : TypingState). is_nil_made t.stage a.left) c.typing.view_is)
+    c.in_ok-left.ensures.made
     c.in_ok-left.ensures.ok
     (retyped_goes fs fs w.stage c.is_nil-second_is_nil.result a.right x y (last x) v u w2 units units step
-    (c.is_nil-second_is_nil.ensures ∙ ap (λ (t : TypingState). is_nil_made t.stage a.right) c.typing.view_is) c.in_ok-right.ensures.made
+    (c.is_nil-second_is_nil.ensures ∙ ap (λ (t : TypingState). is_nil_made t.stage a.right) c.typing.view_is)
+    c.in_ok-right.ensures.made
     c.in_ok-right.ensures.ok (c.in_ok-step.ensures.means units fs))
 
 pub returns-clause-kept : goal.returns-clause-kept
 returns-clause-kept c =
     keeps_then c.args.typing.now c.retyped.new.typing c.same_pointers.new.typing c.in_ok-left.ensures.kept
-    (keeps_then c.retyped.new.typing c.retyped-2.new.typing c.same_pointers.new.typing c.in_ok-right.ensures.kept c.in_ok-step.ensures.kept)
+    (keeps_then c.retyped.new.typing c.retyped-2.new.typing c.same_pointers.new.typing c.in_ok-right.ensures.kept
+    c.in_ok-step.ensures.kept)

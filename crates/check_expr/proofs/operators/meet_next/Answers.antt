@@ -8,4 +8,5 @@ returns-clause-means c = λ left.
     let a = c.args in
     behind_convert a.frames.now.items c.push.new.self.items c.convert.new.frames.items (of_made.MeetRight a.frame
     a.left) Implicit a.right a.frame.meet a.frame.node.site
-    a.typing.now c.convert.new.typing left left c.in_ok-step.step c.in_ok-push.ensures.items (c.in_ok-step.ensures.means left)
+    a.typing.now c.convert.new.typing left left c.in_ok-step.step c.in_ok-push.ensures.items
+    (c.in_ok-step.ensures.means left)

@@ -1,6 +1,5 @@
-use Rattle.std.proofs.Common.{◌≡◌, Option, Some, None, refl, ap}
+use Rattle.std.proofs.Common.{Option, refl, ap}
 use Rattle.tl_base.specs.declared.ids.TypeId.{TypeId}
-use Rattle.terra_term.specs.declared.typed.TypedStatement.TheVariants as ts
 use Rattle.check_model.specs.declared.rule.Mode.TheVariants.{Implicit}
 use Rattle.check_model.specs.Converting.{convert}
 use Rattle.check_model.specs.Plans.{as_value}
@@ -38,5 +37,6 @@ returns-in_ok-step-in-Some-clause-means c = λ left.
     moved fs fs2 (models.return_value a.site.result m a.at a.site)
     (convert Implicit m s.of a.site (λ r. waiting.with_doing (of_doing.Returned s.of a.at) r)) w w w2 left left step
     (ap (λ (o : Option TypeId). models.return_value o m a.at a.site) s.is) refl
-    (behind_doing_convert fs c.push-in-Some.new.self.items fs2 (of_doing.Returned s.of a.at) Implicit m s.of a.site w w2 left left step
+    (behind_doing_convert fs c.push-in-Some.new.self.items fs2 (of_doing.Returned s.of a.at) Implicit m s.of a.site w w2
+    left left step
     c.in_ok-push-in-Some.ensures.items (c.in_ok-step-in-Some.ensures.means left))

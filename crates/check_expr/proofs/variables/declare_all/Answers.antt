@@ -1,5 +1,4 @@
-use Rattle.std.proofs.Common.{◌≡◌, ◌+◌, ◌-◌, List, [], ◌++◌, ◌∷◌, drop, sym, ap, ◌∙◌}
-use Rattle.terra_term.specs.declared.lists.TypedName.{TypedName}
+use Rattle.std.proofs.Common.{◌+◌, drop, sym, ap, ◌∙◌}
 use Rattle.check_model.specs.Typing.{TypingState, with_variables}
 use Rattle.check_expr.proofs.Declaring.{names_more, names_end}
 use Rattle.check_expr.proofs.variables.declare_all.Goals as goal

@@ -1,4 +1,4 @@
-use Rattle.std.proofs.Common.{◌≡◌, ◌+◌, ◌-◌, drop}
+use Rattle.std.proofs.Common.{◌≡◌, drop}
 use Rattle.check_model.specs.Typing.{with_variables}
 use Rattle.check_expr.proofs.variables.declare_all.Given as goal
 

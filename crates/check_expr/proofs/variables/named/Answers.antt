@@ -1,9 +1,9 @@
-use Rattle.std.proofs.Common.{◌≡◌, List, refl, sym, ap, ◌∙◌}
+use Rattle.std.proofs.Common.{List, sym, ap, ◌∙◌}
 use Rattle.tl_base.specs.declared.ids.TermId.{TermId}
 use Rattle.terra_term.specs.declared.lists.TypedName.{TypedName}
 use Rattle.terra_term.specs.declared.typed.TypedStatement.TheVariants as ts
 use Rattle.check_model.specs.Plans.{BodyPlan, states}
-use Rattle.check_model.specs.Typing.{TypingState, with_variables}
+use Rattle.check_model.specs.Typing.{with_variables}
 use Rattle.check_expr.proofs.Doing.{moved}
 use Rattle.check_expr.proofs.Keeping.{kept_from}
 use Rattle.check_expr.proofs.variables.named.Goals as goal

@@ -1,4 +1,4 @@
-use Rattle.std.proofs.Common.{◌≡◌, false, Option, Some, None, [], ◌∷◌, ◌++◌, refl, sym, ap, ◌∙◌}
+use Rattle.std.proofs.Common.{false, Option, None, [], ◌∷◌, ◌++◌, refl, sym, ap, ◌∙◌}
 use Rattle.tl_base.specs.declared.ids.TypeId.{TypeId}
 use Rattle.terra_term.specs.declared.refusal.RefusalKind.TheVariants.{Mismatch}
 use Rattle.check_model.specs.declared.made.Made.{Made}

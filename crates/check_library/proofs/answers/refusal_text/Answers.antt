@@ -5,8 +5,10 @@ use Rattle.check_library.proofs.answers.refusal_text.Goals as goal
 
 pub returns-clause-text : goal.returns-clause-text
 returns-clause-text c =
+    let a = c.args in
     c.in_ok-format.ensures.ok
-    ∙ ap (λ (n : List ℕ). codes "refused: " ++ (n ++ (codes " at " ++ (decimal c.args.line ++ (codes ":" ++ decimal c.args.word))))) c.kind_name-name.ensures
+    ∙ ap (λ (n : List ℕ). codes "refused: " ++ (n ++ (codes " at " ++ (decimal a.line ++ (codes ":" ++ decimal a.word)))))
+    c.kind_name-name.ensures
 
 pub returns-clause-short : goal.returns-clause-short
 returns-clause-short c =

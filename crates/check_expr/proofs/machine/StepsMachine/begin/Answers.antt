@@ -7,12 +7,6 @@ use Rattle.check_expr.specs.Frames.{after}
 use Rattle.check_expr.proofs.Doing.{jobs, below}
 use Rattle.check_expr.proofs.machine.StepsMachine.begin.Goals as goal
 
-pub returns-in_ok-step-in-Expression-clause-means : goal.returns-in_ok-step-in-Expression-clause-means
-returns-in_ok-step-in-Expression-clause-means c = rw c.in-Expression.is c.in_ok-step-in-Expression.ensures.means
-
-pub returns-in_ok-step-in-Statement-clause-means : goal.returns-in_ok-step-in-Statement-clause-means
-returns-in_ok-step-in-Statement-clause-means c = rw c.in-Statement.is c.in_ok-step-in-Statement.ensures.means
-
 -- what is called is typed below the frame that waits for it
 pub returns-in_ok-step-in-Callee-clause-means : goal.returns-in_ok-step-in-Callee-clause-means
 returns-in_ok-step-in-Callee-clause-means c =
@@ -20,6 +14,9 @@ returns-in_ok-step-in-Callee-clause-means c =
     let m = c.in-Callee in
     let f = frames.Made (of_made.Callee m.operands m.at m.source m.site) in
     let q = expression_job m.term m.site in
-    rw m.is (below a.frames.now.items c.push.new.self.items c.expression-in-Callee.new.frames.items f (then_on q (λ r. after f r)) q
-    a.world.now c.expression-in-Callee.new.typing a.budget.now c.expression-in-Callee.new.budget c.in_ok-step-in-Callee.step
-    (λ s later. run_then_on jobs q (λ r. after f r) s later) c.in_ok-push-in-Callee.ensures.items c.in_ok-step-in-Callee.ensures.means)
+    rw m.is (below a.frames.now.items c.push.new.self.items c.expression-in-Callee.new.frames.items f
+    (then_on q (λ r. after f r)) q
+    a.world.now c.expression-in-Callee.new.typing a.budget.now c.expression-in-Callee.new.budget
+    c.in_ok-step-in-Callee.step
+    (λ s later. run_then_on jobs q (λ r. after f r) s later) c.in_ok-push-in-Callee.ensures.items
+    c.in_ok-step-in-Callee.ensures.means)

@@ -1,0 +1,33 @@
+//! Stages the sources of standard input with checks, by `check_stage`, and writes what each prints, what the checks of its functions came
+//! to, how it ends and the units that are left.
+//!
+//! A row is a line `== UNITS NAME` and the lines of its source. In a source, a line `%% COUNT PIECE` stands for the piece so many times,
+//! without a line end.
+#![tactic(auto)]
+
+mod answers;
+mod rows;
+
+use answers::answer;
+use rows::Row;
+use std::io::Write;
+
+fn main(rt: HostRuntime) -> anyhow::Result<()> {
+    let alloc = rt.alloc();
+    let mut last = None;
+    for line in rt.lines(alloc) {
+        let line = line?;
+        if let Some(head) = line.as_str().strip_prefix("== ") {
+            if let Some(row) = &last {
+                rt.stdout().write_all(answer(alloc, row)?.bytes())?;
+            }
+            last = Some(Row::new(alloc, head)?);
+        } else if let Some(row) = &mut last {
+            row.push_line(line.as_str())?;
+        }
+    }
+    if let Some(row) = &last {
+        rt.stdout().write_all(answer(alloc, row)?.bytes())?;
+    }
+    Ok(())
+}

@@ -1,0 +1,5 @@
+pub mod Answering
+pub mod Checking
+pub mod Keeping
+pub mod Outcomes
+pub mod Showing
