@@ -1,6 +1,6 @@
 -- No job that is done ends as a refusal of the words, or as a read that failed.
-use Rattle.std.proofs.Common.{◌≡◌, ◌≢◌, ℕ, Bool, true, false, cond, List, [], Option, Some, None, refl, sym, ap, subst, ◌∙◌}
-use Rattle.std.specs.Prelude.{codes, IsSome}
+use Rattle.std.proofs.Common.{◌≡◌, ◌≢◌, ℕ, Bool, true, false, cond, List, Option, Some, None, refl, sym, ap, ◌∙◌}
+use Rattle.std.specs.Prelude.{IsSome}
 use Rattle.std.specs.Str.{bytes_eq}
 use Rattle.elf_image.specs.declared.image.Image.{Image}
 use Rattle.elf_image.specs.declared.image.Symbol.{Symbol}
@@ -15,7 +15,7 @@ use Rattle.terrac_call.specs.declared.status.Status.{Status}
 use Rattle.terrac_call.specs.declared.status.Status.TheVariants as statuses
 use Rattle.terrac_call.specs.Words.{Call, Limits, Job, Run, Exec, Check, Terms}
 use Rattle.terrac_call.specs.Arguments.{Arguments, Good, Bad, arguments_of}
-use Rattle.terrac_call.specs.Due.{Due, after, Reading, IsRefused, IsTree, int64, refused, due_of_arguments, due_of_no_entry, due_of_function, due_of_call}
+use Rattle.terrac_call.specs.Due.{Due, Reading, IsRefused, IsTree, refused, due_of_arguments, due_of_no_entry, due_of_function, due_of_call}
 use Rattle.terrac_call.specs.Exec.{due_of_stop, IsRunDue, IsCallDue, IsExecDue, IsLong, IsBad, IsImage}
 use Rattle.terrac_call.specs.Staged.{due_of_end}
 use Rattle.terrac_call.specs.Check as checks
