@@ -71,9 +71,9 @@ pub fn stage_terms(
 
 /// What is written of an outcome with checks.
 fn checks_of(outcome: Outcome) -> Result<Checks, NoMemory>
-    ensures printed { IfOk result (λ it. it.printed ≡ outcome.typing.now.stage.heap.printed) }
+    ensures printed { IfOk result (λ it. it.printed ≡ outcome.typing.stage.heap.printed) }
     ensures end { IfOk result (λ it. it.end ≡ outcome.end) }
-    ensures lines { IfOk result (λ it. it.lines ≡ checks_text outcome.typing.now.stage outcome.checks.items) }
+    ensures lines { IfOk result (λ it. it.lines ≡ checks_text outcome.typing.stage outcome.checks.items) }
 {
     let printed = printed_by(&outcome.typing.world)?;
     let lines = check_lines(&outcome.typing.world, &outcome.checks)?;
@@ -86,10 +86,10 @@ fn checks_of(outcome: Outcome) -> Result<Checks, NoMemory>
 
 /// What is written of an outcome with exports.
 fn terms_of(outcome: Outcome) -> Result<Terms, NoMemory>
-    ensures printed { IfOk result (λ it. it.printed ≡ outcome.typing.now.stage.heap.printed) }
+    ensures printed { IfOk result (λ it. it.printed ≡ outcome.typing.stage.heap.printed) }
     ensures end { IfOk result (λ it. it.end ≡ outcome.end) }
     ensures lines { IfOk result (λ it. it.lines
-        ≡ terms_text outcome.typing.now.stage.store outcome.typing.now.stage.exports.list) }
+        ≡ terms_text outcome.typing.stage.store outcome.typing.stage.exports.list) }
 {
     let printed = printed_by(&outcome.typing.world)?;
     let lines = export_lines(&outcome.typing.world)?;
