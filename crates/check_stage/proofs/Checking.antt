@@ -36,6 +36,22 @@ after-more None o' go go' f g out is = cc
 after-more (Some (Finished e s)) o' go go' f g out is = rw (f (Finished e s) refl) (g e s out is)
 after-more (Some (Exhausted s)) o' go go' f g out is = rw (f (Exhausted s) refl) is
 
+-- what follows a check
+abbrev following : Items → ℕ → ℕ → List CheckLine → JobEnd → State TypingState → Option (Final TypingState Checked)
+following items n i lines end next = checks items n (i + 1) (lines ++ line_of (record { 0 = i }) end ∷ []) next
+
+-- one function is checked, and the next ones follow
+abbrev checked : Items → ℕ → ℕ → List CheckLine → State TypingState → Option (Final TypingState Checked)
+checked items n i lines s = after_check (staged (check_stage items) n (jobs.Check (record { 0 = i })) s) (following items n i lines)
+
+-- the same unless it isn't defined
+abbrev one : Items → ℕ → ℕ → List CheckLine → State TypingState → Option (Final TypingState Checked)
+one items n i lines s =
+    if is_undefined s.world.stage (record { 0 = i }) then checks items n (i + 1) lines s else checked items n i lines s
+
+abbrev done : List CheckLine → State TypingState → Option (Final TypingState Checked)
+done lines s = Some (Finished (checked_with (ends.Values []) lines) s)
+
 -- what the checks come to from a number on, they come to at each larger n
 pub checks-more : (items : Items) (n m i : ℕ) (lines : List CheckLine) (s : State TypingState) (out : Final TypingState Checked)
     → checks items n i lines s ≡ Some out → n ≤ m → checks items m i lines s ≡ Some out
@@ -44,24 +60,26 @@ checks-more items zero m i lines s out is more = cc
 checks-more items (suc n) zero i lines s out is more = absurd (omega arith)
 checks-more items (suc n) (suc m) i lines s out is more =
     let job = jobs.Check (record { 0 = i }) in
-    let go : ℕ → JobEnd → State TypingState → Option (Final TypingState Checked) =
-    λ k end next. checks items k (i + 1) (lines ++ line_of (record { 0 = i }) end ∷ []) next in
     let left : n ≤ m = omega arith in
-    choose-more (nat_lt i (length s.world.stage.store.functions))
-    (if is_undefined s.world.stage (record { 0 = i }) then checks items n (i + 1) lines s
-    else after_check (staged (check_stage items) n job s) (go n))
-    (if is_undefined s.world.stage (record { 0 = i }) then checks items m (i + 1) lines s
-    else after_check (staged (check_stage items) m job s) (go m))
-    (Some (Finished (checked_with (ends.Values []) lines) s)) (Some (Finished (checked_with (ends.Values []) lines) s)) out
+    choose-more (nat_lt i (length s.world.stage.store.functions)) (one items n i lines s) (one items m i lines s) (done lines s) (done lines s)
+    out
     (choose-more (is_undefined s.world.stage (record { 0 = i })) (checks items n (i + 1) lines s) (checks items m (i + 1) lines s)
-    (after_check (staged (check_stage items) n job s) (go n)) (after_check (staged (check_stage items) m job s) (go m)) out
+    (checked items n i lines s) (checked items m i lines s) out
     (λ k. checks-more items n m (i + 1) lines s out k left)
-    (after-more (staged (check_stage items) n job s) (staged (check_stage items) m job s) (go n) (go m)
-    (λ o k. staged-more items n m job s o k left)
+    (after-more (staged (check_stage items) n job s) (staged (check_stage items) m job s) (following items n i lines)
+    (following items m i lines) (λ o k. staged-more items n m job s o k left)
     (λ e next o k. checks-more items n m (i + 1) (lines ++ line_of (record { 0 = i }) e ∷ []) next o k left) out))
     (λ k. k) is
 
 -- ---- one function
+
+if_true : {A : Type 0} (b : Bool) (x y : A) → b ≡ true → (if b then x else y) ≡ x
+if_true true x y h = refl
+if_true false x y h = cc
+
+if_false : {A : Type 0} (b : Bool) (x y : A) → b ≡ false → (if b then x else y) ≡ y
+if_false true x y h = cc
+if_false false x y h = refl
 
 -- what the checks from a number on come to at some n
 pub record ChecksTo (items : Items) (i : ℕ) (lines : List CheckLine) (s : State TypingState) (out : Final TypingState Checked) : Type 0 where
@@ -73,14 +91,23 @@ pub checks_done : (items : Items) (i : ℕ) (lines : List CheckLine) (s : State 
     → nat_lt i (length s.world.stage.store.functions) ≡ false
     → ChecksTo items i lines s (Finished (checked_with (ends.Values []) lines) s)
 unfolding checks
-checks_done items i lines s past = record { n = 1; at_n = rw past refl }
+checks_done items i lines s past = record {
+  n = 1;
+  at_n = if_false (nat_lt i (length s.world.stage.store.functions)) (one items 0 i lines s) (done lines s) past;
+}
 
 -- a function that isn't defined is passed over
 pub checks_passed : (items : Items) (i : ℕ) (lines : List CheckLine) (s : State TypingState) (out : Final TypingState Checked)
     → nat_lt i (length s.world.stage.store.functions) ≡ true → is_undefined s.world.stage (record { 0 = i }) ≡ true
     → ChecksTo items (i + 1) lines s out → ChecksTo items i lines s out
 unfolding checks
-checks_passed items i lines s out within undefined rest = record { n = suc rest.n; at_n = rw within (rw undefined rest.at_n) }
+checks_passed items i lines s out within undefined rest = record {
+  n = suc rest.n;
+  at_n =
+      if_true (nat_lt i (length s.world.stage.store.functions)) (one items rest.n i lines s) (done lines s) within
+      ∙ if_true (is_undefined s.world.stage (record { 0 = i })) (checks items rest.n (i + 1) lines s) (checked items rest.n i lines s) undefined
+      ∙ rest.at_n;
+}
 
 -- one that is defined is checked, and the next ones follow
 pub checks_checked : (items : Items) (i k : ℕ) (lines : List CheckLine) (s next : State TypingState) (end : JobEnd)
@@ -95,8 +122,11 @@ checks_checked items i k lines s next end out within defined check rest =
     record {
       n = suc n;
       at_n =
-          rw within (rw defined (rw (staged-more items k n job s (Finished end next) check (omega arith))
-          (checks-more items rest.n n (i + 1) (lines ++ line_of (record { 0 = i }) end ∷ []) next out rest.at_n (omega arith))));
+          if_true (nat_lt i (length s.world.stage.store.functions)) (one items n i lines s) (done lines s) within
+          ∙ if_false (is_undefined s.world.stage (record { 0 = i })) (checks items n (i + 1) lines s) (checked items n i lines s) defined
+          ∙ ap (λ (o : Option (Final TypingState JobEnd)). after_check o (following items n i lines))
+          (staged-more items k n job s (Finished end next) check (omega arith))
+          ∙ checks-more items rest.n n (i + 1) (lines ++ line_of (record { 0 = i }) end ∷ []) next out rest.at_n (omega arith);
     }
 
 -- or units lack
@@ -105,4 +135,10 @@ pub checks_spent : (items : Items) (i k : ℕ) (lines : List CheckLine) (s next 
     → staged (check_stage items) k (jobs.Check (record { 0 = i })) s ≡ Some (Exhausted next)
     → ChecksTo items i lines s (Exhausted next)
 unfolding checks
-checks_spent items i k lines s next within defined check = record { n = suc k; at_n = rw within (rw defined (rw check refl)) }
+checks_spent items i k lines s next within defined check = record {
+  n = suc k;
+  at_n =
+      if_true (nat_lt i (length s.world.stage.store.functions)) (one items k i lines s) (done lines s) within
+      ∙ if_false (is_undefined s.world.stage (record { 0 = i })) (checks items k (i + 1) lines s) (checked items k i lines s) defined
+      ∙ ap (λ (o : Option (Final TypingState JobEnd)). after_check o (following items k i lines)) check;
+}

@@ -1,5 +1,5 @@
 -- Outcomes of stagings with checks.
-use Rattle.std.proofs.Common.{◌≡◌, ℕ, ◌+◌, ◌≤◌, List, [], Option, Some, None, refl, ap, ◌∙◌, arith}
+use Rattle.std.proofs.Common.{◌≡◌, ℕ, ◌+◌, ◌≤◌, true, false, List, [], Option, Some, None, refl, ap, ◌∙◌, arith}
 use Rattle.tl_base.specs.declared.place.Place.{Place}
 use Rattle.tl_base.specs.Layer.{State, state}
 use Rattle.stage_form.specs.declared.staging.Outcome.{Outcome as Staging}
@@ -16,7 +16,7 @@ use Rattle.check_stage.specs.declared.staging.Mode.{Mode}
 use Rattle.check_stage.specs.declared.staging.Mode.TheVariants.{Exports, CheckAll}
 use Rattle.check_stage.specs.Layers.{check_stage}
 use Rattle.check_stage.specs.Staging.{Checked, checked_with, checked_final, after_check, exported, by_mode, checks}
-use Rattle.check_stage.specs.Staging.{Ending, ending, ending_of, ending_if_any, end_in, lines_in}
+use Rattle.check_stage.specs.Staging.{Ending, ending, ending_of, ending_if_any, end_in, gave_values, lines_in}
 use Rattle.check_stage.proofs.Checking.{staged-more, after-more, checks-more}
 
 -- ---- at a larger n
@@ -59,12 +59,6 @@ pub ending_by : (ended : Staging JobEnd) (lines : List CheckLine) (w : TypingSta
 ending_by (stagings.Ends e) lines w left = refl
 ending_by stagings.Spent lines w left = refl
 
--- exports are all that is said of them
-pub exports_final : (it : Staging JobEnd) (s : State TypingState)
-    → after_check (Some (final_of it s)) (λ e last. Some (Finished (checked_with e []) last)) ≡ Some (checked_final [] (final_of it s))
-exports_final (stagings.Ends e) s = refl
-exports_final stagings.Spent s = refl
-
 -- ---- the chunk, and what goes on behind it
 
 pub joined : (items : Items) (place : Place) (mode : Mode) (n m : ℕ) (job : Job) (s : State TypingState)
@@ -76,3 +70,52 @@ joined items place mode n m job s chunk final ran ended =
     (staged-more items n (n + m) job s chunk ran (omega arith))
     ∙ ap ending_if_any (after-more (Some chunk) (Some chunk) (by_mode mode items m place) (by_mode mode items (n + m) place)
     (λ o k. k) (λ e next o k. by_mode-more mode items m (n + m) place e next o k (omega arith)) final ended)
+
+-- a chunk that ended otherwise is all that there is
+pub stays : (mode : Mode) (items : Items) (place : Place) (chunk : Staging JobEnd) (s : State TypingState) → gave_values chunk ≡ false
+    → after_check (Some (final_of chunk s)) (by_mode mode items 0 place) ≡ Some (checked_final [] (final_of chunk s))
+stays Exports items place (stagings.Ends (ends.Values vs)) s no = cc
+stays CheckAll items place (stagings.Ends (ends.Values vs)) s no = cc
+stays Exports items place (stagings.Ends (ends.Raised v at)) s no = refl
+stays Exports items place (stagings.Ends (ends.Result t)) s no = refl
+stays Exports items place (stagings.Ends (ends.Refused why)) s no = refl
+stays Exports items place (stagings.Ends ends.Done) s no = refl
+stays Exports items place (stagings.Ends (ends.NoLayout kind)) s no = refl
+stays CheckAll items place (stagings.Ends (ends.Raised v at)) s no = refl
+stays CheckAll items place (stagings.Ends (ends.Result t)) s no = refl
+stays CheckAll items place (stagings.Ends (ends.Refused why)) s no = refl
+stays CheckAll items place (stagings.Ends ends.Done) s no = refl
+stays CheckAll items place (stagings.Ends (ends.NoLayout kind)) s no = refl
+stays mode items place stagings.Spent s no = refl
+
+-- exports are all that is said of them
+exports_final : (it : Staging JobEnd) (s : State TypingState)
+    → after_check (Some (final_of it s)) (λ e last. Some (Finished (checked_with e []) last)) ≡ Some (checked_final [] (final_of it s))
+exports_final (stagings.Ends e) s = refl
+exports_final stagings.Spent s = refl
+
+-- behind another one come its exports
+pub exports_behind : (items : Items) (n : ℕ) (place : Place) (chunk : Staging JobEnd) (s : State TypingState) (it : Staging JobEnd)
+    (t : State TypingState) → gave_values chunk ≡ true → staged (check_stage items) n (jobs.Export place) s ≡ Some (final_of it t)
+    → after_check (Some (final_of chunk s)) (by_mode Exports items n place) ≡ Some (checked_final [] (final_of it t))
+exports_behind items n place (stagings.Ends (ends.Values vs)) s it t yes ran =
+    let go : JobEnd → State TypingState → Option (Final TypingState Checked) = λ e last. Some (Finished (checked_with e []) last) in
+    ap (λ (o : Option (Final TypingState JobEnd)). after_check o go) ran ∙ exports_final it t
+exports_behind items n place (stagings.Ends (ends.Raised v at)) s it t yes ran = cc
+exports_behind items n place (stagings.Ends (ends.Result t)) s it t yes ran = cc
+exports_behind items n place (stagings.Ends (ends.Refused why)) s it t yes ran = cc
+exports_behind items n place (stagings.Ends ends.Done) s it t yes ran = cc
+exports_behind items n place (stagings.Ends (ends.NoLayout kind)) s it t yes ran = cc
+exports_behind items n place stagings.Spent s it t yes ran = cc
+
+-- or the checks
+pub checks_behind : (items : Items) (n : ℕ) (place : Place) (chunk : Staging JobEnd) (s : State TypingState)
+    (out : Final TypingState Checked) → gave_values chunk ≡ true → checks items n 0 [] s ≡ Some out
+    → after_check (Some (final_of chunk s)) (by_mode CheckAll items n place) ≡ Some out
+checks_behind items n place (stagings.Ends (ends.Values vs)) s out yes is = is
+checks_behind items n place (stagings.Ends (ends.Raised v at)) s out yes is = cc
+checks_behind items n place (stagings.Ends (ends.Result t)) s out yes is = cc
+checks_behind items n place (stagings.Ends (ends.Refused why)) s out yes is = cc
+checks_behind items n place (stagings.Ends ends.Done) s out yes is = cc
+checks_behind items n place (stagings.Ends (ends.NoLayout kind)) s out yes is = cc
+checks_behind items n place stagings.Spent s out yes is = cc

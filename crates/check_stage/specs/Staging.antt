@@ -1,5 +1,5 @@
 -- The outcome of a source's staging with checks: what it printed, and how it ended, with the lines of the checks that were asked for.
-use Rattle.std.specs.Prelude.{ℕ, zero, suc, ◌+◌, nat_lt, if◌then◌else◌, List, [], ◌∷◌, ◌++◌, length, Option, Some, None}
+use Rattle.std.specs.Prelude.{ℕ, zero, suc, ◌+◌, Bool, true, false, nat_lt, if◌then◌else◌, List, [], ◌∷◌, ◌++◌, length, Option, Some, None}
 use Rattle.tl_base.specs.declared.ids.FnId.{FnId}
 use Rattle.tl_base.specs.declared.place.Place.{Place}
 use Rattle.tl_base.specs.Layer.{State, state}
@@ -25,6 +25,11 @@ use Rattle.check_stage.specs.declared.staging.Mode.TheVariants.{Exports, CheckAl
 use Rattle.check_stage.specs.Layers.{check_stage}
 
 -- ---- the end of the chunk
+
+-- whether a chunk ended without an error
+abbrev pub gave_values : Staging JobEnd → Bool
+gave_values (stagings.Ends (ends.Values vs)) = true
+gave_values _ = false
 
 -- a chunk that ended without an error makes its exports, at the place of the end of the text
 abbrev pub exported : Items → ℕ → Place → JobEnd → State TypingState → Option (Final TypingState JobEnd)

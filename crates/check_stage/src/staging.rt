@@ -1,6 +1,6 @@
 // The staging of a source with checks, and its outcome.
 
-ghost use Rattle.std.specs.Prelude.{ℕ, ◌≡◌, ◌≤◌, [], IfOk, OnOk, Some};
+ghost use Rattle.std.specs.Prelude.{ℕ, ◌≡◌, ◌≤◌, [], length, IfOk, OnOk, Some};
 ghost use Rattle.tl_base.specs.Layer.{state};
 ghost use Rattle.tl_base.specs.declared.place.Place.{Place as PlaceOf};
 ghost use Rattle.stage_form.specs.Stage.{final_of};
@@ -11,7 +11,7 @@ ghost use Rattle.check_model.specs.Typing.{TypingState};
 ghost use Rattle.check_stage.specs.declared.staging.Mode.{Mode as ModeOf};
 ghost use Rattle.check_stage.specs.Keeping.{KeepsChecking};
 ghost use Rattle.check_stage.specs.Staging.{Ending, ending, begun, after_check, by_mode, checks};
-ghost use Rattle.check_stage.specs.Staging.{checked_final, line_of, lines_in, end_in, outcome};
+ghost use Rattle.check_stage.specs.Staging.{checked_final, gave_values, line_of, lines_in, end_in, outcome};
 
 use crate::jobs::{Job, JobEnd};
 use crate::staged::CheckStage;
@@ -84,7 +84,7 @@ pub fn stage(
 ) -> Result<Outcome, NoMemory>
     requires { memory ≤ 67108864 }
     ensures means { IfOk result (λ it. (n : ℕ) × (outcome (items_of tree.now) (finish_of tree.now) mode n units memory
-        ≡ Some (ending it.end it.checks.items (state it.typing.now it.left)))) }
+        ≡ Some (ending it.end it.checks.items (state it.typing it.left)))) }
     ensures paid { IfOk result (λ it. it.left ≤ units) }
 {
     let slots = resolve(alloc, tree)?;
@@ -147,18 +147,28 @@ fn behind_chunk(
     ensures kept { OnOk result (KeepsChecking typing.old typing.new) }
     ensures paid { OnOk result (budget.new ≤ budget.old) }
 {
+    if !gave_values(&chunk) {
+        return Ok(chunk);
+    }
+    match mode {
+        Mode::Exports => {
+            let it = run(alloc, stages, Job::Export(place), typing, budget)?;
+            Ok(it)
+        }
+        Mode::CheckAll => {
+            let it = check_all(alloc, stages, typing, budget, lines)?;
+            Ok(it)
+        }
+    }
+}
+
+/// Whether a chunk ended without an error.
+fn gave_values(chunk: &Staging<JobEnd>) -> bool
+    ensures { result ≡ gave_values chunk.now }
+{
     match chunk {
-        Staging::Ends(JobEnd::Values(_values)) => match mode {
-            Mode::Exports => {
-                let it = run(alloc, stages, Job::Export(place), typing, budget)?;
-                Ok(it)
-            }
-            Mode::CheckAll => {
-                let it = check_all(alloc, stages, typing, budget, lines)?;
-                Ok(it)
-            }
-        },
-        chunk => Ok(chunk),
+        Staging::Ends(JobEnd::Values(_)) => true,
+        _ => false,
     }
 }
 
@@ -179,7 +189,7 @@ fn check_all(
 {
     for number in 0..u64::MAX {
         let f = FnId(number);
-        if number >= typing.world.store.function_count() {
+        if number >= count(typing) {
             return Ok(Staging::Ends(JobEnd::Values(Values::new(alloc))));
         }
         if is_undefined(typing, f) {
@@ -191,6 +201,13 @@ fn check_all(
         }
     }
     Err(NoMemory)
+}
+
+/// How many functions there are.
+fn count(typing: &Typing) -> u64
+    ensures { result ≡ length typing.now.stage.store.functions }
+{
+    typing.world.store.function_count()
 }
 
 /// Whether a function is not defined.
