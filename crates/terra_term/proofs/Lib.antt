@@ -7,3 +7,4 @@ pub mod Parts
 pub mod Staying
 mod Examples
 pub mod KeptSizes
+pub mod Waiting

@@ -9,6 +9,7 @@ mod heap_list;
 mod laws;
 pub mod lists;
 pub mod operators;
+mod pending;
 mod piece;
 mod pieces;
 pub mod refusal;

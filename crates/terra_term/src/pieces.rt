@@ -19,11 +19,16 @@ const CLOSE: Piece = Piece::Word(Word::Close);
 
 const SPACE: Piece = Piece::Word(Word::Space);
 
-/// These pieces.
+/// The pieces for which a list has room at first: as many as most nodes have, so that it seldom grows.
+const ROOM: usize = 16;
+
+/// These pieces, with room for more.
 fn list(alloc: Global, items: &[Piece]) -> Result<Vec<Piece>, NoMemory>
     ensures { IfOk result (λ v. v.items ≡ items.now) }
 {
-    Ok(items.to_vec(alloc)?)
+    let mut pieces = Vec::with_capacity(alloc, ROOM)?;
+    pieces.extend_from_slice(items)?;
+    Ok(pieces)
 }
 
 /// Puts parts behind pieces, each behind a space.

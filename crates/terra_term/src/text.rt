@@ -8,21 +8,19 @@ ghost use Rattle.std.specs.Option.{option_copied};
 ghost use Rattle.terra_types.specs.Sizes.{is_signed};
 ghost use Rattle.terra_term.specs.Pieces.{piece_text, text_in, statement_pieces};
 ghost use Rattle.terra_term.specs.TermText as texts;
-ghost use Rattle.terra_term.specs.TermText.{text_of, statement_text, type_text, number_digits, has_sign};
+ghost use Rattle.terra_term.specs.TermText.{text_of, statement_text, symbol_text, type_text, number_digits, has_sign};
 ghost use Rattle.terra_term.specs.Planted.{trees, term_at, statement_at};
 
-use crate::piece::{
-    Piece, Word, text_of_binary, text_of_integer, text_of_primitive, text_of_unary,
-};
+use crate::pending::Pending;
+use crate::piece::{Piece, text_of_binary, text_of_integer, text_of_primitive, text_of_unary};
 use crate::pieces::{
     pieces_of_definition, pieces_of_expression, pieces_of_statement, pieces_of_type,
 };
 use crate::store::Store;
-use crate::term::{Statement, Term};
-use std::alloc::Global;
-use std::collections::VecDeque;
+use crate::term::{Expression, Statement, Term};
+use itoa::Buffer;
 use terra_types::{Integer, TypeForm};
-use tl_base::{FnId, NoMemory, TermId, Text2, TypeId};
+use tl_base::{FnId, NoMemory, SymId, TermId, Text2, TypeId};
 
 /// The text of a function's term, as `terrac terms` writes it; nothing where the function isn't defined.
 pub fn term_text(store: &Store, f: FnId) -> Result<Text2, NoMemory>
@@ -55,11 +53,11 @@ fn write(store: &Store, pieces: Vec<Piece>) -> Result<Text2, NoMemory>
     ensures { IfOk result (λ text. text ≡ text_in store.now pieces.items) }
 {
     let mut out = Text2::new(store.allocator());
-    let mut work = VecDeque::new(store.allocator());
-    prepend(&mut work, pieces)?;
+    let mut work = Pending::new(store.allocator());
+    work.prepend(pieces)?;
     // Each step writes a byte or leaves fewer nodes to be written, so no text that memory holds has so many steps.
     for _ in 0..u64::MAX {
-        let Some(piece) = work.pop_front() else {
+        let Some(piece) = work.pop() else {
             return Ok(out);
         };
         step(store, &mut out, &mut work, piece)?;
@@ -67,43 +65,20 @@ fn write(store: &Store, pieces: Vec<Piece>) -> Result<Text2, NoMemory>
     Err(NoMemory)
 }
 
-/// Puts pieces before those that are still to be written.
-fn prepend(work: &mut VecDeque<Piece>, pieces: Vec<Piece>) -> Result<(), NoMemory>
-    ensures { OnOk result (work.new.items ≡ pieces.items ++ work.old.items) }
-{
-    let mut left = pieces;
-    while let Some(piece) = left.pop() {
-        work.push_front(piece)?;
-    }
-    Ok(())
-}
-
 /// Writes a piece, or replaces a part by its own pieces.
-fn step(
-    store: &Store,
-    out: &mut Text2,
-    work: &mut VecDeque<Piece>,
-    piece: Piece,
-) -> Result<(), NoMemory>
-    ensures { OnOk result (out.new ++ text_in store.now work.new.items ≡ (out.old ++ piece_text store.now piece) ++ text_in store.now work.old.items) }
+fn step(store: &Store, out: &mut Text2, work: &mut Pending, piece: Piece) -> Result<(), NoMemory>
+    ensures { OnOk result (out.new ++ text_in store.now work.new ≡ (out.old ++ piece_text store.now piece) ++ text_in store.now work.old) }
 {
     match piece {
-        Piece::Expression(term, below) => {
-            let pieces = pieces_of_part(store, term, below)?;
-            prepend(work, pieces)
-        }
+        Piece::Expression(term, below) => write_part(store, out, work, term, below),
         Piece::Statement(term, below) => {
             let pieces = pieces_of_doing(store, term, below)?;
-            prepend(work, pieces)
+            work.prepend(pieces)
         }
-        Piece::Type(of) => {
-            let pieces = pieces_of_type_id(store, of)?;
-            prepend(work, pieces)
-        }
+        Piece::Type(of) => write_type(store, out, work, of),
         Piece::TypeBefore(of, below) => {
             if of.0 < below {
-                let pieces = pieces_of_type_id(store, of)?;
-                return prepend(work, pieces);
+                return write_type(store, out, work, of);
             }
             Ok(())
         }
@@ -112,30 +87,44 @@ fn step(
         Piece::Binary(operator) => out.push_bytes(text_of_binary(operator)),
         Piece::Primitive(primitive) => out.push_bytes(text_of_primitive(primitive)),
         Piece::Integer(integer) => out.push_bytes(text_of_integer(integer)),
-        Piece::Symbol(symbol) => {
-            out.push_bytes(b"$")?;
-            push_next(store.allocator(), out, symbol.0)
-        }
+        Piece::Symbol(symbol) => push_symbol(out, symbol),
         Piece::Function(f) => {
             out.push_bytes(b"f")?;
-            push_next(store.allocator(), out, f.0)
+            push_next(out, f.0)
         }
-        Piece::Macro(id) => push_next(store.allocator(), out, id.0),
-        Piece::Decimal(number) => push_decimal(store.allocator(), out, number),
+        Piece::Macro(id) => push_next(out, id.0),
+        Piece::Decimal(number) => push_decimal(out, number),
         Piece::Number(bits, of) => push_number(store, out, bits, of),
         Piece::Name(name) => out.push_bytes(store.name(name)),
     }
 }
 
-/// The pieces of a part that stands as an expression, among the nodes before a number.
-fn pieces_of_part(store: &Store, term: TermId, below: u64) -> Result<Vec<Piece>, NoMemory>
-    ensures { IfOk result (λ v. text_in store.now v.items ≡ text_of store.now (term_at (take below (trees store.now.terms)) term)) }
+/// Writes a part that stands as an expression, among the nodes before a number, or puts its own pieces in its place. Symbols and
+/// numbers are most of the parts, and are written without a list of their pieces.
+fn write_part(
+    store: &Store,
+    out: &mut Text2,
+    work: &mut Pending,
+    term: TermId,
+    below: u64,
+) -> Result<(), NoMemory>
+    ensures { OnOk result (out.new ++ text_in store.now work.new
+        ≡ (out.old ++ text_of store.now (term_at (take below (trees store.now.terms)) term)) ++ text_in store.now work.old) }
 {
     match node_before(store, term, below) {
-        Some(Term::Expression(_, expression)) => pieces_of_expression(store, term.0, expression),
-        Some(Term::Statement(_, _)) => word_alone(store, Word::Nil),
-        Some(Term::Function(_, _, _)) => word_alone(store, Word::Nil),
-        None => word_alone(store, Word::Nil),
+        Some(Term::Expression(_, Expression::Variable(symbol))) => push_symbol(out, *symbol),
+        Some(Term::Expression(_, Expression::Number(bits, of))) => {
+            push_number(store, out, *bits, *of)?;
+            out.push_bytes(b":")?;
+            write_type(store, out, work, *of)
+        }
+        Some(Term::Expression(_, expression)) => {
+            let pieces = pieces_of_expression(store, term.0, expression)?;
+            work.prepend(pieces)
+        }
+        Some(Term::Statement(_, _)) => out.push_bytes(b"nil"),
+        Some(Term::Function(_, _, _)) => out.push_bytes(b"nil"),
+        None => out.push_bytes(b"nil"),
     }
 }
 
@@ -166,13 +155,6 @@ fn node_before(store: &Store, term: TermId, below: u64) -> Option<&Term>
     }
 }
 
-/// A word as a text of its own.
-fn word_alone(store: &Store, word: Word) -> Result<Vec<Piece>, NoMemory>
-    ensures { IfOk result (λ v. v.items ≡ Piece.Word word ∷ []) }
-{
-    Ok([Piece::Word(word)].to_vec(store.allocator())?)
-}
-
 /// What stands for a statement that isn't there: a break.
 fn no_statement(store: &Store) -> Result<Vec<Piece>, NoMemory>
     ensures { IfOk result (λ v. v.items ≡ statement_pieces 0 Statement.Break) }
@@ -180,44 +162,59 @@ fn no_statement(store: &Store) -> Result<Vec<Piece>, NoMemory>
     pieces_of_statement(store.allocator(), 0, &Statement::Break)
 }
 
-/// The pieces of a type's text.
-fn pieces_of_type_id(store: &Store, of: TypeId) -> Result<Vec<Piece>, NoMemory>
-    ensures { IfOk result (λ v. text_in store.now v.items ≡ type_text store.now.types of) }
+/// Writes a type, or puts its own pieces before those that are still to be written.
+fn write_type(
+    store: &Store,
+    out: &mut Text2,
+    work: &mut Pending,
+    of: TypeId,
+) -> Result<(), NoMemory>
+    ensures { OnOk result (out.new ++ text_in store.now work.new
+        ≡ (out.old ++ type_text store.now.types of) ++ text_in store.now work.old) }
 {
-    let alloc = store.allocator();
     match store.types().form(of) {
-        Some(form) => pieces_of_type(alloc, of.0, form),
-        None => Ok(Vec::new(alloc)),
+        Some(TypeForm::Integer(integer)) => out.push_bytes(text_of_integer(*integer)),
+        Some(form) => {
+            let pieces = pieces_of_type(store.allocator(), of.0, form)?;
+            work.prepend(pieces)
+        }
+        None => Ok(()),
     }
 }
 
+/// Writes a symbol.
+fn push_symbol(out: &mut Text2, symbol: SymId) -> Result<(), NoMemory>
+    ensures { OnOk result (out.new ≡ out.old ++ symbol_text symbol) }
+{
+    out.push_bytes(b"$")?;
+    push_next(out, symbol.0)
+}
+
 /// Writes a number in decimal.
-fn push_decimal(alloc: Global, out: &mut Text2, number: u64) -> Result<(), NoMemory>
+fn push_decimal(out: &mut Text2, number: u64) -> Result<(), NoMemory>
     ensures { OnOk result (out.new ≡ out.old ++ decimal number) }
 {
-    let text = format!(in alloc; "{number}")?;
-    out.push_bytes(text.as_bytes())
+    let mut buffer = Buffer::new();
+    out.push_bytes(buffer.format(number).as_bytes())
 }
 
 /// Writes the number that follows an id's, as ids count from 0 and texts from 1.
-fn push_next(alloc: Global, out: &mut Text2, id: u64) -> Result<(), NoMemory>
+fn push_next(out: &mut Text2, id: u64) -> Result<(), NoMemory>
     ensures { OnOk result (out.new ≡ out.old ++ decimal (id + 1)) }
 {
-    let number = u128::from(id) + 1;
-    let text = format!(in alloc; "{number}")?;
-    out.push_bytes(text.as_bytes())
+    let mut buffer = Buffer::new();
+    out.push_bytes(buffer.format(u128::from(id) + 1).as_bytes())
 }
 
 /// Writes a word of 64 bits as the number that it is at a type.
 fn push_number(store: &Store, out: &mut Text2, bits: u64, of: TypeId) -> Result<(), NoMemory>
     ensures { OnOk result (out.new ≡ out.old ++ number_digits store.now.types bits of) }
 {
-    let alloc = store.allocator();
     if has_sign(store, of) && bits >= 1 << 63 {
         out.push_bytes(b"-")?;
-        push_decimal(alloc, out, u64::MAX - bits + 1)
+        push_decimal(out, u64::MAX - bits + 1)
     } else {
-        push_decimal(alloc, out, bits)
+        push_decimal(out, bits)
     }
 }
 
