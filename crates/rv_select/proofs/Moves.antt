@@ -1,7 +1,7 @@
 -- Copies and operators.
 use Rattle.std.proofs.Common.{◌≡◌, ◌≢◌, ℕ, ◌+◌, ◌*◌, ◌^◌, ◌<◌, ◌≤◌, true, false, List, [], ◌++◌, length, take, drop, append_assoc, Option, refl, sym, ap, ◌∙◌, subst, ⊎_elim, inl, inr, arith}
 use Rattle.std.specs.Prelude.{if◌then◌else◌, ◌⊎◌, IsTrue}
-use Rattle.std.proofs.lemmas.Bool.{cases_eq, eq-eqb, ne_eqb}
+use Rattle.std.proofs.lemmas.Bool.{cases_Bool, cases_eq, eq-eqb, ne_eqb}
 use Rattle.std.proofs.lemmas.List.{length-append}
 use Rattle.rv_isa.specs.declared.instr.Instr.{Instr}
 use Rattle.rv_isa.specs.declared.instr.Instr.TheVariants.{Store}
@@ -27,14 +27,17 @@ use Rattle.rv_operators.specs.Runs.{Stands}
 use Rattle.rv_operators.proofs.Operators.{computed as operator-computes}
 use Rattle.rv_operators.proofs.Short.{code-short}
 use Rattle.rv_select.specs.Places.{AreBytes, Layout, World, Holds, Housed, IsHome, IsRead, Keeps, area_offset, frame_bytes, home_of, is_lasting, slot_offset, uses, value_in, word_at}
-use Rattle.rv_select.specs.Shapes.{computed, put_to, taken}
+use Rattle.rv_select.specs.Folded.{folded, is_folded}
+use Rattle.rv_select.specs.Numbers.{constant}
+use Rattle.rv_select.specs.Shapes.{applied_to, computed, put_to, taken}
 use Rattle.rv_select.specs.Steps.{Comes, Follows, behind, with_temp}
 use Rattle.rv_select.proofs.Claims.{CopiesAreCarried, OperatorsAreCarried}
 use Rattle.rv_select.proofs.Straight.{Loads, Scratch, behind-both, leads-scratch, loads-five, loads-six, low-below, scratch-both}
 use Rattle.rv_select.proofs.Ways.{Near, Way, scratch-near, stands-back, stands-front, straight-way, way-both}
 use Rattle.rv_select.proofs.Frames.{framed-some}
 use Rattle.rv_select.proofs.Homes.{Puts, operand-count, put-count, put-home, region-small, take-operand}
-use Rattle.rv_select.proofs.Sequences.{operator-count}
+use Rattle.rv_select.proofs.Holding.{applied-count, folded-few, folds}
+use Rattle.rv_select.proofs.Numbers.{constant-loads}
 use Rattle.rv_select.proofs.Small.{applied-small}
 
 -- a word at a home depends on neither scratch registers nor the region
@@ -221,33 +224,52 @@ copies y d a Used Next w base program m stands p h h' r u follows =
     straight-put y Used Next w base d (value_in w.temps a) (words_of (Copy d a)) (taken y x5 a) program m l.after p h h' u follows (loads-five (taken y x5 a) m (value_in w.temps a) l) l.gives
     (value-small Used y w base m a p r) (omega (arith, operand-count y x5 a)) stands
 
--- an operator over operands that stand in x5 and x6
-computes : (y : Layout) (Used Next : ℕ → Type 0) (w : World) (base d va vb na nb : ℕ) (op : BinaryOperator) (wide : Width) (A B : List Instr)
-    (program : List (Option Instr)) (m : State) → is_width wide.bits ≡ true → (divides op ≡ true → vb ≢ 0) → va < 2 ^ 64 → vb < 2 ^ 64 →
-    (l : Loads 5 A m va) → (k : Loads 6 B l.after vb) → length A ≤ na → length B ≤ nb →
-    Holds y Used w base m → Housed y Used → Housed y Next → Next d → Follows Used Next d →
-    Stands program m.pc ((A ++ (B ++ code_of wide op)) ++ put_to (home_of y d)) →
-    Comes y program Next (with_temp w d (applied wide op va vb)) base (na + nb + operator_words op + 3) (behind m ((A ++ (B ++ code_of wide op)) ++ put_to (home_of y d))) [] m
-computes y Used Next w base d va vb na nb op wide A B program m is divisor sa sb l k fa fb p h h' u follows stands =
+-- Code that comes to a word in x5.
+pub record Applies (code : List Instr) (m : State) (v : ℕ) : Type 0 where
+  pub after : State
+  pub scratch : Scratch code m after
+  pub gives : after.registers 5 ≡ v
+
+-- an operator of x5 and a word that is put into x6
+loads-apply : (op : BinaryOperator) (wide : Width) (B : List Instr) (m : State) (va vb : ℕ) → is_width wide.bits ≡ true → (divides op ≡ true → vb ≢ 0) →
+    m.registers 5 ≡ va → va < 2 ^ 64 → vb < 2 ^ 64 → Loads 6 B m vb → Applies (B ++ code_of wide op) m (applied wide op va vb)
+loads-apply op wide B m va vb is divisor e sa sb k =
     let n : State = k.after in
-    let five : n.registers 5 ≡ va = k.keeps 5 (λ e. omega (arith, e)) (λ e. omega (arith, e)) ∙ l.gives in
+    let five : n.registers 5 ≡ va = k.keeps 5 (λ e. omega (arith, e)) (λ e. omega (arith, e)) ∙ e in
     let o : Leads (code_of wide op) n (applied wide op (n.registers 5) (n.registers 6)) =
     operator-computes wide op is n (subst (λ x. x < 2 ^ 64) (sym five) sa) (subst (λ x. x < 2 ^ 64) (sym k.gives) sb)
     (λ e z. divisor e (sym k.gives ∙ z)) in
-    let short : length (code_of wide op) ≤ operator_words op = operator-count wide op in
-    let s : Scratch (A ++ (B ++ code_of wide op)) m o.after =
-    scratch-both A (B ++ code_of wide op) m l.after o.after (loads-five A m va l)
-    (scratch-both B (code_of wide op) l.after n o.after (loads-six B l.after vb k) (leads-scratch (code_of wide op) n _ o (code-short wide op).straight)) in
-    let gives : o.after.registers 5 ≡ applied wide op va vb =
-    o.gives ∙ (ap (λ x. applied wide op x (n.registers 6)) five ∙ ap (λ x. applied wide op va x) k.gives) in
-    let count : length (A ++ (B ++ code_of wide op)) ≡ length A + (length B + length (code_of wide op)) =
-    length-append A (B ++ code_of wide op) ∙ ap (λ x. length A + x) (length-append B (code_of wide op)) in
-    straight-put y Used Next w base d (applied wide op va vb) (na + nb + operator_words op + 3) (A ++ (B ++ code_of wide op)) program m o.after p h h' u follows s gives
-    (applied-small wide op va vb is) (omega (arith, count, short, fa, fb)) stands
+    record {
+      after = o.after;
+      scratch = scratch-both B (code_of wide op) m n o.after (loads-six B m vb k) (leads-scratch (code_of wide op) n _ o (code-short wide op).straight);
+      gives = o.gives ∙ (ap (λ x. applied wide op x (n.registers 6)) five ∙ ap (λ x. applied wide op va x) k.gives);
+    }
 
--- the parts one after the other
-in-row : (A B O P : List Instr) → (A ++ (B ++ O)) ++ P ≡ A ++ (B ++ (O ++ P))
-in-row A B O P = append_assoc A (B ++ O) P ∙ ap (λ x. A ++ x) (append_assoc B O P)
+-- an operator of x5 and a constant that instructions hold
+folded-apply : (op : BinaryOperator) (wide : Width) (c : ℕ) (m : State) (va : ℕ) → is_width wide.bits ≡ true →
+    m.registers 5 ≡ va → va < 2 ^ 64 → c < 2 ^ 64 → is_folded op c ≡ true → Applies (folded wide op c) m (applied wide op va c)
+folded-apply op wide c m va is e sa sc f =
+    let o : Leads (folded wide op c) m (applied wide op (m.registers 5) c) = folds wide op c m is (subst (λ x. x < 2 ^ 64) (sym e) sa) sc f in
+    record {
+      after = o.after;
+      scratch = leads-scratch (folded wide op c) m _ o (folded-few wide op c).straight;
+      gives = o.gives ∙ ap (λ x. applied wide op x c) e;
+    }
+
+-- an operator of x5 and an operand
+applies : (y : Layout) (Used : ℕ → Type 0) (w : World) (base : ℕ) (op : BinaryOperator) (wide : Width) (b : Operand) (m : State) (va : ℕ) →
+    is_width wide.bits ≡ true → (divides op ≡ true → value_in w.temps b ≢ 0) → m.registers 5 ≡ va → va < 2 ^ 64 →
+    Holds y Used w base m → Housed y Used → IsRead Used b → Applies (applied_to y wide op b) m (applied wide op va (value_in w.temps b))
+applies y Used w base op wide (Temp t) m va is divisor e sa p h r =
+    loads-apply op wide (taken y x6 (Temp t)) m va (w.temps t) is divisor e sa (value-small Used y w base m (Temp t) p r)
+    (take-operand y x6 Used w base m (Temp t) (λ e. omega (arith, e)) p h r)
+applies y Used w base op wide (Constant c) m va is divisor e sa p h r =
+    ⊎_elim
+    (λ f. subst (λ x. Applies (if x then folded wide op c else constant x6 c ++ code_of wide op) m (applied wide op va c)) (sym f)
+    (folded-apply op wide c m va is e sa r f))
+    (λ f. subst (λ x. Applies (if x then folded wide op c else constant x6 c ++ code_of wide op) m (applied wide op va c)) (sym f)
+    (loads-apply op wide (constant x6 c) m va c is divisor e sa r (constant-loads x6 m c (λ e. omega (arith, e)) r)))
+    (cases_Bool (is_folded op c))
 
 -- numbers have the width of a type
 pub wide-size : (z : Size) → is_width (8 * bytes_of z) ≡ true
@@ -261,12 +283,16 @@ operators y d op form a b Used Next w base program m stands divisor p h h' ra rb
     let wide : Width = width_of form in
     let va = value_in w.temps a in
     let vb = value_in w.temps b in
-    let l : Loads 5 (taken y x5 a) m va = take-operand y x5 Used w base m a (λ e. omega (arith, e)) p h ra in
-    let q : Holds y Used w base l.after = scratch-holds y Used w base (taken y x5 a) m l.after p h (loads-five (taken y x5 a) m va l) in
-    let k : Loads 6 (taken y x6 b) l.after vb = take-operand y x6 Used w base l.after b (λ e. omega (arith, e)) q h rb in
-    let whole : (taken y x5 a ++ (taken y x6 b ++ code_of wide op)) ++ put_to (home_of y d) ≡ computed y d op wide a b =
-    in-row (taken y x5 a) (taken y x6 b) (code_of wide op) (put_to (home_of y d)) in
-    subst (λ x. Comes y program Next (with_temp w d (applied wide op va vb)) base (words_of (Compute d op form a b)) (behind m x) [] m) whole
-    (computes y Used Next w base d va vb (operand_words a) (operand_words b) op wide (taken y x5 a) (taken y x6 b) program m (wide-size form.size) divisor
-    (value-small Used y w base m a p ra) (value-small Used y w base m b p rb) l k (operand-count y x5 a) (operand-count y x6 b) p h h' u follows
-    (subst (λ x. Stands program m.pc x) (sym whole) stands))
+    let A : List Instr = taken y x5 a in
+    let S : List Instr = applied_to y wide op b in
+    let sa : va < 2 ^ 64 = value-small Used y w base m a p ra in
+    let l : Loads 5 A m va = take-operand y x5 Used w base m a (λ e. omega (arith, e)) p h ra in
+    let q : Holds y Used w base l.after = scratch-holds y Used w base A m l.after p h (loads-five A m va l) in
+    let o : Applies S l.after (applied wide op va vb) = applies y Used w base op wide b l.after va (wide-size form.size) divisor l.gives sa q h rb in
+    let few : length (A ++ S) + 3 ≤ words_of (Compute d op form a b) =
+    omega (arith, length-append A S, operand-count y x5 a, applied-count y wide op b) in
+    subst (λ x. Comes y program Next (with_temp w d (applied wide op va vb)) base (words_of (Compute d op form a b)) (behind m x) [] m)
+    (append_assoc A S (put_to (home_of y d)))
+    (straight-put y Used Next w base d (applied wide op va vb) (words_of (Compute d op form a b)) (A ++ S) program m o.after p h h' u follows
+    (scratch-both A S m l.after o.after (loads-five A m va l) o.scratch) o.gives (applied-small wide op va vb (wide-size form.size)) few
+    (subst (λ x. Stands program m.pc x) (sym (append_assoc A S (put_to (home_of y d)))) stands))

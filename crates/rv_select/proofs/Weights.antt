@@ -15,13 +15,13 @@ use Rattle.tac_form.specs.declared.tac.Instruction.TheVariants.{Alloc, Call, Cal
 use Rattle.tac_form.specs.declared.tac.Exit.TheVariants.{Branch, Fail, Jump, Return}
 use Rattle.tac_form.specs.Flow.{bytes_of, width_of}
 use Rattle.tac_form.specs.Weights.{operand_words, operator_words, words_of}
-use Rattle.rv_operators.specs.Codes.{x0, x5, x6, code_of, zero_immediate}
+use Rattle.rv_operators.specs.Codes.{x0, x5, x6, zero_immediate}
 use Rattle.rv_select.specs.Places.{Layout, area_offset, home_of}
-use Rattle.rv_select.specs.Shapes.{all_carried, area_reached, bounds_tested, branch_jumps, byte_taken, bytes_given, failed, framed, from_area, heap_aligned, limit_found, load_of, located, over, put_to, range_tested, reached, store_of, taken, to_area, write_call, x11, x12, zeros}
+use Rattle.rv_select.specs.Shapes.{all_carried, applied_to, area_reached, bounds_tested, branch_jumps, byte_taken, bytes_given, failed, framed, from_area, heap_aligned, limit_found, load_of, located, over, put_to, range_tested, reached, store_of, taken, to_area, write_call, x11, x12, zeros}
 use Rattle.rv_select.specs.Steps.{ExitsKeepWithin, ShapesKeepWithin}
 use Rattle.rv_select.proofs.Frames.{framed-count}
 use Rattle.rv_select.proofs.Homes.{operand-count, put-count}
-use Rattle.rv_select.proofs.Sequences.{operator-count}
+use Rattle.rv_select.proofs.Holding.{applied-count}
 use Rattle.rv_select.proofs.Faults.{failed-count}
 use Rattle.rv_select.proofs.Divisors.{located-count}
 use Rattle.rv_select.proofs.Clears.{zeros-count}
@@ -58,10 +58,9 @@ from-count y n offset size h = both (area_reached y x6 n offset) (all_carried x6
 
 pub within : ShapesKeepWithin
 within y (Compute d op form a b) h =
-    more (operand_words a + (operand_words b + (operator_words op + 3))) (words_of (Compute d op form a b)) _ (omega arith)
-    (both (taken y x5 a) _ (operand_words a) (operand_words b + (operator_words op + 3)) (operand-count y x5 a)
-    (both (taken y x6 b) _ (operand_words b) (operator_words op + 3) (operand-count y x6 b)
-    (both (code_of (width_of form) op) (put_to (home_of y d)) (operator_words op) 3 (operator-count (width_of form) op) (put-count (home_of y d)))))
+    more (operand_words a + (operand_words b + operator_words op + 3)) (words_of (Compute d op form a b)) _ (omega arith)
+    (both (taken y x5 a) _ (operand_words a) (operand_words b + operator_words op + 3) (operand-count y x5 a)
+    (both (applied_to y (width_of form) op b) (put_to (home_of y d)) (operand_words b + operator_words op) 3 (applied-count y (width_of form) op b) (put-count (home_of y d))))
 within y (TestDivisor at a) h =
     more (operand_words a + 12) (words_of (TestDivisor at a)) _ (omega arith)
     (both (taken y x5 a) (instrs.Branch Ne x5 x0 (over (failed DivZero at)) ∷ failed DivZero at) (operand_words a) 12 (operand-count y x5 a)

@@ -41,6 +41,7 @@ use Rattle.tac_form.specs.declared.tac.Instruction.TheVariants as instructions
 use Rattle.tac_form.specs.Flow.{bytes_of, width_of}
 use Rattle.tac_form.specs.Weights.{most_moved}
 use Rattle.rv_operators.specs.Codes.{x0, x5, x6, code_of, zero_immediate}
+use Rattle.rv_select.specs.Folded.{folded, is_folded}
 use Rattle.rv_select.specs.Numbers.{constant, immediate_of, below_zero, lower_of, register_of, upper_of}
 use Rattle.rv_select.specs.Places.{Layout, area_offset, home_of, slot_offset}
 
@@ -146,8 +147,13 @@ branched_over condition a b kind at = Branch condition a b (over (failed kind at
 abbrev pub copied : Layout → ℕ → Operand → List Instr
 copied y d a = taken y x5 a ++ put_to (home_of y d)
 
+-- x5 gets what an operator gives of x5 and an operand, which instructions hold where they can
+abbrev pub applied_to : Layout → Width → BinaryOperator → Operand → List Instr
+applied_to y w op (Temp t) = taken y x6 (Temp t) ++ code_of w op
+applied_to y w op (Constant c) = if is_folded op c then folded w op c else constant x6 c ++ code_of w op
+
 abbrev pub computed : Layout → ℕ → BinaryOperator → Width → Operand → Operand → List Instr
-computed y d op w a b = taken y x5 a ++ (taken y x6 b ++ (code_of w op ++ put_to (home_of y d)))
+computed y d op w a b = taken y x5 a ++ (applied_to y w op b ++ put_to (home_of y d))
 
 abbrev pub divisor_tested : Layout → Place → Operand → List Instr
 divisor_tested y at a = taken y x5 a ++ (Branch Ne x5 x0 (over (failed DivZero at)) ∷ failed DivZero at)

@@ -1,18 +1,21 @@
 // The words of instructions of three-address code.
 
-ghost use Rattle.std.specs.Prelude.{◌≡◌, ◌*◌, ◌+◌, ◌≤◌, [], ◌∷◌, ◌++◌, map, length, IsTrue, OnOk};
+ghost use Rattle.std.specs.Prelude.{◌≡◌, ◌*◌, ◌+◌, ◌≤◌, [], ◌∷◌, ◌++◌, map, length, if◌then◌else◌, IsTrue, OnOk};
 ghost use Rattle.rv_isa.specs.declared.instr.Instr.TheVariants as instrs;
 ghost use Rattle.rv_isa.specs.Table.{word_of};
 ghost use Rattle.terra_words.specs.Words.{fault_number};
 ghost use Rattle.tac_form.specs.Flow.{bytes_of, width_of};
 ghost use Rattle.rv_operators.specs.Codes.{code_of, x5, x6, zero_immediate};
+ghost use Rattle.rv_select.specs.Folded.{folded, is_folded};
+ghost use Rattle.rv_select.specs.Numbers.{constant};
 ghost use Rattle.rv_select.specs.Places.{home_of, with_homes};
-ghost use Rattle.rv_select.specs.Shapes.{area_reached, bounds_tested, cleared, computed, copied, divisor_tested, failed, fault_call, branched_over, has_shape, load_of, loaded, located, place_number, put_to, reached, shape_of, small, store_of, stored, taken, zero_put, zeros};
+ghost use Rattle.rv_select.specs.Shapes.{applied_to, area_reached, bounds_tested, cleared, computed, copied, divisor_tested, failed, fault_call, branched_over, has_shape, load_of, loaded, located, place_number, put_to, reached, shape_of, small, store_of, stored, taken, zero_put, zeros};
 
 use crate::emit::{
     X0, X5, X6, area_offset, constant_words, push_constant, push_frame_address, push_frame_load,
     push_frame_store, push_put, push_taken, put,
 };
+use crate::folded::{is_folded, push_folded};
 use crate::moving::push_bytes_moved;
 use crate::operands::{below_zero, immediate, offset, upper};
 use crate::outputs::{push_allocated, push_byte_put, push_range_written};
@@ -104,8 +107,45 @@ fn push_computed(
 ) -> Result<(), NoMemory>
     ensures { OnOk result (code.new.items ≡ code.old.items ++ map word_of (computed (with_homes homes.now) temp operator (width_of form) a b)) }
 {
-    push_operands(code, homes, a, b)?;
-    push_result(code, homes, temp, operator, form)
+    push_first(code, homes, a)?;
+    push_applied(code, homes, operator, form, b)?;
+    push_put(code, homes, temp)
+}
+
+/// x5 gets what an operator gives of x5 and an operand.
+fn push_applied(
+    code: &mut Vec<u32>,
+    homes: &[Option<Home>],
+    operator: BinaryOperator,
+    form: Number,
+    b: Operand,
+) -> Result<(), NoMemory>
+    ensures { OnOk result (code.new.items ≡ code.old.items ++ map word_of (applied_to (with_homes homes.now) (width_of form) operator b)) }
+{
+    match b {
+        Operand::Temp(_) => {
+            push_second(code, homes, b)?;
+            push_operation(code, operator, form)
+        }
+        Operand::Constant(number) => push_with_constant(code, operator, form, number),
+    }
+}
+
+/// The same with a constant, which instructions hold where they can.
+fn push_with_constant(
+    code: &mut Vec<u32>,
+    operator: BinaryOperator,
+    form: Number,
+    number: u64,
+) -> Result<(), NoMemory>
+    ensures { OnOk result (code.new.items ≡ code.old.items ++ map word_of (if is_folded operator number then folded (width_of form) operator number else constant x6 number ++ code_of (width_of form) operator)) }
+{
+    if is_folded(operator, number) {
+        push_folded(code, operator, form, number)
+    } else {
+        push_constant(code, X6, number)?;
+        push_operation(code, operator, form)
+    }
 }
 
 /// x5 and x6 get operands.
@@ -139,20 +179,6 @@ fn push_second(code: &mut Vec<u32>, homes: &[Option<Home>], b: Operand) -> Resul
     push_taken(code, homes, X6, b)
 }
 
-/// A temporary's home gets what an operator gives of x5 and x6.
-fn push_result(
-    code: &mut Vec<u32>,
-    homes: &[Option<Home>],
-    temp: u64,
-    operator: BinaryOperator,
-    form: Number,
-) -> Result<(), NoMemory>
-    ensures { OnOk result (code.new.items ≡ code.old.items ++ map word_of (code_of (width_of form) operator ++ put_to (home_of (with_homes homes.now) temp))) }
-{
-    push_operation(code, operator, form)?;
-    push_put(code, homes, temp)
-}
-
 /// An operator on numbers of a form.
 fn push_operation(
     code: &mut Vec<u32>,
@@ -165,7 +191,7 @@ fn push_operation(
 }
 
 /// The width of the words of a number.
-fn width_of(form: Number) -> Width
+pub(crate) fn width_of(form: Number) -> Width
     ensures { result ≡ width_of form }
 {
     Width {
@@ -174,7 +200,7 @@ fn width_of(form: Number) -> Width
     }
 }
 
-fn bytes_of(size: Size) -> u64
+pub(crate) fn bytes_of(size: Size) -> u64
     ensures bytes { result ≡ bytes_of size }
     ensures few { result ≤ 8 }
     ensures some { 1 ≤ result }

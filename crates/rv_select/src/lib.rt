@@ -11,6 +11,7 @@ pub mod compared;
 mod emit;
 mod entries;
 pub mod exits;
+mod folded;
 pub mod instructions;
 pub mod law;
 mod moving;
