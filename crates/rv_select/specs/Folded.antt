@@ -16,7 +16,7 @@ use Rattle.terra_words.specs.declared.words.BinaryOperator.TheVariants.{Add, Sub
 use Rattle.rv_operators.specs.Codes.{cut, one_immediate, x0, x5}
 use Rattle.rv_select.specs.Numbers.{lower_of}
 
--- one below 2,048, or one of the last 2,048 below 2 ^ 64, which stand for numbers below zero
+-- a number that twelve bits with a sign hold: below 2,048, or one of the last 2,048 below 2 ^ 64, for those below zero
 abbrev pub is_near : ℕ → Bool
 is_near c = nat_lt c 2048 || nat_le (2 ^ 64 - 2048) c
 
@@ -56,8 +56,8 @@ abbrev pub shift_down : Bool → ShiftOp
 shift_down true = Srai
 shift_down false = Srli
 
--- Whether instructions hold the second operand of an operator. Another number up to 2,046 is held by the test for one more: none is above
--- x5 where x5 is below one more.
+-- Whether instructions hold the second operand of an operator. A number is at most another where it is below one more than that, if one
+-- more is held.
 abbrev pub is_folded : BinaryOperator → ℕ → Bool
 is_folded Add c = is_near c
 is_folded Subtract c = nat_lt 0 c && is_near (opposite c)
