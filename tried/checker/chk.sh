@@ -1,7 +1,7 @@
 #!/bin/bash
 # usage: CRATE LOG PATHS...   (env HOLES=1, INC, J)
 crate=$1; log=$2; shift 2
-C=${C:-/work/clones/ce/crates}
+C=${C:?crates folder}
 W=${W:-$C/$crate}
 cd $W
 only=()
