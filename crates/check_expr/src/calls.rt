@@ -14,6 +14,7 @@ use crate::converting::{convert, fit};
 use crate::frame::{BodyFrame, CallFrame, LaidThen, MadeFrame, Target};
 use crate::known::{parameter_types, result_type};
 use crate::layouts::lay_out;
+use crate::loops::UNIT;
 use crate::nodes::{gives, pointer_to, refuse, without_lua};
 use crate::reading::{metamethod, place_of};
 use crate::step::{BodyStep, Node};
@@ -31,8 +32,6 @@ use tl_base::{Budget, FnId, NoMemory, Place, Step, TermId, TypeId};
 const INT64: TypeId = TypeId(3);
 
 const UINT8: TypeId = TypeId(4);
-
-const UNIT: TypeId = TypeId(9);
 
 /// What is called without being typed.
 #[derive(Clone, Copy, Debug)]

@@ -13,7 +13,7 @@ use crate::entries::entry_of;
 use crate::frame::{BodyFrame, InitialFrame, Initials, LaidThen, MadeFrame};
 use crate::layouts::lay_out;
 use crate::nodes::{gives, refuse};
-use crate::reading::{bytes, is_struct};
+use crate::reading::{WIDEST, bytes, is_struct};
 use crate::step::{BodyStep, Node};
 use check_model::row::{Rest, Row, term_list};
 use check_model::{BodyJob, Made, Mode, Typing};
@@ -21,9 +21,6 @@ use exotype::World;
 use terra_term::{OffsetList, Operation, RefusalKind, TypedExpression};
 use terra_types::{Laid, TypeForm};
 use tl_base::{NoMemory, Step, TermId, TextId, TypeId};
-
-/// The most bytes of a struct that is a value.
-const WIDEST: u64 = 128;
 
 /// Makes a struct of these values.
 pub fn new_struct(

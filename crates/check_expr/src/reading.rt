@@ -15,7 +15,7 @@ use terra_types::TypeForm;
 use tl_base::{Place, TermId, TextId, TypeId};
 
 /// The most bytes of an aggregate that is used as a value.
-const WIDEST: u64 = 128;
+pub const WIDEST: u64 = 128;
 
 /// Whether a type is a struct or an array.
 pub fn is_aggregate(world: &World, of: TypeId) -> bool

@@ -4,7 +4,6 @@ pub mod Checks
 pub mod Layouts
 -- What each turn keeps, and which answers fit.
 pub mod Keeping
-pub mod Sound
 -- What stands in a body.
 pub mod Statements
 pub mod Expressions

@@ -1,10 +1,11 @@
 // What is asked for, and what pays one unit before it is done.
 
-ghost use Rattle.std.specs.Prelude.{◌≡◌, [], ◌∷◌, ◌++◌, length, slice_get, OnOk};
+ghost use Rattle.std.specs.Prelude.{◌≡◌, [], ◌∷◌, ◌++◌, false, length, slice_get, OnOk};
 ghost use Rattle.check_model.specs.Checks.{was_reached};
 
 use crate::made::Made;
 use crate::site::Site;
+use indexmap::IndexMap;
 use std::alloc::Global;
 use std::marker::Model;
 use tl_base::{FnId, NoMemory, Place, TermId, TypeId};
@@ -56,19 +57,20 @@ pub struct Reached {
     pub by: Option<(Place, FnId)>,
 }
 
-/// Functions in the order in which they were reached. Contracts see the list.
+/// Functions in the order in which they were reached, and found by their numbers. Contracts see the list.
 #[derive(Debug, Drop)]
 pub struct ReachedList {
-    items: Vec<Reached>,
+    by: IndexMap<FnId, Option<(Place, FnId)>>,
 }
 
 impl Model for ReachedList {
-    ghost use Rattle.std.specs.Prelude.{List};
+    ghost use Rattle.std.specs.Prelude.{List, map};
     ghost use Rattle.check_model.specs.declared.job.Reached.{Reached};
+    ghost use Rattle.check_model.specs.Rows.{reached_of};
 
     ghost Value = { List Reached };
 
-    ghost view = { λ l. l.items.items };
+    ghost view = { λ l. map reached_of l.by.entries };
 }
 
 impl ReachedList {
@@ -77,7 +79,7 @@ impl ReachedList {
         ensures { result ≡ [] }
     {
         ReachedList {
-            items: Vec::new(alloc),
+            by: IndexMap::new(alloc),
         }
     }
 
@@ -85,36 +87,33 @@ impl ReachedList {
     pub fn len(&self) -> u64
         ensures { result ≡ length self.now }
     {
-        self.items.len() as u64
+        self.by.len() as u64
     }
 
     /// The function at a place.
     pub fn get(&self, place: u64) -> Option<Reached>
         ensures { result ≡ slice_get self.now place }
     {
-        match self.items.get(place as usize) {
-            Some(reached) => Some(*reached),
-            None => None,
-        }
+        let (function, by) = self.by.get_index(place as usize)?;
+        Some(Reached {
+            function: *function,
+            by: *by,
+        })
     }
 
-    /// Whether a function was reached.
+    /// Whether a function was reached, without a walk over the others.
     pub fn was_reached(&self, f: FnId) -> bool
         ensures { result ≡ was_reached f self.now }
     {
-        'reached: for reached in self.items.iter() {
-            if f.0 == reached.function.0 {
-                return true;
-            }
-        }
-        false
+        self.by.contains_key(&f)
     }
 
-    /// Puts a function behind the others.
+    /// Puts a function that wasn't reached before behind the others.
     pub fn push(&mut self, reached: Reached) -> Result<(), NoMemory>
+        requires { was_reached reached.function self.old ≡ false }
         ensures { OnOk result (self.new ≡ self.old ++ reached ∷ []) }
     {
-        self.items.push(reached)?;
+        self.by.insert(reached.function, reached.by)?;
         Ok(())
     }
 }
