@@ -1,11 +1,12 @@
 -- Which term a Lua value becomes where one term is wanted.
-use Rattle.std.specs.Prelude.{ℕ, ◌==◌, ℤ, pos, negsuc, Bool, not, ◌&&◌, int_le, List, Option, Some, None, slice_get, if◌then◌else◌}
+use Rattle.std.specs.Prelude.{ℕ, ◌==◌, ℤ, pos, negsuc, Bool, true, false, not, ◌&&◌, int_le, List, Option, Some, None, slice_get, if◌then◌else◌}
 use Rattle.std.specs.Int.{cast_unsigned}
 use Rattle.std.specs.Int.{w64}
 use Rattle.tl_base.specs.declared.place.Place.{Place}
 use Rattle.tl_base.specs.declared.ids.ConstantId.{ConstantId}
 use Rattle.tl_base.specs.declared.ids.QuoteId.{QuoteId}
 use Rattle.tl_base.specs.declared.ids.TermId.{TermId}
+use Rattle.tl_base.specs.declared.ids.TypeId.{TypeId}
 use Rattle.lua_value.specs.declared.kind.Kind.TheVariants as kinds
 use Rattle.lua_value.specs.declared.library.LibFn.{LibFn}
 use Rattle.lua_value.specs.declared.library.LibFn.TheVariants as library
@@ -26,6 +27,7 @@ use Rattle.exotype.specs.declared.became.Became.{Became}
 use Rattle.exotype.specs.declared.became.Became.TheVariants as became
 use Rattle.exotype.specs.World.{StageState, with_store}
 use Rattle.exotype.specs.Terms.{term_size, typed_size}
+use Rattle.exotype.specs.Types.{is_type}
 
 -- What a value becomes: a new leaf; the address of a text's bytes, which are a static from then on; the term of a quote; a new leaf with
 -- the term and the typed term of a typed quote; or no term.
@@ -57,7 +59,11 @@ quoted (quotes.Typed source made) = Again source made
 abbrev pub constant_leaf : TerraConstant → Expression
 constant_leaf c = if c.of.0 == boolean.0 then expressions.Truth (not (c.value == 0)) else expressions.Number c.value c.of
 
--- A value of Lua names what is there: no Lua code can make another. So the last cases of these two are met in no staging.
+-- A value of Lua names what is there: no Lua code can make another. So the last cases of these three are met in no staging.
+
+abbrev pub type_found : TypeId → Bool → Becoming
+type_found t true = Leaf (expressions.Type t)
+type_found t false = Not (faults.InTerraCode kinds.TerraType)
 
 abbrev pub quote_found : Option Quote → Becoming
 quote_found (Some q) = quoted q
@@ -76,7 +82,7 @@ becoming w (values.Table t) = Not faults.ListForOneTerm
 becoming w (values.Closure f) = Not (faults.InTerraCode kinds.Function)
 becoming w (values.Library f) = library_function f
 becoming w (values.TerraFunction f) = Leaf (expressions.Function f)
-becoming w (values.TerraType t) = Leaf (expressions.Type t)
+becoming w (values.TerraType t) = type_found t (is_type w.store.types t)
 becoming w (values.Quote q) = quote_found (slice_get w.store.quotes q.0)
 becoming w (values.Symbol x) = Leaf (expressions.Variable x)
 becoming w (values.Macro m) = Leaf (expressions.Macro m)

@@ -3,12 +3,14 @@
 ghost use Rattle.std.specs.Prelude.{◌≡◌, ◌≤◌, ◌<◌, IfOk, OnOk, slice_get, length};
 ghost use Rattle.std.specs.Option.{option_copied};
 ghost use Rattle.terra_term.specs.Held.{NamesTyped};
-ghost use Rattle.exotype.specs.Becoming.{Becoming, number, library_function, quote_found, constant_found, constant_leaf, fits_int32};
+ghost use Rattle.exotype.specs.Becoming.{Becoming, number, library_function, type_found, quote_found, constant_found, constant_leaf, fits_int32};
 ghost use Rattle.exotype.specs.Becoming.{became_in, store_after, became_of, after, term_of, with_term_of, spliced_nodes};
 ghost use Rattle.exotype.specs.Terms.{term_size, typed_size};
+ghost use Rattle.exotype.specs.Types.{is_type};
 
 use crate::became::Became;
 use crate::fault::Fault;
+use crate::types::is_type;
 use crate::world::World;
 use lua_value::{Kind, LibFn, Number, Value};
 use terra_term::{Expression, Quote, Size, Store, Term, TerraConstant};
@@ -39,7 +41,7 @@ impl World {
             Value::Closure(_) => refused(Kind::Function),
             Value::Library(function) => library_term(&mut self.store, at, function),
             Value::TerraFunction(f) => leaf(&mut self.store, at, Expression::Function(f)),
-            Value::TerraType(of) => leaf(&mut self.store, at, Expression::Type(of)),
+            Value::TerraType(of) => type_term(&mut self.store, at, of),
             Value::Quote(quote) => quote_term(&mut self.store, at, quote),
             Value::Symbol(symbol) => leaf(&mut self.store, at, Expression::Variable(symbol)),
             Value::Macro(id) => leaf(&mut self.store, at, Expression::Macro(id)),
@@ -110,6 +112,18 @@ fn leaf(store: &mut Store, at: Place, expression: Expression) -> Result<Became, 
 {
     let term = store.new_term(Term::Expression(at, expression))?;
     Ok(Became::Term(term))
+}
+
+/// The term of a type.
+fn type_term(store: &mut Store, at: Place, of: TypeId) -> Result<Became, NoMemory>
+    ensures term { IfOk result (λ became. became ≡ became_in store.old 0 (type_found of (is_type store.old.types of))) }
+    ensures ok { OnOk result (store.new ≡ store_after store.old 0 at (type_found of (is_type store.old.types of))) }
+{
+    if is_type(store.types(), of) {
+        leaf(store, at, Expression::Type(of))
+    } else {
+        refused(Kind::TerraType)
+    }
 }
 
 /// The term of a number.

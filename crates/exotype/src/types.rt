@@ -80,7 +80,7 @@ impl World {
 }
 
 /// Whether a type of that id is there.
-fn is_type(types: &Types, of: TypeId) -> bool
+pub fn is_type(types: &Types, of: TypeId) -> bool
     ensures { result ≡ is_type types.now of }
 {
     of.0 < types.len()

@@ -14,8 +14,8 @@ use Rattle.lua_value.specs.Values.{kind_of}
 use Rattle.exotype.specs.declared.fault.Fault.TheVariants as faults
 use Rattle.spec_model.specs.Plans.{SpecPlan, raise, one, listed}
 use Rattle.spec_model.specs.Names.{text_in, symbols_in, symbols_of, symbol_of}
-use Rattle.spec_model.specs.Types.{as_type, type_in}
-use Rattle.spec_model.specs.Expressions.{type_from, or_no_type, quoted_type, spliced_type}
+use Rattle.spec_model.specs.Types.{type_there, as_type, type_in}
+use Rattle.spec_model.specs.Expressions.{type_from, quoted_type, spliced_type}
 use Rattle.spec_model.specs.Making.{type_at}
 use Rattle.terra_term.specs.declared.store.Quote.{Quote}
 use Rattle.terra_term.specs.declared.store.Quote.TheVariants as quotes
@@ -63,7 +63,13 @@ no_list v place ts go not_table = refl
 
 -- ---- types among values, and in quotes
 
-pub type_among_is : (vs : List Value) (place : Place) (go : TypeId → SpecPlan) → type_in vs place go ≡ or_no_type (type_among vs) place go
+-- a type among values, where it is there
+abbrev pub among_there : Option TypeId → Place → (TypeId → SpecPlan) → SpecPlan
+among_there (Some t) place go = type_there t place go
+among_there None place go = raise place faults.NotAType
+
+pub type_among_is : (vs : List Value) (place : Place) (go : TypeId → SpecPlan)
+    → type_in vs place go ≡ among_there (type_among vs) place go
 type_among_is [] place go = refl
 type_among_is (values.TerraType t ∷ []) place go = refl
 type_among_is (v ∷ []) place go = refl

@@ -7,7 +7,7 @@ use Rattle.lua_value.specs.declared.value.Value.{Value}
 use Rattle.lua_value.specs.declared.value.Value.TheVariants as values
 use Rattle.exotype.specs.World.{StageState}
 use Rattle.spec_model.specs.declared.target.Target.{Target}
-use Rattle.spec_model.specs.Making.{is_undefined}
+use Rattle.spec_model.specs.Making.{may_be_defined}
 use Rattle.spec_model.specs.Plans.{SpecPlan}
 use Rattle.spec_model.specs.Definitions.{standing, made}
 use Rattle.spec_machine.specs.Agreeing.{standing_in}
@@ -27,7 +27,7 @@ standing_by false f t place go = refl
 
 standing_is : (w : StageState) (v : Value) (t : Target) (place : Place) (go : FnId → SpecPlan)
     → standing w v t place go ≡ standing_to (standing_in w v) t place go
-standing_is w (values.TerraFunction f) t place go = standing_by (is_undefined w f) f t place go
+standing_is w (values.TerraFunction f) t place go = standing_by (may_be_defined w f) f t place go
 standing_is w v t place go = refl
 
 pub stands : (w : StageState) (v : Value) (t : Target) (place : Place) (go : FnId → SpecPlan) (f : FnId)

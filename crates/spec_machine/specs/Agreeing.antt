@@ -10,7 +10,7 @@ use Rattle.tl_base.specs.declared.ids.FnId.{FnId}
 use Rattle.exotype.specs.World.{StageState}
 use Rattle.lua_value.specs.declared.value.Value.{Value}
 use Rattle.lua_value.specs.declared.value.Value.TheVariants as values
-use Rattle.spec_model.specs.Making.{is_undefined, symbol_type}
+use Rattle.spec_model.specs.Making.{may_be_defined, symbol_type}
 use Rattle.lua_table.specs.LuaState.{LuaState}
 use Rattle.lua_table.specs.Cells.{declare}
 use Rattle.terra_types.specs.declared.types.TypeForm.{TypeForm}
@@ -57,9 +57,9 @@ abbrev pub initial_in : Option InitialCode → Option Initial
 initial_in (Some i) = Some (record { name = i.name; value = i.value })
 initial_in None = None
 
--- the function that a value is, if it isn't defined
+-- the function that a value is, if it is there and isn't defined
 abbrev pub standing_in : StageState → Value → Option FnId
-standing_in w (values.TerraFunction f) = if is_undefined w f then Some f else None
+standing_in w (values.TerraFunction f) = if may_be_defined w f then Some f else None
 standing_in w v = None
 
 -- what a struct's definition gives

@@ -8,7 +8,7 @@ ghost use Rattle.exotype.specs.Terms.{function_size};
 ghost use Rattle.lua_value.specs.declared.value.Value.TheVariants as values;
 ghost use Rattle.lua_table.specs.Keeping.{KeepsHeap};
 ghost use Rattle.terra_term.specs.declared.term.Term.TheVariants as terms;
-ghost use Rattle.spec_model.specs.Making.{is_undefined, form_at, next_function, with_function, with_defined};
+ghost use Rattle.spec_model.specs.Making.{is_undefined, may_be_defined, form_at, next_function, with_function, with_defined};
 ghost use Rattle.spec_model.specs.Plans.{node};
 ghost use Rattle.spec_model.specs.Plans.{raise as fails};
 ghost use Rattle.spec_model.specs.Nodes.{terra_parts_at};
@@ -95,13 +95,20 @@ fn is_undefined(world: &World, function: FnId) -> bool
     }
 }
 
+/// Whether a definition may give a function its term: it is there and isn't defined.
+fn may_be_defined(world: &World, function: FnId) -> bool
+    ensures { result ≡ may_be_defined world.now function }
+{
+    function.0 < world.store.function_count() && is_undefined(world, function)
+}
+
 /// The function that stands in a target and isn't defined.
 fn standing(world: &World, target: Target) -> Option<FnId>
     ensures { result ≡ standing_in world.now (plans.held_in world.now.heap target) }
 {
     match held(&world.heap, target) {
         Value::TerraFunction(function) => {
-            if is_undefined(world, function) {
+            if may_be_defined(world, function) {
                 Some(function)
             } else {
                 None

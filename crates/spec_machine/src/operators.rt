@@ -2,7 +2,7 @@
 
 ghost use Rattle.std.specs.Prelude.{◌≡◌};
 ghost use Rattle.spec_model.specs.Nodes as nodes;
-ghost use Rattle.spec_model.specs.Expressions.{numeral_value};
+ghost use Rattle.spec_model.specs.Expressions.{largest_of, numeral_value};
 
 use terra_term::UnaryOperator;
 use terra_words::BinaryOperator;
@@ -52,13 +52,26 @@ pub fn unary(written: WrittenUnary) -> UnaryOperator
     }
 }
 
+/// The largest numeral of a type.
+fn largest_of(of: TypeId) -> u64
+    ensures { result ≡ largest_of of }
+{
+    if of == UINT64 {
+        u64::MAX
+    } else if of == INT64 {
+        i64::MAX as u64
+    } else {
+        i32::MAX as u64
+    }
+}
+
 /// The number of a numeral.
 pub fn numeral(digits: &str) -> u64
     ensures { result ≡ numeral_value digits.now }
 {
     match tl_tree::numeral_value(digits) {
-        Some(number) => number,
-        None => 0,
+        Some(number) if number <= largest_of(numeral_type(digits)) => number,
+        _ => 0,
     }
 }
 

@@ -14,6 +14,7 @@ ghost use Rattle.spec_machine.specs.Steps.{Comes};
 use crate::raise::raise;
 use crate::reached::Reached;
 use crate::terms::values_in;
+use exotype::types::is_type;
 use exotype::{Fault, World};
 use lua_value::Value;
 use terra_term::{Expression, Quote, Term};
@@ -32,6 +33,25 @@ fn no_type(world: &mut World, budget: &mut Budget, at: Place) -> Result<Reached<
     Ok(Reached::Left(step))
 }
 
+/// A type, where it is there.
+fn type_there(
+    world: &mut World,
+    budget: &mut Budget,
+    of: TypeId,
+    at: Place,
+) -> Result<Reached<TypeId>, NoMemory>
+    ensures means { IfOk result (λ reached.
+        Comes (λ go. plans.type_there of at go) world.old budget.old reached world.new budget.new) }
+    ensures kept { OnOk result (KeepsStage world.old world.new) }
+{
+    if is_type(world.store.types(), of) {
+        Ok(Reached::Value(of))
+    } else {
+        let reached = no_type(world, budget, at)?;
+        Ok(reached)
+    }
+}
+
 /// The type that a value is: a type, or a table of none or of one.
 pub fn as_type(
     world: &mut World,
@@ -44,7 +64,10 @@ pub fn as_type(
     ensures kept { OnOk result (KeepsStage world.old world.new) }
 {
     match value {
-        Value::TerraType(of) => Ok(Reached::Value(of)),
+        Value::TerraType(of) => {
+            let reached = type_there(world, budget, of, at)?;
+            Ok(reached)
+        }
         Value::Table(table) => {
             let values = values_in(&world.heap, table)?;
             let reached = type_in(world, budget, values.as_slice(), at)?;
@@ -69,7 +92,10 @@ fn type_in(
     ensures kept { OnOk result (KeepsStage world.old world.new) }
 {
     match type_among(values) {
-        Some(of) => Ok(Reached::Value(of)),
+        Some(of) => {
+            let reached = type_there(world, budget, of, at)?;
+            Ok(reached)
+        }
         None => {
             let reached = no_type(world, budget, at)?;
             Ok(reached)

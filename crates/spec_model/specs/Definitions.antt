@@ -28,7 +28,7 @@ use Rattle.exotype.specs.declared.fault.Fault.TheVariants as faults
 use Rattle.exotype.specs.World.{StageState, with_heap}
 use Rattle.exotype.specs.Types.{pointer_id, with_pointer, is_struct, tables_of}
 use Rattle.exotype.specs.Terms.{function_size}
-use Rattle.spec_model.specs.Making.{next_symbol, with_symbol, symbol_type, next_function, with_function, declared_type, is_undefined}
+use Rattle.spec_model.specs.Making.{next_symbol, with_symbol, symbol_type, next_function, with_function, declared_type, is_undefined, may_be_defined}
 use Rattle.spec_model.specs.Making.{with_defined, form_at}
 use Rattle.spec_model.specs.declared.end.End.TheVariants.{Gave}
 use Rattle.spec_model.specs.declared.target.Target.{Target}
@@ -190,9 +190,10 @@ new_function place declared go = Read (λ w. Write (with_function w place declar
 abbrev pub made : Target → Place → (FnId → SpecPlan) → SpecPlan
 made t place go = new_function place None (λ f. storing t (values.TerraFunction f) (go f))
 
--- the function that stands there and isn't defined, or a new one, which is stored there
+-- The function that stands there and isn't defined, or a new one, which is stored there. A value of Lua names a function that is there: no
+-- Lua code can make another. So no staging finds that one isn't.
 abbrev pub standing : StageState → Value → Target → Place → (FnId → SpecPlan) → SpecPlan
-standing w (values.TerraFunction f) t place go = if is_undefined w f then go f else made t place go
+standing w (values.TerraFunction f) t place go = if may_be_defined w f then go f else made t place go
 standing w v t place go = made t place go
 
 abbrev pub terra_plan : Items → NodeId → NodeId → NodeId → Place → EnvId → SpecPlan

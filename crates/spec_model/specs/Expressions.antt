@@ -1,5 +1,5 @@
 -- Expressions of Terra code.
-use Rattle.std.specs.Prelude.{ℕ, true, false, List, [], ◌∷◌, ◌++◌, Option, Some, None, unwrap_or, if◌then◌else◌}
+use Rattle.std.specs.Prelude.{ℕ, true, false, List, [], ◌∷◌, ◌++◌, nat_le, Option, Some, None, if◌then◌else◌}
 use Rattle.tl_base.specs.declared.ids.EnvId.{EnvId}
 use Rattle.tl_base.specs.declared.ids.NodeId.{NodeId}
 use Rattle.tl_base.specs.declared.ids.TermId.{TermId}
@@ -12,13 +12,15 @@ use Rattle.tl_tree.specs.declared.node.TerraExpression.{TerraExpression}
 use Rattle.tl_tree.specs.declared.node.TerraExpression.TheVariants as tree
 use Rattle.tl_tree.specs.Item.{Item}
 use Rattle.tl_tree.specs.Item as kept
-use Rattle.tl_tree.specs.Numbers.{value_of as written_value, fitting}
+use Rattle.tl_tree.specs.Numbers.{value_of as written_value}
 use Rattle.lua_value.specs.declared.value.Value.{Value}
 use Rattle.lua_value.specs.declared.value.Value.TheVariants as values
 use Rattle.tl_tree.specs.Code.{Items, name_at, place_at}
 use Rattle.tl_tree.specs.Scopes.{Found as Declared, binder}
 use Rattle.lua_table.specs.Cells.{local_value}
 use Rattle.lua_model.specs.Fields.{globals}
+use Rattle.terra_types.specs.Making.{same_type}
+use Rattle.terra_types.specs.Opening.{int64, uint64}
 use Rattle.terra_term.specs.declared.store.Quote.{Quote}
 use Rattle.terra_term.specs.declared.store.Quote.TheVariants as quotes
 use Rattle.terra_term.specs.declared.term.Expression.TheVariants as e
@@ -123,9 +125,14 @@ expression_of items (tree.Method a name arguments) place env =
 expression_of items (tree.Construct a ns) place env =
     Do (jobs.Expression a env) (λ r. constructed r (place_at items a) (λ of. construct items of ns place env))
 
--- A numeral of a source has 64 bits. What has more is none, and stands for zero.
+-- the largest numeral of a type: an int64, a uint64, or else an int32
+abbrev pub largest_of : TypeId → ℕ
+largest_of t =
+    if same_type t uint64 then 18446744073709551615 else (if same_type t int64 then 9223372036854775807 else 2147483647)
+
+-- A numeral of a source is no larger than its type allows. What is larger is none, and stands for zero.
 abbrev pub numeral_value : List ℕ → ℕ
-numeral_value digits = unwrap_or (fitting (written_value digits)) 0
+numeral_value digits = if nat_le (written_value digits) (largest_of (numeral_type digits)) then written_value digits else 0
 
 -- What is no expression is nil.
 abbrev pub expression_plan : Items → Item → NodeId → EnvId → SpecPlan

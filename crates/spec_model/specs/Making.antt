@@ -1,5 +1,5 @@
 -- What specialising reads and makes of Terra's store in the world. What isn't there has no type and no declaration, and isn't defined.
-use Rattle.std.specs.Prelude.{Bool, true, false, List, ◌∷◌, [], ◌++◌, Option, Some, None, slice_get}
+use Rattle.std.specs.Prelude.{Bool, true, false, ◌&&◌, nat_lt, List, ◌∷◌, [], ◌++◌, length, Option, Some, None, slice_get}
 use Rattle.tl_base.specs.declared.place.Place.{Place}
 use Rattle.tl_base.specs.declared.ids.FnId.{FnId}
 use Rattle.tl_base.specs.declared.ids.QuoteId.{QuoteId}
@@ -74,6 +74,10 @@ undefined_state _ = false
 
 abbrev pub is_undefined : StageState → FnId → Bool
 is_undefined w f = undefined_state (stores.state_of w.store f)
+
+-- whether a definition may give this function its term: it is there and isn't defined
+abbrev pub may_be_defined : StageState → FnId → Bool
+may_be_defined w f = nat_lt f.0 (length w.store.functions) && is_undefined w f
 
 -- a function once it is defined, with its place and its term
 abbrev pub with_defined : StageState → FnId → Place → TermId → StageState

@@ -16,16 +16,19 @@ use Rattle.terra_types.specs.declared.types.TypeForm.{TypeForm}
 use Rattle.terra_types.specs.declared.types.TypeForm.TheVariants as forms
 use Rattle.terra_term.specs.Held as stores
 use Rattle.terra_term.specs.declared.store.TerraConstant.{TerraConstant}
+use Rattle.exotype.specs.Types.{is_type}
 use Rattle.exotype.specs.World.{StageState, with_heap, with_store}
 use Rattle.spec_model.specs.Making.{next_symbol, with_symbol, form_at}
 use Rattle.terra_lib.specs.Answers.{Turned, bad_argument, gives_one, given, type_in}
 
 -- ---- symbols and macros
 
--- `symbol` gives a new symbol, with a type or without
+-- `symbol` gives a new symbol, with a type or without. A value of Lua names a type that is there: no Lua code can make another.
 abbrev pub symbol_of : State StageState → Value → Place → Turned
 symbol_of s values.Nil place = gives_one s (with_symbol s.world None) (values.Symbol (next_symbol s.world))
-symbol_of s (values.TerraType t) place = gives_one s (with_symbol s.world (Some t)) (values.Symbol (next_symbol s.world))
+symbol_of s (values.TerraType t) place =
+    if is_type s.world.store.types t then gives_one s (with_symbol s.world (Some t)) (values.Symbol (next_symbol s.world))
+    else bad_argument s place 1 library.Symbol
 symbol_of s v place = bad_argument s place 1 library.Symbol
 
 abbrev pub symbol_turned : State StageState → List Value → Place → Turned
@@ -61,11 +64,11 @@ abbrev pub bits_if : Bool → ℤ → Option ℕ
 bits_if fits z = if fits then Some (cast_unsigned w64 z) else None
 
 -- The 64 bits of a value as one of a scalar type: a number in an integer type's range, a boolean for bool, and for a pointer a number from
--- 0 up.
+-- 0 up that 64 bits hold.
 abbrev pub scalar_bits : Option TypeForm → Value → Option ℕ
 scalar_bits (Some (forms.Integer i)) (values.Number z) = bits_if (in_range i z) z
 scalar_bits (Some forms.Bool) (values.Boolean b) = Some (if b then 1 else 0)
-scalar_bits (Some (forms.Pointer t)) (values.Number z) = bits_if (int_le (pos 0) z) z
+scalar_bits (Some (forms.Pointer t)) (values.Number z) = bits_if (in_range Uint64 z) z
 scalar_bits form v = None
 
 -- integers, bool and pointers are scalar

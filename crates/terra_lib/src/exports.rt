@@ -67,7 +67,8 @@ pub fn save_object(
     end_saving(world, budget, refused, place)
 }
 
-fn is_text(value: Value) -> bool
+/// Whether a value is a text.
+pub fn is_text(value: Value) -> bool
     ensures { result ≡ is_text value }
 {
     matches!(value, Value::Text(_))
@@ -155,7 +156,7 @@ fn save_entry(world: &mut World, at_end: bool, key: Value, value: Value) -> Resu
 }
 
 /// Exports a function under a text.
-fn export(world: &mut World, key: TextId, function: FnId) -> Result<(), NoMemory>
+pub fn export(world: &mut World, key: TextId, function: FnId) -> Result<(), NoMemory>
     ensures { OnOk result (world.new ≡ with_exported world.old key function) }
 {
     let name = name_of(world, key)?;
@@ -199,7 +200,7 @@ fn fate_of(world: &World, at_end: bool, key: Value, value: Value) -> Fate
 }
 
 /// Whether a value is a function that is defined, and has at most eight parameters, all scalar.
-fn may_be_exported(world: &World, value: &Value) -> bool
+pub fn may_be_exported(world: &World, value: &Value) -> bool
     ensures { result ≡ may_be_exported world.now value.now }
 {
     match value {
@@ -228,7 +229,7 @@ fn fate_of_function(world: &World, at_end: bool, name: TextId, f: FnId) -> Fate
 }
 
 /// Whether a name may be that of a new export.
-fn is_free(world: &World, name: &[u8]) -> bool
+pub fn is_free(world: &World, name: &[u8]) -> bool
     ensures { result ≡ is_free world.now name.now }
 {
     is_name(name) && !is_used(world.exports.as_slice(), name)
@@ -254,7 +255,7 @@ fn is_used(exports: &[Export], name: &[u8]) -> bool
 }
 
 /// Whether a function has at most eight parameters, all scalar. One that isn't defined has none.
-fn takes_scalars(world: &World, f: FnId) -> bool
+pub fn takes_scalars(world: &World, f: FnId) -> bool
     ensures { result ≡ takes_scalars world.now (parameters_in (term_of_function world.now f)) }
 {
     match term_of_function(world, f) {
@@ -283,7 +284,7 @@ fn all_scalar(types: &Types, params: &[Parameter]) -> bool
 }
 
 /// Whether a function has a scalar result, or a unit one. A result that isn't written is found by a check, and there is none yet.
-fn gives_scalar(world: &World, f: FnId) -> bool
+pub fn gives_scalar(world: &World, f: FnId) -> bool
     ensures { result ≡ gives_scalar world.now (result_in (term_of_function world.now f)) }
 {
     match term_of_function(world, f) {
@@ -295,7 +296,8 @@ fn gives_scalar(world: &World, f: FnId) -> bool
     }
 }
 
-fn is_unit(types: &Types, of: TypeId) -> bool
+/// Whether a type is the unit type.
+pub fn is_unit(types: &Types, of: TypeId) -> bool
     ensures { result ≡ is_unit (slice_get types.now of.0) }
 {
     matches!(types.form(of), Some(TypeForm::Unit))

@@ -80,7 +80,7 @@ fn type_field(world: &World, of: TypeId, name: &[u8]) -> Value
 }
 
 /// The value of a number from 0 up, and nil where it is out of the profile.
-fn whole(number: u64) -> Value
+pub fn whole(number: u64) -> Value
     ensures { result ≡ whole number }
 {
     let number = match i64::try_from(number) {

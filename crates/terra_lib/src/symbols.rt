@@ -15,6 +15,7 @@ ghost use Rattle.terra_lib.specs.Symbols.{symbol_turned, macro_turned, constant_
 
 use crate::answers::{bad_argument, give_one, type_in};
 use exotype::World;
+use exotype::types::is_type;
 use lua_base::argument;
 use lua_table::LibTurn;
 use lua_value::{LibFn, Value};
@@ -36,7 +37,13 @@ pub fn symbol(
 {
     match argument(args, 0) {
         Value::Nil => new_symbol(world, None),
-        Value::TerraType(of) => new_symbol(world, Some(of)),
+        Value::TerraType(of) => {
+            if is_type(world.store.types(), of) {
+                new_symbol(world, Some(of))
+            } else {
+                bad_argument(world, budget, place, 1, LibFn::Symbol)
+            }
+        }
         _ => bad_argument(world, budget, place, 1, LibFn::Symbol),
     }
 }
@@ -125,7 +132,7 @@ pub fn is_scalar(types: &Types, of: TypeId) -> bool
 }
 
 /// The 64 bits of a value as one of a scalar type, where it is one.
-fn scalar_bits(types: &Types, of: TypeId, value: Value) -> Option<u64>
+pub fn scalar_bits(types: &Types, of: TypeId, value: Value) -> Option<u64>
     ensures { result ≡ scalar_bits (slice_get types.now of.0) value }
 {
     match types.form(of) {
@@ -167,7 +174,7 @@ fn pointer_bits(value: Value) -> Option<u64>
     match value {
         Value::Number(number) => {
             let number = number.get();
-            if 0 <= number {
+            if in_range(Integer::Uint64, i128::from(number)) {
                 Some(number.cast_unsigned())
             } else {
                 None

@@ -12,6 +12,9 @@ use Rattle.spec_machine.proofs.Quoted.{reads_values}
 use Rattle.spec_machine.proofs.Reaching.{comes_past, passes_same}
 use Rattle.spec_machine.proofs.types.as_type.Goals as goal
 
+pub returns-in_ok-reached-in-TerraType-clause-means : goal.returns-in_ok-reached-in-TerraType-clause-means
+returns-in_ok-reached-in-TerraType-clause-means c = rw c.in-TerraType.is c.in_ok-reached-in-TerraType.ensures.means
+
 pub returns-in_ok-reached-in-Table-clause-means : goal.returns-in_ok-reached-in-Table-clause-means
 returns-in_ok-reached-in-Table-clause-means c =
     let a = c.args in

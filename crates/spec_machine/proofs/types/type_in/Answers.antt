@@ -2,16 +2,19 @@ use Rattle.std.proofs.Common.{◌≡◌, Option, Some, None, refl, sym, ap, ◌�
 use Rattle.tl_base.specs.declared.ids.TypeId.{TypeId}
 use Rattle.exotype.specs.declared.fault.Fault.TheVariants.{NotAType}
 use Rattle.spec_model.specs.Plans.{SpecPlan, raise}
-use Rattle.spec_model.specs.Types.{type_in}
-use Rattle.spec_model.specs.Expressions.{or_no_type}
+use Rattle.spec_model.specs.Types.{type_there, type_in}
 use Rattle.spec_machine.proofs.Quoted.{type_found}
 use Rattle.spec_machine.proofs.Reaching.{comes_past}
 use Rattle.spec_machine.proofs.types.type_in.Goals as goal
 
-pub returns-in-Some-clause-means : goal.returns-in-Some-clause-means
-returns-in-Some-clause-means c =
+pub returns-in_ok-reached-in-Some-clause-means : goal.returns-in_ok-reached-in-Some-clause-means
+returns-in_ok-reached-in-Some-clause-means c =
     let a = c.args in
-    type_found a.values.now a.at (Some c.in-Some.of) a.world.now a.budget.now (sym c.in-Some.is ∙ c.type_among.ensures)
+    let t = c.in-Some.of in
+    comes_past (λ go. type_in a.values.now a.at go) (λ go. type_there t a.at go) c.in_ok-reached-in-Some.reached
+    a.world.now a.world.now c.type_there.new.world a.budget.now a.budget.now c.type_there.new.budget
+    (type_found a.values.now a.at (Some t) a.world.now a.budget.now (sym c.in-Some.is ∙ c.type_among.ensures))
+    c.in_ok-reached-in-Some.ensures.means
 
 pub returns-in_ok-reached-in-None-clause-means : goal.returns-in_ok-reached-in-None-clause-means
 returns-in_ok-reached-in-None-clause-means c =
