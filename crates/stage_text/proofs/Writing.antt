@@ -1,6 +1,8 @@
 -- Parts of a type's text are that text.
 use Rattle.std.proofs.Common.{◌≡◌, ℕ, ◌<◌, ◌≤◌, ◌+◌, List, [], ◌∷◌, ◌++◌, length, drop, take, get_or, Option, Some, None, refl, sym, ◌∙◌, ap, arith, append_assoc, append-nil, add-one}
 use Rattle.std.proofs.Math.Seq.{drop-cons}
+use Rattle.std.proofs.lemmas.List.{take_all}
+use Rattle.terra_types.proofs.Growing.{length-grown}
 use Rattle.std.specs.Prelude.{option_map, unwrap_or, slice_get, codes, decimal}
 use Rattle.tl_base.specs.declared.ids.TypeId.{TypeId}
 use Rattle.terra_types.specs.declared.types.TypeForm.{TypeForm}
@@ -85,3 +87,16 @@ put_step types out text part new work put same =
 pub past_step : (types : List TypeForm) (out : List ℕ) (part : Part) (work : List Part) → part_text types part ≡ []
     → out ++ text_in types work ≡ (out ++ part_text types part) ++ text_in types work
 past_step types out part work none = rw (none, append-nil out) refl
+
+-- a type that is made of types that are there
+pub made_text : (types : List TypeForm) (form : TypeForm) → text_in types (type_parts (length types) form) ≡ type_made (type_texts types) form
+made_text types form =
+    parts_text types (length types) form
+    ∙ ap (λ (bs : List (List ℕ)). type_made bs form)
+    (take_all (length types) (type_texts types) (omega (arith, length-grown type_made [] types)))
+
+pub written_text : (types : List TypeForm) (out : List ℕ) (ps : List Part) (below : ℕ) (form : TypeForm) → below ≡ length types
+    → ps ≡ type_parts below form → out ++ text_in types ps ≡ out ++ type_made (type_texts types) form
+written_text types out ps below form all same =
+    ap (λ (bs : List ℕ). out ++ bs)
+    (ap (λ (qs : List Part). text_in types qs) (same ∙ ap (λ (k : ℕ). type_parts k form) all) ∙ made_text types form)

@@ -5,7 +5,7 @@
 
 ghost use Rattle.std.specs.Prelude.{◌≡◌, ◌++◌, [], ◌∷◌, codes, decimal, IfOk, OnOk};
 ghost use Rattle.tl_base.specs.Text.{text_of};
-ghost use Rattle.terra_term.specs.TermText.{type_text, integer_text};
+ghost use Rattle.terra_term.specs.TermText.{type_text, type_texts, type_made, integer_text};
 ghost use Rattle.stage_text.specs.Types.{part_text, text_in, type_parts, listed_types, comma_types};
 
 use std::alloc::Global;
@@ -49,6 +49,42 @@ pub fn type_text(alloc: Global, types: &Types, of: TypeId) -> Result<Option<Text
             return Text::new(alloc, out.bytes());
         };
         step(alloc, types, &mut out, &mut work, part)?;
+    }
+    Err(NoMemory)
+}
+
+/// Writes the type of functions of these parameters and this result, whether it is there or not.
+pub fn push_function_type(
+    alloc: Global,
+    types: &Types,
+    out: &mut Text2,
+    parameters: &[TypeId],
+    of: TypeId,
+) -> Result<(), NoMemory>
+    ensures { OnOk result (out.new
+        ≡ out.old ++ type_made (type_texts types.now) (TypeForm.Function parameters.now of)) }
+{
+    let parts = parts_of_function(alloc, types.len(), parameters, of)?;
+    push_parts(alloc, types, out, parts)
+}
+
+/// Writes parts, however long they are.
+fn push_parts(
+    alloc: Global,
+    types: &Types,
+    out: &mut Text2,
+    parts: Vec<Part>,
+) -> Result<(), NoMemory>
+    ensures { OnOk result (out.new ≡ out.old ++ text_in types.now parts.items) }
+{
+    let mut work = VecDeque::new(alloc);
+    prepend(&mut work, parts)?;
+    // Memory runs out before that many bytes are written.
+    for _ in 0..u64::MAX {
+        let Some(part) = work.pop_front() else {
+            return Ok(());
+        };
+        step(alloc, types, out, &mut work, part)?;
     }
     Err(NoMemory)
 }

@@ -143,7 +143,7 @@ fn end_of(heap: &Heap, staging: &Staging<LuaEnd>) -> Result<End, NoMemory>
 }
 
 /// The text of an error: that of a text or a number, and one in place of any other value's.
-fn raised_text(heap: &Heap, value: Value) -> Result<Text2, NoMemory>
+pub fn raised_text(heap: &Heap, value: Value) -> Result<Text2, NoMemory>
     ensures { IfOk result (λ text. text ≡ raised_text heap.now value) }
 {
     match value {

@@ -1,0 +1,22 @@
+use Rattle.std.proofs.Common.{◌≡◌, ap, sym, ◌∙◌}
+use Rattle.tl_base.specs.declared.place.Place.{Place}
+use Rattle.tl_base.specs.Layer.{state}
+use Rattle.tl_tree.specs.Arena.{items_of, end_of as finish_of}
+use Rattle.check_model.specs.Typing.{TypingState}
+use Rattle.check_stage.specs.Staging.{outcome_from}
+use Rattle.check_stage.proofs.staging.stage.Goals as goal
+
+pub returns-clause-means : goal.returns-clause-means
+returns-clause-means c =
+    let a = c.args in
+    let came = c.in_ok-outcome.ensures.means in
+    let n = came.0 in
+    let typing = c.in_ok-typing.typing in
+    let items = items_of a.tree.now in (
+      n,
+      ap (λ (w : TypingState). outcome_from items (finish_of a.tree.now) a.mode n (state w a.units)) (sym c.in_ok-typing.ensures)
+          ∙ ap (λ t. outcome_from (items_of t) (finish_of a.tree.now) a.mode n (state typing a.units)) (sym c.new-stages.ensures)
+          ∙ ap (λ (p : Place). outcome_from (items_of c.new-stages.result.inner.tree.now) p a.mode n (state typing a.units))
+          (sym c.finish.ensures)
+          ∙ came.1,
+    )

@@ -1,0 +1,11 @@
+use Rattle.std.proofs.Common.{◌∙◌}
+use Rattle.terra_term.proofs.Steps.{on-ok}
+use Rattle.check_stage.proofs.Lines.{refusal_on}
+use Rattle.check_stage.proofs.texts.push_refusal.Goals as goal
+
+pub returns : goal.returns
+returns c =
+    let named = c.as_bytes.ensures.value ∙ c.kind_name.ensures in
+    on-ok c.push_number.result c.push_number.ensures
+    (λ put. refusal_on c.args.refusal c.args.out.now _ _ _ _ _ _ c.as_bytes.result.now c.in_ok-push_bytes.ensures.ok named
+    c.in_ok-push_bytes-2.ensures.ok c.in_ok-push_bytes-3.ensures.ok c.in_ok-push_place.ensures c.in_ok-push_bytes-4.ensures.ok put)

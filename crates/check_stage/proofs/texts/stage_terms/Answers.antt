@@ -1,0 +1,17 @@
+use Rattle.tl_base.specs.Layer.{state}
+use Rattle.check_stage.specs.Staging.{ending}
+use Rattle.check_stage.proofs.texts.stage_terms.Goals as goal
+
+pub returns : goal.returns
+returns c =
+    let out = c.in_ok-outcome.outcome in
+    let means = c.in_ok-outcome.ensures.means in
+    let written = c.in_ok-terms.ensures in
+    record {
+      n = means.0;
+      ending = ending out.end out.checks.items (state out.typing out.left);
+      comes = means.1;
+      printed = written.printed;
+      end = written.end;
+      lines = written.lines;
+    }

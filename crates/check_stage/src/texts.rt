@@ -1,0 +1,233 @@
+// What is written of a staging: texts alone, for a caller that has no use for the world.
+
+ghost use Rattle.std.specs.Prelude.{◌≡◌, ◌≤◌, ◌++◌, Some, IfOk, OnOk};
+ghost use Rattle.tl_tree.specs.Arena.{items_of, end_of as finish_of};
+ghost use Rattle.stage_text.specs.Terms.{terms_text};
+ghost use Rattle.check_model.specs.Typing.{function_at};
+ghost use Rattle.check_model.specs.Calls.{result_of};
+ghost use Rattle.check_stage.specs.Texts.{AreChecks, AreTerms, number_text, place_text, placed, type_if_known, function_type};
+ghost use Rattle.check_stage.specs.Texts.{refusal_text, verdict, check_text, checks_text};
+
+use crate::staging::{CheckLine, End, Mode, Outcome, stage};
+use check_expr::known::{parameter_types, result_type};
+use check_library::answers::kind_name;
+use check_model::KnownResult;
+use exotype::World;
+use stage_text::{push_function_type, terms_text};
+use std::alloc::Global;
+use terra_term::Refusal;
+use tl_base::{FnId, NoMemory, Place, Text2, TypeId};
+use tl_tree::Tree;
+
+/// What is written of a staging that checks each function: what was printed, how it ended, and a line for each check that was
+/// made: `function N at L:W: ok TYPE` or `function N at L:W: refused KIND at L:W in function M`.
+#[derive(Debug, Drop)]
+pub struct Checks {
+    pub printed: Text2,
+    pub end: End,
+    pub lines: Text2,
+}
+
+/// What is written of a staging that makes exports: what was printed, how it ended, and a line for each export with the lines
+/// of the exported terms, as they were at that end.
+#[derive(Debug, Drop)]
+pub struct Terms {
+    pub printed: Text2,
+    pub end: End,
+    pub lines: Text2,
+}
+
+/// Stages a source as [`stage`] does, checks each function that is defined, and writes the lines of the checks. No check is told
+/// of a staging that failed.
+pub fn stage_checks(
+    alloc: Global,
+    tree: &Tree<'_>,
+    units: u64,
+    memory: u64,
+) -> Result<Checks, NoMemory>
+    requires { memory ≤ 67108864 }
+    ensures { IfOk result (λ it. AreChecks (items_of tree.now) (finish_of tree.now) units memory it) }
+{
+    let outcome = stage(alloc, tree, units, memory, Mode::CheckAll)?;
+    let checks = checks_of(outcome)?;
+    Ok(checks)
+}
+
+/// Stages a source as [`stage`] does, makes its exports, and writes their lines and those of their terms. They are written after
+/// each end: those of a staging that failed are the ones that were exported until then.
+pub fn stage_terms(
+    alloc: Global,
+    tree: &Tree<'_>,
+    units: u64,
+    memory: u64,
+) -> Result<Terms, NoMemory>
+    requires { memory ≤ 67108864 }
+    ensures { IfOk result (λ it. AreTerms (items_of tree.now) (finish_of tree.now) units memory it) }
+{
+    let outcome = stage(alloc, tree, units, memory, Mode::Exports)?;
+    let terms = terms_of(outcome)?;
+    Ok(terms)
+}
+
+/// What is written of an outcome with checks.
+fn checks_of(outcome: Outcome) -> Result<Checks, NoMemory>
+    ensures printed { IfOk result (λ it. it.printed ≡ outcome.typing.stage.heap.printed) }
+    ensures end { IfOk result (λ it. it.end ≡ outcome.end) }
+    ensures lines { IfOk result (λ it. it.lines ≡ checks_text outcome.typing.stage outcome.checks.items) }
+{
+    let printed = printed_by(&outcome.typing.world)?;
+    let lines = check_lines(&outcome.typing.world, &outcome.checks)?;
+    Ok(Checks {
+        printed,
+        end: outcome.end,
+        lines,
+    })
+}
+
+/// What is written of an outcome with exports.
+fn terms_of(outcome: Outcome) -> Result<Terms, NoMemory>
+    ensures printed { IfOk result (λ it. it.printed ≡ outcome.typing.stage.heap.printed) }
+    ensures end { IfOk result (λ it. it.end ≡ outcome.end) }
+    ensures lines { IfOk result (λ it. it.lines
+        ≡ terms_text outcome.typing.stage.store outcome.typing.stage.exports.list) }
+{
+    let printed = printed_by(&outcome.typing.world)?;
+    let lines = export_lines(&outcome.typing.world)?;
+    Ok(Terms {
+        printed,
+        end: outcome.end,
+        lines,
+    })
+}
+
+/// What was printed.
+fn printed_by(world: &World) -> Result<Text2, NoMemory>
+    ensures { IfOk result (λ text. text ≡ world.now.heap.printed) }
+{
+    let mut text = Text2::new(world.heap.allocator());
+    text.push_bytes(world.heap.printed())?;
+    Ok(text)
+}
+
+/// The lines of the exports, and of their terms.
+fn export_lines(world: &World) -> Result<Text2, NoMemory>
+    ensures { IfOk result (λ text. text ≡ terms_text world.now.store world.now.exports.list) }
+{
+    let lines = terms_text(&world.store, world.exports.as_slice())?;
+    Ok(lines)
+}
+
+/// The lines of checks.
+fn check_lines(world: &World, checks: &[CheckLine]) -> Result<Text2, NoMemory>
+    ensures { IfOk result (λ text. text ≡ checks_text world.now checks.now) }
+{
+    let mut out = Text2::new(world.heap.allocator());
+    for check in checks {
+        push_check(world, &mut out, *check)?;
+    }
+    Ok(out)
+}
+
+/// Writes the line of a check.
+fn push_check(world: &World, out: &mut Text2, check: CheckLine) -> Result<(), NoMemory>
+    ensures { OnOk result (out.new ≡ out.old ++ check_text world.now check) }
+{
+    let alloc = world.heap.allocator();
+    out.push_bytes(b"function ")?;
+    push_number(alloc, out, check.function)?;
+    push_placed(world, out, check.function)?;
+    out.push_bytes(b": ")?;
+    push_verdict(world, out, check.function, check.refusal)?;
+    out.push_bytes(b"\n")
+}
+
+/// Writes the number of a function.
+fn push_number(alloc: Global, out: &mut Text2, f: FnId) -> Result<(), NoMemory>
+    ensures { OnOk result (out.new ≡ out.old ++ number_text f) }
+{
+    let number = u128::from(f.0) + 1;
+    let text = format!(in alloc; "{number}")?;
+    out.push_bytes(text.as_bytes())
+}
+
+/// Writes a place.
+fn push_place(alloc: Global, out: &mut Text2, place: Place) -> Result<(), NoMemory>
+    ensures { OnOk result (out.new ≡ out.old ++ place_text place) }
+{
+    let line = place.line;
+    let word = place.word;
+    let text = format!(in alloc; "{line}:{word}")?;
+    out.push_bytes(text.as_bytes())
+}
+
+/// Writes where a function is.
+fn push_placed(world: &World, out: &mut Text2, f: FnId) -> Result<(), NoMemory>
+    ensures { OnOk result (out.new ≡ out.old ++ placed (function_at world.now f)) }
+{
+    match world.store.function(f) {
+        None => Ok(()),
+        Some(function) => {
+            out.push_bytes(b" at ")?;
+            push_place(world.heap.allocator(), out, function.place)
+        }
+    }
+}
+
+/// Writes what a check came to.
+fn push_verdict(
+    world: &World,
+    out: &mut Text2,
+    f: FnId,
+    refusal: Option<Refusal>,
+) -> Result<(), NoMemory>
+    ensures { OnOk result (out.new ≡ out.old ++ verdict world.now f refusal) }
+{
+    match refusal {
+        None => {
+            out.push_bytes(b"ok ")?;
+            push_type(world, out, f)
+        }
+        Some(refusal) => push_refusal(world.heap.allocator(), out, refusal),
+    }
+}
+
+/// Writes a refusal.
+fn push_refusal(alloc: Global, out: &mut Text2, refusal: Refusal) -> Result<(), NoMemory>
+    ensures { OnOk result (out.new ≡ out.old ++ refusal_text refusal) }
+{
+    out.push_bytes(b"refused ")?;
+    out.push_bytes(kind_name(refusal.kind).as_bytes())?;
+    out.push_bytes(b" at ")?;
+    push_place(alloc, out, refusal.place)?;
+    out.push_bytes(b" in function ")?;
+    push_number(alloc, out, refusal.function)
+}
+
+/// Writes the type of a function, where it is known.
+fn push_type(world: &World, out: &mut Text2, f: FnId) -> Result<(), NoMemory>
+    ensures { OnOk result (out.new ≡ out.old ++ function_type world.now f) }
+{
+    match parameter_types(world, f)? {
+        None => Ok(()),
+        Some(parameters) => push_type_with(world, out, parameters.as_slice(), f),
+    }
+}
+
+/// Writes the type of a function of these parameters, where its result is known.
+fn push_type_with(
+    world: &World,
+    out: &mut Text2,
+    parameters: &[TypeId],
+    f: FnId,
+) -> Result<(), NoMemory>
+    ensures { OnOk result (out.new
+        ≡ out.old ++ type_if_known world.now.store.types (Some parameters.now) (result_of world.now f)) }
+{
+    match result_type(world, f) {
+        KnownResult::Is(of) => {
+            let alloc = world.heap.allocator();
+            push_function_type(alloc, world.store.types(), out, parameters, of)
+        }
+        KnownResult::NotYet | KnownResult::BeingTyped => Ok(()),
+    }
+}
