@@ -1,20 +1,19 @@
 -- From what was read to what is owed, and from what is owed to what is answered.
 use Rattle.std.proofs.Common.{◌≡◌, ◌≢◌, ◌⊎◌, inl, inr, ℕ, ◌+◌, ◌≤◌, List, [], ◌++◌, length, Option, Some, None, refl, sym, ap, subst, ◌∙◌, append_assoc, append-nil, arith, length-append}
-use Rattle.std.specs.Prelude.{IsSome}
-use Rattle.tl_base.specs.Outside.{with_front, with_back, IsAtEnd, IsRisen, IsFront}
+use Rattle.tl_base.specs.Outside.{with_front, with_back, IsAtEnd}
 use Rattle.terrac_call.specs.Statuses.{text_of}
 use Rattle.terrac_call.specs.declared.status.Status.{Status}
 use Rattle.terrac_call.specs.declared.status.Status.TheVariants as statuses
 use Rattle.terrac_call.specs.declared.due.Due.{Due as DueValue}
 use Rattle.terrac_call.specs.declared.due.Ended.{Ended}
 use Rattle.terrac_call.specs.Words.{Call, Limits, Job, Run, Exec, Check, Terms, job_of}
-use Rattle.terrac_call.specs.Due.{Due, after, line, longest, refused, IsSourceDue}
+use Rattle.terrac_call.specs.Due.{Due, after, line, longest, IsSourceDue}
 use Rattle.terrac_call.specs.DueView.{shown_due}
 use Rattle.terrac_call.specs.Exec.{longest_image, IsExecDue, IsLong, IsBad, IsImage}
 use Rattle.terrac_call.specs.Check.{IsCheckDue}
 use Rattle.terrac_call.specs.Terms.{IsTermsDue}
-use Rattle.terrac_call.specs.Answer.{IsToldAs, IsDue, IsDueOrCut, IsWhole, IsCut, Owed, Answered, Unread, OutOfMemory, TakesFront, IsWritten, IsCutOff, Delivers, Answers, GivesDue}
-use Rattle.terrac_call.specs.Call.{AnswersDue, AnswersExactly}
+use Rattle.terrac_call.specs.Answer.{IsToldAs, IsDue, IsDueOrCut, IsWhole, IsCut, Owed, Answered, Unread, OutOfMemory, TakesFront, IsWritten, IsCutOff, Delivers, Answers}
+use Rattle.terrac_call.specs.Call.{AnswersExactly}
 use Rattle.terrac_call.specs.Ending.{Remains, Stopped, Ends}
 use Rattle.terrac_call.proofs.Pieces.{with_back-none, with_back-both}
 use Rattle.terrac_call.proofs.Endings.{ends_into, cut_into}
@@ -62,10 +61,10 @@ module _ (left : Option (List ℕ)) (Rose : Type 0) where
   -- `check` on what was read of a source
   pub check_ends : (limits : Limits) (text : List ℕ) (new : Option (List ℕ)) (ended : Ended) (out_old out_new : Option (List ℕ)) (f0 f1 : ℕ) (Same : Type 0) →
       IsEnough (longest + 1) text left new →
-      Ends (IsCheckDue limits.budget text) ended out_old out_new f0 f1 Same → Ends (Owed (Some (Check limits)) left Rose) ended out_old out_new f0 f1 Same
+      Ends (IsCheckDue limits text) ended out_old out_new f0 f1 Same → Ends (Owed (Some (Check limits)) left Rose) ended out_old out_new f0 f1 Same
   check_ends limits text new ended out_old out_new f0 f1 Same enough h =
       let w = whole (longest + 1) text left new enough in
-      ends_into _ _ (λ due is. Answered w.bytes w.told (IsWhole (check_whole limits.budget text w.bytes due w.same is))) ended out_old out_new f0 f1 Same h
+      ends_into _ _ (λ due is. Answered w.bytes w.told (IsWhole (check_whole limits text w.bytes due w.same is))) ended out_old out_new f0 f1 Same h
 
   -- `terms` on what was read of a source
   pub terms_ends : (limits : Limits) (text : List ℕ) (new : Option (List ℕ)) (ended : Ended) (out_old out_new : Option (List ℕ))

@@ -17,5 +17,4 @@ pub mod OneReading
 pub mod Pieces
 pub mod Statuses
 pub mod Telling
-pub mod TerraNodes
 pub mod Top

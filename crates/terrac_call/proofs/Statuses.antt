@@ -1,28 +1,25 @@
 -- No job that is done ends as a refusal of the words, or as a read that failed.
-use Rattle.std.proofs.Common.{◌≡◌, ◌≢◌, ℕ, Bool, true, false, cond, List, [], Option, Some, None, refl, sym, ap, subst, ◌∙◌}
-use Rattle.std.specs.Prelude.{codes, IsSome}
+use Rattle.std.proofs.Common.{◌≡◌, ◌≢◌, ℕ, Bool, true, false, cond, List, Option, Some, None, refl, sym, ap, ◌∙◌}
+use Rattle.std.specs.Prelude.{IsSome}
 use Rattle.std.specs.Str.{bytes_eq}
 use Rattle.elf_image.specs.declared.image.Image.{Image}
 use Rattle.elf_image.specs.declared.image.Symbol.{Symbol}
 use Rattle.elf_image.specs.Calls.{symbol_named}
 use Rattle.rv_machine.specs.declared.stops.Stop.{Stop}
 use Rattle.rv_machine.specs.declared.stops.Stop.TheVariants as stops
-use Rattle.tl_tree.specs.Code.{Items}
-use Rattle.tl_tree.specs.Nodes.{lay}
 use Rattle.first_form.specs.Formula.{SourceFunction}
 use Rattle.first_form.specs.Form.{function_of}
-use Rattle.stage_loop.specs.declared.staging.End.{End}
-use Rattle.stage_loop.specs.declared.staging.End.TheVariants.{Done, Raised, Spent}
+use Rattle.check_stage.specs.declared.staging.End.{End}
+use Rattle.check_stage.specs.declared.staging.End.TheVariants.{Done, Raised, Spent}
 use Rattle.terrac_call.specs.declared.status.Status.{Status}
 use Rattle.terrac_call.specs.declared.status.Status.TheVariants as statuses
 use Rattle.terrac_call.specs.Words.{Call, Limits, Job, Run, Exec, Check, Terms}
 use Rattle.terrac_call.specs.Arguments.{Arguments, Good, Bad, arguments_of}
-use Rattle.terrac_call.specs.Due.{Due, after, Reading, IsRefused, IsTree, int64, refused, due_of_arguments, due_of_no_entry, due_of_function, due_of_call}
+use Rattle.terrac_call.specs.Due.{Due, Reading, IsRefused, IsTree, refused, due_of_arguments, due_of_no_entry, due_of_function, due_of_call}
 use Rattle.terrac_call.specs.Exec.{due_of_stop, IsRunDue, IsCallDue, IsExecDue, IsLong, IsBad, IsImage}
-use Rattle.terrac_call.specs.Check.{due_of_end, IsTreeDue, IsNotBuilt, IsStaged, IsReadingDue}
+use Rattle.terrac_call.specs.Staged.{due_of_end}
+use Rattle.terrac_call.specs.Check as checks
 use Rattle.terrac_call.specs.Terms as terms
-use Rattle.terra_stage.specs.declared.staging.End.{End as StageEnd}
-use Rattle.terra_stage.specs.declared.staging.End.TheVariants as stagings
 use Rattle.terrac_call.specs.Answer.{IsDue, IsDueOrCut, IsWhole, IsCut, Owed, Answered, Unread, OutOfMemory}
 
 -- the statuses with which a job may end
@@ -86,23 +83,14 @@ of_exec call steps bytes due (IsLong more is) = as_that due _ is refl
 of_exec call steps bytes due (IsBad error few bad is) = as_that due _ is refl
 of_exec call steps bytes due (IsImage image few loads is) = of_call image call steps (symbol_named call.entry image.exports) due is
 
-of_end : (end : End) → EndsJob (due_of_end end)
-of_end Done = refl
-of_end (Raised text place) = refl
-of_end Spent = refl
+of_ending : (end : End) (lines : List ℕ) → EndsJob (due_of_end end lines)
+of_ending Done lines = refl
+of_ending (Raised text place) lines = refl
+of_ending Spent lines = refl
 
-of_tree : (units : ℕ) (items : Items) (due : Due) → IsTreeDue units items due → EndsJob due
-of_tree units items due (IsNotBuilt some is) = as_that due _ is refl
-of_tree units items due (IsStaged n out none comes is) = as_that due _ is (of_end out.end)
-
-of_check : (units : ℕ) (reading : Reading) (due : Due) → IsReadingDue units reading due → EndsJob due
-of_check units (IsRefused kind place) due is = as_that due _ is refl
-of_check units (IsTree tree finish) due is = of_tree units (lay tree []) due is
-
-of_ending : (end : StageEnd) (lines : List ℕ) → EndsJob (terms.due_of_end end lines)
-of_ending stagings.Done lines = refl
-of_ending (stagings.Raised text place) lines = refl
-of_ending stagings.Spent lines = refl
+of_check : (limits : Limits) (reading : Reading) (due : Due) → checks.IsReadingDue limits reading due → EndsJob due
+of_check limits (IsRefused kind place) due is = as_that due _ is refl
+of_check limits (IsTree tree finish) due is = as_that due _ is.is (of_ending is.ending.end _)
 
 of_terms : (limits : Limits) (reading : Reading) (due : Due) → terms.IsReadingDue limits reading due → EndsJob due
 of_terms limits (IsRefused kind place) due is = as_that due _ is refl
@@ -111,7 +99,7 @@ of_terms limits (IsTree tree finish) due is = as_that due _ is.is (of_ending is.
 of_job : (job : Job) (bytes : List ℕ) (due : Due) → IsDue (Some job) bytes due → EndsJob due
 of_job (Run call) bytes due is = as_that due _ is.2 (of_reading call is.0)
 of_job (Exec call steps) bytes due is = of_exec call steps bytes due is
-of_job (Check limits) bytes due is = of_check limits.budget is.0 due is.2
+of_job (Check limits) bytes due is = of_check limits is.0 due is.2
 of_job (Terms limits) bytes due is = of_terms limits is.0 due is.2
 
 of_job_or_cut : (job : Job) (bytes : List ℕ) (due : Due) → IsDueOrCut (IsDue (Some job) bytes) due → EndsJob due

@@ -18,11 +18,11 @@ source_whole call text bytes due (inl same) is = subst (λ (b : List ℕ). IsSou
 source_whole call text bytes due (inr long) is =
     subst (λ (b : List ℕ). IsSourceDue call b due) (sym long.1.1) (is.0, longer text long.1.0 is.0 long.0 is.1, is.2)
 
-pub check_whole : (units : ℕ) (text bytes : List ℕ) (due : Due) → (text ≡ bytes) ⊎ ((longest + 1 ≤ length text) × ((back : List ℕ) × (bytes ≡ text ++ back))) →
-    IsCheckDue units text due → IsCheckDue units bytes due
-check_whole units text bytes due (inl same) is = subst (λ (b : List ℕ). IsCheckDue units b due) same is
-check_whole units text bytes due (inr long) is =
-    subst (λ (b : List ℕ). IsCheckDue units b due) (sym long.1.1) (is.0, longer text long.1.0 is.0 long.0 is.1, is.2)
+pub check_whole : (limits : Limits) (text bytes : List ℕ) (due : Due) → (text ≡ bytes) ⊎ ((longest + 1 ≤ length text) × ((back : List ℕ) × (bytes ≡ text ++ back))) →
+    IsCheckDue limits text due → IsCheckDue limits bytes due
+check_whole limits text bytes due (inl same) is = subst (λ (b : List ℕ). IsCheckDue limits b due) same is
+check_whole limits text bytes due (inr long) is =
+    subst (λ (b : List ℕ). IsCheckDue limits b due) (sym long.1.1) (is.0, longer text long.1.0 is.0 long.0 is.1, is.2)
 
 pub terms_whole : (limits : Limits) (text bytes : List ℕ) (due : Due)
     → (text ≡ bytes) ⊎ ((longest + 1 ≤ length text) × ((back : List ℕ) × (bytes ≡ text ++ back)))

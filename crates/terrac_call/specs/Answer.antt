@@ -22,7 +22,7 @@ abbrev pub IsDue : Option Job → List ℕ → Due → Type 0
 IsDue None bytes due = (text : List ℕ) × (due ≡ due_of_usage text)
 IsDue (Some (Run call)) bytes due = IsSourceDue call bytes due
 IsDue (Some (Exec call steps)) bytes due = IsExecDue call steps bytes due
-IsDue (Some (Check limits)) bytes due = IsCheckDue limits.budget bytes due
+IsDue (Some (Check limits)) bytes due = IsCheckDue limits bytes due
 IsDue (Some (Terms limits)) bytes due = IsTermsDue limits bytes due
 
 -- what is due, unless memory runs out: then `out` takes a front of it, and `notes` the line that says so

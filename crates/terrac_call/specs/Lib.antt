@@ -9,6 +9,8 @@ pub mod Arguments
 pub mod Due
 -- what is due for `exec`
 pub mod Exec
+-- what is due for a source that is staged
+pub mod Staged
 -- what is due for `check`
 pub mod Check
 -- what is due for `terms`

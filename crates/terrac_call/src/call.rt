@@ -15,10 +15,9 @@ use crate::due::{Due, Ended};
 use crate::lines::{bare_usage_due, no_memory_due};
 use crate::run::run;
 use crate::status::Status;
-use stage_loop::staging::larger_changes_nothing;
+use check_stage::staging::larger_changes_nothing;
 use std::alloc::Global;
 use std::io::ErrorKind;
-use terra_stage::staging::larger_changes_nothing as larger_stages_change_nothing;
 use tl_base::{Sink, Source};
 
 /// Does what the words ask for: reads `source`, writes results to `out` and the line of a refusal to `notes`, and answers how it
@@ -90,6 +89,5 @@ fn unread_words_due(kind: ErrorKind) -> Due
 pub fn one_due()
     ensures { OneDue }
 {
-    larger_changes_nothing();
-    larger_stages_change_nothing()
+    larger_changes_nothing()
 }

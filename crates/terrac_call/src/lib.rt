@@ -15,6 +15,7 @@ mod lines;
 mod parsing;
 mod reading;
 mod run;
+mod staged;
 pub mod status;
 mod terms;
 mod words;

@@ -1,14 +1,12 @@
 // The lines that a call may owe.
 
 ghost use Rattle.std.specs.Prelude.{◌≡◌, ◌≢◌, [], ◌++◌, IfOk, string_bytes};
-ghost use Rattle.terrac_call.specs.Check.{due_of_end};
 ghost use Rattle.terrac_call.specs.Due.{due_of_not_built, refused, due_of_result, due_of_syntax, due_of_no_entry};
 ghost use Rattle.terrac_call.specs.Due.{due_of_bad_argument, due_of_usage};
 ghost use Rattle.terrac_call.specs.Statuses.{kind_name, fault_text, image_fault_text, machine_fault_text};
 ghost use Rattle.terrac_call.specs.Exec.{due_of_bad_image, due_of_fault, due_of_machine_fault};
 ghost use Rattle.terrac_call.specs.DueView.{shown_due};
 ghost use Rattle.terrac_call.specs.declared.status.Status.TheVariants as statuses;
-ghost use Rattle.stage_loop.specs.declared.staging.End.TheVariants as stagings;
 
 use crate::due::{Due, Line};
 use crate::status::{FaultKind, ImageFault, Status};
@@ -118,20 +116,9 @@ pub(crate) fn not_built_due() -> Due
     }
 }
 
-/// What is due behind what was printed where a staging ends by itself.
-pub(crate) fn done_due() -> Due
-    ensures due { shown_due result ≡ due_of_end stagings.Done }
-    ensures status { result.status ≡ statuses.Ok }
-{
-    Due {
-        status: Status::Ok,
-        line: Line::Fixed(""),
-    }
-}
-
 /// The end of a staging by an error with this text, whose place is this.
 pub(crate) fn raised_due(alloc: Global, text: Text2, place: Place) -> Result<Due, NoMemory>
-    ensures due { IfOk result (λ due. shown_due due ≡ due_of_end (stagings.Raised text place)) }
+    ensures due { IfOk result (λ due. shown_due due ≡ refused (statuses.Raised text place)) }
     ensures status { IfOk result (λ due. due.status ≡ statuses.Raised text place) }
 {
     let row = place.line;
@@ -149,7 +136,7 @@ pub(crate) fn raised_due(alloc: Global, text: Text2, place: Place) -> Result<Due
 
 /// The end of a staging whose budget doesn't suffice.
 pub(crate) fn spent_due() -> Due
-    ensures due { shown_due result ≡ due_of_end stagings.Spent }
+    ensures due { shown_due result ≡ refused statuses.BudgetSpent }
     ensures status { result.status ≡ statuses.BudgetSpent }
 {
     Due {

@@ -138,7 +138,7 @@ fn check_call<S: Source, K: Sink>(
     ensures err { OnErr result (out.new ≡ out.old) }
 {
     let bytes = read_source(alloc, source, LONGEST_TEXT + 1)?;
-    let ended = check(alloc, limits.budget, &bytes, out)?;
+    let ended = check(alloc, limits, &bytes, out)?;
     Ok(ended)
 }
 

@@ -26,7 +26,7 @@ pub(crate) struct Call<'a> {
 pub(crate) struct Limits {
     /// How many units staging may pay.
     pub budget: u64,
-    /// How many KiB of memory what is compiled has. Nothing that is built looks at it yet.
+    /// How many KiB of memory what is compiled has.
     pub memory: u64,
 }
 
@@ -177,7 +177,7 @@ fn command_line<'a>(alloc: Global) -> Result<Command<'a>, AllocError>
         .arg(call_arguments(alloc))?;
     let check = Command::new(alloc, "check")
         .about(
-            "Stages a source, read on standard input: runs its Lua code, and writes what that prints.",
+            "Stages a source, read on standard input: writes what it prints, and a line for each function that it defines.",
         )
         .after_help("Example: terrac check --budget 1000 < counters.t")
         .arg(budget_argument(alloc))?

@@ -1,21 +1,32 @@
-use Rattle.std.proofs.Common.{◌≡◌, refl, sym, ◌∙◌}
+use Rattle.std.proofs.Common.{◌≡◌, ◌∙◌, ap, subst, Some, ℕ, List}
 use Rattle.std.proofs.lemmas.Result.{IfOk-weaker}
-use Rattle.tl_tree.specs.Arena.{items_of}
-use Rattle.terrac_call.specs.Due.{Due, due_of_not_built}
-use Rattle.terrac_call.specs.Check.{IsTreeDue, IsNotBuilt, IsStaged, due_of_outcome}
-use Rattle.terrac_call.proofs.Calls.{not_fault}
-use Rattle.terrac_call.proofs.Endings.{alone, ends_into}
+use Rattle.tl_tree.specs.Arena.{items_of, end_of}
+use Rattle.check_stage.specs.declared.staging.End.{End}
+use Rattle.check_stage.specs.declared.staging.Mode.TheVariants.{CheckAll}
+use Rattle.check_stage.specs.Staging.{Ending, outcome}
+use Rattle.terrac_call.specs.Due.{Due}
+use Rattle.terrac_call.specs.Staged.{due_of_staging}
+use Rattle.terrac_call.specs.Check.{IsTreeDue, due_of_ending}
+use Rattle.terrac_call.specs.JobView.{shown_limits}
+use Rattle.terrac_call.proofs.Endings.{ends_into}
 use Rattle.terrac_call.proofs.check.check_tree.Goals as goal
-
-pub returns-then-has_terra-clause-ends : goal.returns-then-has_terra-clause-ends
-returns-then-has_terra-clause-ends g c =
-    alone (IsTreeDue c.args.budget (items_of c.args.tree.now)) c.not_built_due.result due_of_not_built _ _ _ c.not_built_due.ensures.due
-    (IsNotBuilt (sym c.has_terra.ensures ∙ c.if-has_terra.true) refl) refl (not_fault _ _ c.not_built_due.ensures.status (λ e. cc))
 
 pub returns-clause-ends : goal.returns-clause-ends
 returns-clause-ends g c =
-    let staged = c.in_ok-outcome.ensures.means in
-    IfOk-weaker c.outcome_end.result _ _
-    (λ ended h. ends_into (λ (due : Due). due ≡ due_of_outcome c.in_ok-outcome.outcome) (IsTreeDue c.args.budget (items_of c.args.tree.now))
-    (λ due is. IsStaged staged.0 c.in_ok-outcome.outcome (sym c.has_terra.ensures ∙ c.if-has_terra.false) staged.1 is) ended _ _ _ _ _ h)
-    c.outcome_end.ensures.ends
+    let limits = shown_limits c.args.limits in
+    let items = items_of c.args.tree.now in
+    let finish = end_of c.args.tree.now in
+    let it = c.in_ok-staged.staged in
+    let are = c.in_ok-staged.ensures in
+    let came : Ending = are.ending in
+    let printed = came.left.world.stage.heap.printed in
+    let comes =
+    subst (λ (memory : ℕ). outcome items finish CheckAll are.n limits.budget memory ≡ Some came) c.bytes_of.ensures.is are.comes in
+    let same : due_of_staging it.printed it.end it.lines ≡ due_of_ending came =
+    ap (λ (p : List ℕ). due_of_staging p it.end it.lines) are.printed
+    ∙ ap (λ (e : End). due_of_staging printed e it.lines) are.end
+    ∙ ap (λ (l : List ℕ). due_of_staging printed came.end l) are.lines in
+    IfOk-weaker c.staged_end.result _ _
+    (λ ended h. ends_into (λ (due : Due). due ≡ due_of_staging it.printed it.end it.lines) (IsTreeDue limits items finish)
+    (λ due is. record { n = are.n; ending = came; comes = comes; is = is ∙ same }) ended _ _ _ _ _ h)
+    c.staged_end.ensures.ends

@@ -1,5 +1,5 @@
 use Rattle.terrac_call.proofs.Endings.{printed_stopped, printed_whole}
-use Rattle.terrac_call.proofs.check.print.Goals as goal
+use Rattle.terrac_call.proofs.staged.print.Goals as goal
 
 pub returns-in-Ok : goal.returns-in-Ok
 returns-in-Ok g c =

@@ -1,0 +1,75 @@
+// The end of a command that stages a source.
+
+ghost use Rattle.std.specs.Prelude.{◌≡◌, ◌≢◌, ◌≤◌, IfOk, OnErr};
+ghost use Rattle.terrac_call.specs.Due.{after};
+ghost use Rattle.terrac_call.specs.Staged.{bytes_of, due_of_end, due_of_staging};
+ghost use Rattle.terrac_call.specs.DueView.{shown_due};
+ghost use Rattle.terrac_call.specs.Ending.{Ends};
+ghost use Rattle.terrac_call.specs.declared.status.Status.TheVariants as statuses;
+
+use crate::due::{Due, Ended, Line};
+use crate::lines::{raised_due, spent_due};
+use crate::status::Status;
+use crate::writing::write_piece;
+use check_stage::End;
+use std::alloc::Global;
+use tl_base::{Failed, NoMemory, Sink, Text2};
+
+/// How many KiB of memory a program may have at most.
+const LARGEST_MEMORY: u64 = 65_536;
+
+/// The bytes of a memory of so many KiB.
+pub(crate) fn bytes_of(memory: u64) -> u64
+    ensures is { result ≡ bytes_of memory }
+    ensures within { result ≤ 67108864 }
+{
+    if memory < LARGEST_MEMORY {
+        memory * 1024
+    } else {
+        LARGEST_MEMORY * 1024
+    }
+}
+
+/// What is due for a staging that printed this and ended so, with these lines where it is done.
+pub(crate) fn staged_end<K: Sink>(
+    alloc: Global,
+    printed: Text2,
+    end: End,
+    lines: Text2,
+    out: &mut K,
+) -> Result<Ended, NoMemory>
+    ensures ends { IfOk result (λ ended.
+        Ends (λ due. due ≡ due_of_staging printed end lines) ended
+        (K.taken out.old) (K.taken out.new) (K.faults out.old) (K.faults out.new) (out.new ≡ out.old)) }
+    ensures err { OnErr result (out.new ≡ out.old) }
+{
+    let rest = end_due(alloc, end, lines)?;
+    Ok(print(printed.bytes(), rest, out))
+}
+
+/// Writes what a staging printed, as one piece, before the rest that is due.
+fn print<K: Sink>(printed: &[u8], rest: Due, out: &mut K) -> Ended
+    requires { rest.status ≢ statuses.WriteFault }
+    ensures { Ends (λ due. due ≡ after printed.now (shown_due rest)) result
+        (K.taken out.old) (K.taken out.new) (K.faults out.old) (K.faults out.new) (out.new ≡ out.old) }
+{
+    match write_piece(out, printed) {
+        Ok(()) => Ended::Due(rest),
+        Err(Failed) => Ended::WriteFault,
+    }
+}
+
+/// What a staging that ends so owes behind what was printed, with these lines where it is done.
+fn end_due(alloc: Global, end: End, lines: Text2) -> Result<Due, NoMemory>
+    ensures due { IfOk result (λ due. shown_due due ≡ due_of_end end lines) }
+    ensures status { IfOk result (λ due. due.status ≢ statuses.WriteFault) }
+{
+    match end {
+        End::Done => Ok(Due {
+            status: Status::Ok,
+            line: Line::Bytes(lines),
+        }),
+        End::Raised { text, place } => raised_due(alloc, text, place),
+        End::Spent => Ok(spent_due()),
+    }
+}
