@@ -99,7 +99,7 @@ module _ (q : PartEnd → TypingState → Type 0) (b : ℕ) (s : Scope) where
     holds-operands [] w i r rest h k = k w (step-itself b s w i)
     holds-operands (o ∷ os) w i r rest h k =
         holds-operand w i r o (λ m. operands os site rest) h.0
-        (λ m v p known. holds-operands os v p.inside (refuses-on q w v r p.grows) rest (operands-still w v i p os h.1)
+        (λ m v p known. holds-operands os v p.inside (refuses-on q w v r p.moves) rest (operands-still w v i p os h.1)
         (λ x o2. k x (step-twice b s w v x p o2)))
 
     holds-argument : (fitting : Bool) (w : TypingState) (i : In b s w) (r : Refuses q w) (m : Made) (to : TypeId)
@@ -134,12 +134,12 @@ module _ (q : PartEnd → TypingState → Type 0) (b : ℕ) (s : Scope) where
     holds-arguments fitting (o ∷ os) (p ∷ ps) at ids ts go w i r placed known there same l u k =
         holds-operand w i r o (λ m. argument fitting m p at site
         (λ x. arguments false os ps at site (ids ++ x.id ∷ []) go)) known.0
-        (λ m v step now. holds-argument fitting v step.inside (refuses-on q w v r step.grows) m p at
+        (λ m v step now. holds-argument fitting v step.inside (refuses-on q w v r step.moves) m p at
         (λ x. arguments false os ps at site (ids ++ x.id ∷ []) go) placed now (there-still b s w v i step p there.0)
         (λ x v2 step2 now2 is usable.
         let whole = step-twice b s w v v2 step step2 in
         holds-arguments false os ps at (ids ++ x.id ∷ []) (ts ++ p ∷ []) go v2 whole.inside
-        (refuses-on q w v2 r whole.grows) placed
+        (refuses-on q w v2 r whole.moves) placed
         (operands-still w v2 i whole os known.1)
         (types-there w.stage v2.stage i.sound whole.inside.sound whole.grows ps there.1) (omega (arith, same))
         (listed-snoc s v2.stage ids ts x.id p (listed-grows s w.stage v2.stage i.sound whole.inside.sound whole.grows

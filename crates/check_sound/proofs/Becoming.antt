@@ -6,6 +6,7 @@ use Rattle.std.specs.Int.{cast_unsigned, w64}
 use Rattle.std.proofs.lemmas.Bool.{and_parts, and_from, leb-true, lt-ltb, le-leb, or_left, or_right}
 use Rattle.tl_base.specs.declared.place.Place.{Place}
 use Rattle.tl_base.specs.declared.ids.TermId.{TermId}
+use Rattle.tl_base.specs.declared.ids.TypeId.{TypeId}
 use Rattle.lua_value.specs.declared.library.LibFn.{LibFn}
 use Rattle.lua_value.specs.declared.library.LibFn.TheVariants as library
 use Rattle.lua_value.specs.declared.value.Value.{Value}
@@ -29,11 +30,14 @@ use Rattle.terra_term.proofs.Staying.{kept-front}
 use Rattle.check_cast.specs.Conversions.{form_of}
 use Rattle.exotype.specs.declared.fault.Fault.TheVariants as faults
 use Rattle.exotype.specs.World.{StageState, with_store}
-use Rattle.exotype.specs.Becoming.{Becoming, Leaf, Text, Spliced, Again, Not, fits_int32, number, library_function, quoted, constant_leaf, quote_found, constant_found, becoming, after, with_term_of}
+use Rattle.exotype.specs.Types.{is_type}
+use Rattle.exotype.specs.Becoming.{Becoming, Leaf, Text, Spliced, Again, Not, fits_int32, number, library_function, quoted, constant_leaf, type_found, quote_found, constant_found, becoming, after, with_term_of}
 use Rattle.check_model.specs.Calls.{params_of}
-use Rattle.check_sound.specs.Sound.{foreseen, TermIsThere, ExpressionIsSound, TermIsSound, QuoteIsSound, ConstantIsSound, ValueIsSound, IsTypedSomewhere, IsSound, HasBodyOf}
+use Rattle.check_sound.specs.Sound.{foreseen, TermIsThere, ExpressionIsSound, TermIsSound, QuoteIsSound, ConstantIsSound, IsTypedSomewhere, IsSound, HasBodyOf}
 use Rattle.check_sound.proofs.Tests.{none-some, same-some}
-use Rattle.check_sound.proofs.Grows.{Grows, grows-itself, get-same, longer}
+use Rattle.check_sound.specs.Growing.{Leads}
+use Rattle.check_sound.proofs.Grows.{Grows, get-same, longer}
+use Rattle.check_sound.proofs.Leading.{leads-itself, leads-by}
 use Rattle.check_sound.proofs.Worlds.{Fair, fair-of, term-grows, sound-from}
 use Rattle.check_sound.proofs.SameFunctions.{grows-same}
 use Rattle.check_sound.proofs.Adding.{keeps-types, still-typed}
@@ -94,7 +98,9 @@ module _ (w : StageState) (old : IsSound w) (ss : List Static) (t : Term) where
         globals = λ i x at. at;
         constants = λ i x at. at;
         statics = statics;
-        tables = λ i x at. at;
+        plain = λ i n at. inl at;
+        symbols = λ i x at. at;
+        kept = λ t x at. inl at;
       })
 
 -- ---- what values become
@@ -136,6 +142,10 @@ library-sound : (w : StageState) (f : LibFn) → BecomesSound w (library_functio
 library-sound w library.SizeOf = tt
 library-sound w _ = tt
 
+type-sound : (w : StageState) (t : TypeId) (c : Bool) → is_type w.store.types t ≡ c → BecomesSound w (type_found t c)
+type-sound w t true there = there
+type-sound w t false there = tt
+
 quoted-sound : (w : StageState) (q : Quote) → QuoteIsSound w q → BecomesSound w (quoted q)
 quoted-sound w (quotes.Expression t) h = tt
 quoted-sound w (quotes.Statements ts) h = tt
@@ -159,22 +169,22 @@ constant-sound-leaf : (w : StageState) → IsSound w → (i : ℕ) (o : Option T
 constant-sound-leaf w sound i None at = tt
 constant-sound-leaf w sound i (Some c) at = leaf-sound w c (sound.constants i c at)
 
-becoming-is : (w : StageState) → IsSound w → (v : Value) → ValueIsSound w v → BecomesSound w (becoming w v)
-becoming-is w sound values.Nil h = tt
-becoming-is w sound (values.Boolean b) h = tt
-becoming-is w sound (values.Number z) h = number-sound w sound z
-becoming-is w sound (values.Text t) h = tt
-becoming-is w sound (values.Table t) h = tt
-becoming-is w sound (values.Closure f) h = tt
-becoming-is w sound (values.Library f) h = library-sound w f
-becoming-is w sound (values.TerraFunction f) h = tt
-becoming-is w sound (values.TerraType t) h = h
-becoming-is w sound (values.Quote q) h = quote-sound w sound q.0 (slice_get w.store.quotes q.0) refl
-becoming-is w sound (values.Symbol x) h = tt
-becoming-is w sound (values.Macro m) h = tt
-becoming-is w sound (values.Global g) h = tt
-becoming-is w sound (values.Constant c) h = constant-sound-leaf w sound c.0 (slice_get w.store.constants c.0) refl
-becoming-is w sound (values.Primitive p) h = tt
+becoming-is : (w : StageState) → IsSound w → (v : Value) → BecomesSound w (becoming w v)
+becoming-is w sound values.Nil = tt
+becoming-is w sound (values.Boolean b) = tt
+becoming-is w sound (values.Number z) = number-sound w sound z
+becoming-is w sound (values.Text t) = tt
+becoming-is w sound (values.Table t) = tt
+becoming-is w sound (values.Closure f) = tt
+becoming-is w sound (values.Library f) = library-sound w f
+becoming-is w sound (values.TerraFunction f) = tt
+becoming-is w sound (values.TerraType t) = type-sound w t (is_type w.store.types t) refl
+becoming-is w sound (values.Quote q) = quote-sound w sound q.0 (slice_get w.store.quotes q.0) refl
+becoming-is w sound (values.Symbol x) = tt
+becoming-is w sound (values.Macro m) = tt
+becoming-is w sound (values.Global g) = tt
+becoming-is w sound (values.Constant c) = constant-sound-leaf w sound c.0 (slice_get w.store.constants c.0) refl
+becoming-is w sound (values.Primitive p) = tt
 
 -- ---- texts
 
@@ -209,15 +219,14 @@ static-term w at a placed h = (placed, lt-ltb a (2 ^ 64) h)
 -- a sound world that follows
 pub record Next (w v : StageState) : Type 0 where
   pub sound : IsSound v
-  pub grows : Grows w v
+  pub leads : Leads w v
 
-leaf-next : (w : StageState) → IsSound w → (ss : List Static) (t : Term) → TermIsSound w t →
+pub leaf-next : (w : StageState) → IsSound w → (ss : List Static) (t : Term) → TermIsSound w t →
     ((i : ℕ) (x : Static) → slice_get ss i ≡ Some x → (slice_get w.store.statics i ≡ Some x) ⊎ (x.address < 2 ^ 64)) →
     Next w (leafed w ss t)
 leaf-next w sound ss t h statics = record {
   sound = leafed-sound w sound ss t h statics;
-  grows =
-      leafed-grows w sound ss t;
+  leads = leads-by w (leafed w ss t) (leafed-grows w sound ss t) refl refl;
 }
 
 new-static : (w : StageState) (s : Static) (i : ℕ) (x : Static) → s.address < 2 ^ 64 → Where w.store.statics s i x →
@@ -225,7 +234,7 @@ new-static : (w : StageState) (s : Static) (i : ℕ) (x : Static) → s.address 
 new-static w s i x h (before lt at) = inl at
 new-static w s i x h (last same is) = inr (subst (λ (y : Static). y.address < 2 ^ 64) is h)
 
-text-next : (w : StageState) → IsSound w → (at : Place) (bytes : List ℕ) → is_placed at ≡ true → (o p : Option ℕ) →
+pub text-next : (w : StageState) → IsSound w → (at : Place) (bytes : List ℕ) → is_placed at ≡ true → (o p : Option ℕ) →
     text_address w.store.statics (ended bytes) ≡ o → room_for w.memory w.store.statics (length (ended bytes)) ≡ p →
     Next w (after w at (Text bytes))
 text-next w sound at bytes placed (Some a) p found room =
@@ -238,7 +247,7 @@ text-next w sound at bytes placed None (Some a) found room =
     (static-term w at a placed h.0)
     (λ i x there. new-static w s i x (subst (λ n. n < 2 ^ 64) (sym h.1) h.0) (where-push w.store.statics s i x there)))
 text-next w sound at bytes placed None None found room =
-    rw (found, room) (record { sound = sound; grows = grows-itself w })
+    rw (found, room) (record { sound = sound; leads = leads-itself w })
 
 becomes-next : (w : StageState) → IsSound w → (at : Place) → is_placed at ≡ true → (b : Becoming) → BecomesSound w b →
     Next w (after w at b)
@@ -247,11 +256,11 @@ becomes-next w sound at placed (Leaf leaf) h = leaf-next w sound w.store.statics
 becomes-next w sound at placed (Text bytes) h =
     text-next w sound at bytes placed (text_address w.store.statics (ended bytes))
     (room_for w.memory w.store.statics (length (ended bytes))) refl refl
-becomes-next w sound at placed (Spliced t) h = record { sound = sound; grows = grows-itself w }
+becomes-next w sound at placed (Spliced t) h = record { sound = sound; leads = leads-itself w }
 becomes-next w sound at placed (Again source made) h =
     leaf-next w sound w.store.statics (kinds.Expression at (e.Typed source made)) (placed, h) (λ i x there. inl there)
-becomes-next w sound at placed (Not fault) h = record { sound = sound; grows = grows-itself w }
+becomes-next w sound at placed (Not fault) h = record { sound = sound; leads = leads-itself w }
 
-pub becomes : (w : StageState) → IsSound w → (v : Value) (at : Place) → is_placed at ≡ true → ValueIsSound w v →
+pub becomes : (w : StageState) → IsSound w → (v : Value) (at : Place) → is_placed at ≡ true →
     Next w (with_term_of w v at)
-becomes w sound v at placed h = becomes-next w sound at placed (becoming w v) (becoming-is w sound v h)
+becomes w sound v at placed = becomes-next w sound at placed (becoming w v) (becoming-is w sound v)

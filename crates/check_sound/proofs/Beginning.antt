@@ -1,6 +1,7 @@
 -- A staging begins in a sound world.
 use Rattle.std.proofs.Common.{◌≡◌, ℕ, zero, suc, false, List, [], ◌∷◌, Some, refl, sym, slice_get}
 use Rattle.std.specs.Prelude.{unwrap_or}
+use Rattle.lua_value.specs.declared.value.Value.{Value}
 use Rattle.terra_types.specs.declared.layout.Laid.{Laid}
 use Rattle.terra_types.specs.declared.types.TypeForm.{TypeForm}
 use Rattle.terra_types.specs.declared.types.TypeForm.TheVariants as forms
@@ -9,11 +10,12 @@ use Rattle.terra_types.specs.Layouts.{entries_in}
 use Rattle.terra_types.specs.Opening.{AreTypes, opening_types}
 use Rattle.terra_types.proofs.Begun.{held-opening}
 use Rattle.terra_term.specs.WellTyped.{struct_form}
+use Rattle.exotype.specs.declared.property.Known.TheVariants as known
 use Rattle.check_sound.specs.Sound.{BeginsSound}
 use Rattle.check_sound.proofs.Tests.{none-some, no}
 
 -- types among which is no struct have no entries
-abbrev ArePlain : List TypeForm → Type 0
+abbrev pub ArePlain : List TypeForm → Type 0
 ArePlain [] = Unit {0}
 ArePlain (f ∷ fs) = (struct_form f ≡ false) × ArePlain fs
 
@@ -48,6 +50,9 @@ opening-types = record {
 }
 
 -- nothing is there but types
+unasked-apart : (v : Value) → known.Unasked ≡ known.Value v → ⊥
+unasked-apart v h = cc h
+
 pub begins-sound : BeginsSound
 begins-sound memory h = record {
   types = opening-types;
@@ -61,5 +66,7 @@ begins-sound memory h = record {
   globals = λ i g at. absurd (none-some g at);
   constants = λ i c at. absurd (none-some c at);
   statics = λ i x at. absurd (none-some x at);
-  tables = λ i j table pair at. absurd (none-some table at);
+  plain = λ i n at. absurd (none-some n at);
+  symbols = λ i x at. absurd (none-some x at);
+  settled = λ t v h. absurd (unasked-apart v h);
 }

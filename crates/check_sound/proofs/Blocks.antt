@@ -14,7 +14,9 @@ use Rattle.check_model.specs.Typing.{TypingState, cut_to}
 use Rattle.check_model.specs.Plans.{BodyPlan, on_stated}
 use Rattle.check_model.specs.Expressions.{statements}
 use Rattle.check_sound.specs.Sound.{foreseen, IsSound, AreStatements}
-use Rattle.check_sound.proofs.Grows.{Grows, AllBelow, all-below, block-same, grows-twice, grows-itself}
+use Rattle.check_sound.specs.Growing.{Leads}
+use Rattle.check_sound.proofs.Leading.{leads-itself, leads-twice, Moves, moves-same, moves-twice}
+use Rattle.check_sound.proofs.Grows.{Grows, AllBelow, all-below, block-same}
 use Rattle.check_sound.proofs.Worlds.{block-grows, fair-of, any-grows, statements-grow}
 use Rattle.check_sound.proofs.Running.{AllThere, scope_of, Did, Fits, ResultThere, where_it_stands, Holds, LeavesStated}
 use Rattle.check_sound.proofs.Combining.{In, Step, Refuses, all-there, sees}
@@ -26,11 +28,12 @@ use Rattle.check_sound.proofs.Scopes.{names-append, drop-append, take-front, the
 pub record More (b : ℕ) (s : Scope) (w v : TypingState) (more : List TypedName) : Type 0 where
   pub inside : In b (with_names more s) v
   pub grows : Grows w.stage v.stage
+  pub moves : Moves w v
   pub variables : v.variables ≡ w.variables ++ more
   pub names : AllThere v.stage more
 
 pub more-to : (b : ℕ) (s : Scope) (w v : TypingState) (more : List TypedName) → In b s w → IsSound v.stage →
-    Grows w.stage v.stage →
+    Leads w.stage v.stage →
     v.variables ≡ w.variables ++ more → AllThere v.stage more → More b s w v more
 more-to b s w v more i sound g e there =
     let shape : drop b v.variables ≡ drop b w.variables ++ more = ap (λ (l : List TypedName). drop b l) e ∙
@@ -44,9 +47,10 @@ more-to b s w v more i sound g e there =
             (names-append (drop b w.variables) more [] ∙ ap (with_names more) i.scope);
         names = subst (λ (l : List TypedName). AllThere v.stage l) (sym shape)
             (there-append v.stage (drop b w.variables) more
-            (all-there w.stage v.stage i.sound sound g (drop b w.variables) i.names) there);
+            (all-there w.stage v.stage i.sound sound g.grows (drop b w.variables) i.names) there);
       };
-      grows = g;
+      grows = g.grows;
+      moves = record { leads = g; front = (more, e) };
       variables = e;
       names = there;
     }
@@ -66,6 +70,7 @@ cut-step b s w v more i m =
             (all-there w.stage v.stage i.sound m.inside.sound m.grows (drop b w.variables) i.names);
       };
       grows = m.grows;
+      moves = moves-same w (cut_to v (length w.variables)) m.moves.leads same;
       same = same;
     }
 
@@ -127,17 +132,17 @@ module _ (q : PartEnd → TypingState → Type 0) (b : ℕ) (s : Scope) where
   snoc-block : (site : Site) (w v x : TypingState) (ids : List TermId) (more : List TypedName)
       (result : Option TypeId) → In b s w → site.base ≡ b →
       More b s w v more → Block site s v.stage ids more result → (id : TermId) (next : Option TypeId) →
-      IsSound x.stage → Grows v.stage x.stage →
+      IsSound x.stage → Moves v x →
       (d : Did (record site { result = result }) v x id next) →
       More b s w x (more ++ d.more) × Block site s x.stage (ids ++ id ∷ []) (more ++ d.more) next
   snoc-block site w v x ids more result i base m h id next sound g d =
-      let earlier = block-on site s v.stage x.stage m.inside.sound sound g ids more result h in
+      let earlier = block-on site s v.stage x.stage m.inside.sound sound g.leads.grows ids more result h in
       let items = typed_trees x.stage.store.typed in
       let scope : scope_of site.base v ≡ with_names more s = ap (λ n. scope_of n v) base ∙ m.inside.scope in
       let here : scope_of site.base v ≡ after_all (typed_block_at items ids) s = scope ∙ sym earlier.after in (
-        more-to b s w x (more ++ d.more) i sound (grows-twice w.stage v.stage x.stage m.grows g)
+        more-to b s w x (more ++ d.more) i sound (leads-twice w.stage v.stage x.stage m.moves.leads g.leads)
             (d.variables ∙ (ap (λ (l : List TypedName). l ++ d.more) m.variables ∙ append_assoc w.variables more d.more))
-            (there-append x.stage more d.more (all-there v.stage x.stage m.inside.sound sound g more m.names) d.names),
+            (there-append x.stage more d.more (all-there v.stage x.stage m.inside.sound sound g.leads.grows more m.names) d.names),
         record {
           below = below-snoc (length x.stage.store.typed) ids id earlier.below d.below;
           it = λ of f. typed-snoc (foreseen x.stage) (where_it_stands of site) items ids id s
@@ -159,14 +164,14 @@ module _ (q : PartEnd → TypingState → Type 0) (b : ℕ) (s : Scope) where
       ((ids2 : List TermId) (more2 : List TypedName) (next : Option TypeId) (x : TypingState) → Grows v.stage x.stage →
       More b s w x more2 →
       Block site s x.stage ids2 more2 next → Holds q (statements ts (record site { result = next }) ids2 go) x) →
-      (z : PartEnd) (x : TypingState) → IsSound x.stage → Grows v.stage x.stage →
+      (z : PartEnd) (x : TypingState) → IsSound x.stage → Moves v x →
       LeavesStated (record site { result = result }) v z x →
       Holds q (on_stated z (λ id next. statements ts (record site { result = next }) (ids ++ id ∷ []) go)) x
   on-next site base w i r ts ids more result v go m h k (ends.Stated id next) x sound g d =
       let both = snoc-block site w v x ids more result i base m h id next sound g d in
-      k (ids ++ id ∷ []) (more ++ d.more) next x g both.0 both.1
+      k (ids ++ id ∷ []) (more ++ d.more) next x g.leads.grows both.0 both.1
   on-next site base w i r ts ids more result v go m h k (ends.Refused why) x sound g d =
-      r why x sound (grows-twice w.stage v.stage x.stage m.grows g)
+      r why x sound (moves-twice w v x m.moves g)
   on-next site base w i r ts ids more result v go m h k (ends.Made z) x sound g d = absurd d
   on-next site base w i r ts ids more result v go m h k (ends.Answered a) x sound g d = absurd d
 
@@ -199,5 +204,5 @@ module _ (q : PartEnd → TypingState → Type 0) (b : ℕ) (s : Scope) where
       Holds q (statements ts site [] go) w
   holds-statements site base w i r there ts go are k =
       statements-by site base w i r ts [] [] site.result w go are
-      (more-to b s w w [] i i.sound (grows-itself w.stage) (sym (append-nil w.variables)) tt)
+      (more-to b s w w [] i i.sound (leads-itself w.stage) (sym (append-nil w.variables)) tt)
       (record { below = tt; it = λ of f. refl; after = refl; there = there; kept = λ x e. e }) k

@@ -22,17 +22,16 @@ use Rattle.check_sound.specs.Sound.{foreseen, IsThereIfAny, TermIsThere, IsSound
 use Rattle.check_sound.proofs.Tests.{none-some, same-some}
 use Rattle.check_sound.proofs.Grows.{Grows, keeps-types-of}
 use Rattle.check_sound.proofs.Worlds.{Fair, fair-of, sound-from, body-grows}
-use Rattle.check_sound.proofs.Becoming.{Next}
 
 -- ---- lists with another element
 
-set-here : {A : Type 0} (xs : List A) (i : ℕ) (x y : A) → slice_get xs i ≡ Some x →
+pub set-here : {A : Type 0} (xs : List A) (i : ℕ) (x y : A) → slice_get xs i ≡ Some x →
     slice_get (slice_set xs i y) i ≡ Some y
 set-here [] i x y h = absurd (none-some x h)
 set-here (z ∷ zs) zero x y h = refl
 set-here (z ∷ zs) (suc i) x y h = set-here zs i x y h
 
-set-other : {A : Type 0} (xs : List A) (i j : ℕ) (y : A) → (i ≡ j → ⊥) → slice_get (slice_set xs i y) j ≡ slice_get xs j
+pub set-other : {A : Type 0} (xs : List A) (i j : ℕ) (y : A) → (i ≡ j → ⊥) → slice_get (slice_set xs i y) j ≡ slice_get xs j
 set-other [] i j y h = refl
 set-other (z ∷ zs) zero zero y h = absurd (h refl)
 set-other (z ∷ zs) zero (suc j) y h = refl
@@ -43,6 +42,11 @@ set-other (z ∷ zs) (suc i) (suc j) y h = set-other zs i j y (λ e. h (ap suc e
 
 abbrev pub changed : StageState → FnId → Function → FunctionState → StageState
 changed w f g z = with_store w (record w.store { functions = slice_set w.store.functions f.0 (record g { state = z }) })
+
+-- a sound world that follows, in which the function is not what it was
+pub record Restated (w v : StageState) : Type 0 where
+  pub sound : IsSound v
+  pub grows : Grows w v
 
 -- what a new state must keep
 pub record Changes (w : StageState) (f : FnId) (g : Function) (z : FunctionState) : Type 0 where
@@ -174,7 +178,7 @@ module _ (w : StageState) (old : IsSound w) (f : FnId) (g : Function) (at : func
   Passes h x = (t made : TermId) (b : typed.Body) → x.state ≡ standing.Typed t made → typed_body v made ≡ Some b →
       body_typed (foreseen v) b ≡ true
 
-  pub changed-next : Next w v
+  pub changed-next : Restated w v
   changed-next = record {
     sound = sound-from w v old changed-fair changed-grows (record {
       memory = old.memory;
@@ -198,7 +202,9 @@ module _ (w : StageState) (old : IsSound w) (f : FnId) (g : Function) (at : func
       globals = λ i x there. there;
       constants = λ i x there. there;
       statics = λ i x there. inl there;
-      tables = λ i x there. there;
+      plain = λ i n there. inl there;
+      symbols = λ i x there. there;
+      kept = λ t x there. inl there;
     });
     grows = changed-grows;
   }

@@ -27,13 +27,15 @@ use Rattle.check_model.specs.declared.question.CheckAnswer.TheVariants as answer
 use Rattle.check_model.specs.Typing.{TypingState, form_in, is_aggregate_form, is_place_form, made_of}
 use Rattle.check_model.specs.Plans.{BodyPlan, refuse, on_made, typing, make, pointing, laid_out, on_layout}
 use Rattle.check_model.specs.Keeping as keeping
-use Rattle.check_sound.specs.Sound.{foreseen, IsThere, IsSound, AnswerIsSound}
+use Rattle.check_sound.specs.Sound.{foreseen, IsThere, IsSound, is_plain_form}
 use Rattle.check_sound.proofs.Shapes.{struct-stays}
 use Rattle.check_sound.proofs.Scalars.{flat-layout, sized-layout}
 use Rattle.check_sound.proofs.Grows.{Grows, grows-itself, grows-twice, tree-same, longer}
 use Rattle.check_sound.proofs.Worlds.{fair-of, there-grows, typed-grows, usable-grows}
+use Rattle.check_sound.specs.Growing.{Leads}
+use Rattle.check_sound.proofs.Leading.{Moves, moves-same, moves-itself, moves-twice}
 use Rattle.check_sound.proofs.Running.{AllThere, scope_of, Known, Holds, SeesAll, LeavesMade}
-use Rattle.check_sound.proofs.Adding.{added, added-grows, added-sound, added-tree, added-below, pointer-points}
+use Rattle.check_sound.proofs.Adding.{added, added-grows, added-leads, added-sound, added-tree, added-below, pointer-points, pointer-leads}
 
 -- ---- where a plan stands
 
@@ -48,6 +50,7 @@ pub record In (b : ℕ) (s : Scope) (w : TypingState) : Type 0 where
 pub record Step (b : ℕ) (s : Scope) (w v : TypingState) : Type 0 where
   pub inside : In b s v
   pub grows : Grows w.stage v.stage
+  pub moves : Moves w v
   pub same : v.variables ≡ w.variables
 
 pub all-there : (w v : StageState) → IsSound w → IsSound v → Grows w v → (xs : List TypedName) → AllThere w xs →
@@ -55,7 +58,7 @@ pub all-there : (w v : StageState) → IsSound w → IsSound v → Grows w v →
 all-there w v a b g [] h = tt
 all-there w v a b g (x ∷ xs) h = (there-grows w v (fair-of w a) (fair-of v b) g x.of h.0, all-there w v a b g xs h.1)
 
-pub step-to : (b : ℕ) (s : Scope) (w v : TypingState) → In b s w → IsSound v.stage → Grows w.stage v.stage →
+pub step-to : (b : ℕ) (s : Scope) (w v : TypingState) → In b s w → IsSound v.stage → Leads w.stage v.stage →
     v.variables ≡ w.variables → Step b s w v
 step-to b s w v i sound g same = record {
   inside = record {
@@ -63,19 +66,21 @@ step-to b s w v i sound g same = record {
     base = subst (λ (l : List TypedName). b ≤ length l) (sym same) i.base;
     scope = ap (λ (l : List TypedName). with_names (drop b l) []) same ∙ i.scope;
     names = subst (λ (l : List TypedName). AllThere v.stage (drop b l)) (sym same)
-        (all-there w.stage v.stage i.sound sound g (drop b w.variables) i.names);
+        (all-there w.stage v.stage i.sound sound g.grows (drop b w.variables) i.names);
   };
-  grows = g;
+  grows = g.grows;
+  moves = moves-same w v g same;
   same = same;
 }
 
 pub step-itself : (b : ℕ) (s : Scope) (w : TypingState) → In b s w → Step b s w w
-step-itself b s w i = record { inside = i; grows = grows-itself w.stage; same = refl }
+step-itself b s w i = record { inside = i; grows = grows-itself w.stage; moves = moves-itself w; same = refl }
 
 pub step-twice : (b : ℕ) (s : Scope) (w v x : TypingState) → Step b s w v → Step b s v x → Step b s w x
 step-twice b s w v x p q = record {
   inside = q.inside;
   grows = grows-twice w.stage v.stage x.stage p.grows q.grows;
+  moves = moves-twice w v x p.moves q.moves;
   same = q.same ∙ p.same;
 }
 
@@ -106,15 +111,15 @@ module _ (b : ℕ) (s : Scope) (w v : TypingState) (i : In b s w) (p : Step b s 
 
 -- a goal that each refusal meets
 abbrev pub Refuses : (PartEnd → TypingState → Type 0) → TypingState → Type 0
-Refuses q w = (why : Refusal) (v : TypingState) → IsSound v.stage → Grows w.stage v.stage → q (ends.Refused why) v
+Refuses q w = (why : Refusal) (v : TypingState) → IsSound v.stage → Moves w v → q (ends.Refused why) v
 
-pub refuses-on : (q : PartEnd → TypingState → Type 0) (w v : TypingState) → Refuses q w → Grows w.stage v.stage →
+pub refuses-on : (q : PartEnd → TypingState → Type 0) (w v : TypingState) → Refuses q w → Moves w v →
     Refuses q v
-refuses-on q w v r g why x sound h = r why x sound (grows-twice w.stage v.stage x.stage g h)
+refuses-on q w v r g why x sound h = r why x sound (moves-twice w v x g h)
 
 pub refused-here : (q : PartEnd → TypingState → Type 0) (w : TypingState) → Refuses q w → IsSound w.stage →
     (why : Refusal) → q (ends.Refused why) w
-refused-here q w r sound why = r why w sound (grows-itself w.stage)
+refused-here q w r sound why = r why w sound (moves-itself w)
 
 -- ---- nodes
 
@@ -123,6 +128,7 @@ pub record Makes (s : Scope) (w : StageState) (at : Place) (of : TypeId) (form :
     (tree : typed.Form) : Type 0 where
   pub placed : is_placed at ≡ true
   pub there : IsThere w of
+  pub plain : is_plain_form form ≡ true
   pub planted : typed_planted (typed_trees w.store.typed) (typed_kinds.Expression at of form) ≡ typed.expression
       (typed.typed at of tree)
   pub it : (u : Within) → is_typed (foreseen w) u s (typed.typed at of tree) ≡ true
@@ -140,12 +146,12 @@ known-added s w sound source at of form tree h =
     record {
       below = added-below w.store.typed n;
       it = λ u. ap (is_typed (foreseen v) u s) same ∙
-          typed-grows w v (fair-of w sound) (fair-of v (added-sound w sound n)) (added-grows w sound n) u s
+          typed-grows w v (fair-of w sound) (fair-of v (added-sound w sound n h.plain)) (added-grows w sound n) u s
           (typed.typed at of tree) (h.it u);
       of = ap type_of same;
       place = ap is_place same ∙ h.place;
       placed = h.placed;
-      there = there-grows w v (fair-of w sound) (fair-of v (added-sound w sound n)) (added-grows w sound n) of h.there;
+      there = there-grows w v (fair-of w sound) (fair-of v (added-sound w sound n h.plain)) (added-grows w sound n) of h.there;
     }
 
 module _ (q : PartEnd → TypingState → Type 0) (b : ℕ) (s : Scope) (w : TypingState) (i : In b s w) where
@@ -158,7 +164,7 @@ module _ (q : PartEnd → TypingState → Type 0) (b : ℕ) (s : Scope) (w : Typ
   holds-make source at of form tree go h k =
       let n = typed_kinds.Expression at of form in
       let v : TypingState = record w { stage = added w.stage n } in
-      k v (step-to b s w v i (added-sound w.stage i.sound n) (added-grows w.stage i.sound n) refl)
+      k v (step-to b s w v i (added-sound w.stage i.sound n h.plain) (added-leads w.stage i.sound n) refl)
       (known-added s w.stage i.sound source at of form tree h)
 
   pub holds-pointing : (t : TypeId) (go : TypeId → BodyPlan) → IsThere w.stage t →
@@ -168,7 +174,7 @@ module _ (q : PartEnd → TypingState → Type 0) (b : ℕ) (s : Scope) (w : Typ
   holds-pointing t go h k =
       let p = pointer-points w.stage i.sound t h in
       let v : TypingState = record w { stage = with_pointer w.stage t } in
-      k v (pointer_id w.stage t) (step-to b s w v i p.sound p.grows refl) p.points p.there
+      k v (pointer_id w.stage t) (step-to b s w v i p.sound (pointer-leads w.stage t p.grows) refl) p.points p.there
 
   -- ---- refusals, and expressions
 
@@ -186,10 +192,10 @@ module _ (q : PartEnd → TypingState → Type 0) (b : ℕ) (s : Scope) (w : Typ
 
   on-made : (site : Site) → site.base ≡ b → Refuses q w → (go : Made → BodyPlan) →
       ((m : Made) (v : TypingState) → Step b s w v → Known s v.stage m → Holds q (go m) v) →
-      (r : PartEnd) (v : TypingState) → IsSound v.stage → Grows w.stage v.stage → LeavesMade site w r v →
+      (r : PartEnd) (v : TypingState) → IsSound v.stage → Moves w v → LeavesMade site w r v →
       Holds q (on_made r go) v
   on-made site e r go k (ends.Made m) v sound g l =
-      k m v (step-to b s w v i sound g l.0)
+      k m v (step-to b s w v i sound g.leads l.0)
       (subst (λ z. Known z v.stage m) (ap (λ n. scope_of n w) e ∙ i.scope) l.1)
   on-made site e r go k (ends.Refused why) v sound g l = r why v sound g
   on-made site e r go k (ends.Stated id result) v sound g l = absurd l
@@ -216,20 +222,20 @@ module _ (q : PartEnd → TypingState → Type 0) (b : ℕ) (s : Scope) (w : Typ
   asked : (t : TypeId) (at : Place) (site : Site) (rest : BodyPlan) → Refuses q w →
       is_aggregate_form (form_in w.stage t) ≡ true →
       ((v : TypingState) → Step b s w v → has_layout (foreseen v.stage) t ≡ true → Holds q rest v) →
-      (a : CheckAnswer) (v : TypingState) → IsSound v.stage → AnswerIsSound v.stage a → Grows w.stage v.stage →
+      (a : CheckAnswer) (v : TypingState) → IsSound v.stage → Leads w.stage v.stage →
       v.variables ≡ w.variables →
       keeping.Answers (LayoutOf t at) a v.stage → Holds q (on_layout a at site rest) v
-  asked t at site rest r h k (answers.NoLayout kind) v sound x g same fits =
-      r (record { kind = kind; place = at; function = site.function }) v sound g
-  asked t at site rest r h k answers.Done v sound x g same fits =
+  asked t at site rest r h k (answers.NoLayout kind) v sound g same fits =
+      r (record { kind = kind; place = at; function = site.function }) v sound (moves-same w v g same)
+  asked t at site rest r h k answers.Done v sound g same fits =
       let p = step-to b s w v i sound g same in
       k v p (sized-layout (foreseen v.stage) t (subst (λ c. keeping.IsLaidOut v.stage t c) (aggregate-stays v t p h)
       fits))
-  asked t at site rest r h k answers.Go v sound x g same fits = absurd fits
-  asked t at site rest r h k (answers.Values vs) v sound x g same fits = absurd fits
-  asked t at site rest r h k (answers.Raise y place) v sound x g same fits = absurd fits
-  asked t at site rest r h k (answers.Result u) v sound x g same fits = absurd fits
-  asked t at site rest r h k (answers.Refused why) v sound x g same fits = absurd fits
+  asked t at site rest r h k answers.Go v sound g same fits = absurd fits
+  asked t at site rest r h k (answers.Values vs) v sound g same fits = absurd fits
+  asked t at site rest r h k (answers.Raise y place) v sound g same fits = absurd fits
+  asked t at site rest r h k (answers.Result u) v sound g same fits = absurd fits
+  asked t at site rest r h k (answers.Refused why) v sound g same fits = absurd fits
 
   pub holds-laid : (t : TypeId) (at : Place) (site : Site) (rest : BodyPlan) → Refuses q w →
       t.0 < length w.stage.store.types →
@@ -237,5 +243,5 @@ module _ (q : PartEnd → TypingState → Type 0) (b : ℕ) (s : Scope) (w : Typ
       Holds q (laid_out t at site rest) w
   holds-laid t at site rest r within k =
       holds-if (is_aggregate_form (form_in w.stage t)) (AskFor (LayoutOf t at) (λ a. on_layout a at site rest)) rest
-      (λ h. asked t at site rest r h k)
+      (λ h. (i.sound, asked t at site rest r h k))
       (λ h. k w (step-itself b s w i) (flat-layout (foreseen w.stage) t within h))

@@ -1,45 +1,23 @@
 -- Worlds that grow, and lists that are kept.
 use Rattle.std.proofs.Common.{◌≡◌, ℕ, zero, suc, ◌<◌, List, [], ◌∷◌, ◌++◌, length, Option, Some, None, refl, sym, ap, ◌∙◌, subst, arith, slice_get}
 use Rattle.std.proofs.lemmas.Option.{slice_get_within}
-use Rattle.tl_base.specs.declared.ids.FnId.{FnId}
 use Rattle.tl_base.specs.declared.ids.TermId.{TermId}
-use Rattle.tl_base.specs.declared.ids.TypeId.{TypeId}
 use Rattle.terra_types.specs.declared.types.TypeForm.{TypeForm}
 use Rattle.terra_types.specs.declared.types.TypeForm.TheVariants as forms
 use Rattle.terra_types.specs.Keeping.{KeepsForm, KeepsTypes}
 use Rattle.terra_types.proofs.Growing.{grown-more, grown-keeps}
 use Rattle.terra_term.specs.declared.typed.Typed.{Typed}
 use Rattle.terra_term.specs.Held.{state_of}
-use Rattle.terra_term.specs.Keeping.{AllStay, AreKept}
+use Rattle.terra_term.specs.Keeping.{AreKept}
 use Rattle.terra_term.specs.Planted.{typed_planted, typed_trees, typed_at, typed_in, typed_list_at, typed_block_at, typed_doing_in}
 use Rattle.terra_term.specs.TypedTerms as typed
 use Rattle.terra_term.proofs.Staying.{stays-same}
 use Rattle.exotype.specs.World.{StageState}
-use Rattle.check_model.specs.declared.known.KnownResult.TheVariants.{Is}
-use Rattle.check_model.specs.Keeping.{Keeps}
-use Rattle.check_model.specs.Calls.{parameters_of, result_of}
+pub use Rattle.check_sound.specs.Growing.{Grows}
 use Rattle.check_sound.proofs.Tests.{none-some, same-some, got}
 use Rattle.check_sound.proofs.Foreseen.{count-trees}
 
 -- ---- worlds that grow
-
-pub record Grows (w v : StageState) : Type 0 where
-  pub terms : AreKept w.store.terms v.store.terms
-  pub typed_nodes : AreKept w.store.typed v.store.typed
-  pub types : KeepsTypes w.store.types v.store.types
-  pub functions : AllStay w.store v.store
-  pub parameters : (f : FnId) (ps : List TypeId) → parameters_of w f ≡ Some ps → parameters_of v f ≡ Some ps
-  pub results : (f : FnId) (t : TypeId) → result_of w f ≡ Is t → result_of v f ≡ Is t
-
-pub grows-of : (w v : StageState) → Keeps w v → Grows w v
-grows-of w v k = record {
-  terms = k.terms;
-  typed_nodes = k.typed;
-  types = k.types;
-  functions = k.functions;
-  parameters = k.parameters;
-  results = k.results;
-}
 
 pub form-itself : (f : TypeForm) → KeepsForm f f
 form-itself (forms.Integer i) = refl

@@ -6,6 +6,7 @@ pub mod Naming
 pub mod Passing
 pub mod Growing
 pub mod Grows
+pub mod Leading
 pub mod Worlds
 pub mod SameFunctions
 pub mod Meeting
@@ -24,7 +25,7 @@ pub mod OfCalls
 pub mod Rules
 pub mod OfOperators
 pub mod OfUnary
-pub mod Tabled
+pub mod NewTypes
 pub mod Becoming
 pub mod Scopes
 pub mod Blocks
@@ -50,3 +51,9 @@ pub mod Reaching
 pub mod OfChecks
 pub mod Beginning
 pub mod Restricting
+pub mod Measuring
+pub mod Knows
+pub mod Settling
+pub mod OfLayouts
+pub mod Lasting
+mod Examples

@@ -43,7 +43,7 @@ module _ (q : PartEnd → TypingState → Type 0) (b : ℕ) (s : Scope) (site : 
   holds-typing-all [] ms go w i r known k = k ms w (step-itself b s w i) known (omega arith)
   holds-typing-all (t ∷ ts) ms go w i r known k =
       holds-typing q b s w i t site (λ m. typing_all ts site (ms ++ m ∷ []) go) base r
-      (λ m v p now. holds-typing-all ts (ms ++ m ∷ []) go v p.inside (refuses-on q w v r p.grows)
+      (λ m v p now. holds-typing-all ts (ms ++ m ∷ []) go v p.inside (refuses-on q w v r p.moves)
       (known-snoc s v.stage ms m (all-grow s w.stage v.stage i.sound p.inside.sound p.grows ms known) now)
       (λ ms2 x o all same. k ms2 x (step-twice b s w v x p o) all (omega (arith, same, length-append ms (m ∷ [])))))
 
@@ -60,12 +60,12 @@ module _ (q : PartEnd → TypingState → Type 0) (b : ℕ) (s : Scope) (site : 
       holds-typing q b s w i t site (λ m. if m.is_place then targets ts site (ms ++ m ∷ []) go else refuse NotPlace
       m.at site) base r
       (λ m v p now. holds-if q b s v p.inside m.is_place (targets ts site (ms ++ m ∷ []) go) (refuse NotPlace m.at site)
-      (λ place. holds-targets ts (ms ++ m ∷ []) go v p.inside (refuses-on q w v r p.grows)
+      (λ place. holds-targets ts (ms ++ m ∷ []) go v p.inside (refuses-on q w v r p.moves)
       (known-snoc s v.stage ms m (all-grow s w.stage v.stage i.sound p.inside.sound p.grows ms known) now)
       (places-snoc ms m places place)
       (λ ms2 x o all all_places same. k ms2 x (step-twice b s w v x p o) all all_places
       (omega (arith, same, length-append ms (m ∷ [])))))
-      (λ c. holds-refuse q b s v p.inside (refuses-on q w v r p.grows) NotPlace m.at site))
+      (λ c. holds-refuse q b s v p.inside (refuses-on q w v r p.moves) NotPlace m.at site))
 
   abbrev Converted : TypingState → List TypeId → (List TermId → BodyPlan) → Type 0
   Converted w us go =
@@ -86,7 +86,7 @@ module _ (q : PartEnd → TypingState → Type 0) (b : ℕ) (s : Scope) (site : 
       holds-convert q b s w i r Implicit m p.of site (λ x. converting_all ms ps site (ids ++ x.id ∷ []) go) known.0
       places.0.there
       (λ x v o now is usable. holds-converting ms ps (ids ++ x.id ∷ []) (us ++ p.of ∷ []) go v o.inside
-      (refuses-on q w v r o.grows)
+      (refuses-on q w v r o.moves)
       (all-grow s w.stage v.stage i.sound o.inside.sound o.grows ms known.1)
       (all-grow s w.stage v.stage i.sound o.inside.sound o.grows ps places.1)
       (omega (arith, same))
@@ -136,12 +136,12 @@ module _ (q : PartEnd → TypingState → Type 0) (b : ℕ) (s : Scope) (site : 
       (λ ps. converting_all ms ps site [] (λ ids. states at (made_kinds.Assign (ids_of ps) ids) site.result))) w i r tt
       (λ ms v p known n. holds-targets places [] (λ ps. converting_all ms ps site []
       (λ ids. states at (made_kinds.Assign (ids_of ps) ids) site.result)) v p.inside
-      (refuses-on q w v r p.grows) tt tt
+      (refuses-on q w v r p.moves) tt tt
       (λ ps x o all all_places m.
       let whole = step-twice b s w v x p o in
       let lengths : length places ≡ length values = eqb-true (length places) (length values) c in
       holds-converting ms ps [] [] (λ ids. states at (made_kinds.Assign (ids_of ps) ids) site.result) x o.inside
-      (refuses-on q w x r whole.grows)
+      (refuses-on q w x r whole.moves)
       (all-grow s v.stage x.stage p.inside.sound o.inside.sound o.grows ms known) all (omega (arith, n, m, lengths)) tt
       refl
       (λ ids y o2 l u.

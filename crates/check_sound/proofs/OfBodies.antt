@@ -31,11 +31,12 @@ use Rattle.check_model.specs.Calls.{call_value, params_of, written_in, types_of}
 use Rattle.check_model.specs.Expressions.{statements, expression_job}
 use Rattle.check_model.specs.Bodies.{body, body_job, parameters, names_of, is_too_large, made_function, definition_plan}
 use Rattle.check_sound.specs.Sound.{foreseen, IsThere, IsThereIfAny, ParametersAreThere, IsSound, typed_body, body_in}
-use Rattle.check_sound.proofs.Grows.{Grows, grows-itself, grows-twice}
+use Rattle.check_sound.proofs.Grows.{Grows, grows-twice}
+use Rattle.check_sound.proofs.Leading.{leads-itself, leads-twice, Moves, moves-itself, moves-same, moves-twice}
 use Rattle.check_sound.proofs.Worlds.{fair-of, any-grows, there-grows, body-grows, statements-grow}
 use Rattle.check_sound.proofs.Running.{AllThere, scope_of, Fits, ResultThere, LeavesMade, Leaves, Holds, Outcome, EachHolds, SeesAll}
 use Rattle.check_sound.proofs.Combining.{In, Refuses, refuses-on, all-there}
-use Rattle.check_sound.proofs.Adding.{added, added-grows, added-sound, added-tree}
+use Rattle.check_sound.proofs.Adding.{added, added-grows, added-leads, added-sound, added-tree}
 use Rattle.check_sound.proofs.Blocks.{More, Block, more-to, holds-statements}
 use Rattle.check_sound.proofs.Scopes.{there-append}
 use Rattle.check_sound.proofs.OfVars.{laid-snoc, laid-grows, holds-may-be}
@@ -51,7 +52,7 @@ pub holds-then : (q : PartEnd → TypingState → Type 0) (p : BodyPlan) (go : P
     Holds q (then_on p go) w
 holds-then q (Give r) go w h = h
 holds-then q (Do job next) go w h = (h.0, (h.1.0, λ r v sound g l. holds-then q (next r) go v (h.1.1 r v sound g l)))
-holds-then q (AskFor x next) go w h = λ a v sound b g e fits. holds-then q (next a) go v (h a v sound b g e fits)
+holds-then q (AskFor x next) go w h = (h.0, λ a v sound g e fits. holds-then q (next a) go v (h.1 a v sound g e fits))
 holds-then q (Read next) go w h = holds-then q (next w) go w h
 holds-then q (Write v p) go w h = holds-then q p go v h
 holds-then q (Pay n p) go w h = holds-then q p go w h
@@ -67,7 +68,7 @@ expression-holds : (job : BodyJob) (t : TermId) (site : Site) (w : TypingState) 
 expression-holds job t site w sound h k =
     holds-expression-job (Outcome job w) site.base (scope_of site.base w) site refl w (here site w sound h)
     (λ why v s g. (s, (g, k (ends.Refused why) v tt))) t
-    (λ m v p known. (p.inside.sound, (p.grows, k (ends.Made m) v (p.same, known))))
+    (λ m v p known. (p.inside.sound, (p.moves, k (ends.Made m) v (p.same, known))))
 
 callee-holds : (t : TermId) (os : List Operand) (at : Place) (source : TermId) (site : Site) (w : TypingState) →
     IsSound w.stage → SeesAll site w →
@@ -79,7 +80,7 @@ callee-holds t os at source site w sound h =
     (scope_of site.base w) site refl w (here site w sound h)
     (λ why v s g. (s, (g, tt))) t
     (λ m v p known. holds-apply q site.base (scope_of site.base w) site refl v p.inside
-    (λ why x s g. (s, (grows-twice w.stage v.stage x.stage p.grows g, tt))) m os at source))
+    (λ why x s g. (s, (moves-twice w v x p.moves g, tt))) m os at source))
 
 pub each-holds : EachHolds
 each-holds (jobs.Expression t site) w sound ready = expression-holds (jobs.Expression t site) t site w sound ready
@@ -92,7 +93,7 @@ each-holds (jobs.Statement t site) w sound ready =
     (λ id result more v m h. (
       m.inside.sound,
       (
-        m.grows,
+        m.moves,
         record {
           more = more;
           variables = m.variables;
@@ -119,9 +120,9 @@ pub record Defined (w v : StageState) (t id : TermId) : Type 0 where
   pub result : IsThere v body.result
   pub written : (r : TypeId) → written_in (slice_get v.store.terms t.0) ≡ Some r → body.result ≡ r
 
-abbrev pub Defines : StageState → TermId → PartEnd → TypingState → Type 0
-Defines w t (ends.Stated id result) v = Defined w v.stage t id
-Defines w t (ends.Refused why) v = IsSound v.stage × Grows w v.stage
+abbrev pub Defines : TypingState → TermId → PartEnd → TypingState → Type 0
+Defines w t (ends.Stated id result) v = Defined w.stage v.stage t id × Moves w v
+Defines w t (ends.Refused why) v = IsSound v.stage × Moves w v
 Defines w t _ v = ⊥
 
 names-types : (ps : List Parameter) → types_of_names (names_of ps) ≡ types_of ps
@@ -150,11 +151,11 @@ module _ (q : PartEnd → TypingState → Type 0) (b : ℕ) (site : Site) (base 
       (subst (λ l. names_laid_out (foreseen v.stage) l ≡ true) (sym (append-nil done)) laid)
   holds-parameters (p ∷ ps) rest w v done i m r there laid k =
       let name : TypedName = record { symbol = p.symbol; of = p.of } in
-      holds-may-be q b (with_names done []) site base v m.inside (refuses-on q w v r m.grows) p.of p.place
+      holds-may-be q b (with_names done []) site base v m.inside (refuses-on q w v r m.moves) p.of p.place
       (Read (λ x. Write (with_variable x p.symbol p.of) (parameters ps site rest))) there.0
       (λ x o layout.
       let y : TypingState = with_variable x p.symbol p.of in
-      let whole = grows-twice w.stage v.stage x.stage m.grows o.grows in
+      let whole = leads-twice w.stage v.stage x.stage m.moves.leads o.moves.leads in
       let next : More b [] w y (done ++ name ∷ []) = more-to b [] w y (done ++ name ∷ []) i o.inside.sound whole
       (ap (λ (l : List TypedName). l ++ name ∷ []) (o.same ∙ m.variables) ∙ append_assoc w.variables done
       (name ∷ []))
@@ -200,7 +201,7 @@ defined-now w v t ps result found body ids more site sound g term laid no_loop n
       body =
           typed_block_at (typed_trees v.stage.store.typed) ids;
     } in
-    let after : IsSound x = added-sound v.stage sound n in
+    let after : IsSound x = added-sound v.stage sound n refl in
     let more_grows : Grows v.stage x = added-grows v.stage sound n in
     let stands : body_typed (foreseen v.stage) b ≡ true =
     and_from _ _ laid
@@ -249,14 +250,14 @@ module _ (w : TypingState) (sound : IsSound w.stage) (t : TermId) (site : Site) 
     (no_loop : site.in_loop ≡ false)
     (no_let : site.in_let ≡ false) where
   abbrev q : PartEnd → TypingState → Type 0
-  q = Defines w.stage t
+  q = Defines w t
 
   refuses : Refuses q w
   refuses why v s g = (s, g)
 
   holds-function-node : (ps : List Parameter) (result : Option TypeId) (body : List TermId) (at : Place)
       (v : TypingState) (found : Option TypeId) (ids : List TermId)
-      (more : List TypedName) → IsSound v.stage → Grows w.stage v.stage → slice_get v.stage.store.terms t.0 ≡ Some
+      (more : List TypedName) → IsSound v.stage → Moves w v → slice_get v.stage.store.terms t.0 ≡ Some
       (kinds.Function ps result body) →
       names_laid_out (foreseen v.stage) (names_of ps) ≡ true → Block (record site { result = result })
       (with_names (names_of ps) []) v.stage ids more found →
@@ -264,15 +265,16 @@ module _ (w : TypingState) (sound : IsSound w.stage) (t : TermId) (site : Site) 
   holds-function-node ps result body at v found ids more s g term laid h =
       let n = typed_kinds.Function (names_of ps) (unwrap_or found unit) ids in
       let x : TypingState = record v { stage = added v.stage n } in
-      let d = defined-now w v t ps result found body ids more (record site { result = result }) s g term laid no_loop
-      no_let refl h in
-      if-large (is_too_large (typed_size x.stage (next_typed v.stage.store))) x d
+      let d = defined-now w v t ps result found body ids more (record site { result = result }) s g.leads.grows term laid
+      no_loop no_let refl h in
+      let added_too = moves-twice w v x g (moves-same v x (added-leads v.stage s n) refl) in
+      if-large (is_too_large (typed_size x.stage (next_typed v.stage.store))) x d added_too
     where
-      if-large : (c : Bool) (x : TypingState) → Defined w.stage x.stage t (next_typed v.stage.store) →
+      if-large : (c : Bool) (x : TypingState) → Defined w.stage x.stage t (next_typed v.stage.store) → Moves w x →
           Holds q (if c then refuse refusals.TooLarge at site else Give
           (ends.Stated (next_typed v.stage.store) (Some (unwrap_or found unit)))) x
-      if-large true x d = (d.sound, d.grows)
-      if-large false x d = d
+      if-large true x d m = (d.sound, m)
+      if-large false x d m = (d, m)
 
   pub holds-definition : (o : Option Term) (at : Place) → slice_get w.stage.store.terms t.0 ≡ o →
       Holds q (definition_plan o at site) w
@@ -282,18 +284,18 @@ module _ (w : TypingState) (sound : IsSound w.stage) (t : TermId) (site : Site) 
       holds-parameters q (length w.variables) (record site { result = result }) base ps
       (statements body (record site { result = result }) []
       (λ ids found. made_function (names_of ps) (unwrap_or found unit) ids at site)) w w [] i
-      (more-to (length w.variables) [] w w [] i sound (grows-itself w.stage) (sym (append-nil w.variables)) tt) refuses
+      (more-to (length w.variables) [] w w [] i sound (leads-itself w.stage) (sym (append-nil w.variables)) tt) refuses
       own.0 refl
       (λ v m laid. holds-statements q (length w.variables) (with_names (names_of ps) [])
-      (record site { result = result }) base v m.inside (refuses-on q w v refuses m.grows)
+      (record site { result = result }) base v m.inside (refuses-on q w v refuses m.moves)
       (subst (λ c. ResultThere c v.stage result) (sym no_let)
       (any-grows w.stage v.stage (fair-of w.stage sound) (fair-of v.stage m.inside.sound) m.grows result own.1.0)) body
       (λ ids found. made_function (names_of ps) (unwrap_or found unit) ids at site)
       (statements-grow w.stage v.stage (fair-of w.stage sound) (fair-of v.stage m.inside.sound) m.grows body own.1.1)
       (λ ids found more x n h. holds-function-node ps result body at x found ids more n.inside.sound
-      (grows-twice w.stage v.stage x.stage m.grows n.grows)
+      (moves-twice w v x m.moves n.moves)
       (n.grows.terms t.0 (kinds.Function ps result body) (m.grows.terms t.0 (kinds.Function ps result body) term))
       (laid-grows v.stage x.stage m.inside.sound n.inside.sound n.grows (names_of ps) laid) h))
-  holds-definition (Some (kinds.Expression place x)) at term = (sound, grows-itself w.stage)
-  holds-definition (Some (kinds.Statement place x)) at term = (sound, grows-itself w.stage)
-  holds-definition None at term = (sound, grows-itself w.stage)
+  holds-definition (Some (kinds.Expression place x)) at term = (sound, moves-itself w)
+  holds-definition (Some (kinds.Statement place x)) at term = (sound, moves-itself w)
+  holds-definition None at term = (sound, moves-itself w)

@@ -78,13 +78,13 @@ module _ (q : PartEnd → TypingState → Type 0) (b : ℕ) (s : Scope) (site : 
   holds-choice w i r test body o at k placed there are others =
       holds-condition q b s site base w i r test (λ m. block body site
       (λ stats result. else_plan o m stats result at site))
-      (λ m v p known truth. holds-block q b s site base site base v p.inside (refuses-on q w v r p.grows)
+      (λ m v p known truth. holds-block q b s site base site base v p.inside (refuses-on q w v r p.moves)
       (there-on q b s site base w v i p there) body
       (λ stats result. else_plan o m stats result at site)
       (statements-grow w.stage v.stage (fair-of w.stage i.sound) (fair-of v.stage p.inside.sound) p.grows body are)
       (λ ids result more x o2 h.
       let whole = step-twice b s w v x p o2 in
-      holds-else w x i o2.inside whole (refuses-on q w x r whole.grows) o m ids more result at k placed
+      holds-else w x i o2.inside whole (refuses-on q w x r whole.moves) o m ids more result at k placed
       (still b s v x p.inside o2 m known) truth h
       (optional w.stage x.stage i.sound o2.inside.sound whole.grows o others)))
     where
@@ -102,7 +102,7 @@ module _ (q : PartEnd → TypingState → Type 0) (b : ℕ) (s : Scope) (site : 
   holds-while w i r test body at k placed there are =
       holds-condition q b s site base w i r test (λ m. block body (in_loop site)
       (λ stats result. states at (made_kinds.While m.id stats) result))
-      (λ m v p known truth. holds-block q b s site base (in_loop site) base v p.inside (refuses-on q w v r p.grows)
+      (λ m v p known truth. holds-block q b s site base (in_loop site) base v p.inside (refuses-on q w v r p.moves)
       (there-on q b s site base w v i p there) body
       (λ stats result. states at (made_kinds.While m.id stats) result)
       (statements-grow w.stage v.stage (fair-of w.stage i.sound) (fair-of v.stage p.inside.sound) p.grows body are)
@@ -147,7 +147,7 @@ module _ (q : PartEnd → TypingState → Type 0) (b : ℕ) (s : Scope) (site : 
       (λ stats result. condition test site (λ m. leaving (length w.variables)
       (states at (made_kinds.Repeat stats m.id) result))) are
       (λ ids result more v m h. holds-condition q b (with_names more s) site base v m.inside
-      (refuses-on q w v r m.grows) test
+      (refuses-on q w v r m.moves) test
       (λ x. leaving (length w.variables) (states at (made_kinds.Repeat ids x.id) result))
       (λ x y p known truth.
       let later : More b s w y more = more-on w v y y more i m p (step-itself b (with_names more s) y p.inside) in

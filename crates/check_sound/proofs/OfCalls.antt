@@ -20,7 +20,7 @@ use Rattle.check_model.specs.Structs.{metamethod}
 use Rattle.check_model.specs.Plans.{refuse}
 use Rattle.check_model.specs.Calls.{is_called, call_named, call_term, call_value}
 use Rattle.check_sound.specs.Sound.{ExpressionIsSound, IsSound}
-use Rattle.check_sound.proofs.Grows.{Grows}
+use Rattle.check_sound.proofs.Leading.{Moves}
 use Rattle.check_sound.proofs.Running.{Known, Holds, LeavesMade, scope_of}
 use Rattle.check_sound.proofs.Combining.{In, Refuses, step-to, refuses-on, holds-refuse, holds-if, sees}
 use Rattle.check_sound.proofs.Signatures.{expression-sound}
@@ -42,7 +42,7 @@ module _ (q : PartEnd → TypingState → Type 0) (b : ℕ) (s : Scope) (site : 
       holds-primitive q b s site base w i r p os at fitting source k placed known
   holds-named w i r (e.Macro m) os at fitting source k placed known sound =
       holds-operands q b s site base os w i r (refuse NotBuilt at site) known
-      (λ v p. holds-refuse q b s v p.inside (refuses-on q w v r p.grows) NotBuilt at site)
+      (λ v p. holds-refuse q b s v p.inside (refuses-on q w v r p.moves) NotBuilt at site)
   holds-named w i r (e.Type t) os at fitting source k placed known sound =
       holds-cast q b s site base w i r t os at source k known sound
   holds-named w i r e.SizeOf os at fitting source k placed known sound =
@@ -51,9 +51,9 @@ module _ (q : PartEnd → TypingState → Type 0) (b : ℕ) (s : Scope) (site : 
 
   pub on-callee : (w : TypingState) (i : In b s w) (r : Refuses q w) → Gives q b s w →
       (x : PartEnd) (v : TypingState) → IsSound v.stage →
-      Grows w.stage v.stage → LeavesMade site w x v → q x v
+      Moves w v → LeavesMade site w x v → q x v
   on-callee w i r k (ends.Made m) v sound g l =
-      k m v (step-to b s w v i sound g l.0) (subst (λ z. Known z v.stage m) (ap (λ n. scope_of n w) base ∙ i.scope)
+      k m v (step-to b s w v i sound g.leads l.0) (subst (λ z. Known z v.stage m) (ap (λ n. scope_of n w) base ∙ i.scope)
       l.1)
   on-callee w i r k (ends.Refused why) v sound g l = r why v sound g
   on-callee w i r k (ends.Stated id result) v sound g l = absurd l

@@ -55,7 +55,7 @@ module _ (q : PartEnd → TypingState → Type 0) (b : ℕ) (s : Scope) (site : 
   holds-cast w i r to (o ∷ []) at source k known there =
       holds-operand q b s site base w i r o (λ m. convert Explicit m to site
       (λ x. give (record x { source = source }))) known.0
-      (λ m v p now. holds-convert q b s v p.inside (refuses-on q w v r p.grows) Explicit m to site
+      (λ m v p now. holds-convert q b s v p.inside (refuses-on q w v r p.moves) Explicit m to site
       (λ x. give (record x { source = source })) now
       (there-still b s w v i p to there)
       (λ x z o2 later is usable. k (record x { source = source }) z (step-twice b s w v z p o2)
@@ -68,6 +68,7 @@ module _ (q : PartEnd → TypingState → Type 0) (b : ℕ) (s : Scope) (site : 
   makes-size w sound at t placed = record {
     placed = placed;
     there = uint64-there w sound;
+    plain = refl;
     planted = refl;
     it = λ u. and_from _ _ placed
         (small-word (form_of w.store.types uint64) (bytes_in w t)

@@ -79,12 +79,12 @@ module _ (q : PartEnd → TypingState → Type 0) (b : ℕ) (s : Scope) (site : 
   holds-into (Some x ∷ ls) (t ∷ ts) at os ids us of go w i r are l u fits k =
       holds-typing q b s w i t site (λ m. convert Implicit m x.of site
       (λ z. into ls ts at site (os ++ x.offset ∷ []) (ids ++ z.id ∷ []) go)) base r
-      (λ m v p known. holds-convert q b s v p.inside (refuses-on q w v r p.grows) Implicit m x.of site
+      (λ m v p known. holds-convert q b s v p.inside (refuses-on q w v r p.moves) Implicit m x.of site
       (λ z. into ls ts at site (os ++ x.offset ∷ []) (ids ++ z.id ∷ []) go) known (there-still b s w v i p x.of are.0.1)
       (λ z y o now is usable.
       let whole = step-twice b s w v y p o in
       holds-into ls ts at (os ++ x.offset ∷ []) (ids ++ z.id ∷ []) (us ++ x.of ∷ []) of go y whole.inside
-      (refuses-on q w y r whole.grows) (are-now w y i whole of ls are.1)
+      (refuses-on q w y r whole.moves) (are-now w y i whole of ls are.1)
       (listed-snoc s y.stage ids us z.id x.of (listed-grows s w.stage y.stage i.sound whole.inside.sound whole.grows
       ids us l) (part-as s y.stage z x.of is now))
       (usable-snoc y.stage us x.of (usable-all s w.stage y.stage i.sound whole.inside.sound whole.grows us u) usable)
@@ -99,7 +99,7 @@ module _ (q : PartEnd → TypingState → Type 0) (b : ℕ) (s : Scope) (site : 
   holds-constructed w i r of at source k placed struct usable os ids ts v p l u fits =
       holds-gives q b s v p.inside source at of (te.Operate (operations.Construct os) ids)
       (typed.Operate (operations.Construct os) (typed_list_at (typed_trees v.stage.store.typed) ids))
-      (operates s v.stage at of (operations.Construct os) ids ts placed
+      (operates s v.stage at of (operations.Construct os) ids ts refl placed
       (there-still b s w v i p of (lt-ltb of.0 _ (in-range w.stage.store.types struct_form refl of struct)))
       l u (and_from _ _ (and_from _ _ (struct-stays w.stage.store.types v.stage.store.types p.grows.types struct_form
       refl (λ n x y z. refl) of struct)
@@ -141,7 +141,7 @@ module _ (q : PartEnd → TypingState → Type 0) (b : ℕ) (s : Scope) (site : 
       (in-range w.stage.store.types struct_form refl of struct)
       (λ v p layout. holds-if q b s v p.inside (nat_lt 128 (bytes_in v.stage of)) (refuse TooWide at site)
       (initialised (entries_of v.stage.store.types of) x of at source site)
-      (λ d. holds-refuse q b s v p.inside (refuses-on q w v r p.grows) TooWide at site)
-      (λ d. holds-initialised v p.inside (refuses-on q w v r p.grows) x of at source (gives-on q b s w v p k) placed
+      (λ d. holds-refuse q b s v p.inside (refuses-on q w v r p.moves) TooWide at site)
+      (λ d. holds-initialised v p.inside (refuses-on q w v r p.moves) x of at source (gives-on q b s w v p k) placed
       (struct-stays w.stage.store.types v.stage.store.types p.grows.types struct_form refl (λ n y z a. refl) of struct)
       (narrow-usable (foreseen v.stage) of layout d))))

@@ -77,6 +77,7 @@ pub makes-nil : (s : Scope) (w : StageState) (at : Place) (of : TypeId) → is_p
 makes-nil s w at of placed there h = record {
   placed = placed;
   there = there;
+  plain = refl;
   planted = refl;
   it = λ u. and_from _ _ placed (or_left _ _ h);
   place = refl;
@@ -89,6 +90,7 @@ pub makes-address : (s : Scope) (w : StageState) (at : Place) (of : TypeId) (m :
 makes-address s w at of m placed there known place points = record {
   placed = placed;
   there = there;
+  plain = refl;
   planted = refl;
   it = λ u. and_from _ _ (and_from _ _ (and_from _ _ placed (known.it u)) (known.place ∙ place))
       (ap (points_to (foreseen w) of) known.of ∙ points);
@@ -102,6 +104,7 @@ pub makes-target : (s : Scope) (w : StageState) (at : Place) (of : TypeId) (m : 
 makes-target s w at of m placed there known points = record {
   placed = placed;
   there = there;
+  plain = refl;
   planted = refl;
   it = λ u. and_from _ _ (and_from _ _ placed (known.it u)) (ap (λ t. points_to (foreseen w) t of) known.of ∙ points);
   place = refl;
@@ -113,6 +116,7 @@ makes-decay : (s : Scope) (w : StageState) (to : TypeId) (m : Made) → IsThere 
 makes-decay s w to m there known place fact = record {
   placed = known.placed;
   there = there;
+  plain = refl;
   planted = refl;
   it = λ u. and_from _ _ (and_from _ _ (and_from _ _ (and_from _ _ known.placed (known.it u)) (known.place ∙ place))
       fact.0)
@@ -126,7 +130,7 @@ makes-converted : (s : Scope) (w : StageState) (to : TypeId) (m : Made) → IsTh
     Makes s w m.at to (te.Operate operations.Convert (m.id ∷ []))
     (typed.Operate operations.Convert (typed.then_one (typed_at (typed_trees w.store.typed) m.id) typed.no_more))
 makes-converted s w to m there known h scalar =
-    operates s w m.at to operations.Convert (m.id ∷ []) (m.of ∷ []) known.placed there (part-of s w m known, tt)
+    operates s w m.at to operations.Convert (m.id ∷ []) (m.of ∷ []) refl known.placed there (part-of s w m known, tt)
     (and_from _ _ (scalar-usable (foreseen w) m.of scalar) refl) (and_from _ _ refl h)
 
 module _ (q : PartEnd → TypingState → Type 0) (b : ℕ) (s : Scope) (w : TypingState) (i : In b s w)
@@ -139,7 +143,7 @@ module _ (q : PartEnd → TypingState → Type 0) (b : ℕ) (s : Scope) (w : Typ
       holds-laid q b s w i m.of m.at site (reading (λ x. if is_wide x m.of then refuse TooWide m.at site else rest)) r
       (ltb-true m.of.0 (length w.stage.store.types) known.there)
       (λ v p layout. holds-if q b s v p.inside (is_wide v.stage m.of) (refuse TooWide m.at site) rest
-      (λ h. holds-refuse q b s v p.inside (refuses-on q w v r p.grows) TooWide m.at site)
+      (λ h. holds-refuse q b s v p.inside (refuses-on q w v r p.moves) TooWide m.at site)
       (λ h. k v p (still b s w v i p m known)
       (narrow v.stage m.of (still b s w v i p m known).there layout
       (and_cases (is_aggregate_form (form_in v.stage m.of)) (nat_lt 128 (bytes_in v.stage m.of)) h))))
@@ -236,7 +240,7 @@ module _ (q : PartEnd → TypingState → Type 0) (b : ℕ) (s : Scope) (w : Typ
       (λ points. holds-make q b s w i m.source at to (te.Dereference m.id)
       (typed.Dereference (typed_at (typed_trees w.stage.store.typed) m.id))
       (λ x. as_value x site (go x)) (makes-target s w.stage at to m placed there known points)
-      (λ v p now. holds-value q b s v p.inside (refuses-on q w v r p.grows)
+      (λ v p now. holds-value q b s v p.inside (refuses-on q w v r p.moves)
       (made_of (next_typed w.stage.store) m.source at to (te.Dereference m.id)) site
       (go (made_of (next_typed w.stage.store) m.source at to (te.Dereference m.id))) now
       (λ x o later usable. k (made_of (next_typed w.stage.store) m.source at to (te.Dereference m.id)) x

@@ -85,6 +85,7 @@ module _ (q : PartEnd → TypingState → Type 0) (b : ℕ) (s : Scope) (site : 
       (record {
         placed = placed;
         there = is.1;
+        plain = refl;
         planted = refl;
         it = λ z. and_from _ _ (and_from _ _ placed (known.it z))
             (ap (λ t. follows_in (foreseen w.stage) (form_at (foreseen w.stage) t) l.offset l.of) known.of ∙
@@ -101,6 +102,7 @@ module _ (q : PartEnd → TypingState → Type 0) (b : ℕ) (s : Scope) (site : 
       (record {
         placed = placed;
         there = is.1;
+        plain = refl;
         planted = refl;
         it = λ z. and_from _ _ (and_from _ _ (and_from _ _ placed (known.it z)) (known.place ∙ place))
             (ap (λ t. entry_of (foreseen w.stage) t l.offset l.of) known.of ∙ mine);
@@ -111,7 +113,7 @@ module _ (q : PartEnd → TypingState → Type 0) (b : ℕ) (s : Scope) (site : 
       (λ v p now usable. holds-gives q b s v p.inside source at l.of
       (te.Operate (operations.Extract l.offset) (o.id ∷ []))
       (typed.Operate (operations.Extract l.offset) (typed_list_at (typed_trees v.stage.store.typed) (o.id ∷ [])))
-      (operates s v.stage at l.of (operations.Extract l.offset) (o.id ∷ []) (o.of ∷ []) placed
+      (operates s v.stage at l.of (operations.Extract l.offset) (o.id ∷ []) (o.of ∷ []) refl placed
       (there-still b s w v i p l.of is.1) (part-of s v.stage o now, tt)
       (and_from _ _ usable refl) (and_from _ _ refl (entry-now w v i p o.of l.offset l.of mine)))
       (gives-on q b s w v p k))))
@@ -149,6 +151,6 @@ module _ (q : PartEnd → TypingState → Type 0) (b : ℕ) (s : Scope) (site : 
       holds-laid q b s w i u at site (reading (λ v. entry_or v (entry_named field (entries_of v.store.types u)) u o
       field at source site)) r
       (fact-there w.stage i.sound o.of u fact)
-      (λ v p layout. holds-entry-or v p.inside (refuses-on q w v r p.grows) o u field at source
+      (λ v p layout. holds-entry-or v p.inside (refuses-on q w v r p.moves) o u field at source
       (gives-on q b s w v p k) placed (still b s w v i p o known)
       (struct-now w v i p o.of u fact) (entry_named field (entries_of v.stage.store.types u)) refl)

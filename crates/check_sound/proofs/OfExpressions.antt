@@ -34,6 +34,7 @@ use Rattle.check_sound.specs.Sound.{foreseen, IsThere, AreStatements, Expression
 use Rattle.check_sound.proofs.Tests.{same-refl}
 use Rattle.check_sound.proofs.Scalars.{in-range, text-at, boolean-at}
 use Rattle.check_sound.proofs.Grows.{grows-twice}
+use Rattle.check_sound.proofs.Leading.{moves-twice}
 use Rattle.check_sound.proofs.Running.{Holds}
 use Rattle.check_sound.proofs.Combining.{In, Step, Refuses, Makes, all-there, step-twice, refuses-on, still, holds-refuse, holds-if, holds-typing}
 use Rattle.check_sound.proofs.OfConverting.{holds-value, makes-nil}
@@ -54,6 +55,7 @@ pub more-on : {b : ℕ} {s : Scope} (w v x y : TypingState) (more : List TypedNa
 more-on w v x y more i m p o = record {
   inside = o.inside;
   grows = grows-twice w.stage x.stage y.stage (grows-twice w.stage v.stage x.stage m.grows p.grows) o.grows;
+  moves = moves-twice w x y (moves-twice w v x m.moves p.moves) o.moves;
   variables = o.same ∙ (p.same ∙ m.variables);
   names = all-there v.stage y.stage m.inside.sound o.inside.sound (grows-twice v.stage x.stage y.stage p.grows o.grows)
       more m.names;
@@ -75,8 +77,8 @@ module _ (q : PartEnd → TypingState → Type 0) (b : ℕ) (s : Scope) (site : 
       (leaving (length w.variables) (gives source at m.of (te.Let ids m.id))))) are
       (λ ids result more v m h. holds-typing q b _ v m.inside value site
       (λ z. as_value z site (leaving (length w.variables) (gives source at z.of (te.Let ids z.id)))) base
-      (refuses-on q w v r m.grows)
-      (λ z x p known. holds-value q b _ x p.inside (refuses-on q v x (refuses-on q w v r m.grows) p.grows) z site
+      (refuses-on q w v r m.moves)
+      (λ z x p known. holds-value q b _ x p.inside (refuses-on q v x (refuses-on q w v r m.moves) p.moves) z site
       (leaving (length w.variables) (gives source at z.of (te.Let ids z.id))) known
       (λ y o now usable.
       let later : More b s w y more = more-on w v x y more i m p o in
@@ -89,6 +91,7 @@ module _ (q : PartEnd → TypingState → Type 0) (b : ℕ) (s : Scope) (site : 
       (record {
         placed = placed;
         there = now.there;
+        plain = refl;
         planted = refl;
         it = λ u. and_from _ _ (and_from _ _ (and_from _ _ (and_from _ _ placed (blocked.it u.result tt))
             (subst (λ l. is_typed (foreseen y.stage) u l (typed_at (typed_trees y.stage.store.typed) z.id) ≡ true)
@@ -116,6 +119,7 @@ module _ (q : PartEnd → TypingState → Type 0) (b : ℕ) (s : Scope) (site : 
   makes-constant w at of c placed there h = record {
     placed = placed;
     there = there;
+    plain = refl;
     planted = refl;
     it = λ u.
         and_from _ _ placed h;
@@ -164,29 +168,29 @@ module _ (q : PartEnd → TypingState → Type 0) (b : ℕ) (s : Scope) (site : 
   holds-expression w i r e.SizeOf at t k placed sound = holds-refuse q b s w i r BadOperand at site
   holds-expression w i r (e.Unary op a) at t k placed sound =
       holds-typing q b s w i a site (λ m. reading (λ v. unary_plan v op (form_in v m.of) m at t site)) base r
-      (λ m v p known. holds-unary q b s site base v p.inside (refuses-on q w v r p.grows) op m at t
+      (λ m v p known. holds-unary q b s site base v p.inside (refuses-on q w v r p.moves) op m at t
       (gives-on q b s w v p k) placed known)
   holds-expression w i r (e.Binary op a c) at t k placed sound =
       holds-typing q b s w i a site (λ x. typing c site (λ y. reading (λ v. binary_plan v op x y at t site))) base r
       (λ x v p known. holds-typing q b s v p.inside c site (λ y. reading (λ z. binary_plan z op x y at t site)) base
-      (refuses-on q w v r p.grows)
-      (λ y z o now. holds-binary q b s site base z o.inside (refuses-on q v z (refuses-on q w v r p.grows) o.grows) op
+      (refuses-on q w v r p.moves)
+      (λ y z o now. holds-binary q b s site base z o.inside (refuses-on q v z (refuses-on q w v r p.moves) o.moves) op
       x y at t
       (gives-on q b s w z (step-twice b s w v z p o) k) placed (still b s v z p.inside o x known) now))
   holds-expression w i r (e.Call f args) at t k placed sound = holds-call w i r f args at t k placed
   holds-expression w i r (e.Method o name args) at t k placed sound =
       holds-typing q b s w i o site (λ m. reading (λ v. method_plan v (struct_of v m.of) m name args at t site)) base r
-      (λ m v p known. holds-method q b s site base v p.inside (refuses-on q w v r p.grows) m name args at t
+      (λ m v p known. holds-method q b s site base v p.inside (refuses-on q w v r p.moves) m name args at t
       (gives-on q b s w v p k) placed known (struct_of v.stage m.of))
   holds-expression w i r (e.Select o field) at t k placed sound =
       holds-typing q b s w i o site (λ m. reading (λ v. select_plan (struct_of v m.of) m field at t site)) base r
-      (λ m v p known. holds-select q b s site base v p.inside (refuses-on q w v r p.grows) m field at t
+      (λ m v p known. holds-select q b s site base v p.inside (refuses-on q w v r p.moves) m field at t
       (gives-on q b s w v p k) placed known (struct_of v.stage m.of) refl)
   holds-expression w i r (e.Index a n) at t k placed sound =
       holds-typing q b s w i a site (λ x. typing n site (λ y. reading (λ v. index_plan v x y at t site))) base r
       (λ x v p known. holds-typing q b s v p.inside n site (λ y. reading (λ z. index_plan z x y at t site)) base
-      (refuses-on q w v r p.grows)
-      (λ y z o now. holds-index q b s site base z o.inside (refuses-on q v z (refuses-on q w v r p.grows) o.grows) x y
+      (refuses-on q w v r p.moves)
+      (λ y z o now. holds-index q b s site base z o.inside (refuses-on q v z (refuses-on q w v r p.moves) o.moves) x y
       at t
       (gives-on q b s w z (step-twice b s w v z p o) k) placed (still b s v z p.inside o x known) now))
   holds-expression w i r (e.New of values) at t k placed sound = holds-new q b s site base w i r of values at t k placed

@@ -28,10 +28,11 @@ use Rattle.check_model.specs.Typing.{TypingState, function_at}
 use Rattle.check_model.specs.Plans.{BodyPlan, gives, refuse}
 use Rattle.check_model.specs.Calls.{known_result, parameter_types, parameters_of, result_of, parameters_in_state, result_in_state, on_result, by_result, arguments, with_params, call_function, call_by, call_primitive}
 use Rattle.check_model.specs.Keeping as keeping
-use Rattle.check_sound.specs.Sound.{foreseen, IsThere, IsSound, AnswerIsSound}
+use Rattle.check_sound.specs.Sound.{foreseen, IsThere, IsSound}
 use Rattle.check_sound.proofs.Knowing.{knows-to}
 use Rattle.check_sound.proofs.Passing.{points-stays}
-use Rattle.check_sound.proofs.Grows.{Grows}
+use Rattle.check_sound.specs.Growing.{Leads}
+use Rattle.check_sound.proofs.Leading.{moves-same}
 use Rattle.check_sound.proofs.Worlds.{fair-of}
 use Rattle.check_sound.proofs.Running.{Holds}
 use Rattle.check_sound.proofs.Combining.{In, Step, Refuses, step-to, step-itself, step-twice, refuses-on, there-still, holds-pointing, holds-refuse, holds-if}
@@ -44,16 +45,16 @@ module _ (q : PartEnd → TypingState → Type 0) (b : ℕ) (s : Scope) (site : 
 
   on-answer : (w : TypingState) (i : In b s w) (r : Refuses q w) (f : FnId) (at : Place) (go : TypeId → BodyPlan) →
       ((t : TypeId) (v : TypingState) → Step b s w v → result_of v.stage f ≡ Is t → Holds q (go t) v) →
-      (a : CheckAnswer) (v : TypingState) → IsSound v.stage → AnswerIsSound v.stage a → Grows w.stage v.stage →
+      (a : CheckAnswer) (v : TypingState) → IsSound v.stage → Leads w.stage v.stage →
       v.variables ≡ w.variables →
       keeping.Answers (ResultOf f) a v.stage → Holds q (on_result a at site go) v
-  on-answer w i r f at go k (answers.Result t) v sound x g same fits = k t v (step-to b s w v i sound g same) fits
-  on-answer w i r f at go k (answers.Refused why) v sound x g same fits = r why v sound g
-  on-answer w i r f at go k answers.Go v sound x g same fits = absurd fits
-  on-answer w i r f at go k (answers.Values vs) v sound x g same fits = absurd fits
-  on-answer w i r f at go k (answers.Raise y place) v sound x g same fits = absurd fits
-  on-answer w i r f at go k answers.Done v sound x g same fits = absurd fits
-  on-answer w i r f at go k (answers.NoLayout kind) v sound x g same fits = absurd fits
+  on-answer w i r f at go k (answers.Result t) v sound g same fits = k t v (step-to b s w v i sound g same) fits
+  on-answer w i r f at go k (answers.Refused why) v sound g same fits = r why v sound (moves-same w v g same)
+  on-answer w i r f at go k answers.Go v sound g same fits = absurd fits
+  on-answer w i r f at go k (answers.Values vs) v sound g same fits = absurd fits
+  on-answer w i r f at go k (answers.Raise y place) v sound g same fits = absurd fits
+  on-answer w i r f at go k answers.Done v sound g same fits = absurd fits
+  on-answer w i r f at go k (answers.NoLayout kind) v sound g same fits = absurd fits
 
   holds-result : (w : TypingState) (i : In b s w) (r : Refuses q w) (f : FnId) (z : KnownResult) (at : Place)
       (go : TypeId → BodyPlan) →
@@ -62,7 +63,7 @@ module _ (q : PartEnd → TypingState → Type 0) (b : ℕ) (s : Scope) (site : 
       Holds q (by_result z f at site go) w
   holds-result w i r f (Is t) at go is k = k t w (step-itself b s w i) is
   holds-result w i r f BeingTyped at go is k = holds-refuse q b s w i r RecursiveNeedsType at site
-  holds-result w i r f NotYet at go is k = on-answer w i r f at go k
+  holds-result w i r f NotYet at go is k = ((i.sound, is), on-answer w i r f at go k)
 
   pub called : (w v : TypingState) → In b s w → Step b s w v → (f : FnId) (ps : List TypeId) (result : TypeId) →
       parameters_of w.stage f ≡ Some ps →
@@ -89,7 +90,7 @@ module _ (q : PartEnd → TypingState → Type 0) (b : ℕ) (s : Scope) (site : 
       (ap (result_in_state w.stage) there)
       (λ result v p z. holds-arguments q b s site base fitting os ps at [] []
       (λ ids. gives source at result (te.Operate (operations.Call f) ids)) v p.inside
-      (refuses-on q w v r p.grows) placed (operands-still q b s w v i p os known)
+      (refuses-on q w v r p.moves) placed (operands-still q b s w v i p os known)
       (types-there w.stage v.stage i.sound p.inside.sound p.grows ps (params-there w.stage i.sound g ps is))
       (eqb-true (length os) (length ps) same) tt refl
       (λ ids x o l u.
@@ -97,7 +98,7 @@ module _ (q : PartEnd → TypingState → Type 0) (b : ℕ) (s : Scope) (site : 
       let now = o.grows.results f result z in
       holds-gives q b s x o.inside source at result (te.Operate (operations.Call f) ids)
       (typed.Operate (operations.Call f) (typed_list_at (typed_trees x.stage.store.typed) ids))
-      (operates s x.stage at result (operations.Call f) ids ps placed
+      (operates s x.stage at result (operations.Call f) ids ps refl placed
       (result-there x.stage o.inside.sound f result now) l u
       (called w x i whole f ps result params now))
       (gives-on q b s w x whole k))))
@@ -131,7 +132,7 @@ module _ (q : PartEnd → TypingState → Type 0) (b : ℕ) (s : Scope) (site : 
       (eqb-true (length os) (length ps) same) tt refl
       (λ ids v o l u. holds-gives q b s v o.inside source at result (te.Operate (operations.Primitive p) ids)
       (typed.Operate (operations.Primitive p) (typed_list_at (typed_trees v.stage.store.typed) ids))
-      (operates s v.stage at result (operations.Primitive p) ids ps placed (there-still b s w v i o result back) l u
+      (operates s v.stage at result (operations.Primitive p) ids ps refl placed (there-still b s w v i o result back) l u
       (h v o))
       (gives-on q b s w v o k)))
       (λ c. holds-refuse q b s w i r WrongCount at site)
@@ -154,7 +155,7 @@ module _ (q : PartEnd → TypingState → Type 0) (b : ℕ) (s : Scope) (site : 
   holds-primitive w i r Write os at fitting source k placed known =
       holds-pointing q b s w i uint8 (λ p. call_by Write (p ∷ int64 ∷ []) unit os at fitting source site)
       (uint8-there w.stage i.sound)
-      (λ v p o points there. holds-call-by v o.inside (refuses-on q w v r o.grows) Write (p ∷ int64 ∷ []) unit os at
+      (λ v p o points there. holds-call-by v o.inside (refuses-on q w v r o.moves) Write (p ∷ int64 ∷ []) unit os at
       fitting source (gives-on q b s w v o k) placed
       (operands-still q b s w v i o os known) (there, (int64-there v.stage o.inside.sound, tt))
       (unit-there v.stage o.inside.sound)
@@ -162,7 +163,7 @@ module _ (q : PartEnd → TypingState → Type 0) (b : ℕ) (s : Scope) (site : 
   holds-primitive w i r Alloc os at fitting source k placed known =
       holds-pointing q b s w i uint8 (λ p. call_by Alloc (int64 ∷ []) p os at fitting source site)
       (uint8-there w.stage i.sound)
-      (λ v p o points there. holds-call-by v o.inside (refuses-on q w v r o.grows) Alloc (int64 ∷ []) p os at fitting
+      (λ v p o points there. holds-call-by v o.inside (refuses-on q w v r o.moves) Alloc (int64 ∷ []) p os at fitting
       source (gives-on q b s w v o k) placed
       (operands-still q b s w v i o os known) (int64-there v.stage o.inside.sound, tt) there
       (λ x o2. and_from _ _ refl (points-still v x o.inside o2 p uint8 points)))

@@ -23,7 +23,7 @@ use Rattle.check_model.specs.Typing.{TypingState, form_in, with_variable, cut_to
 use Rattle.check_model.specs.Plans.{BodyPlan, reading, refuse, states, leaving}
 use Rattle.check_model.specs.Statements.{block, in_loop, integers, meet_of, all_to, counting, for_plan}
 use Rattle.check_sound.specs.Sound.{foreseen, IsThere, AreStatements}
-use Rattle.check_sound.proofs.Grows.{grows-itself}
+use Rattle.check_sound.proofs.Leading.{leads-itself, moves-twice}
 use Rattle.check_sound.proofs.Worlds.{fair-of, statements-grow}
 use Rattle.check_sound.proofs.Running.{Holds, ResultThere}
 use Rattle.check_sound.proofs.Combining.{In, Step, Refuses, step-itself, step-twice, refuses-on, there-still, holds-refuse, holds-if, holds-typing}
@@ -60,12 +60,12 @@ module _ (q : PartEnd → TypingState → Type 0) (b : ℕ) (s : Scope) (site : 
       BadOperand m.at site)) base r
       (λ m v p now. holds-if q b s v p.inside (integer_form (form_in v.stage m.of))
       (integers ts site (ms ++ m ∷ []) go) (refuse BadOperand m.at site)
-      (λ n. holds-integers ts (ms ++ m ∷ []) go v p.inside (refuses-on q w v r p.grows)
+      (λ n. holds-integers ts (ms ++ m ∷ []) go v p.inside (refuses-on q w v r p.moves)
       (known-snoc s v.stage ms m (all-grow s w.stage v.stage i.sound p.inside.sound p.grows ms known) now)
       (integers-snoc v.stage ms m (integers-now w v i p ms each) n)
       (λ ms2 x o all all_n same. k ms2 x (step-twice b s w v x p o) all all_n
       (omega (arith, same, length-append ms (m ∷ [])))))
-      (λ c. holds-refuse q b s v p.inside (refuses-on q w v r p.grows) BadOperand m.at site))
+      (λ c. holds-refuse q b s v p.inside (refuses-on q w v r p.moves) BadOperand m.at site))
 
   abbrev LeavesCopies : TypingState → List TypeId → (List TermId → BodyPlan) → Type 0
   LeavesCopies w us go = (ids : List TermId) (v : TypingState) → Step b s w v → Listed s v.stage ids us →
@@ -80,7 +80,7 @@ module _ (q : PartEnd → TypingState → Type 0) (b : ℕ) (s : Scope) (site : 
   holds-all-to (m ∷ ms) t ids us go w i r known there l k =
       holds-convert q b s w i r Implicit m t site (λ x. all_to t ms site (ids ++ x.id ∷ []) go) known.0 there
       (λ x v o now is usable. holds-all-to ms t (ids ++ x.id ∷ []) (us ++ t ∷ []) go v o.inside
-      (refuses-on q w v r o.grows)
+      (refuses-on q w v r o.moves)
       (all-grow s w.stage v.stage i.sound o.inside.sound o.grows ms known.1) (there-still b s w v i o t there)
       (listed-snoc s v.stage ids us x.id t (listed-grows s w.stage v.stage i.sound o.inside.sound o.grows ids us l)
       (part-as s v.stage x t is now))
@@ -102,9 +102,9 @@ module _ (q : PartEnd → TypingState → Type 0) (b : ℕ) (s : Scope) (site : 
       (integer-there w.stage t integer) tt
       (λ ids y p l.
       let z : TypingState = with_variable y name.symbol t in
-      let m : More b s y z (x ∷ []) = more-to b s y z (x ∷ []) p.inside p.inside.sound (grows-itself y.stage) refl
+      let m : More b s y z (x ∷ []) = more-to b s y z (x ∷ []) p.inside p.inside.sound (leads-itself y.stage) refl
       (there-still b s w y i p t (integer-there w.stage t integer), tt) in
-      holds-block q b (x ∷ s) site base (in_loop site) base z m.inside (refuses-on q w z r p.grows)
+      holds-block q b (x ∷ s) site base (in_loop site) base z m.inside (refuses-on q w z r (moves-twice w y z p.moves m.moves))
       (there-on q b s site base w y i p there) body
       (λ stats result. leaving (length y.variables) (states at (made_kinds.For x ids stats) result))
       (statements-grow w.stage y.stage (fair-of w.stage i.sound) (fair-of y.stage p.inside.sound) p.grows body are)
@@ -141,7 +141,7 @@ module _ (q : PartEnd → TypingState → Type 0) (b : ℕ) (s : Scope) (site : 
       let same : length bounds ≡ length ms = omega (arith, n) in
       let counted : (nat_eq (length ms) 2 || nat_eq (length ms) 3) ≡ true =
       subst (λ c. (nat_eq c 2 || nat_eq c 3) ≡ true) same count in
-      holds-counting w v i p.inside p (refuses-on q w v r p.grows) (meet_of v.stage ms) name ms body at k placed
+      holds-counting w v i p.inside p (refuses-on q w v r p.moves) (meet_of v.stage ms) name ms body at k placed
       (there-on q b s site base w v i p there)
       (statements-grow w.stage v.stage (fair-of w.stage i.sound) (fair-of v.stage p.inside.sound) p.grows body are)
       known (meet-integers v.stage ms each counted) counted)

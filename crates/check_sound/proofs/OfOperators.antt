@@ -33,7 +33,7 @@ use Rattle.check_model.specs.Structs.{metamethod_of_either}
 use Rattle.check_model.specs.Plans.{BodyPlan, reading, make, gives, refuse, laid_out}
 use Rattle.check_model.specs.Converting.{convert}
 use Rattle.check_model.specs.Operators.{event_of, rule_of, both, at_type, retyped, same_pointers, meeting, by_rule, by_metamethod, binary_plan}
-use Rattle.check_sound.specs.Sound.{foreseen, IsThere, IsSound}
+use Rattle.check_sound.specs.Sound.{foreseen, IsThere, IsSound, is_plain_operation}
 use Rattle.check_sound.proofs.Tests.{same-id, same-refl}
 use Rattle.check_sound.proofs.Shapes.{form-stays, stays-is}
 use Rattle.check_sound.proofs.Scalars.{target-there, long-at}
@@ -71,7 +71,7 @@ module _ (q : PartEnd → TypingState → Type 0) (b : ℕ) (s : Scope) (site : 
   holds-at-type w i r m op of x y at source k placed a c integer there h =
       holds-convert q b s w i r Implicit x m site (λ x2. convert Implicit y m site (λ y2. both op of x2 y2 at source))
       a (integer-there w.stage m integer)
-      (λ x2 v p known is u. holds-convert q b s v p.inside (refuses-on q w v r p.grows) Implicit y m site
+      (λ x2 v p known is u. holds-convert q b s v p.inside (refuses-on q w v r p.moves) Implicit y m site
       (λ y2. both op of x2 y2 at source) (still b s w v i p y c)
       (there-still b s w v i p m (integer-there w.stage m integer))
       (λ y2 z o known2 is2 u2.
@@ -84,7 +84,7 @@ module _ (q : PartEnd → TypingState → Type 0) (b : ℕ) (s : Scope) (site : 
       and_from _ _ refl (h z whole (integer-still w z i whole m integer))) in
       holds-gives q b s z o.inside source at of (te.Operate (operations.Binary op) (x2.id ∷ y2.id ∷ []))
       (typed.Operate (operations.Binary op) (typed_list_at (typed_trees z.stage.store.typed) (x2.id ∷ y2.id ∷ [])))
-      (two s z.stage at of (operations.Binary op) x2 y2 placed (there-still b s w z i whole of there)
+      (two s z.stage at of (operations.Binary op) x2 y2 refl placed (there-still b s w z i whole of there)
       (still b s v z p.inside o x2 known) known2 of_x of_y types)
       (gives-on q b s w z whole k)))
 
@@ -97,7 +97,7 @@ module _ (q : PartEnd → TypingState → Type 0) (b : ℕ) (s : Scope) (site : 
   holds-both w i op of x y at source k placed there a c u v h =
       holds-gives q b s w i source at of (te.Operate (operations.Binary op) (x.id ∷ y.id ∷ []))
       (typed.Operate (operations.Binary op) (typed_list_at (typed_trees w.stage.store.typed) (x.id ∷ y.id ∷ [])))
-      (two s w.stage at of (operations.Binary op) x y placed there a c u v (and_from _ _ refl h)) k
+      (two s w.stage at of (operations.Binary op) x y refl placed there a c u v (and_from _ _ refl h)) k
 
   holds-retyped : (w : TypingState) (i : In b s w) (old : StageState) (m other : Made) (go : Made → BodyPlan) →
       Known s w.stage m →
@@ -135,7 +135,7 @@ module _ (q : PartEnd → TypingState → Type 0) (b : ℕ) (s : Scope) (site : 
       (pointer-usable v2.stage u.of pointer2)
       (both-compare (foreseen v2.stage) op z.of u.of e same_of
       (pointers-comparable (foreseen v2.stage) op z.of (pointer-still v v2 p.inside o z.of pointer))))
-      (λ d. holds-refuse q b s v2 o.inside (refuses-on q w v2 r (step-twice b s w v v2 p o).grows) BadOperand at site)))
+      (λ d. holds-refuse q b s v2 o.inside (refuses-on q w v2 r (step-twice b s w v v2 p o).moves) BadOperand at site)))
 
   -- a pointer that is moved
   moved : (w : StageState) (x y : Made) (t : TypeId) → form_of w.store.types x.of ≡ forms.Pointer t →
@@ -148,14 +148,14 @@ module _ (q : PartEnd → TypingState → Type 0) (b : ℕ) (s : Scope) (site : 
       (ap (λ f. has_layout (foreseen w) (target_in f)) p ∙ layout)
 
   holds-moved : (w : TypingState) (i : In b s w) (r : Refuses q w) (op : Operation) (t : TypeId) (x y : Made)
-      (at : Place) (source : TermId) → Gives q b s w →
+      (at : Place) (source : TermId) → is_plain_operation op ≡ true → Gives q b s w →
       is_placed at ≡ true → Known s w.stage x → Known s w.stage y →
       form_of w.stage.store.types x.of ≡ forms.Pointer t → is_integer (foreseen w.stage) y.of ≡ true →
       ((v : TypingState) → Step b s w v → form_of v.stage.store.types x.of ≡ forms.Pointer t →
       is_integer (foreseen v.stage) y.of ≡ true →
       has_layout (foreseen v.stage) t ≡ true → operation_typed (foreseen v.stage) op (x.of ∷ y.of ∷ []) x.of ≡ true) →
       Holds q (laid_out t at site (gives source at x.of (te.Operate op (x.id ∷ y.id ∷ [])))) w
-  holds-moved w i r op t x y at source k placed a c pointer integer h =
+  holds-moved w i r op t x y at source plain k placed a c pointer integer h =
       holds-laid q b s w i t at site (gives source at x.of (te.Operate op (x.id ∷ y.id ∷ []))) r
       (target-there w.stage.store.types i.sound.types x.of t pointer)
       (λ v p layout.
@@ -164,7 +164,7 @@ module _ (q : PartEnd → TypingState → Type 0) (b : ℕ) (s : Scope) (site : 
       let known = still b s w v i p x a in
       holds-gives q b s v p.inside source at x.of (te.Operate op (x.id ∷ y.id ∷ []))
       (typed.Operate op (typed_list_at (typed_trees v.stage.store.typed) (x.id ∷ y.id ∷ [])))
-      (two s v.stage at x.of op x y placed known.there known (still b s w v i p y c)
+      (two s v.stage at x.of op x y plain placed known.there known (still b s w v i p y c)
       (pointer-usable v.stage x.of (ap pointer_form now)) (integer-usable v.stage y.of n)
       (h v p now n layout))
       (gives-on q b s w v p k))
@@ -182,13 +182,13 @@ module _ (q : PartEnd → TypingState → Type 0) (b : ℕ) (s : Scope) (site : 
       (target-there w.stage.store.types i.sound.types x.of t pointer)
       (λ v p layout. holds-if q b s v p.inside (nat_eq (bytes_in v.stage t) 0) (refuse BadOperand at site)
       (gives source at int64 (te.Operate operations.Difference (x.id ∷ y.id ∷ [])))
-      (λ d. holds-refuse q b s v p.inside (refuses-on q w v r p.grows) BadOperand at site)
+      (λ d. holds-refuse q b s v p.inside (refuses-on q w v r p.moves) BadOperand at site)
       (λ d.
       let now = target-still w v i p x.of t pointer in
       let some : 0 < bytes_in v.stage t = positive (bytes_in v.stage t) (eqb-false (bytes_in v.stage t) 0 d) in
       holds-gives q b s v p.inside source at int64 (te.Operate operations.Difference (x.id ∷ y.id ∷ []))
       (typed.Operate operations.Difference (typed_list_at (typed_trees v.stage.store.typed) (x.id ∷ y.id ∷ [])))
-      (two s v.stage at int64 operations.Difference x y placed
+      (two s v.stage at int64 operations.Difference x y refl placed
       (lt-ltb 3 _ (slice_get_within v.stage.store.types 3 _ (long-at v.stage.store.types p.inside.sound.types)))
       (still b s w v i p x a) (still b s w v i p y c) (pointer-usable v.stage x.of (ap pointer_form now))
       (pointer-usable v.stage y.of (pointer-still w v i p y.of other))
@@ -207,6 +207,7 @@ module _ (q : PartEnd → TypingState → Type 0) (b : ℕ) (s : Scope) (site : 
   makes-both w sound at x y placed a c e f = record {
     placed = placed;
     there = boolean-there w sound;
+    plain = refl;
     planted = refl;
     it = λ u. and_from _ _ (and_from _ _ (and_from _ _ (and_from _ _ (and_from _ _ placed (a.it u)) (c.it u))
         (ap (λ t. same t boolean) a.of ∙ e)) (ap (λ t. same t boolean) c.of ∙ f)) refl;
@@ -220,6 +221,7 @@ module _ (q : PartEnd → TypingState → Type 0) (b : ℕ) (s : Scope) (site : 
   makes-either w sound at x y placed a c e f = record {
     placed = placed;
     there = boolean-there w sound;
+    plain = refl;
     planted = refl;
     it = λ u. and_from _ _ (and_from _ _ (and_from _ _ (and_from _ _ (and_from _ _ placed (a.it u)) (c.it u))
         (ap (λ t. same t boolean) a.of ∙ e)) (ap (λ t. same t boolean) c.of ∙ f)) refl;
@@ -265,10 +267,10 @@ module _ (q : PartEnd → TypingState → Type 0) (b : ℕ) (s : Scope) (site : 
   holds-rule w i r Addresses op x y at source k placed a c h =
       holds-addresses w i r w.stage op x y at source k placed a c h.0 h.1.0 h.1.1
   holds-rule w i r (Forward t) op x y at source k placed a c h =
-      holds-moved w i r operations.StepForward t x y at source k placed a c h.0 h.1
+      holds-moved w i r operations.StepForward t x y at source refl k placed a c h.0 h.1
       (λ v p pointer n layout. and_from _ _ refl (moved v.stage x y t pointer n layout))
   holds-rule w i r (Back t) op x y at source k placed a c h =
-      holds-moved w i r operations.StepBack t x y at source k placed a c h.0 h.1
+      holds-moved w i r operations.StepBack t x y at source refl k placed a c h.0 h.1
       (λ v p pointer n layout. and_from _ _ refl (moved v.stage x y t pointer n layout))
   holds-rule w i r (Differs t) op x y at source k placed a c h =
       holds-if q b s w i (same_type x.of y.of)

@@ -47,6 +47,7 @@ module _ (q : PartEnd → TypingState → Type 0) (b : ℕ) (s : Scope) (site : 
       (record {
         placed = placed;
         there = variable-there w.stage x t (drop b w.variables) i.names found;
+        plain = refl;
         planted = refl;
         it = λ u. and_from _ _ placed scope;
         place = refl;
@@ -62,6 +63,7 @@ module _ (q : PartEnd → TypingState → Type 0) (b : ℕ) (s : Scope) (site : 
       (record {
         placed = placed;
         there = layout-there w.stage g.of sound.0;
+        plain = refl;
         planted = refl;
         it = λ u. and_from _ _ (and_from _ _ placed sound.0) (lt-ltb g.address _ sound.1);
         place = refl;
@@ -92,6 +94,7 @@ module _ (q : PartEnd → TypingState → Type 0) (b : ℕ) (s : Scope) (site : 
       (record {
         placed = placed;
         there = layout-there v.stage t layout;
+        plain = refl;
         planted = refl;
         it = λ u. and_from _ _ (and_from _ _ (and_from _ _
             (and_from _ _ (and_from _ _ placed (known.it u)) (other.it u))
@@ -112,6 +115,7 @@ module _ (q : PartEnd → TypingState → Type 0) (b : ℕ) (s : Scope) (site : 
       (record {
         placed = placed;
         there = layout-there v.stage t layout;
+        plain = refl;
         planted = refl;
         it = λ u. and_from _ _ (and_from _ _ (and_from _ _
             (and_from _ _ (and_from _ _ (and_from _ _ placed (known.it u)) (other.it u))

@@ -112,7 +112,7 @@ module _ (q : PartEnd → TypingState → Type 0) (b : ℕ) (s : Scope) (site : 
       (known-result site.in_let w.stage site.result outside there)
   holds-returned w i r (t ∷ more) at k placed outside there =
       holds-typing q b s w i t site (λ m. return_value site.result m at site) base r
-      (λ m v p known. holds-return-value w v i p.inside p (refuses-on q w v r p.grows) m at k placed outside known
+      (λ m v p known. holds-return-value w v i p.inside p (refuses-on q w v r p.moves) m at k placed outside known
       site.result refl
       (known-result site.in_let v.stage site.result outside (there-on q b s site base w v i p there)))
 
@@ -143,7 +143,7 @@ module _ (q : PartEnd → TypingState → Type 0) (b : ℕ) (s : Scope) (site : 
       (typing t site (λ m. as_value m site (states at (made_kinds.Perform m.id) site.result))) w
   holds-perform w i r t at k placed there =
       holds-typing q b s w i t site (λ m. as_value m site (states at (made_kinds.Perform m.id) site.result)) base r
-      (λ m v p known. holds-value q b s v p.inside (refuses-on q w v r p.grows) m site
+      (λ m v p known. holds-value q b s v p.inside (refuses-on q w v r p.moves) m site
       (states at (made_kinds.Perform m.id) site.result) known
       (λ x o now usable.
       let whole = step-twice b s w v x p o in

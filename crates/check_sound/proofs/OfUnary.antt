@@ -63,20 +63,20 @@ module _ (q : PartEnd → TypingState → Type 0) (b : ℕ) (s : Scope) (site : 
   holds-unary-by w i r unary.Negate (forms.Integer n) m at source k placed a h =
       holds-gives q b s w i source at m.of (te.Operate operations.Negate (m.id ∷ []))
       (typed.Operate operations.Negate (typed_list_at (typed_trees w.stage.store.typed) (m.id ∷ [])))
-      (one s w.stage at m.of operations.Negate m placed a.there a (integer-usable w.stage m.of (ap integer_form h))
+      (one s w.stage at m.of operations.Negate m refl placed a.there a (integer-usable w.stage m.of (ap integer_form h))
       (and_from _ _ (and_from _ _ refl (same-refl m.of)) (ap integer_form h))) k
   holds-unary-by w i r unary.Negate _ m at source k placed a h =
       holds-own w i r (metamethod w.stage m.of (codes "__unm")) m at source
   holds-unary-by w i r unary.Not (forms.Integer n) m at source k placed a h =
       holds-gives q b s w i source at m.of (te.Operate operations.Not (m.id ∷ []))
       (typed.Operate operations.Not (typed_list_at (typed_trees w.stage.store.typed) (m.id ∷ [])))
-      (one s w.stage at m.of operations.Not m placed a.there a (integer-usable w.stage m.of (ap integer_form h))
+      (one s w.stage at m.of operations.Not m refl placed a.there a (integer-usable w.stage m.of (ap integer_form h))
       (and_from _ _ (and_from _ _ refl (same-refl m.of)) (or_left _ _ (ap integer_form h)))) k
   holds-unary-by w i r unary.Not forms.Bool m at source k placed a h =
       let truth = truth-is w.stage.store.types i.sound.types m.of h in
       holds-gives q b s w i source at m.of (te.Operate operations.Not (m.id ∷ []))
       (typed.Operate operations.Not (typed_list_at (typed_trees w.stage.store.typed) (m.id ∷ [])))
-      (one s w.stage at m.of operations.Not m placed a.there a (truth-usable w.stage i.sound m.of truth)
+      (one s w.stage at m.of operations.Not m refl placed a.there a (truth-usable w.stage i.sound m.of truth)
       (and_from _ _ (and_from _ _ refl (same-refl m.of)) (or_right (is_integer (foreseen w.stage) m.of) _ truth))) k
   holds-unary-by w i r unary.Not _ m at source k placed a h = holds-own w i r (metamethod w.stage m.of (codes "__not"))
       m at source

@@ -27,7 +27,8 @@ use Rattle.check_model.specs.Statements.{value_for, values_for, may_be, name_for
 use Rattle.check_sound.specs.Sound.{foreseen, IsThere, IsThereIfAny, NamesAreThere, IsSound}
 use Rattle.check_sound.proofs.Tests.{ids-refl}
 use Rattle.check_sound.proofs.Passing.{names-laid}
-use Rattle.check_sound.proofs.Grows.{Grows, grows-itself}
+use Rattle.check_sound.proofs.Grows.{Grows}
+use Rattle.check_sound.proofs.Leading.{leads-itself}
 use Rattle.check_sound.proofs.Worlds.{fair-of, any-grows}
 use Rattle.check_sound.proofs.Running.{AllThere, Known, Holds, ResultThere}
 use Rattle.check_sound.proofs.Combining.{In, Step, Refuses, step-itself, step-twice, refuses-on, all-there, there-still, holds-refuse, holds-if, holds-laid, holds-typing}
@@ -116,7 +117,7 @@ module _ (q : PartEnd → TypingState → Type 0) (b : ℕ) (s : Scope) (site : 
       holds-name w i r n.of n at (λ name. names_for ns at site (named ++ name ∷ []) go) there.0
       (λ of v e p layout is.
       let name : TypedName = record { symbol = n.symbol; of = of } in
-      holds-names ns at (named ++ name ∷ []) go v p.inside (refuses-on q w v r p.grows)
+      holds-names ns at (named ++ name ∷ []) go v p.inside (refuses-on q w v r p.moves)
       (names-grow w.stage v.stage i.sound p.inside.sound p.grows ns there.1)
       (laid-snoc v.stage named name (laid-grows w.stage v.stage i.sound p.inside.sound p.grows named laid) layout)
       (there-append v.stage named (name ∷ []) (all-there w.stage v.stage i.sound p.inside.sound p.grows named all)
@@ -167,7 +168,7 @@ module _ (q : PartEnd → TypingState → Type 0) (b : ℕ) (s : Scope) (site : 
       (states at (ts.Var named ids) site.result))) w i r names refl tt
       (λ named v p laid all same.
       let x : TypingState = with_variables v named in
-      holds-states q b s site base v x named (more-to b s v x named p.inside p.inside.sound (grows-itself v.stage) refl
+      holds-states q b s site base v x named (more-to b s v x named p.inside p.inside.sound (leads-itself v.stage) refl
       all) p.inside at (ts.Var named ids)
       (typed.Var named (typed_list_at (typed_trees v.stage.store.typed) ids)) site.result
       (declared w v i p ns ids us named at placed (result-grows w.stage v.stage i.sound p.inside.sound p.grows
@@ -211,7 +212,7 @@ module _ (q : PartEnd → TypingState → Type 0) (b : ℕ) (s : Scope) (site : 
       holds-typing q b s w i t site (λ m. value_for n.of m site (λ of x.
       values_for ns ts site (names ++ record { symbol = n.symbol; of = Some of; place = n.place } ∷ [])
       (ids ++ x.id ∷ []) go)) base r
-      (λ m v p known. holds-value-for v p.inside (refuses-on q w v r p.grows) n.of m (λ of x.
+      (λ m v p known. holds-value-for v p.inside (refuses-on q w v r p.moves) n.of m (λ of x.
       values_for ns ts site (names ++ record { symbol = n.symbol; of = Some of; place = n.place } ∷ [])
       (ids ++ x.id ∷ []) go) known
       (any-grows w.stage v.stage (fair-of w.stage i.sound) (fair-of v.stage p.inside.sound) p.grows n.of there.0)
@@ -219,7 +220,7 @@ module _ (q : PartEnd → TypingState → Type 0) (b : ℕ) (s : Scope) (site : 
       let whole = step-twice b s w v y p o in
       let name : VarName = record { symbol = n.symbol; of = Some of; place = n.place } in
       holds-values ns ts (names ++ name ∷ []) (ids ++ x.id ∷ []) (us ++ of ∷ []) go y whole.inside
-      (refuses-on q w y r whole.grows)
+      (refuses-on q w y r whole.moves)
       (names-grow w.stage y.stage i.sound whole.inside.sound whole.grows ns there.1)
       (there-snoc y.stage names name (names-grow w.stage y.stage i.sound whole.inside.sound whole.grows names done)
       (subst (IsThere y.stage) is now.there))
@@ -239,7 +240,7 @@ module _ (q : PartEnd → TypingState → Type 0) (b : ℕ) (s : Scope) (site : 
       holds-if q b s w i (nat_eq (length ns) (length values))
       (values_for ns values site [] [] (λ xs ids. declaring xs ids at site)) (refuse WrongCount at site)
       (λ c. holds-values ns values [] [] [] (λ xs ids. declaring xs ids at site) w i r names tt tt refl refl
-      (λ xs ids us v p all l u same. holds-declaring v p.inside (refuses-on q w v r p.grows) xs ids us at
+      (λ xs ids us v p all l u same. holds-declaring v p.inside (refuses-on q w v r p.moves) xs ids us at
       (states-on q b s site base w v p k) placed
       (result-grows w.stage v.stage i.sound p.inside.sound p.grows site.in_let site.result there) all l u (inr same)))
       (λ c. holds-refuse q b s w i r WrongCount at site)

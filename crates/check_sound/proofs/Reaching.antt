@@ -261,11 +261,6 @@ visited-more w queue more f h = record {
       (h.mentions i m at);
 }
 
--- what is reached behind a check
-abbrev pub Closed : FnId → StageState → Type 0
-Closed f w = (queue : List Reached) × (was_reached f queue ≡ true) × ((g : FnId) → was_reached g queue ≡ true →
-    IsReady w queue g)
-
 module _ (w : StageState) (sound : IsSound w) (queue : List Reached)
     (all : (g : FnId) → was_reached g queue ≡ true → Visited w queue g) where
   -- what is in the queue is called as it is foreseen

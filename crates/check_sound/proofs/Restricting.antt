@@ -118,7 +118,7 @@ module _ (w : StageState) (queue : List Reached) where
   mentions-state f k g (standing.Refused t why) at is called =
       absurd (none-some k (sym (uncalled whole f g at (ap typed_in is)) ∙ called))
 
-  mentions-called : (f : FnId) (k : Callable) → callable_of whole f ≡ Some k →
+  pub mentions-called : (f : FnId) (k : Callable) → callable_of whole f ≡ Some k →
       (o : Option Function) → function_at w f ≡ o →
       mentions_at w f ≡ mentions_in (body_events k.body)
   mentions-called f k called None at = absurd (none-some k (sym (no-function whole f at) ∙ called))

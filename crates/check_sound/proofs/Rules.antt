@@ -23,7 +23,7 @@ use Rattle.check_model.specs.declared.made.Made.{Made}
 use Rattle.check_model.specs.declared.rule.Rule.{Rule}
 use Rattle.check_model.specs.declared.rule.Rule.TheVariants.{Meets, Compares, Shifts, Tells, Ands, Ors, Addresses, Forward, Back, Differs, Unknown}
 use Rattle.check_model.specs.Operators.{on_integers, on_truths, on_pointer, on_pointers, rule_of}
-use Rattle.check_sound.specs.Sound.{foreseen, IsThere, IsSound}
+use Rattle.check_sound.specs.Sound.{foreseen, IsThere, IsSound, is_plain_operation}
 use Rattle.check_sound.proofs.Tests.{no, same-id, same-refl}
 use Rattle.check_sound.proofs.Scalars.{is_scalar, scalar-usable, in-range, boolean-at, truth-is}
 use Rattle.check_sound.proofs.Running.{Known}
@@ -66,23 +66,23 @@ pub pointer-usable : (w : StageState) (t : TypeId) → is_pointer (foreseen w) t
 pointer-usable w t h = scalar-usable (foreseen w) t (pointer-scalar (form_of w.store.types t) h)
 
 -- two operands
-pub two : (s : Scope) (w : StageState) (at : Place) (of : TypeId) (op : Operation) (x y : Made) → is_placed at ≡ true →
+pub two : (s : Scope) (w : StageState) (at : Place) (of : TypeId) (op : Operation) (x y : Made) → is_plain_operation op ≡ true → is_placed at ≡ true →
     IsThere w of →
     Known s w x → Known s w y → is_usable (foreseen w) x.of ≡ true → is_usable (foreseen w) y.of ≡ true →
     operation_typed (foreseen w) op (x.of ∷ y.of ∷ []) of ≡ true →
     Makes s w at of (te.Operate op (x.id ∷ y.id ∷ [])) (typed.Operate op
     (typed_list_at (typed_trees w.store.typed) (x.id ∷ y.id ∷ [])))
-two s w at of op x y placed there a b u v h =
-    operates s w at of op (x.id ∷ y.id ∷ []) (x.of ∷ y.of ∷ []) placed there (part-of s w x a, (part-of s w y b, tt))
+two s w at of op x y plain placed there a b u v h =
+    operates s w at of op (x.id ∷ y.id ∷ []) (x.of ∷ y.of ∷ []) plain placed there (part-of s w x a, (part-of s w y b, tt))
     (and_from _ _ u (and_from _ _ v refl)) h
 
-pub one : (s : Scope) (w : StageState) (at : Place) (of : TypeId) (op : Operation) (x : Made) → is_placed at ≡ true →
+pub one : (s : Scope) (w : StageState) (at : Place) (of : TypeId) (op : Operation) (x : Made) → is_plain_operation op ≡ true → is_placed at ≡ true →
     IsThere w of → Known s w x →
     is_usable (foreseen w) x.of ≡ true → operation_typed (foreseen w) op (x.of ∷ []) of ≡ true →
     Makes s w at of (te.Operate op (x.id ∷ [])) (typed.Operate op
     (typed_list_at (typed_trees w.store.typed) (x.id ∷ [])))
-one s w at of op x placed there a u h =
-    operates s w at of op (x.id ∷ []) (x.of ∷ []) placed there (part-of s w x a, tt) (and_from _ _ u refl) h
+one s w at of op x plain placed there a u h =
+    operates s w at of op (x.id ∷ []) (x.of ∷ []) plain placed there (part-of s w x a, tt) (and_from _ _ u refl) h
 
 -- ---- rules
 

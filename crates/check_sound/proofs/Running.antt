@@ -1,9 +1,9 @@
 -- What holds of a plan, whatever the jobs in it and the answers give, holds where its run ends.
-use Rattle.std.proofs.Common.{◌≡◌, ℕ, ◌<◌, ◌≤◌, Bool, true, false, List, [], ◌∷◌, ◌++◌, length, drop, Option, Some, ap, slice_get}
+use Rattle.std.proofs.Common.{◌≡◌, ℕ, ◌<◌, ◌≤◌, Bool, true, false, List, [], ◌∷◌, ◌++◌, length, drop, Option, Some, refl, slice_get}
 use Rattle.tl_base.specs.declared.ids.FnId.{FnId}
 use Rattle.tl_base.specs.declared.ids.TermId.{TermId}
 use Rattle.tl_base.specs.declared.ids.TypeId.{TypeId}
-use Rattle.tl_base.specs.Layer.{State, Ended}
+use Rattle.tl_base.specs.Layer.{State, Seen, Ended, SpentAt, Asks}
 use Rattle.tl_base.specs.Plan.{Give, Do, AskFor, Read, Write, Pay, Run, Gives, Stops, Lacks, Waits, run, run_job, shown}
 use Rattle.terra_term.specs.declared.lists.TypedName.{TypedName}
 use Rattle.terra_term.specs.Planted.{typed_trees, typed_at, typed_doing_in}
@@ -23,9 +23,11 @@ use Rattle.check_model.specs.Plans.{BodyPlan}
 use Rattle.check_model.specs.Keeping as keeping
 use Rattle.check_model.specs.declared.end.BodyEnd.{BodyEnd}
 use Rattle.check_model.specs.Bodies.{BodyGiven, body_job, body_first, body, close_body}
-use Rattle.check_sound.specs.Sound.{foreseen, IsThere, IsThereIfAny, is_statement, IsSound, AnswerIsSound, AreSound}
-use Rattle.check_sound.proofs.Grows.{Grows, grows-of}
-use Rattle.check_sound.proofs.Meeting.{Meets, FollowsRun, AllFine, meets}
+use Rattle.check_sound.specs.Sound.{foreseen, IsThere, IsThereIfAny, is_statement, IsSound}
+use Rattle.check_sound.specs.Growing.{Leads}
+use Rattle.check_sound.specs.Layers.{IsBodyAsked, IsBodyBack, IsBodyBackFor, AreBodiesBack}
+use Rattle.check_sound.proofs.Leading.{Moves}
+use Rattle.check_sound.proofs.Meeting.{Meets, FollowsRun, AllFine, meets, asks}
 
 -- ---- what jobs need, and what they leave
 
@@ -102,15 +104,15 @@ Leaves (jobs.Callee t os at source site) w r v = LeavesMade site w r v
 
 -- ---- what holds of a plan
 
--- each end of the plan meets a goal, whatever the jobs in it leave and whatever is answered
+-- each question of the plan is asked in a sound world, and each end meets a goal, whatever the jobs in it leave and whatever is answered
 abbrev pub Holds : (PartEnd → TypingState → Type 0) → BodyPlan → TypingState → Type 0
 Holds Q (Give r) w = Q r w
 Holds Q (Do job go) w =
     IsSound w.stage × (Ready job w ×
-    ((r : PartEnd) (v : TypingState) → IsSound v.stage → Grows w.stage v.stage → Leaves job w r v → Holds Q (go r) v))
+    ((r : PartEnd) (v : TypingState) → IsSound v.stage → Moves w v → Leaves job w r v → Holds Q (go r) v))
 Holds Q (AskFor q go) w =
-    (a : CheckAnswer) (v : TypingState) → IsSound v.stage → AnswerIsSound v.stage a → Grows w.stage v.stage →
-    v.variables ≡ w.variables → keeping.Answers q a v.stage → Holds Q (go a) v
+    IsBodyAsked q w × ((a : CheckAnswer) (v : TypingState) → IsSound v.stage → Leads w.stage v.stage →
+    v.variables ≡ w.variables → keeping.Answers q a v.stage → Holds Q (go a) v)
 Holds Q (Read go) w = Holds Q (go w) w
 Holds Q (Write v p) w = Holds Q p v
 Holds Q (Pay n p) w = Holds Q p w
@@ -119,7 +121,7 @@ Holds Q (Pay n p) w = Holds Q p w
 
 -- what a job leaves
 abbrev pub Outcome : BodyJob → TypingState → PartEnd → TypingState → Type 0
-Outcome job w r v = IsSound v.stage × (Grows w.stage v.stage × Leaves job w r v)
+Outcome job w r v = IsSound v.stage × (Moves w v × Leaves job w r v)
 
 abbrev pub EachHolds : Type 0
 EachHolds = (job : BodyJob) (w : TypingState) → IsSound w.stage → Ready job w → Holds (Outcome job w) (body_job job) w
@@ -127,71 +129,74 @@ EachHolds = (job : BodyJob) (w : TypingState) → IsSound w.stage → Ready job 
 abbrev Good : TypingState → Type 0
 Good w = IsSound w.stage
 
--- what follows from an answer that fits
+-- what follows from an answer that is back
 record AnswerFits (q : BodyQuestion) (w : TypingState) (a : CheckAnswer) (v : TypingState) : Type 0 where
   sound : IsSound v.stage
-  answer : AnswerIsSound v.stage a
-  grows : Grows w.stage v.stage
+  leads : Leads w.stage v.stage
   variables : v.variables ≡ w.variables
   answers : keeping.Answers q a v.stage
 
-record Fine (a : BodyGiven) : Type 0 where
-  sound : IsSound a.state.world.stage
-  answer : AnswerIsSound a.state.world.stage a.answer
+abbrev Fine : BodyGiven → Type 0
+Fine a = Unit {0}
 
-fits : (q : BodyQuestion) (s : State TypingState) (a : BodyGiven) → keeping.Follows q s a → Fine a →
+fits : (q : BodyQuestion) (s : State TypingState) (a : BodyGiven) → IsBodyBack q s a → Fine a →
     AnswerFits q s.world a.answer a.state.world
-fits q s a h fine = record {
-  sound = fine.sound;
-  answer = fine.answer;
-  grows = grows-of s.world.stage a.state.world.stage h.keeps;
-  variables = h.variables;
-  answers = h.answers;
-}
+fits q s a h fine = record { sound = h.sound; leads = h.leads; variables = h.variables; answers = h.answers }
 
 -- what holds of a plan is met by its ends
 holds-meets : (Q : PartEnd → TypingState → Type 0) (p : BodyPlan) (w : TypingState) → Holds Q p w →
-    Meets body_job Good Ready Outcome AnswerFits keeping.Follows Fine fits Q p w
+    Meets body_job Good Ready Outcome IsBodyAsked AnswerFits IsBodyBack Fine fits Q p w
 holds-meets Q (Give r) w h = h
 holds-meets Q (Do job go) w h = (h.0, (h.1.0, λ r v out. holds-meets Q (go r) v (h.1.1 r v out.0 out.1.0 out.1.1)))
-holds-meets Q (AskFor q go) w h = λ a v f. holds-meets Q (go a) v (h a v f.sound f.answer f.grows f.variables f.answers)
+holds-meets Q (AskFor q go) w h = (h.0, λ a v f. holds-meets Q (go a) v (h.1 a v f.sound f.leads f.variables f.answers))
 holds-meets Q (Read go) w h = holds-meets Q (go w) w h
 holds-meets Q (Write v p) w h = holds-meets Q p v h
 holds-meets Q (Pay n p) w h = holds-meets Q p w h
 
 follows-shown : (o : Run TypingState BodyQuestion CheckAnswer PartEnd) (next : BodyGiven) →
-    keeping.FollowsSeen (shown close_body o) next →
-    FollowsRun body_job Good Ready Outcome AnswerFits keeping.Follows Fine fits o next
+    IsBodyBackFor (shown close_body o) next →
+    FollowsRun body_job Good Ready Outcome IsBodyAsked AnswerFits IsBodyBack Fine fits o next
 follows-shown (Gives r s over) next h = tt
 follows-shown (Stops (Lacks s)) next h = tt
 follows-shown (Stops (Waits q s)) next h = h
 
-all-fine : (l : List BodyGiven) → AreSound l → AllFine body_job Good Ready Outcome AnswerFits keeping.Follows Fine
-    fits l
-all-fine [] h = tt
-all-fine (a ∷ l) h = (record { sound = h.0; answer = h.1 }, all-fine l h.2)
+all-fine : (l : List BodyGiven) → AllFine body_job Good Ready Outcome IsBodyAsked AnswerFits IsBodyBack Fine fits l
+all-fine [] = tt
+all-fine (a ∷ l) = (tt, all-fine l)
 
-shown-ended : (o : Run TypingState BodyQuestion CheckAnswer PartEnd) (end : BodyEnd) (after : State TypingState) →
-    shown close_body o ≡ Ended end after →
-    (r : PartEnd) × ((over : List BodyGiven) × (o ≡ Gives r after over))
-shown-ended (Gives r s over) end after h = (r, (over, ap (λ z. Gives r z over) (cc h)))
-shown-ended (Stops (Lacks s)) end after h = absurd (cc h)
-shown-ended (Stops (Waits q s)) end after h = absurd (cc h)
+-- what holds of a body's plan shows in what is seen of it
+abbrev pub Shows : (PartEnd → TypingState → Type 0) → Seen TypingState BodyQuestion BodyEnd → Type 0
+Shows Q (Ended end s) = (r : PartEnd) × ((close_body r ≡ end) × Q r s.world)
+Shows Q (Asks question s) = IsBodyAsked question s.world
+Shows Q (SpentAt s) = Unit {0}
 
--- where a body ends, what holds of its plan is met
-pub ends-so : EachHolds → (Q : PartEnd → TypingState → Type 0) (f : FnId) (first : BodyGiven) (later : List BodyGiven)
-    (end : BodyEnd)
-    (after : State TypingState) → Holds Q (body_first f) first.state.world → keeping.AllFollow f first later →
-    AreSound later →
-    body f first later ≡ Ended end after → (r : PartEnd) × Q r after.world
-ends-so each Q f first later end after h all sound e =
-    let o = shown-ended (run (run_job body_job) (body_first f) first.state later) end after e in (
-      o.0,
-      meets body_job Good Ready Outcome AnswerFits keeping.Follows Fine fits
-          (λ job w good ready. holds-meets (Outcome job w) (body_job job) w (each job w good ready)) Q
-          (body_first f) first.state later
-          (holds-meets Q (body_first f) first.state.world h)
-          (λ before behind next split. follows-shown (run (run_job body_job) (body_first f) first.state before) next
-          (all before behind next split))
-          (all-fine later sound) o.0 after o.1.0 o.1.1,
+-- where a body ends, or asks, what holds of its plan is met
+pub ends-so : EachHolds → (Q : PartEnd → TypingState → Type 0) (f : FnId) (first : BodyGiven) (later : List BodyGiven) →
+    Holds Q (body_first f) first.state.world → AreBodiesBack f first later → Shows Q (body f first later)
+ends-so each Q f first later h all = by (run (run_job body_job) (body_first f) first.state later) refl
+  where
+    held : Meets body_job Good Ready Outcome IsBodyAsked AnswerFits IsBodyBack Fine fits Q (body_first f) first.state.world
+    held = holds-meets Q (body_first f) first.state.world h
+
+    back : (before behind : List BodyGiven) (next : BodyGiven) → later ≡ before ++ next ∷ behind →
+        FollowsRun body_job Good Ready Outcome IsBodyAsked AnswerFits IsBodyBack Fine fits
+        (run (run_job body_job) (body_first f) first.state before) next
+    back before behind next split =
+        follows-shown (run (run_job body_job) (body_first f) first.state before) next (all before behind next split)
+
+    by : (o : Run TypingState BodyQuestion CheckAnswer PartEnd) → run (run_job body_job) (body_first f) first.state later ≡ o →
+        Shows Q (shown close_body o)
+    by (Gives r s over) e = (
+      r,
+      (
+        refl,
+        meets body_job Good Ready Outcome IsBodyAsked AnswerFits IsBodyBack Fine fits
+            (λ job w good ready. holds-meets (Outcome job w) (body_job job) w (each job w good ready)) Q
+            (body_first f) first.state later held back (all-fine later) r s over e,
+      ),
     )
+    by (Stops (Lacks s)) e = tt
+    by (Stops (Waits q s)) e =
+        asks body_job Good Ready Outcome IsBodyAsked AnswerFits IsBodyBack Fine fits
+        (λ job w good ready. holds-meets (Outcome job w) (body_job job) w (each job w good ready)) Q
+        (body_first f) first.state later held back (all-fine later) q s e

@@ -1,5 +1,5 @@
 -- Nodes of statements, and what stands in them.
-use Rattle.std.proofs.Common.{◌≡◌, ℕ, ◌<◌, Bool, true, false, List, [], ◌++◌, length, append-nil, Option, Some, sym, ap, ◌∙◌, slice_get}
+use Rattle.std.proofs.Common.{◌≡◌, ℕ, ◌<◌, Bool, true, false, List, [], ◌++◌, length, append-nil, Option, Some, refl, sym, ap, ◌∙◌, slice_get}
 use Rattle.std.specs.Prelude.{if◌then◌else◌}
 use Rattle.tl_base.specs.declared.place.Place.{Place}
 use Rattle.tl_base.specs.declared.ids.TermId.{TermId}
@@ -24,10 +24,11 @@ use Rattle.check_model.specs.Plans.{BodyPlan, refuse, states, leaving}
 use Rattle.check_model.specs.Statements.{block, condition}
 use Rattle.check_sound.specs.Sound.{foreseen, IsThereIfAny, AreStatements, IsSound}
 use Rattle.check_sound.proofs.Grows.{grows-twice}
+use Rattle.check_sound.proofs.Leading.{leads-twice, moves-twice}
 use Rattle.check_sound.proofs.Worlds.{fair-of, one-grows}
 use Rattle.check_sound.proofs.Running.{Known, Fits, ResultThere, where_it_stands, Holds}
 use Rattle.check_sound.proofs.Combining.{In, Step, Refuses, refuses-on, all-there, holds-refuse, holds-if, holds-typing}
-use Rattle.check_sound.proofs.Adding.{added, added-grows, added-sound, added-tree, added-below}
+use Rattle.check_sound.proofs.Adding.{added, added-grows, added-leads, added-sound, added-tree, added-below}
 use Rattle.check_sound.proofs.Blocks.{More, Block, more-to, cut-step, result-grows, holds-statements}
 
 -- a statement that was typed at a site
@@ -66,10 +67,10 @@ stated-added site s w sound at form tree more result h =
       below = added-below w.store.typed n;
       after = ap (λ x. after_one x s) same ∙ h.after;
       it = λ of f. ap (one_typed (foreseen v) (where_it_stands of site) s) same ∙
-          one-grows w v (fair-of w sound) (fair-of v (added-sound w sound n)) (added-grows w sound n)
+          one-grows w v (fair-of w sound) (fair-of v (added-sound w sound n refl)) (added-grows w sound n)
           (where_it_stands of site) s (typed.statement at tree) (h.it of f);
       kept = h.kept;
-      there = result-grows w v sound (added-sound w sound n) (added-grows w sound n) site.in_let result h.there;
+      there = result-grows w v sound (added-sound w sound n refl) (added-grows w sound n) site.in_let result h.there;
     }
 
 -- a step that changes no variable
@@ -77,6 +78,7 @@ pub step-more : {b : ℕ} {s : Scope} (w v : TypingState) → Step b s w v → M
 step-more w v p = record {
   inside = p.inside;
   grows = p.grows;
+  moves = p.moves;
   variables = p.same ∙
       sym (append-nil w.variables);
   names = tt;
@@ -87,6 +89,7 @@ pub more-behind : {b : ℕ} {s : Scope} (w v x : TypingState) (more : List Typed
 more-behind w v x more p m = record {
   inside = m.inside;
   grows = grows-twice w.stage v.stage x.stage p.grows m.grows;
+  moves = moves-twice w v x p.moves m.moves;
   variables = m.variables ∙ ap (λ (l : List TypedName). l ++ more) p.same;
   names = m.names;
 }
@@ -115,9 +118,9 @@ module _ (q : PartEnd → TypingState → Type 0) (b : ℕ) (s : Scope) (site : 
       let x : TypingState = record v { stage = added v.stage n } in
       let sound = m.inside.sound in
       k (next_typed v.stage.store) result more x
-      (more-to b s w x more i (added-sound v.stage sound n)
-      (grows-twice w.stage v.stage x.stage m.grows (added-grows v.stage sound n)) m.variables
-      (all-there v.stage x.stage sound (added-sound v.stage sound n) (added-grows v.stage sound n) more m.names))
+      (more-to b s w x more i (added-sound v.stage sound n refl)
+      (leads-twice w.stage v.stage x.stage m.moves.leads (added-leads v.stage sound n)) m.variables
+      (all-there v.stage x.stage sound (added-sound v.stage sound n refl) (added-grows v.stage sound n) more m.names))
       (stated-added site s v.stage sound at form tree more result h)
 
   -- ---- blocks and conditions
@@ -138,4 +141,4 @@ module _ (q : PartEnd → TypingState → Type 0) (b : ℕ) (s : Scope) (site : 
   holds-condition w i r t go k =
       holds-typing q b s w i t site (λ m. if same_type m.of boolean then go m else refuse Mismatch m.at site) base r
       (λ m v p known. holds-if q b s v p.inside (same_type m.of boolean) (go m) (refuse Mismatch m.at site)
-      (λ c. k m v p known c) (λ c. holds-refuse q b s v p.inside (refuses-on q w v r p.grows) Mismatch m.at site))
+      (λ c. k m v p known c) (λ c. holds-refuse q b s v p.inside (refuses-on q w v r p.moves) Mismatch m.at site))

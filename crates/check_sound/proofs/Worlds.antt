@@ -1,6 +1,6 @@
 -- What holds of a world where it grows, and when it stays sound.
 use Rattle.std.proofs.Common.{◌≡◌, ℕ, ◌<◌, ◌≤◌, true, List, [], ◌∷◌, length, Option, Some, None, refl, ap, ◌∙◌, slice_get}
-use Rattle.std.specs.Prelude.{◌^◌, ◌⊎◌}
+use Rattle.std.specs.Prelude.{◌^◌, ◌⊎◌, is_some}
 use mathlib.Core.Logic.{inl, inr}
 use Rattle.std.proofs.lemmas.Bool.{ltb-true, lt-ltb}
 use Rattle.std.proofs.lemmas.Option.{slice_get_within}
@@ -8,9 +8,8 @@ use Rattle.tl_base.specs.declared.ids.FnId.{FnId}
 use Rattle.tl_base.specs.declared.ids.TermId.{TermId}
 use Rattle.tl_base.specs.declared.ids.TypeId.{TypeId}
 use Rattle.lua_value.specs.declared.value.Value.{Value}
-use Rattle.lua_value.specs.declared.value.Value.TheVariants as values
-use Rattle.lua_table.specs.declared.table.HeldTable.{HeldTable}
 use Rattle.terra_types.specs.Opening.{AreTypes}
+use Rattle.terra_types.specs.Sizes.{size_of}
 use Rattle.terra_term.specs.declared.lists.Parameter.{Parameter}
 use Rattle.terra_term.specs.declared.lists.VarName.{VarName}
 use Rattle.terra_term.specs.declared.operators.Constant.{Constant}
@@ -20,9 +19,11 @@ use Rattle.terra_term.specs.declared.store.FunctionState.TheVariants as standing
 use Rattle.terra_term.specs.declared.store.Quote.{Quote}
 use Rattle.terra_term.specs.declared.store.Quote.TheVariants as quotes
 use Rattle.terra_term.specs.declared.store.Static.{Static}
+use Rattle.terra_term.specs.declared.store.Symbol.{Symbol}
 use Rattle.terra_term.specs.declared.store.TerraConstant.{TerraConstant}
 use Rattle.terra_term.specs.declared.store.TerraGlobal.{TerraGlobal}
 use Rattle.terra_term.specs.declared.term.Term.{Term}
+use Rattle.terra_term.specs.declared.typed.Typed.{Typed}
 use Rattle.terra_term.specs.declared.term.Term.TheVariants as kinds
 use Rattle.terra_term.specs.declared.term.Expression as expressions
 use Rattle.terra_term.specs.declared.term.Expression.TheVariants as e
@@ -34,10 +35,14 @@ use Rattle.terra_term.specs.TypedTerms as typed
 use Rattle.terra_term.specs.Events.{Event, events_of, doing_events, block_events, body_events}
 use Rattle.terra_term.specs.WellTyped.{Within, Scope, is_typed, one_typed, all_typed, body_typed, constant_typed, has_layout, is_usable, is_placed}
 use Rattle.exotype.specs.World.{StageState}
+use Rattle.exotype.specs.Properties.{known_of}
+use Rattle.exotype.specs.declared.property.Property.TheVariants.{Entries}
+use Rattle.exotype.specs.declared.property.Known.TheVariants as known
 use Rattle.check_model.specs.Typing.{function_at}
-use Rattle.check_sound.specs.Sound.{foreseen, outermost, IsTypedSomewhere, QuoteIsSound, IsThere, IsThereIfAny, TermIsThere, ParametersAreThere, NamesAreThere, is_statement, AreStatements, AreStatementsIfAny, ExpressionIsSound, StatementIsSound, TermIsSound, ConstantIsSound, ValueIsSound, IsSound, typed_body}
+use Rattle.check_sound.specs.Sound.{foreseen, outermost, IsTypedSomewhere, QuoteIsSound, IsThere, IsThereIfAny, TermIsThere, ParametersAreThere, NamesAreThere, is_statement, AreStatements, AreStatementsIfAny, ExpressionIsSound, StatementIsSound, TermIsSound, ConstantIsSound, IsSound, is_plain_node, typed_body}
 use Rattle.check_sound.proofs.Tests.{got, keep_or, stay, no}
 use Rattle.check_sound.proofs.Knowing.{BodiesThere, knows-to, knows-from}
+use Rattle.check_sound.proofs.Shapes.{size-kept}
 use Rattle.check_sound.proofs.Passing.{Lies, constant-stays, layout-stays, usable-stays}
 use Rattle.check_sound.proofs.Growing.{AllAgree, typed-stays, one-stays, block-stays, body-stays}
 use Rattle.check_sound.proofs.Grows.{Grows, longer, tree-same}
@@ -94,7 +99,14 @@ module _ (w v : StageState) (f : Fair w) (h : Fair v) (g : Grows w v) where
   pub usable-grows : (t : TypeId) → is_usable (foreseen w) t ≡ true → is_usable (foreseen v) t ≡ true
   usable-grows t p = usable-stays (foreseen w) (foreseen v) g.types f.types h.types h.lies t p
 
-  -- ---- types, terms and values
+  -- ---- types and terms
+
+  pub sized-grows : (t : TypeId) → is_some (size_of w.store.types t) ≡ true → is_some (size_of v.store.types t) ≡ true
+  sized-grows t p = by (size_of w.store.types t) refl p
+    where
+      by : (o : Option ℕ) → size_of w.store.types t ≡ o → is_some o ≡ true → is_some (size_of v.store.types t) ≡ true
+      by None e p = absurd (no p)
+      by (Some n) e p = ap is_some (size-kept w.store.types v.store.types g.types f.types h.types t n e)
 
   pub there-grows : (t : TypeId) → IsThere w t → IsThere v t
   there-grows t p =
@@ -162,14 +174,11 @@ module _ (w v : StageState) (f : Fair w) (h : Fair v) (g : Grows w v) where
 
   pub quote-grows : (q : Quote) → QuoteIsSound w q → QuoteIsSound v q
   quote-grows (quotes.Typed source made) p = somewhere-grows made p
+  quote-grows (quotes.Statements ts) p = statements-grow ts p
   quote-grows _ p = tt
 
   pub constant-sound : (c : TerraConstant) → ConstantIsSound w c → ConstantIsSound v c
   constant-sound c p = keep_or _ _ _ _ (stay _) (constant-grows c.of (constants.Number c.value)) p
-
-  pub value-grows : (x : Value) → ValueIsSound w x → ValueIsSound v x
-  value-grows (values.TerraType t) p = there-grows t p
-  value-grows _ p = tt
 
 -- ---- a world that follows a sound one
 
@@ -188,7 +197,11 @@ pub record Follows (w v : StageState) : Type 0 where
       slice_get w.store.constants i ≡ Some x
   pub statics : (i : ℕ) (x : Static) → slice_get v.store.statics i ≡ Some x →
       (slice_get w.store.statics i ≡ Some x) ⊎ (x.address < 2 ^ 64)
-  pub tables : (i : ℕ) (x : HeldTable) → slice_get v.heap.tables i ≡ Some x → slice_get w.heap.tables i ≡ Some x
+  pub plain : (i : ℕ) (n : Typed) → slice_get v.store.typed i ≡ Some n →
+      (slice_get w.store.typed i ≡ Some n) ⊎ (is_plain_node n ≡ true)
+  pub symbols : (i : ℕ) (x : Symbol) → slice_get v.store.symbols i ≡ Some x → slice_get w.store.symbols i ≡ Some x
+  pub kept : (t : TypeId) (x : Value) → known_of v.kept (Entries t) ≡ known.Value x →
+      (known_of w.kept (Entries t) ≡ known.Value x) ⊎ (is_some (size_of v.store.types t) ≡ true)
 
 module _ (w v : StageState) (old : IsSound w) (h : Fair v) (g : Grows w v) where
   new-term : (t : Term) (i : ℕ) → (slice_get w.store.terms i ≡ Some t) ⊎ TermIsSound v t → TermIsSound v t
@@ -198,6 +211,16 @@ module _ (w v : StageState) (old : IsSound w) (h : Fair v) (g : Grows w v) where
   new-static : (x : Static) (i : ℕ) → (slice_get w.store.statics i ≡ Some x) ⊎ (x.address < 2 ^ 64) → x.address < 2 ^ 64
   new-static x i (inl at) = old.statics i x at
   new-static x i (inr p) = p
+
+  new-size : (t : TypeId) (x : Value) →
+      (known_of w.kept (Entries t) ≡ known.Value x) ⊎ (is_some (size_of v.store.types t) ≡ true) →
+      is_some (size_of v.store.types t) ≡ true
+  new-size t x (inl at) = sized-grows w v (fair-of w old) h g t (old.settled t x at)
+  new-size t x (inr p) = p
+
+  new-node : (n : Typed) (i : ℕ) → (slice_get w.store.typed i ≡ Some n) ⊎ (is_plain_node n ≡ true) → is_plain_node n ≡ true
+  new-node n i (inl at) = old.plain i n at
+  new-node n i (inr p) = p
 
   pub sound-from : Follows w v → IsSound v
   sound-from c = record {
@@ -220,6 +243,7 @@ module _ (w v : StageState) (old : IsSound w) (h : Fair v) (g : Grows w v) where
     );
     constants = λ i x at. constant-sound w v (fair-of w old) h g x (old.constants i x (c.constants i x at));
     statics = λ i x at. new-static x i (c.statics i x at);
-    tables = λ i j table pair at there. value-grows w v (fair-of w old) h g pair.1
-        (old.tables i j table pair (c.tables i table at) there);
+    plain = λ i n at. new-node n i (c.plain i n at);
+    symbols = λ i x at. any-grows w v (fair-of w old) h g x.of (old.symbols i x (c.symbols i x at));
+    settled = λ t x at. new-size t x (c.kept t x at);
   }

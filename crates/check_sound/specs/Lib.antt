@@ -1,4 +1,6 @@
--- The promise: which worlds are sound, that typing keeps them so, and what is ready behind a check. A reader can stop here.
+-- The promise: which worlds are sound, how worlds follow one another, and what each layer of a staging keeps. A reader can begin here.
 pub mod Sound
+pub mod Growing
+pub mod Layers
 -- What a check reached, as a store of its own.
 pub mod Reached

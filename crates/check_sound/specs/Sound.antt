@@ -2,12 +2,12 @@
 -- yet, or isn't even defined, where its type is written. So the test is made with the functions as they are foreseen; where all that
 -- a body reaches is typed, as behind a check, these are the functions as they are.
 use Rattle.std.specs.Prelude.{◌≡◌, ℕ, ◌+◌, ◌<◌, ◌≤◌, ◌^◌, ◌||◌, Bool, true, false, List, [], ◌∷◌, ◌++◌, length, nat_eq}
-use Rattle.std.specs.Prelude.{Option, Some, None, slice_get, if◌then◌else◌}
+use Rattle.std.specs.Prelude.{Option, Some, None, is_some, slice_get, if◌then◌else◌}
 use Rattle.tl_base.specs.declared.place.Place.{Place}
 use Rattle.tl_base.specs.declared.ids.FnId.{FnId}
 use Rattle.tl_base.specs.declared.ids.TermId.{TermId}
 use Rattle.tl_base.specs.declared.ids.TypeId.{TypeId}
-use Rattle.tl_base.specs.Layer.{State, Ended}
+use Rattle.lua_value.specs.declared.value.Value.{Value}
 use Rattle.terra_types.specs.declared.layout.Laid.{Laid}
 use Rattle.terra_types.specs.Sizes.{size_of}
 use Rattle.terra_types.specs.Layouts.{entries_of}
@@ -22,6 +22,7 @@ use Rattle.terra_term.specs.declared.store.Quote.TheVariants as quotes
 use Rattle.terra_term.specs.declared.store.TerraGlobal.{TerraGlobal}
 use Rattle.terra_term.specs.declared.store.TerraConstant.{TerraConstant}
 use Rattle.terra_term.specs.declared.store.Static.{Static}
+use Rattle.terra_term.specs.declared.store.Symbol.{Symbol}
 use Rattle.terra_term.specs.declared.lists.Parameter.{Parameter}
 use Rattle.terra_term.specs.declared.lists.VarName.{VarName}
 use Rattle.terra_term.specs.declared.term.Term.{Term}
@@ -31,28 +32,28 @@ use Rattle.terra_term.specs.declared.term.Expression.TheVariants as e
 use Rattle.terra_term.specs.declared.term.Statement.{Statement}
 use Rattle.terra_term.specs.declared.term.Statement.TheVariants as s
 use Rattle.terra_term.specs.declared.operators.Constant.TheVariants as constants
+use Rattle.terra_term.specs.declared.operators.Operation.{Operation}
+use Rattle.terra_term.specs.declared.operators.Operation.TheVariants as operations
+use Rattle.terra_term.specs.declared.typed.Typed.{Typed}
+use Rattle.terra_term.specs.declared.typed.Typed.TheVariants as nodes
+use Rattle.terra_term.specs.declared.typed.TypedExpression.{TypedExpression}
+use Rattle.terra_term.specs.declared.typed.TypedExpression.TheVariants as of_typed
 use Rattle.terra_term.specs.Held.{term_in}
 use Rattle.terra_term.specs.Planted.{typed_at, typed_trees}
 use Rattle.terra_term.specs.Stores.{Contents, Callable, contents_of, callable_of}
 use Rattle.terra_term.specs.TypedTerms as typed
 use Rattle.terra_term.specs.WellTyped.{Within, Scope, is_typed, body_typed, is_placed, constant_typed, has_layout, types_of_names}
-use Rattle.lua_value.specs.declared.value.Value.{Value}
-use Rattle.lua_value.specs.declared.value.Value.TheVariants as values
-use Rattle.lua_table.specs.declared.table.HeldTable.{HeldTable}
 use Rattle.exotype.specs.World.{StageState, opening}
 use Rattle.exotype.specs.Types.{is_type}
-use Rattle.check_model.specs.declared.question.CheckAnswer.{CheckAnswer}
-use Rattle.check_model.specs.declared.question.CheckAnswer.TheVariants as answers
-use Rattle.check_model.specs.declared.end.BodyEnd.{BodyEnd}
-use Rattle.check_model.specs.Typing.{TypingState, function_at, bytes_in}
+use Rattle.exotype.specs.Properties.{known_of}
+use Rattle.exotype.specs.declared.property.Property.TheVariants.{Entries}
+use Rattle.exotype.specs.declared.property.Known.TheVariants as known
+use Rattle.check_model.specs.Typing.{function_at, bytes_in}
 use Rattle.check_model.specs.declared.known.KnownResult.{KnownResult}
 use Rattle.check_model.specs.declared.known.KnownResult.TheVariants.{Is}
 use Rattle.check_model.specs.Calls.{known_result, parameter_types, params_of}
-use Rattle.check_model.specs.Keeping.{AllFollow, AllFollowCheck}
-use Rattle.check_model.specs.Checks.{CheckGiven, check, was_reached, mentions_at}
+use Rattle.check_model.specs.Checks.{was_reached, mentions_at}
 use Rattle.check_model.specs.declared.job.Reached.{Reached}
-use Rattle.check_model.specs.declared.end.CheckEnd.TheVariants as check_ends
-use Rattle.check_model.specs.Bodies.{BodyGiven, body}
 
 -- ---- functions as they are foreseen
 
@@ -114,10 +115,6 @@ IsTypedSomewhere w made =
     (made.0 < length w.store.typed) ×
     ((scope : Scope) × (is_typed (foreseen w) outermost scope (typed_at (typed_trees w.store.typed) made) ≡ true))
 
-abbrev pub QuoteIsSound : StageState → Quote → Type 0
-QuoteIsSound w (quotes.Typed source made) = IsTypedSomewhere w made
-QuoteIsSound w _ = Unit {0}
-
 -- a type that is named is there
 abbrev pub IsThere : StageState → TypeId → Type 0
 IsThere w t = is_type w.store.types t ≡ true
@@ -152,6 +149,12 @@ abbrev pub AreStatementsIfAny : StageState → Option (List TermId) → Type 0
 AreStatementsIfAny w (Some ts) = AreStatements w ts
 AreStatementsIfAny w None = Unit {0}
 
+-- a typed quote has a typed expression, and a quote of statements has statements
+abbrev pub QuoteIsSound : StageState → Quote → Type 0
+QuoteIsSound w (quotes.Typed source made) = IsTypedSomewhere w made
+QuoteIsSound w (quotes.Statements ts) = AreStatements w ts
+QuoteIsSound w (quotes.Expression t) = Unit {0}
+
 abbrev pub ExpressionIsSound : StageState → Expression → Type 0
 ExpressionIsSound w (e.Number bits of) = constant_typed (foreseen w) of (constants.Number bits) ≡ true
 ExpressionIsSound w (e.Static address) = constant_typed (foreseen w) rawstring (constants.Static address) ≡ true
@@ -180,9 +183,18 @@ TermIsSound w (kinds.Function params result body) = ParametersAreThere w params 
 abbrev pub ConstantIsSound : StageState → TerraConstant → Type 0
 ConstantIsSound w c = (same_type c.of boolean || constant_typed (foreseen w) c.of (constants.Number c.value)) ≡ true
 
-abbrev pub ValueIsSound : StageState → Value → Type 0
-ValueIsSound w (values.TerraType t) = IsThere w t
-ValueIsSound w v = Unit {0}
+-- no node calls a function that is a value
+abbrev pub is_plain_operation : Operation → Bool
+is_plain_operation operations.CallValue = false
+is_plain_operation op = true
+
+abbrev pub is_plain_form : TypedExpression → Bool
+is_plain_form (of_typed.Operate op es) = is_plain_operation op
+is_plain_form x = true
+
+abbrev pub is_plain_node : Typed → Bool
+is_plain_node (nodes.Expression at of x) = is_plain_form x
+is_plain_node n = true
 
 -- a typed function has its body, whose parameters have the types that its term gives them, and whose result type is there
 pub record HasBodyOf (w : StageState) (t made : TermId) : Type 0 where
@@ -197,6 +209,7 @@ pub record LiesWithin (w : StageState) (struct : TypeId) (l : Laid) : Type 0 whe
   pub is : size_of w.store.types l.of ≡ Some size
   pub within : l.offset + size ≤ bytes_in w struct
 
+-- What is named is there, and typed terms pass their tests. Where the entries of a struct were read, its size is known.
 pub record IsSound (w : StageState) : Type 0 where
   pub types : AreTypes w.store.types
   pub entries : (t : TypeId) (i : ℕ) (l : Laid) → slice_get (entries_of w.store.types t) i ≡ Some l → LiesWithin w t l
@@ -214,43 +227,17 @@ pub record IsSound (w : StageState) : Type 0 where
       (has_layout (foreseen w) g.of ≡ true) × (g.address < 2 ^ 64)
   pub constants : (i : ℕ) (c : TerraConstant) → slice_get w.store.constants i ≡ Some c → ConstantIsSound w c
   pub statics : (i : ℕ) (x : Static) → slice_get w.store.statics i ≡ Some x → x.address < 2 ^ 64
-  pub tables : (i j : ℕ) (table : HeldTable) (pair : Value × Value) → slice_get w.heap.tables i ≡ Some table →
-      slice_get table.table j ≡ Some pair → ValueIsSound w pair.1
+  pub plain : (i : ℕ) (n : Typed) → slice_get w.store.typed i ≡ Some n → is_plain_node n ≡ true
+  pub symbols : (i : ℕ) (x : Symbol) → slice_get w.store.symbols i ≡ Some x → IsThereIfAny w x.of
+  pub settled : (t : TypeId) (v : Value) → known_of w.kept (Entries t) ≡ known.Value v → is_some (size_of w.store.types t) ≡ true
 
 -- A staging begins in such a world.
 abbrev pub BeginsSound : Type 0
 BeginsSound = (memory : ℕ) → memory ≤ 67108864 → IsSound (opening opening_types memory)
 
-abbrev pub AnswerIsSound : StageState → CheckAnswer → Type 0
-AnswerIsSound w (answers.Values vs) = (i : ℕ) (v : Value) → slice_get vs i ≡ Some v → ValueIsSound w v
-AnswerIsSound w a = Unit {0}
-
-abbrev pub AreSound : List BodyGiven → Type 0
-AreSound [] = Unit {0}
-AreSound (a ∷ more) = IsSound a.state.world.stage × AnswerIsSound a.state.world.stage a.answer × AreSound more
-
--- The law: where a body begins in such a world, and each answer fits and is given in such a world, it ends in such a world.
-abbrev pub KeepsSound : Type 0
-KeepsSound =
-    (f : FnId) (first : BodyGiven) (later : List BodyGiven) (end : BodyEnd) (after : State TypingState) →
-    AllFollow f first later → AreSound (first ∷ later) → body f first later ≡ Ended end after → IsSound after.world.stage
-
 -- ---- behind a check
-
-abbrev pub ChecksAreSound : List CheckGiven → Type 0
-ChecksAreSound [] = Unit {0}
-ChecksAreSound (a ∷ more) = IsSound a.state.world × ChecksAreSound more
 
 -- a function can be called, its body passes the test with the functions as they are, and what it mentions was reached
 pub record IsReady (w : StageState) (queue : List Reached) (f : FnId) : Type 0 where
   pub callable : (k : Callable) × (callable_of (contents_of w.store) f ≡ Some k) × (body_typed (contents_of w.store) k.body ≡ true)
   pub reached : (i : ℕ) (m : Place × FnId) → slice_get (mentions_at w f) i ≡ Some m → was_reached m.1 queue ≡ true
-
--- The law: where a check is done of a function that is there, and it went through such worlds, so are the function and all that it
--- reaches. This is what the code of functions, and their runs, rest on.
-abbrev pub LeavesReady : Type 0
-LeavesReady =
-    (f : FnId) (first : CheckGiven) (later : List CheckGiven) (after : State StageState) (g : Function) →
-    function_at first.state.world f ≡ Some g → AllFollowCheck f first later → ChecksAreSound (first ∷ later) →
-    check f first later ≡ Ended check_ends.Done after →
-    (queue : List Reached) × (was_reached f queue ≡ true) × ((g : FnId) → was_reached g queue ≡ true → IsReady after.world queue g)

@@ -1,6 +1,7 @@
 // What typing promises of typed terms. Each function does nothing, and its clause is a law.
 
-ghost use Rattle.check_sound.specs.Sound.{BeginsSound, KeepsSound, LeavesReady};
+ghost use Rattle.check_sound.specs.Sound.{BeginsSound};
+ghost use Rattle.check_sound.specs.Layers.{ChecksKeepSound, KeepsSound, LayoutsKeepSound, ReadyStays};
 ghost use Rattle.check_sound.specs.Reached.{ReachedStoresAreTyped};
 
 /// A staging begins in a sound world, whatever memory within the limit its runs have.
@@ -8,14 +9,24 @@ pub fn stagings_begin_sound()
     ensures { BeginsSound }
 {}
 
-/// Where a body is typed in a sound world, and each answer fits and is given in a sound world, it leaves a sound world.
+/// Where a body is typed in a sound world, and each answer fits and is given in a sound world, it asks in sound worlds and leaves one.
 pub fn typing_keeps_sound()
     ensures { KeepsSound }
 {}
 
-/// Behind a check, the function and all that it reaches can be called, and their bodies pass the test of typed terms.
-pub fn checks_leave_ready()
-    ensures { LeavesReady }
+/// A check does so too, and behind it the function and all that it reaches can be called, and their bodies pass the test of typed terms.
+pub fn checks_keep_sound()
+    ensures { ChecksKeepSound }
+{}
+
+/// A layout does so too, and where it is done, the size of the type is known.
+pub fn layouts_keep_sound()
+    ensures { LayoutsKeepSound }
+{}
+
+/// What was ready once is ready in each sound world that has grown since.
+pub fn ready_stays()
+    ensures { ReadyStays }
 {}
 
 /// A store with what a check reached alone is typed: each function that can be called in it passes the test of typed terms there, and

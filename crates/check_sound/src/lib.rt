@@ -2,11 +2,12 @@
 //!
 //! A staging begins in a sound world ([`stagings_begin_sound`]), and a body that is typed in a sound world leaves a sound world
 //! ([`typing_keeps_sound`]): what it typed passes the test of typed terms. Behind a check, the function and all that it reaches can be
-//! called and pass that test ([`checks_leave_ready`]), and a store with these functions alone is typed ([`reached_stores_are_typed`]).
+//! called and pass that test ([`checks_keep_sound`]), and a store with these functions alone is typed ([`reached_stores_are_typed`]).
 #![tactic(auto)]
 
 pub mod law;
 
 pub use law::{
-    checks_leave_ready, reached_stores_are_typed, stagings_begin_sound, typing_keeps_sound,
+    checks_keep_sound, layouts_keep_sound, reached_stores_are_typed, ready_stays,
+    stagings_begin_sound, typing_keeps_sound,
 };

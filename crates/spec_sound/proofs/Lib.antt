@@ -1,0 +1,12 @@
+pub mod Following
+pub mod Running
+pub mod Writing
+pub mod Defining
+pub mod OfPlans
+pub mod OfNames
+pub mod OfExpressions
+pub mod OfStatements
+pub mod OfQuotes
+pub mod OfDefinitions
+pub mod Whole
+pub mod Small

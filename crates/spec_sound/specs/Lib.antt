@@ -1,0 +1,3 @@
+-- What specialisation promises of worlds.
+pub mod Sound
+pub mod Places

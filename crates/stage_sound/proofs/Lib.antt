@@ -1,0 +1,10 @@
+pub mod Layers
+pub mod Feeding
+pub mod Parts
+pub mod OfChecks
+pub mod OfTasks
+pub mod OfAsking
+pub mod Whole
+pub mod Outcomes
+pub mod Making
+pub mod Promises

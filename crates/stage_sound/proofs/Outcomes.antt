@@ -1,0 +1,163 @@
+-- A source's staging ends in a sound world, with exports that are ready.
+use Rattle.std.proofs.Common.{◌≡◌, ℕ, zero, suc, ◌+◌, Bool, true, false, if◌then◌else◌, List, [], ◌∷◌, ◌++◌, length, Option, Some, None, refl, sym, ap, ◌∙◌, subst, slice_get}
+use Rattle.std.specs.Prelude.{◌⊎◌, nat_lt}
+use mathlib.Core.Logic.{inl, inr}
+use Rattle.tl_base.specs.declared.place.Place.{Place}
+use Rattle.tl_base.specs.declared.ids.FnId.{FnId}
+use Rattle.tl_base.specs.Layer.{State, state}
+use Rattle.stage_form.specs.Stage.{Final, Finished, Exhausted, staged}
+use Rattle.tl_tree.specs.Code.{Items}
+use Rattle.lua_model.specs.declared.job.LuaJob.TheVariants.{Chunk}
+use Rattle.terra_term.specs.declared.store.Export.{Export}
+use Rattle.terra_term.specs.Stores.{contents_of}
+use Rattle.exotype.specs.World.{StageState}
+use Rattle.spec_model.specs.Making.{is_undefined}
+use Rattle.check_model.specs.Typing.{TypingState}
+use Rattle.check_sound.specs.Sound.{IsSound}
+use Rattle.check_sound.specs.Growing.{WasReady, Leads}
+use Rattle.check_sound.specs.Layers.{ReachesReady, ReadyStays}
+use Rattle.check_sound.proofs.Leading.{leads-itself, leads-twice}
+use Rattle.stage_library.specs.declared.tasks.Task.TheVariants.{Evaluate}
+use Rattle.check_stage.specs.declared.jobs.Job.{Job}
+use Rattle.check_stage.specs.declared.jobs.Job.TheVariants as jobs
+use Rattle.check_stage.specs.declared.jobs.JobEnd.{JobEnd}
+use Rattle.check_stage.specs.declared.jobs.JobEnd.TheVariants as ends
+use Rattle.check_stage.specs.declared.staging.CheckLine.{CheckLine}
+use Rattle.check_stage.specs.declared.staging.Mode.{Mode}
+use Rattle.check_stage.specs.declared.staging.Mode.TheVariants.{Exports, CheckAll}
+use Rattle.check_stage.specs.Layers.{check_stage}
+use Rattle.check_stage.specs.Staging.{Checked, checked_with, after_check, exported, line_of, checks, by_mode, Ending, ending_of, ending_if_any, begun, outcome}
+use Rattle.stage_sound.specs.Jobs.{IsMeant}
+use Rattle.stage_sound.specs.Parts.{HasPart}
+use Rattle.stage_sound.specs.Promises.{IsWhole, EndsSound}
+use Rattle.stage_sound.proofs.Layers.{LayersKeep}
+use Rattle.stage_sound.proofs.Whole.{job-leaves}
+
+-- where exports are ready, there is a store of what they reach
+abbrev pub HaveParts : Type 0
+HaveParts =
+    (w : StageState) (exports : List Export) → IsSound w →
+    ((i : ℕ) (e : Export) → slice_get exports i ≡ Some e → ReachesReady w e.function) → HasPart (contents_of w.store) exports
+
+module _ (items : Items) (k : LayersKeep items) (w0 : StageState) where
+  -- a world that a staging led to
+  abbrev Reached : TypingState → Type 0
+  Reached w = IsSound w.stage × Leads w0 w.stage
+
+  -- where it ended, it is such a one
+  abbrev Fine : {A : Type 0} → Option (Final TypingState A) → Type 0
+  Fine None = Unit {0}
+  Fine (Some (Exhausted s)) = Unit {0}
+  Fine (Some (Finished e s)) = Reached s.world
+
+  reached-job : (n : ℕ) (job : Job) (s : State TypingState) → Reached s.world → IsMeant job s.world.stage →
+      (end : JobEnd) (t : State TypingState) → staged (check_stage items) n job s ≡ Some (Finished end t) → Reached t.world
+  reached-job n job s r meant end t is =
+      let l = job-leaves items k n job s end t (r.0, meant) is in
+      (l.sound, leads-twice w0 s.world.stage t.world.stage r.1 l.leads)
+
+  fine-job : (n : ℕ) (job : Job) (s : State TypingState) → Reached s.world → IsMeant job s.world.stage →
+      Fine (staged (check_stage items) n job s)
+  fine-job n job s r meant = by (staged (check_stage items) n job s) refl
+    where
+      by : (o : Option (Final TypingState JobEnd)) → staged (check_stage items) n job s ≡ o → Fine o
+      by None is = tt
+      by (Some (Exhausted t)) is = tt
+      by (Some (Finished end t)) is = reached-job n job s r meant end t is
+
+  fine-after : {A B : Type 0} (o : Option (Final TypingState A)) (go : A → State TypingState → Option (Final TypingState B)) →
+      Fine o → ((e : A) (s : State TypingState) → Reached s.world → Fine (go e s)) → Fine (after_check o go)
+  fine-after None go h f = tt
+  fine-after (Some (Exhausted s)) go h f = tt
+  fine-after (Some (Finished e s)) go h f = f e s h
+
+  fine-choice : {A : Type 0} (b : Bool) (x y : Option (Final TypingState A)) → Fine x → Fine y → Fine (if b then x else y)
+  fine-choice true x y f g = f
+  fine-choice false x y f g = g
+
+  -- ---- behind the chunk
+
+  fine-exported : (n : ℕ) (place : Place) (end : JobEnd) (s : State TypingState) → Reached s.world →
+      Fine (exported items n place end s)
+  fine-exported n place (ends.Values vs) s r = fine-job n (jobs.Export place) s r tt
+  fine-exported n place (ends.Raised x at) s r = r
+  fine-exported n place (ends.Result t) s r = r
+  fine-exported n place (ends.Refused why) s r = r
+  fine-exported n place ends.Done s r = r
+  fine-exported n place (ends.NoLayout kind) s r = r
+
+  fine-checks : (n i : ℕ) (lines : List CheckLine) (s : State TypingState) → Reached s.world → Fine (checks items n i lines s)
+  unfolding checks
+  fine-checks zero i lines s r = tt
+  fine-checks (suc n) i lines s r =
+      let f : FnId = record { 0 = i } in
+      fine-choice (nat_lt i (length s.world.stage.store.functions))
+      (if is_undefined s.world.stage f then checks items n (i + 1) lines s
+      else after_check (staged (check_stage items) n (jobs.Check f) s) (λ end next.
+      checks items n (i + 1) (lines ++ line_of f end ∷ []) next))
+      (Some (Finished (checked_with (ends.Values []) lines) s))
+      (fine-choice (is_undefined s.world.stage f) (checks items n (i + 1) lines s)
+      (after_check (staged (check_stage items) n (jobs.Check f) s) (λ end next.
+      checks items n (i + 1) (lines ++ line_of f end ∷ []) next))
+      (fine-checks n (i + 1) lines s r)
+      (fine-after (staged (check_stage items) n (jobs.Check f) s)
+      (λ end next. checks items n (i + 1) (lines ++ line_of f end ∷ []) next) (fine-job n (jobs.Check f) s r tt)
+      (λ end next x. fine-checks n (i + 1) (lines ++ line_of f end ∷ []) next x))) r
+
+  fine-mode : (mode : Mode) (n : ℕ) (place : Place) (end : JobEnd) (s : State TypingState) → Reached s.world →
+      Fine (by_mode mode items n place end s)
+  fine-mode Exports n place end s r =
+      fine-after (exported items n place end s) (λ e last. Some (Finished (checked_with e []) last))
+      (fine-exported n place end s r) (λ e last x. x)
+  fine-mode CheckAll n place (ends.Values vs) s r = fine-checks n 0 [] s r
+  fine-mode CheckAll n place (ends.Raised x at) s r = r
+  fine-mode CheckAll n place (ends.Result t) s r = r
+  fine-mode CheckAll n place (ends.Refused why) s r = r
+  fine-mode CheckAll n place ends.Done s r = r
+  fine-mode CheckAll n place (ends.NoLayout kind) s r = r
+
+  -- ---- the outcome
+
+  -- nothing is exported at the begin
+  ends-sound : ReadyStays → w0.exports.list ≡ [] → (w : TypingState) → Reached w → (i : ℕ) (e : Export) →
+      slice_get w.stage.exports.list i ≡ Some e → ReachesReady w.stage e.function
+  ends-sound stays none w r i e at = by (r.1.exports i e at)
+    where
+      nothing : ◌≡◌ {A = Option Export} None (Some e) → ⊥
+      nothing h = cc h
+
+      by : (slice_get w0.exports.list i ≡ Some e) ⊎ WasReady w.stage e.function → ReachesReady w.stage e.function
+      by (inl h) = absurd (nothing (ap (λ l. slice_get l i) (sym none) ∙ h))
+      by (inr ready) = stays w.stage e.function r.0 ready
+
+  same-ending : (a b : Ending) → ◌≡◌ {A = Option Ending} (Some a) (Some b) → a ≡ b
+  same-ending a b e = cc e
+
+  final-sound : ReadyStays → HaveParts → w0.exports.list ≡ [] → (o : Option (Final TypingState Checked)) → Fine o →
+      (out : Ending) →
+      ending_if_any o ≡ Some out → IsWhole out.end → EndsSound out
+  final-sound stays parts none None h out is whole = absurd (apart out is)
+    where
+      apart : (out : Ending) → ◌≡◌ {A = Option Ending} None (Some out) → ⊥
+      apart out e = cc e
+  final-sound stays parts none (Some (Finished c s)) h out is whole =
+      subst EndsSound (same-ending (ending_of (Finished c s)) out is)
+      (record {
+        sound = h.0;
+        exports = ends-sound stays none s.world h;
+        part = parts s.world.stage s.world.stage.exports.list h.0 (ends-sound stays none s.world h);
+      })
+  final-sound stays parts none (Some (Exhausted s)) h out is whole =
+      absurd (subst (λ (x : Ending). IsWhole x.end) (sym (same-ending (ending_of (Exhausted s)) out is)) whole)
+
+  pub outcome-sound : ReadyStays → HaveParts → w0.exports.list ≡ [] → (place : Place) (mode : Mode) (n units memory : ℕ)
+      (out : Ending) →
+      IsSound w0 → (begun memory).stage ≡ w0 → outcome items place mode n units memory ≡ Some out → IsWhole out.end →
+      EndsSound out
+  outcome-sound stays parts none place mode n units memory out sound same is whole =
+      let s = state (begun memory) units in
+      let r : Reached s.world = subst (λ w. IsSound w × Leads w0 w) (sym same) (sound, leads-itself w0) in
+      final-sound stays parts none
+      (after_check (staged (check_stage items) n (jobs.Stage (Evaluate Chunk)) s) (by_mode mode items n place))
+      (fine-after (staged (check_stage items) n (jobs.Stage (Evaluate Chunk)) s) (by_mode mode items n place)
+      (fine-job n (jobs.Stage (Evaluate Chunk)) s r tt) (λ e t x. fine-mode mode n place e t x)) out is whole

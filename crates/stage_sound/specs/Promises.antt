@@ -1,0 +1,45 @@
+-- What staging promises of worlds.
+use Rattle.std.specs.Prelude.{◌≡◌, ℕ, ◌≤◌, Some, slice_get}
+use Rattle.tl_base.specs.declared.place.Place.{Place}
+use Rattle.tl_base.specs.Layer.{State}
+use Rattle.stage_form.specs.Stage.{Finished, staged}
+use Rattle.tl_tree.specs.Code.{Items}
+use Rattle.terra_term.specs.declared.store.Export.{Export}
+use Rattle.terra_term.specs.Stores.{contents_of}
+use Rattle.check_model.specs.Typing.{TypingState}
+use Rattle.check_sound.specs.Sound.{IsSound}
+use Rattle.check_sound.specs.Layers.{ReachesReady}
+use Rattle.spec_sound.specs.Sound.{ArePlaced}
+use Rattle.check_stage.specs.declared.jobs.Job.{Job}
+use Rattle.check_stage.specs.declared.jobs.JobEnd.{JobEnd}
+use Rattle.check_stage.specs.declared.staging.End.{End}
+use Rattle.check_stage.specs.declared.staging.End.TheVariants.{Spent}
+use Rattle.check_stage.specs.declared.staging.Mode.{Mode}
+use Rattle.check_stage.specs.Layers.{check_stage}
+use Rattle.check_stage.specs.Staging.{Ending, outcome}
+use Rattle.stage_sound.specs.Jobs.{Begins, Leaves}
+use Rattle.stage_sound.specs.Parts.{HasPart}
+
+-- The law of jobs: what is asked for in a sound world leaves one, over the nodes of a tree that have places of a text.
+abbrev pub JobsKeepSound : Type 0
+JobsKeepSound =
+    (items : Items) → ArePlaced items → (n : ℕ) (job : Job) (s : State TypingState) (end : JobEnd) (t : State TypingState) →
+    Begins job s.world → staged (check_stage items) n job s ≡ Some (Finished end t) → Leaves job s.world end t.world
+
+-- a staging for which there were units
+abbrev pub IsWhole : End → Type 0
+IsWhole Spent = ⊥
+IsWhole end = Unit {0}
+
+-- The law of stagings: a source's staging for which there were units ends in a sound world, and each export, and all that it reaches, can
+-- be called there, and passes the test of typed terms; so does all that can be called in a store with these functions alone.
+pub record EndsSound (out : Ending) : Type 0 where
+  pub sound : IsSound out.left.world.stage
+  pub exports : (i : ℕ) (e : Export) → slice_get out.left.world.stage.exports.list i ≡ Some e →
+      ReachesReady out.left.world.stage e.function
+  pub part : HasPart (contents_of out.left.world.stage.store) out.left.world.stage.exports.list
+
+abbrev pub StagingsEndSound : Type 0
+StagingsEndSound =
+    (items : Items) → ArePlaced items → (place : Place) (mode : Mode) (n units memory : ℕ) (out : Ending) →
+    memory ≤ 67108864 → outcome items place mode n units memory ≡ Some out → IsWhole out.end → EndsSound out

@@ -1,0 +1,14 @@
+// What staging promises of worlds. Each function does nothing, and its clause is a law.
+
+ghost use Rattle.stage_sound.specs.Promises.{JobsKeepSound, StagingsEndSound};
+
+/// What is asked for in a sound world leaves a sound world, with what its end says: behind a check, the function and all that it reaches are
+/// ready, and behind a layout its size is known.
+pub fn jobs_keep_sound()
+    ensures { JobsKeepSound }
+{}
+
+/// A source's staging for which there were units ends in a sound world, and each export, with all that it reaches, is ready there.
+pub fn stagings_end_sound()
+    ensures { StagingsEndSound }
+{}
