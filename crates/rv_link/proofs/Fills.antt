@@ -1,5 +1,5 @@
 -- A function's words, with its calls filled in, are those of its code where it stands.
-use Rattle.std.proofs.Common.{◌≡◌, ℕ, zero, suc, ◌+◌, ◌-◌, ◌*◌, ◌%◌, ◌^◌, ◌<◌, ◌≤◌, true, List, [], ◌∷◌, ◌++◌, length, take, drop, append_assoc, refl, sym, ap, ◌∙◌, subst, arith}
+use Rattle.std.proofs.Common.{◌≡◌, ℕ, zero, suc, ◌+◌, ◌-◌, ◌*◌, ◌%◌, ◌^◌, ◌<◌, ◌≤◌, true, List, [], ◌∷◌, ◌++◌, length, take, drop, append_assoc, Option, None, refl, sym, ap, ◌∙◌, subst, arith}
 use Rattle.std.specs.Prelude.{map}
 use Rattle.std.specs.List.{list_all}
 use Rattle.std.proofs.lemmas.Bool.{ltb-true}
@@ -24,10 +24,10 @@ use Rattle.rv_operators.specs.Codes.{x0, x5}
 use Rattle.rv_select.specs.declared.selected.Call.{Call as Site}
 use Rattle.rv_select.specs.Numbers.{lower_of, upper_of}
 use Rattle.rv_select.specs.Places.{Layout, frame_bytes}
-use Rattle.rv_select.specs.Shapes.{distance, jump, offset_of, shape_of, start_of, taken, two_jumps, x10}
+use Rattle.rv_select.specs.Shapes.{distance, first_taken, held_after, jump, offset_of, shape_of, start_of, two_jumps, x10}
 use Rattle.rv_select.specs.Entering.{left}
-use Rattle.rv_select.specs.Calls.{block_code, block_starts, blocks_calls, blocks_code, body_code, call_begun, call_ended, call_jump, exit_code, function_calls, function_code, head_code, instruction_calls, instruction_code, instructions_calls, instructions_code, last_address, part_taken, starts_from}
-use Rattle.rv_select.proofs.Homes.{taken-count}
+use Rattle.rv_select.specs.Calls.{block_code, block_starts, blocks_calls, blocks_code, body_code, call_begun, call_ended, call_jump, exit_code, function_calls, function_code, head_code, held_behind, instruction_calls, instruction_code, instructions_calls, instructions_code, last_address, part_taken, starts_from}
+use Rattle.rv_select.proofs.Homes.{first-few}
 use Rattle.rv_select.proofs.Lengths.{block-length, instruction-length, instructions-length}
 use Rattle.rv_select.proofs.Passes.{part-count}
 use Rattle.rv_select.proofs.Stands.{both-true}
@@ -113,23 +113,23 @@ filled-call places base from c cs a j ws e two =
 abbrev IsPlain : Instruction → Type 0
 IsPlain i =
     ((y : Layout) (at : ℕ) → instruction_calls y at i ≡ [])
-    × ((y : Layout) (sizes : List ℕ) (places : FnId → ℕ) (at : ℕ) → instruction_code y sizes places at i ≡ shape_of y i)
+    × ((y : Layout) (sizes : List ℕ) (places : FnId → ℕ) (at : ℕ) (held : Option ℕ) → instruction_code y sizes places at held i ≡ shape_of y held i)
 
 by-kind : (P : Instruction → Type 0) → ((i : Instruction) → IsPlain i → P i) → (i : Instruction) →
     ((to : Destination) (place : Place) (f : FnId) (arguments : List Part) → i ≡ Call to place f arguments → P i) → P i
 by-kind P plain (Call to place f arguments) calls = calls to place f arguments refl
-by-kind P plain (Compute d op form a b) calls = plain (Compute d op form a b) (λ y at. refl, λ y sizes places at. refl)
-by-kind P plain (TestDivisor place a) calls = plain (TestDivisor place a) (λ y at. refl, λ y sizes places at. refl)
-by-kind P plain (Copy d a) calls = plain (Copy d a) (λ y at. refl, λ y sizes places at. refl)
-by-kind P plain (Locate d offset) calls = plain (Locate d offset) (λ y at. refl, λ y sizes places at. refl)
-by-kind P plain (Load d form spot) calls = plain (Load d form spot) (λ y at. refl, λ y sizes places at. refl)
-by-kind P plain (Store spot size a) calls = plain (Store spot size a) (λ y at. refl, λ y sizes places at. refl)
-by-kind P plain (Move to from size) calls = plain (Move to from size) (λ y at. refl, λ y sizes places at. refl)
-by-kind P plain (Clear n size) calls = plain (Clear n size) (λ y at. refl, λ y sizes places at. refl)
-by-kind P plain (CallValue to place sig a arguments) calls = plain (CallValue to place sig a arguments) (λ y at. refl, λ y sizes places at. refl)
-by-kind P plain (PutByte a) calls = plain (PutByte a) (λ y at. refl, λ y sizes places at. refl)
-by-kind P plain (Write place a b) calls = plain (Write place a b) (λ y at. refl, λ y sizes places at. refl)
-by-kind P plain (Alloc d a) calls = plain (Alloc d a) (λ y at. refl, λ y sizes places at. refl)
+by-kind P plain (Compute d op form a b) calls = plain (Compute d op form a b) (λ y at. refl, λ y sizes places at held. refl)
+by-kind P plain (TestDivisor place a) calls = plain (TestDivisor place a) (λ y at. refl, λ y sizes places at held. refl)
+by-kind P plain (Copy d a) calls = plain (Copy d a) (λ y at. refl, λ y sizes places at held. refl)
+by-kind P plain (Locate d offset) calls = plain (Locate d offset) (λ y at. refl, λ y sizes places at held. refl)
+by-kind P plain (Load d form spot) calls = plain (Load d form spot) (λ y at. refl, λ y sizes places at held. refl)
+by-kind P plain (Store spot size a) calls = plain (Store spot size a) (λ y at. refl, λ y sizes places at held. refl)
+by-kind P plain (Move to from size) calls = plain (Move to from size) (λ y at. refl, λ y sizes places at held. refl)
+by-kind P plain (Clear n size) calls = plain (Clear n size) (λ y at. refl, λ y sizes places at held. refl)
+by-kind P plain (CallValue to place sig a arguments) calls = plain (CallValue to place sig a arguments) (λ y at. refl, λ y sizes places at held. refl)
+by-kind P plain (PutByte a) calls = plain (PutByte a) (λ y at. refl, λ y sizes places at held. refl)
+by-kind P plain (Write place a b) calls = plain (Write place a b) (λ y at. refl, λ y sizes places at held. refl)
+by-kind P plain (Alloc d a) calls = plain (Alloc d a) (λ y at. refl, λ y sizes places at held. refl)
 
 -- One instruction: its words, with its call filled in, and the calls of what follows.
 record Filled (places : FnId → ℕ) (base : ℕ) (y : Layout) (sizes : List ℕ) (from end : ℕ) (cs : List Site) (code : List Instr)
@@ -138,26 +138,27 @@ record Filled (places : FnId → ℕ) (base : ℕ) (y : Layout) (sizes : List �
       words placed ++ filled places base (from + length code) cs ws
   calls : AreIn from end (mine ++ cs)
 
-fill-instruction : (places others : FnId → ℕ) (agree : (f : FnId) → places f ≡ others f) (base : ℕ) (y : Layout) (sizes : List ℕ) (from end : ℕ) (cs : List Site) (i : Instruction) →
-    AreIn (from + length (instruction_code y sizes (λ f. 0) (4 * from) i)) end cs →
-    Filled places base y sizes from end cs (instruction_code y sizes (λ f. 0) (4 * from) i)
-    (instruction_code y sizes others (base + 4 * from) i) (instruction_calls y from i)
-fill-instruction places others agree base y sizes from end cs i =
+fill-instruction : (places others : FnId → ℕ) (agree : (f : FnId) → places f ≡ others f) (base : ℕ) (y : Layout) (sizes : List ℕ) (from end : ℕ) (cs : List Site)
+    (held : Option ℕ) (i : Instruction) →
+    AreIn (from + length (instruction_code y sizes (λ f. 0) (4 * from) held i)) end cs →
+    Filled places base y sizes from end cs (instruction_code y sizes (λ f. 0) (4 * from) held i)
+    (instruction_code y sizes others (base + 4 * from) held i) (instruction_calls y from i)
+fill-instruction places others agree base y sizes from end cs held i =
     by-kind
-    (λ k. AreIn (from + length (instruction_code y sizes (λ f. 0) (4 * from) k)) end cs →
-    Filled places base y sizes from end cs (instruction_code y sizes (λ f. 0) (4 * from) k)
-    (instruction_code y sizes others (base + 4 * from) k) (instruction_calls y from k))
+    (λ k. AreIn (from + length (instruction_code y sizes (λ f. 0) (4 * from) held k)) end cs →
+    Filled places base y sizes from end cs (instruction_code y sizes (λ f. 0) (4 * from) held k)
+    (instruction_code y sizes others (base + 4 * from) held k) (instruction_calls y from k))
     plain i called
   where
-    plain : (k : Instruction) → IsPlain k → AreIn (from + length (instruction_code y sizes (λ f. 0) (4 * from) k)) end cs →
-        Filled places base y sizes from end cs (instruction_code y sizes (λ f. 0) (4 * from) k)
-        (instruction_code y sizes others (base + 4 * from) k) (instruction_calls y from k)
+    plain : (k : Instruction) → IsPlain k → AreIn (from + length (instruction_code y sizes (λ f. 0) (4 * from) held k)) end cs →
+        Filled places base y sizes from end cs (instruction_code y sizes (λ f. 0) (4 * from) held k)
+        (instruction_code y sizes others (base + 4 * from) held k) (instruction_calls y from k)
     plain k e h =
-        let S : List Instr = shape_of y k in
-        let one : instruction_code y sizes (λ f. 0) (4 * from) k ≡ S = e.1 y sizes (λ f. 0) (4 * from) in
-        let two : instruction_code y sizes others (base + 4 * from) k ≡ S = e.1 y sizes others (base + 4 * from) in
+        let S : List Instr = shape_of y held k in
+        let one : instruction_code y sizes (λ f. 0) (4 * from) held k ≡ S = e.1 y sizes (λ f. 0) (4 * from) held in
+        let two : instruction_code y sizes others (base + 4 * from) held k ≡ S = e.1 y sizes others (base + 4 * from) held in
         let g : AreIn (from + length S) end cs = subst (λ z. AreIn (from + length z) end cs) one h in
-        subst (λ z. Filled places base y sizes from end cs z (instruction_code y sizes others (base + 4 * from) k) (instruction_calls y from k))
+        subst (λ z. Filled places base y sizes from end cs z (instruction_code y sizes others (base + 4 * from) held k) (instruction_calls y from k))
         (sym one)
         (subst (λ z. Filled places base y sizes from end cs S z (instruction_calls y from k)) (sym two)
         (subst (λ z. Filled places base y sizes from end cs S S z) (sym (e.0 y from)) (simple S g)))
@@ -202,51 +203,55 @@ fill-instruction places others agree base y sizes from end cs i =
         }
 
     called : (to : Destination) (place : Place) (f : FnId) (arguments : List Part) → i ≡ Call to place f arguments →
-        AreIn (from + length (instruction_code y sizes (λ f. 0) (4 * from) i)) end cs →
-        Filled places base y sizes from end cs (instruction_code y sizes (λ f. 0) (4 * from) i)
-        (instruction_code y sizes others (base + 4 * from) i) (instruction_calls y from i)
+        AreIn (from + length (instruction_code y sizes (λ f. 0) (4 * from) held i)) end cs →
+        Filled places base y sizes from end cs (instruction_code y sizes (λ f. 0) (4 * from) held i)
+        (instruction_code y sizes others (base + 4 * from) held i) (instruction_calls y from i)
     called to place f arguments e =
         subst
-        (λ k. AreIn (from + length (instruction_code y sizes (λ f. 0) (4 * from) k)) end cs →
-        Filled places base y sizes from end cs (instruction_code y sizes (λ f. 0) (4 * from) k)
-        (instruction_code y sizes others (base + 4 * from) k) (instruction_calls y from k))
+        (λ k. AreIn (from + length (instruction_code y sizes (λ f. 0) (4 * from) held k)) end cs →
+        Filled places base y sizes from end cs (instruction_code y sizes (λ f. 0) (4 * from) held k)
+        (instruction_code y sizes others (base + 4 * from) held k) (instruction_calls y from k))
         (sym e) (made (call_begun y place arguments) (call_ended y sizes to) f)
 
 -- Instructions.
-fill-instructions : (places others : FnId → ℕ) (agree : (f : FnId) → places f ≡ others f) (base : ℕ) (y : Layout) (sizes : List ℕ) (from end : ℕ) (cs : List Site) (is : List Instruction) →
-    AreIn (from + length (instructions_code y sizes (λ f. 0) (4 * from) is)) end cs →
-    Filled places base y sizes from end cs (instructions_code y sizes (λ f. 0) (4 * from) is)
-    (instructions_code y sizes others (base + 4 * from) is) (instructions_calls y sizes from is)
-fill-instructions places others agree base y sizes from end cs [] h = record {
+fill-instructions : (places others : FnId → ℕ) (agree : (f : FnId) → places f ≡ others f) (base : ℕ) (y : Layout) (sizes : List ℕ) (from end : ℕ) (cs : List Site)
+    (held : Option ℕ) (is : List Instruction) →
+    AreIn (from + length (instructions_code y sizes (λ f. 0) (4 * from) held is)) end cs →
+    Filled places base y sizes from end cs (instructions_code y sizes (λ f. 0) (4 * from) held is)
+    (instructions_code y sizes others (base + 4 * from) held is) (instructions_calls y sizes from held is)
+fill-instructions places others agree base y sizes from end cs held [] h = record {
   fills = λ ws. let none : from ≡ from + 0 = omega arith in ap (λ n. filled places base n cs ws) none;
   calls = in-less (from + 0) from end cs (omega arith) h;
 }
-fill-instructions places others agree base y sizes from end cs (i ∷ is) h =
-    let A : List Instr = instruction_code y sizes (λ f. 0) (4 * from) i in
-    let A0 : List Instr = instruction_code y sizes (λ f. 0) 0 i in
-    let P : List Instr = instruction_code y sizes others (base + 4 * from) i in
+fill-instructions places others agree base y sizes from end cs held (i ∷ is) h =
+    let A : List Instr = instruction_code y sizes (λ f. 0) (4 * from) held i in
+    let A0 : List Instr = instruction_code y sizes (λ f. 0) 0 held i in
+    let P : List Instr = instruction_code y sizes others (base + 4 * from) held i in
     let n : ℕ = from + length A in
-    let B : List Instr = instructions_code y sizes (λ f. 0) (4 * n) is in
-    let same : length A0 ≡ length A = instruction-length y sizes (λ f. 0) (λ f. 0) 0 (4 * from) i in
-    let long : length P ≡ length A = instruction-length y sizes others (λ f. 0) (base + 4 * from) (4 * from) i in
+    let next : Option ℕ = held_after i in
+    let B : List Instr = instructions_code y sizes (λ f. 0) (4 * n) next is in
+    let same : length A0 ≡ length A = instruction-length y sizes (λ f. 0) (λ f. 0) 0 (4 * from) held i in
+    let long : length P ≡ length A = instruction-length y sizes others (λ f. 0) (base + 4 * from) (4 * from) held i in
     let four : 4 * from + 4 * length A ≡ 4 * n = omega arith in
-    let whole : instructions_code y sizes (λ f. 0) (4 * from) (i ∷ is) ≡ A ++ B = ap (λ z. A ++ instructions_code y sizes (λ f. 0) z is) four in
+    let whole : instructions_code y sizes (λ f. 0) (4 * from) held (i ∷ is) ≡ A ++ B =
+    ap (λ z. A ++ instructions_code y sizes (λ f. 0) z next is) four in
     let count : length (A ++ B) ≡ length A + length B = length-append A B in
     let sum : n + length B ≡ from + length (A ++ B) = omega (arith, count) in
     let h2 : AreIn (n + length B) end cs =
     subst (λ z. AreIn z end cs) (sym sum) (subst (λ z. AreIn (from + length z) end cs) whole h) in
-    let rest = fill-instructions places others agree base y sizes n end cs is h2 in
+    let rest = fill-instructions places others agree base y sizes n end cs next is h2 in
     let mine : List Site = instruction_calls y from i in
-    let behind : List Site = instructions_calls y sizes n is in
-    let all : instructions_calls y sizes from (i ∷ is) ≡ mine ++ behind = ap (λ z. mine ++ instructions_calls y sizes (from + z) is) same in
-    let one = fill-instruction places others agree base y sizes from end (behind ++ cs) i rest.calls in
+    let behind : List Site = instructions_calls y sizes n next is in
+    let all : instructions_calls y sizes from held (i ∷ is) ≡ mine ++ behind =
+    ap (λ z. mine ++ instructions_calls y sizes (from + z) next is) same in
+    let one = fill-instruction places others agree base y sizes from end (behind ++ cs) held i rest.calls in
     let target : base + 4 * from + 4 * length P ≡ base + 4 * n = omega (arith, long) in
-    let Q : List Instr = instructions_code y sizes others (base + 4 * n) is in
-    let placed : instructions_code y sizes others (base + 4 * from) (i ∷ is) ≡ P ++ Q =
-    ap (λ z. P ++ instructions_code y sizes others z is) target in
-    subst (λ z. Filled places base y sizes from end cs z (instructions_code y sizes others (base + 4 * from) (i ∷ is))
-    (instructions_calls y sizes from (i ∷ is))) (sym whole)
-    (subst (λ z. Filled places base y sizes from end cs (A ++ B) z (instructions_calls y sizes from (i ∷ is))) (sym placed)
+    let Q : List Instr = instructions_code y sizes others (base + 4 * n) next is in
+    let placed : instructions_code y sizes others (base + 4 * from) held (i ∷ is) ≡ P ++ Q =
+    ap (λ z. P ++ instructions_code y sizes others z next is) target in
+    subst (λ z. Filled places base y sizes from end cs z (instructions_code y sizes others (base + 4 * from) held (i ∷ is))
+    (instructions_calls y sizes from held (i ∷ is))) (sym whole)
+    (subst (λ z. Filled places base y sizes from end cs (A ++ B) z (instructions_calls y sizes from held (i ∷ is))) (sym placed)
     (subst (λ z. Filled places base y sizes from end cs (A ++ B) (P ++ Q) z) (sym all)
     (record {
       fills = λ ws.
@@ -272,20 +277,20 @@ jump-from : (b f t p q : ℕ) → p ≡ b + f → q ≡ b + t → b + f ≤ 2 ^ 
 jump-from b f t p q e g h = ap (λ z. jump z q) e ∙ (ap (jump (b + f)) g ∙ jump-moved b f t h)
 
 -- an exit's code is the same where it, the blocks and the function's end are moved
-exit-moved : (code : Tac) (y : Layout) (b at last : ℕ) (starts moved : ℕ → ℕ) (e : Exit) →
+exit-moved : (code : Tac) (y : Layout) (held : Option ℕ) (b at last : ℕ) (starts moved : ℕ → ℕ) (e : Exit) →
     ((k : ℕ) → k < length code.blocks → moved k ≡ b + starts k) → exit_there code e ≡ true → b + at + 64 ≤ 2 ^ 32 →
-    exit_code y (b + at) moved (b + last) e ≡ exit_code y at starts last e
-exit-moved code y b at last starts moved (Jump e) same fits near =
+    exit_code y held (b + at) moved (b + last) e ≡ exit_code y held at starts last e
+exit-moved code y held b at last starts moved (Jump e) same fits near =
     jump-from b at (starts e.block) (b + at) (moved e.block) refl (same e.block (ltb-true e.block (length code.blocks) fits)) (omega (arith, near))
-exit-moved code y b at last starts moved (Branch a e f) same fits near =
+exit-moved code y held b at last starts moved (Branch a e f) same fits near =
     ap (λ z. T ++ z) (two (4 * length T) (starts e.block) (starts f.block) (moved e.block) (moved f.block) (omega (arith, few))
     (same e.block (ltb-true e.block (length code.blocks) parts.0)) (same f.block (ltb-true f.block (length code.blocks) parts.1)))
   where
     T : List Instr
-    T = taken y x5 a
+    T = first_taken y held a
 
     few : length T ≤ 8
-    few = taken-count y x5 a
+    few = first-few y held a
 
     parts : (edge_there code e ≡ true) × (edge_there code f ≡ true)
     parts = both-true (edge_there code e) (edge_there code f) fits
@@ -299,12 +304,12 @@ exit-moved code y b at last starts moved (Branch a e f) same fits near =
         (jump-from b (at + n + 4) second (b + at + n + 4) other one h (omega (arith, near, small)))
         ∙ ap (λ z. instrs.Branch Ne x5 x0 (offset_of 12) ∷ (jump (at + n + 4) second ++ z))
         (jump-from b (at + n + 12) first (b + at + n + 12) to next g (omega (arith, near, small)))
-exit-moved code y b at last starts moved (Return v) same fits near =
+exit-moved code y held b at last starts moved (Return v) same fits near =
     let P : List Instr = part_taken y x10 v in
     let few : length P ≤ 8 = part-count y x10 v in
     let sum : b + at + 4 * length P ≡ b + (at + 4 * length P) = omega arith in
     ap (λ z. P ++ z) (jump-from b (at + 4 * length P) last (b + at + 4 * length P) (b + last) sum refl (omega (arith, near, few)))
-exit-moved code y b at last starts moved (Fail kind place) same fits near = refl
+exit-moved code y held b at last starts moved (Fail kind place) same fits near = refl
 
 -- A block.
 fill-block : (code : Tac) (places others : FnId → ℕ) (agree : (f : FnId) → places f ≡ others f) (base : ℕ) (y : Layout) (sizes : List ℕ) (from end last : ℕ) (starts moved : ℕ → ℕ)
@@ -312,26 +317,27 @@ fill-block : (code : Tac) (places others : FnId → ℕ) (agree : (f : FnId) →
     base + 4 * (from + length (block_code y sizes (λ f. 0) starts last (4 * from) k)) + 64 ≤ 2 ^ 32 →
     AreIn (from + length (block_code y sizes (λ f. 0) starts last (4 * from) k)) end cs →
     Filled places base y sizes from end cs (block_code y sizes (λ f. 0) starts last (4 * from) k)
-    (block_code y sizes others moved (base + last) (base + 4 * from) k) (instructions_calls y sizes from k.instructions)
+    (block_code y sizes others moved (base + last) (base + 4 * from) k) (instructions_calls y sizes from None k.instructions)
 fill-block code places others agree base y sizes from end last starts moved cs k same fits near h =
-    let A : List Instr = instructions_code y sizes (λ f. 0) (4 * from) k.instructions in
-    let P : List Instr = instructions_code y sizes others (base + 4 * from) k.instructions in
-    let E : List Instr = exit_code y (4 * from + 4 * length A) starts last k.exit in
-    let long : length P ≡ length A = instructions-length y sizes others (λ f. 0) (base + 4 * from) (4 * from) k.instructions in
+    let A : List Instr = instructions_code y sizes (λ f. 0) (4 * from) None k.instructions in
+    let P : List Instr = instructions_code y sizes others (base + 4 * from) None k.instructions in
+    let held : Option ℕ = held_behind None k.instructions in
+    let E : List Instr = exit_code y held (4 * from + 4 * length A) starts last k.exit in
+    let long : length P ≡ length A = instructions-length y sizes others (λ f. 0) (base + 4 * from) (4 * from) None k.instructions in
     let count : length (A ++ E) ≡ length A + length E = length-append A E in
     let index : from + length A + length (words E) ≡ from + length (A ++ E) = omega (arith, count, words-length E) in
     let later : AreIn (from + length A + length (words E)) end cs = subst (λ z. AreIn z end cs) (sym index) h in
-    let one = fill-instructions places others agree base y sizes from end cs k.instructions
+    let one = fill-instructions places others agree base y sizes from end cs None k.instructions
     (in-less (from + length (A ++ E)) (from + length A) end cs (omega (arith, count)) h) in
     let address : base + 4 * from + 4 * length P ≡ base + (4 * from + 4 * length A) = omega (arith, long) in
-    let exit : exit_code y (base + 4 * from + 4 * length P) moved (base + last) k.exit ≡ E =
-    ap (λ z. exit_code y z moved (base + last) k.exit) address
-    ∙ exit-moved code y base (4 * from + 4 * length A) last starts moved k.exit same
+    let exit : exit_code y held (base + 4 * from + 4 * length P) moved (base + last) k.exit ≡ E =
+    ap (λ z. exit_code y held z moved (base + last) k.exit) address
+    ∙ exit-moved code y held base (4 * from + 4 * length A) last starts moved k.exit same
     fits (omega (arith, near, count)) in
-    subst (λ z. Filled places base y sizes from end cs (A ++ E) (P ++ z) (instructions_calls y sizes from k.instructions)) (sym exit)
+    subst (λ z. Filled places base y sizes from end cs (A ++ E) (P ++ z) (instructions_calls y sizes from None k.instructions)) (sym exit)
     (record {
       fills = λ ws.
-          ap (filled places base from (instructions_calls y sizes from k.instructions ++ cs)) (words-both A E ws)
+          ap (filled places base from (instructions_calls y sizes from None k.instructions ++ cs)) (words-both A E ws)
           ∙ (one.fills (words E ++ ws)
           ∙ (ap (λ z. words P ++ z) (filled-none places base (from + length A) end cs (words E) ws later)
           ∙ (sym (words-both P E (filled places base (from + length A + length (words E)) cs ws))
@@ -370,7 +376,7 @@ fill-blocks code places others agree base y sizes from end last starts moved cs 
     subst (λ z. AreIn z end cs) (sym sum) (subst (λ z. AreIn (from + length z) end cs) whole h) in
     let rest = fill-blocks code places others agree base y sizes n end last starts moved cs ks same both.1
     (subst (λ z. base + 4 * z + 64 ≤ 2 ^ 32) (sym sum) near2) h2 in
-    let mine : List Site = instructions_calls y sizes from k.instructions in
+    let mine : List Site = instructions_calls y sizes from None k.instructions in
     let behind : List Site = blocks_calls y sizes n ks in
     let all : blocks_calls y sizes from (k ∷ ks) ≡ mine ++ behind = ap (λ z. mine ++ blocks_calls y sizes (from + z) ks) less in
     let one = fill-block code places others agree base y sizes from end last starts moved (behind ++ cs) k same both.0

@@ -22,14 +22,14 @@ use Rattle.rv_machine.specs.Machine.{GoesOn, State, act, at_with, fetch, run_of}
 use Rattle.rv_operators.specs.Codes.{x0, x5, x6}
 use Rattle.rv_operators.specs.Runs.{Stands}
 use Rattle.rv_select.specs.Numbers.{immediate_of, upper_of}
-use Rattle.rv_select.specs.Places.{AreBytes, Holds, Housed, IsHome, IsRead, Keeps, Layout, World, area_offset, frame_bytes, home_of, slot_offset, value_in, word_at}
-use Rattle.rv_select.specs.Shapes.{allocated, four, moved, offset_of, put_to, taken, two, x3, x4, x7}
+use Rattle.rv_select.specs.Places.{AreBytes, Holds, Housed, IsHeld, IsHome, IsRead, Keeps, Layout, World, area_offset, frame_bytes, home_of, slot_offset, value_in, word_at}
+use Rattle.rv_select.specs.Shapes.{allocated, first_taken, four, moved, offset_of, put_to, taken, two, x3, x4, x7}
 use Rattle.rv_select.specs.Steps.{Comes, Follows, behind, with_temp}
-use Rattle.rv_select.proofs.Claims.{with_region}
+use Rattle.rv_select.proofs.Claims.{Gives, with_region}
 use Rattle.rv_select.proofs.Straight.{Loads, behind-both, loads-five, low-below, low-small, written-elsewhere}
 use Rattle.rv_select.proofs.Numbers.{immediate-is}
 use Rattle.rv_select.proofs.Ways.{Near, Way, at_pc, near-both, near-same, scratch-near, stands-back, stands-front, step-way, straight-way, way-both, way-none}
-use Rattle.rv_select.proofs.Homes.{operand-count, take-operand}
+use Rattle.rv_select.proofs.Homes.{first-count, take-first}
 use Rattle.rv_select.proofs.Faults.{branch-way}
 use Rattle.rv_select.proofs.Moves.{keeps-both, lasts-not, near-holds, near-keeps, then-put, value-small}
 
@@ -290,20 +290,25 @@ heap-keeps y base m n k private = record {
 }
 
 -- a way before code
-pub earlier : (y : Layout) (program : List (Option Instr)) (Next : ℕ → Type 0) (w : World) (base k weight whole target : ℕ) (out : List ℕ) (m n : State) → Way program k m n → Keeps y base m n →
-    Comes y program Next w base weight target out n → k + weight ≤ whole → Comes y program Next w base whole target out m
-earlier y program Next w base k weight whole target out m n way keeps c h = record {
-  steps = k + c.steps;
-  after = c.after;
-  some = omega (arith, c.some);
-  few = omega (arith, c.few);
-  runs = λ more.
-      let split : k + c.steps + more ≡ k + (c.steps + more) = omega arith in
-      ap (run_of program m) split ∙ (way.runs (c.steps + more) ∙ c.runs more);
-  at = c.at;
-  holds = c.holds;
-  keeps = keeps-both y base m n c.after keeps c.keeps;
-}
+pub earlier : (y : Layout) (program : List (Option Instr)) (Next : ℕ → Type 0) (w : World) (base k weight whole target d : ℕ) (m n : State) → Way program k m n → Keeps y base m n →
+    Gives y program Next w base weight target d n → k + weight ≤ whole → Gives y program Next w base whole target d m
+earlier y program Next w base k weight whole target d m n way keeps g h =
+    let c = g.comes in
+    record {
+      comes = record {
+        steps = k + c.steps;
+        after = c.after;
+        some = omega (arith, c.some);
+        few = omega (arith, c.few, h);
+        runs = λ more.
+            let split : k + c.steps + more ≡ k + (c.steps + more) = omega arith in
+            ap (run_of program m) split ∙ (way.runs (c.steps + more) ∙ c.runs more);
+        at = c.at;
+        holds = c.holds;
+        keeps = keeps-both y base m n c.after keeps c.keeps;
+      };
+      five = g.five;
+    }
 
 pc-all : (p n : ℕ) → low (low (low (low (low (low (low (low (low (low (p + 4) + 4) + 4) + 4) + 4) + 4) + 4) + 4) + 20) + 4 * n) ≡ low (p + 4 * (13 + n))
 unfolding low
@@ -321,7 +326,7 @@ body-count home = omega arith
 
 alloc-ends : (y : Layout) (d v weight : ℕ) (Used Next : ℕ → Type 0) (w : World) (base : ℕ) (A : List Instr) (program : List (Option Instr)) (m : State) (l : Loads 5 A m v) → v < 2 ^ 64 → length A + 16 ≤ weight →
     Holds y Used w base m → Housed y Used → Housed y Next → Next d → Follows Used Next d → Stands program m.pc (A ++ body (home_of y d)) →
-    Comes y program Next (with_temp (with_region w (alloc_of w.region (signed v)).1) d (alloc_of w.region (signed v)).0) base weight (behind m (A ++ body (home_of y d))) [] m
+    Gives y program Next (with_temp (with_region w (alloc_of w.region (signed v)).1) d (alloc_of w.region (signed v)).0) base weight (behind m (A ++ body (home_of y d))) d m
 alloc-ends y d v weight Used Next w base A program m l small few p h h' u follows stands =
     let t : State = l.after in
     let r : Contents = w.region in
@@ -344,7 +349,7 @@ alloc-ends y d v weight Used Next w base A program m l small few p h h' u follow
     (λ many.
     let e : alloc_of r (signed v) ≡ (0, r) = alloc-full r v (omega arith) in
     let g = refuses program t put v r.heap size l.gives q.heap q.limit small sized most p.lawful.begun limited there many in
-    subst (λ x. Comes y program Next (with_temp (with_region w x.1) d x.0) base weight target [] m) (sym e)
+    subst (λ x. Gives y program Next (with_temp (with_region w x.1) d x.0) base weight target d m) (sym e)
     (then-put y Used Next w base d 0 (length A + 10) weight target program m g.0 p h h' u follows (way-both program (length A) 10 m t g.0 first g.1) (near-both m t g.0 near g.4)
     (subst (λ z. z < 2 ^ 64) (sym g.5) (low-below _)) g.2 (omega arith) (omega arith) g.3
     (ap (λ z. low (z + 4 * length put)) g.5 ∙ (pc-all t.pc (length put) ∙ to))))
@@ -354,19 +359,19 @@ alloc-ends y d v weight Used Next w base A program m l small few p h h' u follow
     let pc-g : g.0.pc < 2 ^ 64 = subst (λ z. z < 2 ^ 64) (sym g.8) (low-below _) in
     let now : World = with_region w (record r { heap = start + v }) in
     let s : Holds y Used now base g.0 = heap-holds y Used w base (start + v) t g.0 q h g.5 g.6 g.7 g.3 (omega (arith, p.lawful.begun)) (omega arith) pc-g in
-    subst (λ x. Comes y program Next (with_temp (with_region w x.1) d x.0) base weight target [] m) (sym e)
-    (earlier y program Next (with_temp now d start) base (length A + 12) 3 weight target [] m g.0 (way-both program (length A) 12 m t g.0 first g.1)
+    subst (λ x. Gives y program Next (with_temp (with_region w x.1) d x.0) base weight target d m) (sym e)
+    (earlier y program Next (with_temp now d start) base (length A + 12) 3 weight target d m g.0 (way-both program (length A) 12 m t g.0 first g.1)
     (keeps-both y base m t g.0 (near-keeps y base m t near) (heap-keeps y base t g.0 g.5 g.7))
     (then-put y Used Next now base d start 0 3 target program g.0 g.0 s h h' u follows (way-none program g.0) (near-same g.0) pc-g g.2 (omega arith) (omega arith) g.4
     (ap (λ z. low (z + 4 * length put)) g.8 ∙ (pc-all t.pc (length put) ∙ to))) (omega arith)))
     (cases_lt (limit - start) v)
 
-pub allocs : (y : Layout) (d : ℕ) (a : Operand) (Used Next : ℕ → Type 0) (w : World) (base : ℕ) (program : List (Option Instr)) (m : State) →
-    Stands program m.pc (allocated y d a) → Holds y Used w base m → Housed y Used → Housed y Next → IsRead Used a → Next d → Follows Used Next d →
-    Comes y program Next (with_temp (with_region w (alloc_of w.region (signed (value_in w.temps a))).1) d (alloc_of w.region (signed (value_in w.temps a))).0) base
+pub allocs : (y : Layout) (held : Option ℕ) (d : ℕ) (a : Operand) (Used Next : ℕ → Type 0) (w : World) (base : ℕ) (program : List (Option Instr)) (m : State) →
+    Stands program m.pc (allocated y held d a) → IsHeld held w.temps m → Holds y Used w base m → Housed y Used → Housed y Next → IsRead Used a → Next d → Follows Used Next d →
+    Gives y program Next (with_temp (with_region w (alloc_of w.region (signed (value_in w.temps a))).1) d (alloc_of w.region (signed (value_in w.temps a))).0) base
     (words_of (instructions.Alloc d a))
-    (behind m (allocated y d a)) [] m
-allocs y d a Used Next w base program m stands p h h' ra u follows =
-    alloc-ends y d (value_in w.temps a) (words_of (instructions.Alloc d a)) Used Next w base (taken y x5 a) program m (take-operand y x5 Used w base m a (λ e. omega (arith, e)) p h ra) (value-small Used y w base m a p ra)
-    (omega (arith, operand-count y x5 a))
+    (behind m (allocated y held d a)) d m
+allocs y held d a Used Next w base program m stands f p h h' ra u follows =
+    alloc-ends y d (value_in w.temps a) (words_of (instructions.Alloc d a)) Used Next w base (first_taken y held a) program m
+    (take-first y held Used w base m a f p h ra) (value-small Used y w base m a p ra) (omega (arith, first-count y held a))
     p h h' u follows stands

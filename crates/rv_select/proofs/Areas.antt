@@ -28,7 +28,7 @@ use Rattle.rv_operators.proofs.Runs.{straight-both}
 use Rattle.rv_select.specs.Places.{AreBytes, Layout, World, HasFrame, Holds, Housed, IsHome, IsRead, Keeps, area_offset, frame_bytes, home_of, slot_offset, value_in, word_at}
 use Rattle.rv_select.specs.Shapes.{framed, load_of, loaded, store_of, stored, taken}
 use Rattle.rv_select.specs.Steps.{AreFewer, Comes, Follows, behind, with_temp}
-use Rattle.rv_select.proofs.Claims.{with_area}
+use Rattle.rv_select.proofs.Claims.{Gives, with_area}
 use Rattle.rv_select.proofs.Bytes.{other-part, private-part}
 use Rattle.rv_select.proofs.Parts.{part-within, part-written, written-count}
 use Rattle.rv_select.proofs.Words.{drop-bytes, load-bytes, load-is, low-are-bytes, overwritten-bytes, store-bytes, take-bytes}
@@ -82,12 +82,12 @@ area-load y Used w base n offset form m p h l =
     ∙ (ap (λ x. GoesOn (at_with s (low (s.pc + 4)) 5 (load_value op (take size (drop at x))))) q
     ∙ (ap (λ x. GoesOn (at_with s (low (s.pc + 4)) 5 (load_value op x))) same ∙ ap (λ x. GoesOn (at_with s (low (s.pc + 4)) 5 x)) (load-is form bs are count)))))))))
 
-pub area-loads : (y : Layout) (d : ℕ) (form : Number) (n offset : ℕ) (Used Next : ℕ → Type 0) (w : World) (base : ℕ) (program : List (Option Instr)) (m : State) →
-    Stands program m.pc (loaded y d form (spots.Area n offset)) → n < y.areas → offset + bytes_of form.size ≤ length (w.areas n) →
+pub area-loads : (y : Layout) (held : Option ℕ) (d : ℕ) (form : Number) (n offset : ℕ) (Used Next : ℕ → Type 0) (w : World) (base : ℕ) (program : List (Option Instr)) (m : State) →
+    Stands program m.pc (loaded y held d form (spots.Area n offset)) → n < y.areas → offset + bytes_of form.size ≤ length (w.areas n) →
     Holds y Used w base m → Housed y Used → Housed y Next → Next d → Follows Used Next d →
-    Comes y program Next (with_temp w d (wrapped (width_of form) (number_of (part (w.areas n) offset (bytes_of form.size))))) base 8
-    (behind m (loaded y d form (spots.Area n offset))) [] m
-area-loads y d form n offset Used Next w base program m stands there within p h h' u follows =
+    Gives y program Next (with_temp w d (wrapped (width_of form) (number_of (part (w.areas n) offset (bytes_of form.size))))) base 8
+    (behind m (loaded y held d form (spots.Area n offset))) d m
+area-loads y held d form n offset Used Next w base program m stands there within p h h' u follows =
     let code : List Instr = framed (λ r far. Load (load_of form.signed form.size) x5 r far) (area_offset y n + offset) in
     let v : ℕ = wrapped (width_of form) (number_of (part (w.areas n) offset (bytes_of form.size))) in
     let l : Loads 5 code m v = area-load y Used w base n offset form m p there within in
@@ -256,13 +256,13 @@ area-written y Used w base n offset bs code m s p h l k are =
       whole = subst AreBytes (sym s.private) (overwritten-bytes m.private bs (base + (area_offset y n + offset)) p.frame.bytes are);
     }
 
-pub area-stores : (y : Layout) (size : Size) (n offset : ℕ) (b : Operand) (Used Next : ℕ → Type 0) (w : World) (base : ℕ) (program : List (Option Instr)) (m : State) →
-    Stands program m.pc (stored y (spots.Area n offset) size b) → n < y.areas → offset ≤ length (w.areas n) → offset + bytes_of size ≤ most_moved → IsRead Used b →
+pub area-stores : (y : Layout) (held : Option ℕ) (size : Size) (n offset : ℕ) (b : Operand) (Used Next : ℕ → Type 0) (w : World) (base : ℕ) (program : List (Option Instr)) (m : State) →
+    Stands program m.pc (stored y held (spots.Area n offset) size b) → n < y.areas → offset ≤ length (w.areas n) → offset + bytes_of size ≤ most_moved → IsRead Used b →
     Holds y Used w base m → Housed y Used → AreFewer Used Next →
     Comes y program Next (with_area w n (overwritten (w.areas n) offset (low_bytes (bytes_of size) (value_in w.temps b)))) base
     (words_of (instructions.Store (spots.Area n offset) size b))
-    (behind m (stored y (spots.Area n offset) size b)) [] m
-area-stores y size n offset b Used Next w base program m stands there within most r p h f =
+    (behind m (stored y held (spots.Area n offset) size b)) [] m
+area-stores y held size n offset b Used Next w base program m stands there within most r p h f =
     let A : List Instr = taken y x6 b in
     let B : List Instr = framed (λ r far. Store (store_of size) r x6 far) (area_offset y n + offset) in
     let v : ℕ = value_in w.temps b in

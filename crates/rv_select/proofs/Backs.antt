@@ -31,15 +31,15 @@ use Rattle.rv_machine.specs.Machine.{Ran, State, after_step, run_of, stands, unl
 use Rattle.rv_machine.specs.Machine as machine
 use Rattle.rv_machine.specs.declared.stops.Stop.TheVariants as stops
 use Rattle.rv_operators.specs.Runs.{Stands}
-use Rattle.rv_select.specs.Places.{AreBytes, Holds, Housed, Layout, World, area_offset, frame_bytes, home_of, layout_of, private_word}
+use Rattle.rv_select.specs.Places.{AreBytes, Holds, Housed, IsHeld, Layout, World, area_offset, frame_bytes, home_of, layout_of, private_word}
 use Rattle.rv_select.specs.Shapes.{put_to}
 use Rattle.rv_select.specs.Steps.{Comes, world_of}
 use Rattle.rv_select.specs.Calls.{blocks_length, call_begun, call_ended, call_jump, head_code, last_address}
 use Rattle.rv_select.specs.Entering.{result_put, result_words, size_in}
-use Rattle.rv_select.specs.Waiting.{Arrives, HasRoom, Image, IsLinked, IsPlaced, StandsIn, Stepped, Waiting, Waits, entries_of, place_in, restored}
+use Rattle.rv_select.specs.Waiting.{Arrives, HasRoom, Image, IsLinked, IsPlaced, StandsIn, Stepped, Waiting, Waits, entries_of, held_at, held_in, instructions_in, place_in, restored}
 use Rattle.rv_select.proofs.Carries.{by-test, nothing-written, operand-read}
 use Rattle.rv_select.proofs.Copies.{copies-there, size-small}
-use Rattle.rv_select.proofs.Finds.{FoundFunction, stands-next}
+use Rattle.rv_select.proofs.Finds.{FoundFunction, held-next, stands-next}
 use Rattle.rv_select.proofs.Leaves.{exit-in-graph, exit-reads-live}
 use Rattle.rv_select.proofs.Lives.{housed, step-in-graph, write-used}
 use Rattle.rv_select.proofs.Moves.{then-put, value-small}
@@ -85,6 +85,7 @@ record BehindCall (p : Program) (image : Image) (program : List (Option Instr)) 
   small : behind + 256 ≤ 2 ^ 30 + 8
   next : place_in p image code (image f) b (suc before) ≡
       behind + 4 * (2 + length (result_put (layout_of code (image f).homes) code.areas to))
+  held : held_in code b (suc before) ≡ destination_write to
   near : behind + 4 * (2 + length (result_put (layout_of code (image f).homes) code.areas to)) + 256 ≤ 2 ^ 30
 
 behind-call : (p : Program) (image : Image) (program : List (Option Instr)) (most : ℕ) (code : Tac) (f : FnId) (b before : ℕ)
@@ -116,6 +117,8 @@ behind-call p image program most code f b before to block place callee arguments
           even = omega (arith, found.aligned);
           small = omega (arith, found.near, count);
           next = found.next ∙ omega (arith, count);
+          held = ap (λ o. held_at None (instructions_in o) (suc before)) e
+              ∙ held-next None block.instructions before (Call to place callee arguments) g;
           near = omega (arith, found.near, count);
         }
 
@@ -129,15 +132,17 @@ some-same d t e = cc
 -- the result is where the caller takes it, and the machine goes on behind the call
 put-result : (p : Program) (image : Image) (program : List (Option Instr)) (most size : ℕ) → IsLinked p image program most →
     (s : tac.State) (a : Activation) (temps : tac.Temps) (areas : tac.Areas) (cs : List Caller) (code : Tac) (up k more target : ℕ)
-    (m n : State) → p.code a.function ≡ Some code → Way program k m n → 1 ≤ k → k ≤ 36 →
-    Comes (layout_of code (image a.function).homes) program (InUse (graph_of code) a.block a.at)
-    (record { temps = temps; areas = areas; region = s.region; placed = a.base; depth = length cs }) up more target [] n →
-    target ≡ place_in p image code (image a.function) a.block a.at →
+    (held : Option ℕ) (m n : State) → p.code a.function ≡ Some code → Way program k m n → 1 ≤ k → k ≤ 36 →
+    (c : Comes (layout_of code (image a.function).homes) program (InUse (graph_of code) a.block a.at)
+    (record { temps = temps; areas = areas; region = s.region; placed = a.base; depth = length cs }) up more target [] n) →
+    IsHeld held temps c.after →
+    target ≡ place_in p image code (image a.function) a.block a.at → held_in code a.block a.at ≡ held →
     a.base + code.frame ≤ end_address s.region → length s.region.bytes ≡ size → HasRoom most (length cs) up →
     Waits p image most size cs (private_word n up) (up + frame_bytes (layout_of code (image a.function).homes)) (a.base + code.frame)
     (restored (layout_of code (image a.function).homes) up n) →
     Arrives p image program most size (36 + more) [] (record s { here = record a { temps = temps; areas = areas }; callers = cs }) m
-put-result p image program most size linked s a temps areas cs code up k more target m n function way some few c to-is frame region room
+put-result p image program most size linked s a temps areas cs code up k more target held m n function way some few c five to-is held-is frame
+    region room
     waits = record {
       steps = k + c.steps;
       after = c.after;
@@ -152,6 +157,7 @@ put-result p image program most size linked s a temps areas cs code up k more ta
         function = function;
         pc = c.at ∙ to-is;
         holds = c.holds;
+        five = subst (λ o. IsHeld o temps c.after) (sym held-is) five;
         frame = frame;
         region = region;
         room = room;
@@ -225,8 +231,8 @@ abbrev Puts : List (Option Instr) → Layout → (sizes : List ℕ) → (U : ℕ
 Puts program y sizes U to s a over depth up v temps areas n =
     (t : State) → t.private ≡ n.private → t.registers 5 ≡ v → Stands program t.pc (result_put y sizes to) →
     Holds y (UsedBut U to) (outer s a over depth) up t →
-    Comes y program U (record { temps = temps; areas = areas; region = s.region; placed = over; depth = depth }) up (result_words to)
-    (low (t.pc + 4 * length (result_put y sizes to))) [] t
+    (c : Comes y program U (record { temps = temps; areas = areas; region = s.region; placed = over; depth = depth }) up (result_words to)
+    (low (t.pc + 4 * length (result_put y sizes to))) [] t) × IsHeld (destination_write to) temps c.after
 
 -- the result of a call that was made from a caller that waits
 pub to-caller : (p : Program) (image : Image) (program : List (Option Instr)) (most size : ℕ) → IsLinked p image program most →
@@ -289,11 +295,15 @@ to-caller p image program most size linked s a to v temps areas cs up over link 
         pc-put q (length R) r.after.pc (low (r.after.pc + 4 * length R))
         (r.pc ∙ ap (λ z. low (z + 4 * 2)) here) refl bc.near
         ∙ (sym bc.next ∙ ap (λ z. place_in p image W.code (image a.function) a.block z) (sym W.at)) in
+        let both : (c : Comes yc program U (record { temps = temps; areas = areas; region = s.region; placed = a.base; depth = length cs }) up
+        (result_words to) (low (r.after.pc + 4 * length R)) [] r.after) × IsHeld (destination_write to) temps c.after =
+        subst (λ z. (c : Comes yc program U (record { temps = temps; areas = areas; region = s.region; placed = z; depth = length cs }) up
+        (result_words to) (low (r.after.pc + 4 * length R)) [] r.after) × IsHeld (destination_write to) temps c.after) (sym W.placed_is)
+        (puts r.after r.private r.five r.there held) in
         put-result p image program most size linked s a temps areas cs W.code up (k + 2) (result_words to) (low (r.after.pc + 4 * length R))
-        m r.after W.function
-        (way-both program k 2 m n r.after way r.way) (omega (arith, some)) (omega (arith, few))
-        (subst (λ z. Comes yc program U (record { temps = temps; areas = areas; region = s.region; placed = z; depth = length cs }) up
-        (result_words to) (low (r.after.pc + 4 * length R)) [] r.after) (sym W.placed_is) (puts r.after r.private r.five r.there held)) target
+        (destination_write to) m r.after W.function
+        (way-both program k 2 m n r.after way r.way) (omega (arith, some)) (omega (arith, few)) both.0 both.1 target
+        (ap (λ z. held_in W.code a.block z) W.at ∙ bc.held)
         (frame-within s.region.bytes over W.code.frame W.placed_is sized two) sized W.room
         (subst (λ z. Waits p image most size cs (private_word r.after up) (up + frame_bytes yc) (z + W.code.frame)
         (restored yc up r.after)) (sym W.placed_is) waits)
@@ -308,10 +318,12 @@ puts-word p image program most linked s a d v depth up over link M n W small t s
     let yc : Layout = layout_of W.code (image a.function).homes in
     let U : ℕ → Type 0 = InUse (graph_of W.code) a.block a.at in
     let h : Housed yc U = housed W.code (image a.function).homes a.block a.at (linked a.function W.code W.function).right in
+    let g =
     then-put yc (UsedBut U (Temp d)) U (outer s a over depth) up d v 0 3 (low (t.pc + 4 * length (put_to (home_of yc d)))) program t t hold
     (housed-fewer yc U (UsedBut U (Temp d)) (λ x u. u.0) h) h next-used
     (λ x u. ⊎_elim (λ e. inl e) (λ o. inr (u, λ e. o (sym (some-same d x e)))) (cases_eq x d)) (way-none program t) (near-same t) hold.pc
-    five small (omega arith) there refl
+    five small (omega arith) there refl in
+    (g.comes, g.five)
   where
     next-used : InUse (graph_of W.code) a.block a.at d
     next-used =
@@ -331,13 +343,15 @@ puts-bytes p image program most linked s a j from bs depth up over link M n W co
     let yc : Layout = layout_of W.code (image a.function).homes in
     let U : ℕ → Type 0 = InUse (graph_of W.code) a.block a.at in
     let z : ℕ = size_in W.code.areas j in
-    let h : Housed yc U = housed W.code (image a.function).homes a.block a.at (linked a.function W.code W.function).right in
-    copies-there yc j z from bs (UsedBut U (Area j)) U (outer s a over depth) up program t there fits.0
-    (size-small W.code.areas j fits.1) count five
-    (subst (λ x. from + z ≤ length x) (sym same) (inside from (length bs) z (length n.private) count under within))
-    (inl (below from (length bs) z (area_offset yc j) count under))
-    (ap (λ x. take z (drop from x)) same ∙ (ap (λ x. take x (drop from n.private)) (sym count) ∙ reads)) are hold
-    (housed-fewer yc U (UsedBut U (Area j)) (λ x u. u.0) h) (λ x u. (u, λ e. none-some x e))
+    let h : Housed yc U = housed W.code (image a.function).homes a.block a.at (linked a.function W.code W.function).right in (
+      copies-there yc j z from bs (UsedBut U (Area j)) U (outer s a over depth) up program t there fits.0
+          (size-small W.code.areas j fits.1) count five
+          (subst (λ x. from + z ≤ length x) (sym same) (inside from (length bs) z (length n.private) count under within))
+          (inl (below from (length bs) z (area_offset yc j) count under))
+          (ap (λ x. take z (drop from x)) same ∙ (ap (λ x. take x (drop from n.private)) (sym count) ∙ reads)) are hold
+          (housed-fewer yc U (UsedBut U (Area j)) (λ x u. u.0) h) (λ x u. (u, λ e. none-some x e)),
+      tt,
+    )
   where
     none-some : (x : ℕ) → destination_write (Area j) ≡ Some x → ⊥
     none-some x e = cc
@@ -500,13 +514,14 @@ return-steps p image program most size linked s base m x block v in-f in-b is =
         let y : Layout = layout_of x.code (image s.here.function).homes in
         let f : FoundFunction program y x.code (entries_of p image) (image s.here.function).at = the-function p image program most x.code
         (image s.here.function) pl in
-        let at : AtExit p image program x.code (image s.here.function) (Return v)
+        let held : Option ℕ = held_in x.code s.here.block s.here.at in
+        let at : AtExit p image program x.code (image s.here.function) held (Return v)
         (place_in p image x.code (image s.here.function) s.here.block s.here.at) =
-        subst (λ z. AtExit p image program x.code (image s.here.function) z
+        subst (λ z. AtExit p image program x.code (image s.here.function) held z
         (place_in p image x.code (image s.here.function) s.here.block s.here.at)) is
         (at-exit p image program most x.code (image s.here.function) s.here.block s.here.at block pl in-f in-b) in
-        let here : AtExit p image program x.code (image s.here.function) (Return v) m.pc =
-        subst (λ q. AtExit p image program x.code (image s.here.function) (Return v) q) (sym x.pc) at in
+        let here : AtExit p image program x.code (image s.here.function) held (Return v) m.pc =
+        subst (λ q. AtExit p image program x.code (image s.here.function) held (Return v) q) (sym x.pc) at in
         goes-back program y (InUse (graph_of x.code) s.here.block s.here.at) (world_of s) base x.code.frame
         (last_address y x.code (image s.here.function).at) link 0 v m x.holds
         (housed x.code (image s.here.function).homes s.here.block s.here.at pl.right) reads here.near

@@ -443,6 +443,7 @@ module _ (p : Program) (image : Image) (program : List (Option Instr)) (most n :
               code = code;
               function = e;
               pc = r.at ∙ to-is;
+              five = tt;
               holds = widen (layout_of code (image f).homes) (InUse (graph_of code) 0 0)
                   (seen (record (fresh_call f code (before_entry f region n)) { temps = temps; areas = areas }) region 0)
                   ((length m.private) - (frame_bytes (layout_of code (image f).homes))) r.after r.holds

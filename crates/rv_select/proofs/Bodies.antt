@@ -1,5 +1,5 @@
 -- The code of a function from its parts.
-use Rattle.std.proofs.Common.{◌≡◌, ℕ, ◌+◌, ◌*◌, List, [], ◌++◌, length, append_assoc, Option, refl, sym, ap, subst, ◌∙◌, arith}
+use Rattle.std.proofs.Common.{◌≡◌, ℕ, ◌+◌, ◌*◌, List, [], ◌++◌, length, append_assoc, Option, None, refl, sym, ap, subst, ◌∙◌, arith}
 use Rattle.std.specs.Prelude.{map, Result, OnOk}
 use Rattle.std.proofs.lemmas.List.{map-append}
 use Rattle.tl_base.specs.declared.place.Place.{Place}
@@ -17,7 +17,7 @@ use Rattle.rv_select.specs.declared.selected.Call.{Call as Site}
 use Rattle.rv_select.specs.Places.{Layout, frame_bytes, layout_of, with_homes}
 use Rattle.rv_select.specs.Shapes.{start_of}
 use Rattle.rv_select.specs.Entering.{begun, entered, left, received, words_offset}
-use Rattle.rv_select.specs.Calls.{block_code, block_starts, blocks_calls, blocks_code, body_code, call_begun, call_ended, call_jump, called, exit_code, function_code, head_code, instruction_code, instructions_code, last_address, starts_from}
+use Rattle.rv_select.specs.Calls.{block_code, block_starts, blocks_calls, blocks_code, body_code, call_begun, call_ended, call_jump, called, exit_code, function_code, head_code, held_behind, instruction_code, instructions_code, last_address, starts_from}
 use Rattle.rv_select.proofs.Layouts.{blocks-calls-same, blocks-same, received-same, starts-same}
 use Rattle.rv_select.proofs.Lengths.{blocks-length}
 use Rattle.rv_select.proofs.Numbers.{pushed_words}
@@ -31,21 +31,24 @@ called-turn r y sizes to at f arguments old first mid new e g h =
     placed-turn r old first new (call_begun y at arguments) (λ n. call_jump n 0 ++ call_ended y sizes to) e
     (turn r first mid new (call_jump (4 * length first) 0) (call_ended y sizes to) (call_jump (4 * length first) 0 ++ call_ended y sizes to) refl g h)
 
-pub one-called : {A E : Type 0} (r : Result A E) (y : Layout) (sizes : List ℕ) (to : Destination) (at : Place) (f : FnId) (arguments given : List Part) (i : Instruction) (n : ℕ) (old new : List ℕ) →
+pub one-called : {A E : Type 0} (r : Result A E) (y : Layout) (sizes : List ℕ) (to : Destination) (at : Place) (f : FnId) (arguments given : List Part) (i : Instruction) (n : ℕ) (held : Option ℕ) (old new : List ℕ) →
     i ≡ Call to at f arguments → given ≡ arguments →
     OnOk r (new ≡ old ++ map word_of (called y sizes (λ g. 0) n to at f given)) →
-    OnOk r (new ≡ old ++ map word_of (instruction_code y sizes (λ g. 0) n i))
-one-called r y sizes to at f arguments given i n old new e g h =
-    subst (λ z. OnOk r (new ≡ old ++ map word_of (instruction_code y sizes (λ g. 0) n z))) (sym e)
+    OnOk r (new ≡ old ++ map word_of (instruction_code y sizes (λ g. 0) n held i))
+one-called r y sizes to at f arguments given i n held old new e g h =
+    subst (λ z. OnOk r (new ≡ old ++ map word_of (instruction_code y sizes (λ g. 0) n held z))) (sym e)
     (subst (λ z. OnOk r (new ≡ old ++ map word_of (called y sizes (λ g. 0) n to at f z))) g h)
 
-pub block-turn : {A E : Type 0} (r : Result A E) (y : Layout) (sizes : List ℕ) (starts : ℕ → ℕ) (last : ℕ) (b : Block) (is : List Instruction) (old mid new : List ℕ) → is ≡ b.instructions →
-    mid ≡ old ++ map word_of (instructions_code y sizes (λ f. 0) (4 * length old) is) →
-    OnOk r (new ≡ mid ++ map word_of (exit_code y (4 * length mid) starts last b.exit)) →
+pub block-turn : {A E : Type 0} (r : Result A E) (y : Layout) (sizes : List ℕ) (starts : ℕ → ℕ) (last : ℕ) (b : Block) (is : List Instruction)
+    (held : Option ℕ) (old mid new : List ℕ) → is ≡ b.instructions →
+    mid ≡ old ++ map word_of (instructions_code y sizes (λ f. 0) (4 * length old) None is) → held ≡ held_behind None is →
+    OnOk r (new ≡ mid ++ map word_of (exit_code y held (4 * length mid) starts last b.exit)) →
     OnOk r (new ≡ old ++ map word_of (block_code y sizes (λ f. 0) starts last (4 * length old) b))
-block-turn r y sizes starts last b is old mid new w e g =
-    placed-turn r old mid new (instructions_code y sizes (λ f. 0) (4 * length old) b.instructions) (λ at. exit_code y at starts last b.exit)
-    (e ∙ ap (λ z. old ++ map word_of (instructions_code y sizes (λ f. 0) (4 * length old) z)) w) g
+block-turn r y sizes starts last b is held old mid new w e h g =
+    placed-turn r old mid new (instructions_code y sizes (λ f. 0) (4 * length old) None b.instructions)
+    (λ at. exit_code y (held_behind None b.instructions) at starts last b.exit)
+    (e ∙ ap (λ z. old ++ map word_of (instructions_code y sizes (λ f. 0) (4 * length old) None z)) w)
+    (subst (λ o. OnOk r (new ≡ mid ++ map word_of (exit_code y o (4 * length mid) starts last b.exit))) (h ∙ ap (held_behind None) w) g)
 
 pub call-head : {A E : Type 0} (r : Result A E) (code : Tac) (h : List (Option Home)) (words bytes : ℕ) (sizes : List ℕ) (ds : List Destination) (old mid new : List ℕ) →
     sizes ≡ code.areas → ds ≡ code.parameters →

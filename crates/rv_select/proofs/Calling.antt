@@ -34,7 +34,7 @@ use Rattle.rv_select.specs.Steps.{Ends, world_of}
 use Rattle.rv_select.specs.Calls.{block_starts, blocks_length, call_begun, call_ended, call_jump, head_code, instruction_code, last_address, starts_from}
 use Rattle.rv_select.specs.Entering.{begun, entered, received, receiving, words_offset}
 use Rattle.rv_select.specs.Frames.{BeforeEntering, Enters, IsPartRead, Received, part_value, seen, without_words}
-use Rattle.rv_select.specs.Waiting.{Arrives, HasRoom, Image, IsLinked, IsPlaced, StandsIn, Stepped, Waiting, Waits, entries_of, entry_of, place_in, restored}
+use Rattle.rv_select.specs.Waiting.{Arrives, HasRoom, Image, IsLinked, IsPlaced, StandsIn, Stepped, Waiting, Waits, entries_of, entry_of, held_in, place_in, restored}
 use Rattle.rv_select.proofs.Arrivals.{InFunction, areas-lie, begin-holds, enters-call, has-words, link-after, room-next, same-after}
 use Rattle.rv_select.proofs.Callings.{Begun, JumpedTo, begins, jumps-to, too-deep}
 use Rattle.rv_select.proofs.Carries.{by-test, has-left, has-right, nothing-written, operand-read, place-small}
@@ -282,6 +282,7 @@ lands p image program most size bound linked s base m x block to place f argumen
             code = callee;
             function = e;
             pc = r.at ∙ to-is;
+            five = tt;
             holds = widen (layout_of callee (image f).homes) (InUse (graph_of callee) 0 0)
                 (seen (record (fresh_call f callee s) { temps = temps; areas = areas }) s.region (suc (length s.callers)))
                 (base - (frame_bytes (layout_of callee (image f).homes))) r.after r.holds
@@ -432,7 +433,8 @@ at-call p image program most size linked s base m x block to place f arguments i
           (layout_of x.code (image s.here.function).homes) x.code.areas to))
           (place_in p image x.code (image s.here.function) s.here.block s.here.at)
           (length (instruction_code (layout_of x.code (image s.here.function).homes) x.code.areas (entries_of p image)
-          (place_in p image x.code (image s.here.function) s.here.block s.here.at) (Call to place f arguments)))
+          (place_in p image x.code (image s.here.function) s.here.block s.here.at) (held_in x.code s.here.block s.here.at)
+          (Call to place f arguments)))
           (length-append (call_begun (layout_of x.code (image s.here.function).homes) place arguments)
           (call_jump (place_in p image x.code (image s.here.function) s.here.block s.here.at + 4 * length
           (call_begun (layout_of x.code (image s.here.function).homes) place arguments)) (entries_of p image f) ++ call_ended

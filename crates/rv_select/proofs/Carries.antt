@@ -31,11 +31,11 @@ use Rattle.tac_form.specs.Graph.{block_of, graph_of, instruction_reads, instruct
 use Rattle.tac_form.specs.Live.{InUse, has, is_written}
 use Rattle.tac_form.specs.Fits.{are_apart, area_fits, area_there, instruction_fits, operand_fits, place_fits, spot_fits}
 use Rattle.tac_form.specs.Weights.{most_moved, words_of}
-use Rattle.rv_select.specs.Places.{IsRead, layout_of, value_in}
+use Rattle.rv_select.specs.Places.{IsHeld, IsRead, Layout, World, layout_of, value_in}
 use Rattle.rv_operators.specs.Runs.{Stands}
-use Rattle.rv_select.specs.Shapes.{bytes_moved, loaded, range_written, shape_of, some_moved, stored}
+use Rattle.rv_select.specs.Shapes.{bytes_moved, held_after, loaded, range_written, shape_of, some_moved, stored}
 use Rattle.rv_select.specs.Steps.{AreFewer, Carried, Comes, Ends, Follows, IsPlace, InstructionsAreCarried, StandsBefore, behind, with_temp, world_of}
-use Rattle.rv_select.proofs.Claims.{IsReached, address_in, with_region}
+use Rattle.rv_select.proofs.Claims.{Gives, IsReached, address_in, with_region}
 use Rattle.rv_select.proofs.Lives.{housed, read-live, step-in-graph, use-follows, write-used}
 use Rattle.rv_select.proofs.Moves.{copies, operators}
 use Rattle.rv_select.proofs.Divisors.{addresses, divisors}
@@ -59,15 +59,15 @@ used code s = InUse (graph_of code) s.here.block s.here.at
 abbrev next : Tac → tac.State → ℕ → Type 0
 next code s = InUse (graph_of code) s.here.block (suc s.here.at)
 
-reads : (p : Program) (code : Tac) (homes : List (Option Home)) (i : Instruction) (s : tac.State) (program : List (Option Instr)) (base : ℕ) (m : State) →
-    StandsBefore p code homes i s program base m → (t : ℕ) → has (instruction_reads i) t ≡ true → used code s t
-reads p code homes i s program base m x t h =
+reads : (p : Program) (code : Tac) (homes : List (Option Home)) (held : Option ℕ) (i : Instruction) (s : tac.State) (program : List (Option Instr)) (base : ℕ) (m : State) →
+    StandsBefore p code homes held i s program base m → (t : ℕ) → has (instruction_reads i) t ≡ true → used code s t
+reads p code homes held i s program base m x t h =
     let g = step-in-graph code x.block i s.here.block s.here.at x.in_function x.in_block in
     inl (read-live (graph_of code) s.here.block s.here.at t (block_of x.block) (step_of i) g.0 g.1 h)
 
-follows : (p : Program) (code : Tac) (homes : List (Option Home)) (i : Instruction) (s : tac.State) (program : List (Option Instr)) (base : ℕ) (m : State) (d : ℕ) →
-    StandsBefore p code homes i s program base m → instruction_write i ≡ Some d → Follows (used code s) (next code s) d
-follows p code homes i s program base m d x e t u =
+follows : (p : Program) (code : Tac) (homes : List (Option Home)) (held : Option ℕ) (i : Instruction) (s : tac.State) (program : List (Option Instr)) (base : ℕ) (m : State) (d : ℕ) →
+    StandsBefore p code homes held i s program base m → instruction_write i ≡ Some d → Follows (used code s) (next code s) d
+follows p code homes held i s program base m d x e t u =
     let g = step-in-graph code x.block i s.here.block s.here.at x.in_function x.in_block in
     ⊎_elim (λ w. inl (sym (eqb-true d t (sym (written t) ∙ w)))) (λ o. inr o)
     (use-follows (graph_of code) s.here.block s.here.at t (block_of x.block) (step_of i) g.0 g.1 u)
@@ -75,16 +75,16 @@ follows p code homes i s program base m d x e t u =
     written : (t : ℕ) → is_written (step_of i).write t ≡ nat_eq d t
     written t = ap (λ o. is_written o t) e
 
-fewer : (p : Program) (code : Tac) (homes : List (Option Home)) (i : Instruction) (s : tac.State) (program : List (Option Instr)) (base : ℕ) (m : State) →
-    StandsBefore p code homes i s program base m → instruction_write i ≡ None → AreFewer (used code s) (next code s)
-fewer p code homes i s program base m x e t u =
+fewer : (p : Program) (code : Tac) (homes : List (Option Home)) (held : Option ℕ) (i : Instruction) (s : tac.State) (program : List (Option Instr)) (base : ℕ) (m : State) →
+    StandsBefore p code homes held i s program base m → instruction_write i ≡ None → AreFewer (used code s) (next code s)
+fewer p code homes held i s program base m x e t u =
     let g = step-in-graph code x.block i s.here.block s.here.at x.in_function x.in_block in
     ⊎_elim (λ w. let none : false ≡ true = sym (ap (λ o. is_written o t) e) ∙ w in cc) (λ o. o)
     (use-follows (graph_of code) s.here.block s.here.at t (block_of x.block) (step_of i) g.0 g.1 u)
 
-written-next : (p : Program) (code : Tac) (homes : List (Option Home)) (i : Instruction) (s : tac.State) (program : List (Option Instr)) (base : ℕ) (m : State) (d : ℕ) →
-    StandsBefore p code homes i s program base m → instruction_write i ≡ Some d → next code s d
-written-next p code homes i s program base m d x e =
+written-next : (p : Program) (code : Tac) (homes : List (Option Home)) (held : Option ℕ) (i : Instruction) (s : tac.State) (program : List (Option Instr)) (base : ℕ) (m : State) (d : ℕ) →
+    StandsBefore p code homes held i s program base m → instruction_write i ≡ Some d → next code s d
+written-next p code homes held i s program base m d x e =
     let g = step-in-graph code x.block i s.here.block s.here.at x.in_function x.in_block in
     write-used (graph_of code) s.here.block s.here.at d (block_of x.block) (step_of i) g.0 g.1 (ap (λ o. is_written o d) e ∙ eq-eqb d d refl)
 
@@ -115,22 +115,24 @@ place-small at h =
 pub nothing-written : (out : List ℕ) → out ≡ out ++ []
 nothing-written out = sym (append-nil out)
 
-carry-copy : (p : Program) (code : Tac) (homes : List (Option Home)) (d : ℕ) (a : Operand) (s : tac.State) (program : List (Option Instr)) (base : ℕ) (m : State) →
-    StandsBefore p code homes (Copy d a) s program base m →
-    Carried (layout_of code homes) (graph_of code) program base (words_of (Copy d a)) (shape_of (layout_of code homes) (Copy d a)) s m (step p s)
-carry-copy p code homes d a s program base m x =
+-- an instruction that leaves a temporary's word in x5
+given : (written : List ℕ) {y : Layout} {program : List (Option Instr)} {Next : ℕ → Type 0} {w : World} {base weight target d : ℕ} {m : State} →
+    Gives y program Next w base weight target d m →
+    (out : List ℕ) × (written ≡ written ++ out) × (c : Comes y program Next w base weight target out m) × IsHeld (Some d) w.temps c.after
+given written g = ([], nothing-written written, g.comes, g.five)
+
+carry-copy : (p : Program) (code : Tac) (homes : List (Option Home)) (held : Option ℕ) (d : ℕ) (a : Operand) (s : tac.State) (program : List (Option Instr)) (base : ℕ) (m : State) →
+    StandsBefore p code homes held (Copy d a) s program base m →
+    Carried (layout_of code homes) (graph_of code) program base (words_of (Copy d a)) (held_after (Copy d a)) (shape_of (layout_of code homes) held (Copy d a)) s m (step p s)
+carry-copy p code homes held d a s program base m x =
     let fit = both-true (nat_lt d code.temps) (operand_fits code a) x.fits in
     let e1 = x.function in
     let e2 = x.in_function in
     let e3 = x.in_block in
-    rw (e1, e2, e3) (
-      [],
-      nothing-written s.out,
-      copies (layout_of code homes) d a (used code s) (next code s) (world_of s) base program m x.stands x.holds
-          (housed code homes s.here.block s.here.at x.right) (housed code homes s.here.block (suc s.here.at) x.right)
-          (operand-read code (used code s) a fit.1 (reads p code homes (Copy d a) s program base m x))
-          (written-next p code homes (Copy d a) s program base m d x refl) (follows p code homes (Copy d a) s program base m d x refl),
-    )
+    rw (e1, e2, e3) (given s.out (copies (layout_of code homes) held d a (used code s) (next code s) (world_of s) base program m x.stands x.five x.holds
+    (housed code homes s.here.block s.here.at x.right) (housed code homes s.here.block (suc s.here.at) x.right)
+    (operand-read code (used code s) a fit.1 (reads p code homes held (Copy d a) s program base m x))
+    (written-next p code homes held (Copy d a) s program base m d x refl) (follows p code homes held (Copy d a) s program base m d x refl)))
 
 -- by a test, and by whether there is something
 pub by-test : {A : Type 0} (P : A → Type 0) (c : Bool) (x y : A) → (c ≡ true → P x) → (c ≡ false → P y) → P (if c then x else y)
@@ -144,10 +146,10 @@ some-or-none (Some x) = inr (x, refl)
 no-zero : (a b : Bool) (x : ℕ) → (a && b) ≡ false → b ≡ nat_eq x 0 → a ≡ true → x ≢ 0
 no-zero a b x e f g z = let t : b ≡ true = f ∙ eq-eqb x 0 z in let both : (a && b) ≡ true = ap (λ c. c && b) g ∙ t in let none : true ≡ false = sym both ∙ e in cc
 
-carry-compute : (p : Program) (code : Tac) (homes : List (Option Home)) (d : ℕ) (op : BinaryOperator) (form : Number) (a b : Operand) (s : tac.State)
-    (program : List (Option Instr)) (base : ℕ) (m : State) → StandsBefore p code homes (Compute d op form a b) s program base m →
-    Carried (layout_of code homes) (graph_of code) program base (words_of (Compute d op form a b)) (shape_of (layout_of code homes) (Compute d op form a b)) s m (step p s)
-carry-compute p code homes d op form a b s program base m x =
+carry-compute : (p : Program) (code : Tac) (homes : List (Option Home)) (held : Option ℕ) (d : ℕ) (op : BinaryOperator) (form : Number) (a b : Operand) (s : tac.State)
+    (program : List (Option Instr)) (base : ℕ) (m : State) → StandsBefore p code homes held (Compute d op form a b) s program base m →
+    Carried (layout_of code homes) (graph_of code) program base (words_of (Compute d op form a b)) (held_after (Compute d op form a b)) (shape_of (layout_of code homes) held (Compute d op form a b)) s m (step p s)
+carry-compute p code homes held d op form a b s program base m x =
     let fit = both-true (nat_lt d code.temps && operand_fits code a) (operand_fits code b) x.fits in
     let fit-a = both-true (nat_lt d code.temps) (operand_fits code a) fit.0 in
     let i : Instruction = Compute d op form a b in
@@ -156,42 +158,38 @@ carry-compute p code homes d op form a b s program base m x =
     let e3 = x.in_block in
     rw (e1, e2, e3)
     (by-test
-    (λ moved. Carried (layout_of code homes) (graph_of code) program base (words_of (Compute d op form a b)) (shape_of (layout_of code homes) (Compute d op form a b)) s m moved)
+    (λ moved. Carried (layout_of code homes) (graph_of code) program base (words_of (Compute d op form a b)) (held_after (Compute d op form a b)) (shape_of (layout_of code homes) held (Compute d op form a b)) s m moved)
     (divides op && nat_eq (value_in s.here.temps b) 0) _ _ (λ h. tt)
-    (λ h. (
-      [],
-      nothing-written s.out,
-      operators (layout_of code homes) d op form a b (used code s) (next code s) (world_of s) base program m x.stands
-          (no-zero (divides op) (nat_eq (value_in s.here.temps b) 0) (value_in s.here.temps b) h refl) x.holds
-          (housed code homes s.here.block s.here.at x.right) (housed code homes s.here.block (suc s.here.at) x.right)
-          (operand-read code (used code s) a fit-a.1 (λ t u. reads p code homes i s program base m x t (has-left (operand_reads a) (operand_reads b) t u)))
-          (operand-read code (used code s) b fit.1 (λ t u. reads p code homes i s program base m x t (has-right (operand_reads a) (operand_reads b) t u)))
-          (written-next p code homes i s program base m d x refl) (follows p code homes i s program base m d x refl),
-    )))
+    (λ h. (given s.out (operators (layout_of code homes) held d op form a b (used code s) (next code s) (world_of s) base program m x.stands x.five
+    (no-zero (divides op) (nat_eq (value_in s.here.temps b) 0) (value_in s.here.temps b) h refl) x.holds
+    (housed code homes s.here.block s.here.at x.right) (housed code homes s.here.block (suc s.here.at) x.right)
+    (operand-read code (used code s) a fit-a.1 (λ t u. reads p code homes held i s program base m x t (has-left (operand_reads a) (operand_reads b) t u)))
+    (operand-read code (used code s) b fit.1 (λ t u. reads p code homes held i s program base m x t (has-right (operand_reads a) (operand_reads b) t u)))
+    (written-next p code homes held i s program base m d x refl) (follows p code homes held i s program base m d x refl)))))
 
-carry-test : (p : Program) (code : Tac) (homes : List (Option Home)) (at : Place) (a : Operand) (s : tac.State) (program : List (Option Instr)) (base : ℕ) (m : State) →
-    StandsBefore p code homes (TestDivisor at a) s program base m →
-    Carried (layout_of code homes) (graph_of code) program base (words_of (TestDivisor at a)) (shape_of (layout_of code homes) (TestDivisor at a)) s m (step p s)
-carry-test p code homes at a s program base m x =
+carry-test : (p : Program) (code : Tac) (homes : List (Option Home)) (held : Option ℕ) (at : Place) (a : Operand) (s : tac.State) (program : List (Option Instr)) (base : ℕ) (m : State) →
+    StandsBefore p code homes held (TestDivisor at a) s program base m →
+    Carried (layout_of code homes) (graph_of code) program base (words_of (TestDivisor at a)) (held_after (TestDivisor at a)) (shape_of (layout_of code homes) held (TestDivisor at a)) s m (step p s)
+carry-test p code homes held at a s program base m x =
     let fit = both-true (place_fits at) (operand_fits code a) x.fits in
     let i : Instruction = TestDivisor at a in
     let e1 = x.function in
     let e2 = x.in_function in
     let e3 = x.in_block in
     let both =
-    divisors (layout_of code homes) at a (used code s) (next code s) (world_of s) base program m x.stands (place-small at fit.0) x.holds
-    (housed code homes s.here.block s.here.at x.right) (operand-read code (used code s) a fit.1 (reads p code homes i s program base m x))
-    (fewer p code homes i s program base m x refl) in
+    divisors (layout_of code homes) held at a (used code s) (next code s) (world_of s) base program m x.stands x.five (place-small at fit.0) x.holds
+    (housed code homes s.here.block s.here.at x.right) (operand-read code (used code s) a fit.1 (reads p code homes held i s program base m x))
+    (fewer p code homes held i s program base m x refl) in
     rw (e1, e2, e3)
     (by-test
-    (λ moved. Carried (layout_of code homes) (graph_of code) program base (words_of (TestDivisor at a)) (shape_of (layout_of code homes) (TestDivisor at a)) s m moved)
+    (λ moved. Carried (layout_of code homes) (graph_of code) program base (words_of (TestDivisor at a)) (held_after (TestDivisor at a)) (shape_of (layout_of code homes) held (TestDivisor at a)) s m moved)
     (nat_eq (value_in s.here.temps a) 0) _ _ (λ h. (refl, both.1 (eqb-true (value_in s.here.temps a) 0 h)))
-    (λ h. ([], nothing-written s.out, both.0 (λ z. let t : nat_eq (value_in s.here.temps a) 0 ≡ true = eq-eqb (value_in s.here.temps a) 0 z in let none : true ≡ false = sym t ∙ h in cc))))
+    (λ h. ([], nothing-written s.out, both.0 (λ z. let t : nat_eq (value_in s.here.temps a) 0 ≡ true = eq-eqb (value_in s.here.temps a) 0 z in let none : true ≡ false = sym t ∙ h in cc), tt)))
 
-carry-locate : (p : Program) (code : Tac) (homes : List (Option Home)) (d offset : ℕ) (s : tac.State) (program : List (Option Instr)) (base : ℕ) (m : State) →
-    StandsBefore p code homes (Locate d offset) s program base m →
-    Carried (layout_of code homes) (graph_of code) program base (words_of (Locate d offset)) (shape_of (layout_of code homes) (Locate d offset)) s m (step p s)
-carry-locate p code homes d offset s program base m x =
+carry-locate : (p : Program) (code : Tac) (homes : List (Option Home)) (held : Option ℕ) (d offset : ℕ) (s : tac.State) (program : List (Option Instr)) (base : ℕ) (m : State) →
+    StandsBefore p code homes held (Locate d offset) s program base m →
+    Carried (layout_of code homes) (graph_of code) program base (words_of (Locate d offset)) (held_after (Locate d offset)) (shape_of (layout_of code homes) held (Locate d offset)) s m (step p s)
+carry-locate p code homes held d offset s program base m x =
     let fit = both-true (nat_lt d code.temps) (nat_le offset code.frame) x.fits in
     let within : offset ≤ code.frame = leb-true offset code.frame fit.1 in
     let most : length s.region.bytes ≤ 67108864 = x.holds.lawful.sized.2 in
@@ -200,13 +198,9 @@ carry-locate p code homes d offset s program base m x =
     let e1 = x.function in
     let e2 = x.in_function in
     let e3 = x.in_block in
-    rw (e1, e2, e3) (
-      [],
-      nothing-written s.out,
-      addresses (layout_of code homes) d offset (used code s) (next code s) (world_of s) base program m x.stands (omega arith) x.holds
-          (housed code homes s.here.block s.here.at x.right) (housed code homes s.here.block (suc s.here.at) x.right)
-          (written-next p code homes i s program base m d x refl) (follows p code homes i s program base m d x refl),
-    )
+    rw (e1, e2, e3) (given s.out (addresses (layout_of code homes) d offset (used code s) (next code s) (world_of s) base program m x.stands (omega arith) x.holds
+    (housed code homes s.here.block s.here.at x.right) (housed code homes s.here.block (suc s.here.at) x.right)
+    (written-next p code homes held i s program base m d x refl) (follows p code homes held i s program base m d x refl)))
 
 -- an address in the region
 address-reached : (code : Tac) (Used : ℕ → Type 0) (s : tac.State) (at : Place) (size : ℕ) (a : Address) → spot_fits code size (spots.Region at a) ≡ true →
@@ -221,83 +215,83 @@ spot-place code at size (Word a) h = place-small at (both-true (place_fits at) (
 spot-place code at size (Frame offset) h = place-small at (both-true (place_fits at) (nat_le (offset + size) code.frame) h).0
 
 -- a load, by what it reads
-carry-load : (p : Program) (code : Tac) (homes : List (Option Home)) (d : ℕ) (form : Number) (at : Place) (a : Address) (s : tac.State) (program : List (Option Instr)) (base : ℕ) (m : State) →
-    StandsBefore p code homes (Load d form (spots.Region at a)) s program base m →
-    Carried (layout_of code homes) (graph_of code) program base (words_of (Load d form (spots.Region at a))) (shape_of (layout_of code homes) (Load d form (spots.Region at a))) s m (step p s)
-carry-load p code homes d form at a s program base m x =
+carry-load : (p : Program) (code : Tac) (homes : List (Option Home)) (held : Option ℕ) (d : ℕ) (form : Number) (at : Place) (a : Address) (s : tac.State) (program : List (Option Instr)) (base : ℕ) (m : State) →
+    StandsBefore p code homes held (Load d form (spots.Region at a)) s program base m →
+    Carried (layout_of code homes) (graph_of code) program base (words_of (Load d form (spots.Region at a))) (held_after (Load d form (spots.Region at a))) (shape_of (layout_of code homes) held (Load d form (spots.Region at a))) s m (step p s)
+carry-load p code homes held d form at a s program base m x =
     let fit = both-true (nat_lt d code.temps) (spot_fits code (bytes_of form.size) (spots.Region at a)) x.fits in
     let i : Instruction = Load d form (spots.Region at a) in
     let both =
-    region-loads (layout_of code homes) d form at a (used code s) (next code s) (world_of s) base program m x.stands (spot-place code at (bytes_of form.size) a fit.1)
-    (address-reached code (used code s) s at (bytes_of form.size) a fit.1 x.frame (reads p code homes i s program base m x)) x.holds
+    region-loads (layout_of code homes) held d form at a (used code s) (next code s) (world_of s) base program m x.stands x.five (spot-place code at (bytes_of form.size) a fit.1)
+    (address-reached code (used code s) s at (bytes_of form.size) a fit.1 x.frame (reads p code homes held i s program base m x)) x.holds
     (housed code homes s.here.block s.here.at x.right) (housed code homes s.here.block (suc s.here.at) x.right)
-    (written-next p code homes i s program base m d x refl) (follows p code homes i s program base m d x refl) in
-    load-step p code homes d form at a s program base m x both (some-or-none (range_of s.region (address_in (world_of s) a) (bytes_of form.size)))
+    (written-next p code homes held i s program base m d x refl) (follows p code homes held i s program base m d x refl) in
+    load-step p code homes held d form at a s program base m x both (some-or-none (range_of s.region (address_in (world_of s) a) (bytes_of form.size)))
   where
-    load-step : (p : Program) (code : Tac) (homes : List (Option Home)) (d : ℕ) (form : Number) (at : Place) (a : Address) (s : tac.State) (program : List (Option Instr)) (base : ℕ) (m : State) →
-        StandsBefore p code homes (Load d form (spots.Region at a)) s program base m →
+    load-step : (p : Program) (code : Tac) (homes : List (Option Home)) (held : Option ℕ) (d : ℕ) (form : Number) (at : Place) (a : Address) (s : tac.State) (program : List (Option Instr)) (base : ℕ) (m : State) →
+        StandsBefore p code homes held (Load d form (spots.Region at a)) s program base m →
         ((bs : List ℕ) → range_of s.region (address_in (world_of s) a) (bytes_of form.size) ≡ Some bs →
-        Comes (layout_of code homes) program (next code s) (with_temp (world_of s) d (wrapped (width_of form) (number_of bs))) base (words_of (Load d form (spots.Region at a)))
-        (behind m (loaded (layout_of code homes) d form (spots.Region at a))) [] m)
+        Gives (layout_of code homes) program (next code s) (with_temp (world_of s) d (wrapped (width_of form) (number_of bs))) base (words_of (Load d form (spots.Region at a)))
+        (behind m (loaded (layout_of code homes) held d form (spots.Region at a))) d m)
         × (range_of s.region (address_in (world_of s) a) (bytes_of form.size) ≡ None → Ends program BadAddress at (words_of (Load d form (spots.Region at a))) m) →
         (range_of s.region (address_in (world_of s) a) (bytes_of form.size) ≡ None) ⊎ ((bs : List ℕ) × (range_of s.region (address_in (world_of s) a) (bytes_of form.size) ≡ Some bs)) →
-        Carried (layout_of code homes) (graph_of code) program base (words_of (Load d form (spots.Region at a))) (shape_of (layout_of code homes) (Load d form (spots.Region at a))) s m (step p s)
-    load-step p code homes d form at (Word (Temp t)) s program base m x both o =
+        Carried (layout_of code homes) (graph_of code) program base (words_of (Load d form (spots.Region at a))) (held_after (Load d form (spots.Region at a))) (shape_of (layout_of code homes) held (Load d form (spots.Region at a))) s m (step p s)
+    load-step p code homes held d form at (Word (Temp t)) s program base m x both o =
         let e1 = x.function in
         let e2 = x.in_function in
         let e3 = x.in_block in
-        ⊎_elim (λ e4. rw (e1, e2, e3) (rw e4 (refl, both.1 e4))) (λ q. let e4 = q.1 in rw (e1, e2, e3) (rw e4 ([], nothing-written s.out, both.0 q.0 e4))) o
-    load-step p code homes d form at (Word (Constant c)) s program base m x both o =
+        ⊎_elim (λ e4. rw (e1, e2, e3) (rw e4 (refl, both.1 e4))) (λ q. let e4 = q.1 in rw (e1, e2, e3) (rw e4 (given s.out (both.0 q.0 e4)))) o
+    load-step p code homes held d form at (Word (Constant c)) s program base m x both o =
         let e1 = x.function in
         let e2 = x.in_function in
         let e3 = x.in_block in
-        ⊎_elim (λ e4. rw (e1, e2, e3) (rw e4 (refl, both.1 e4))) (λ q. let e4 = q.1 in rw (e1, e2, e3) (rw e4 ([], nothing-written s.out, both.0 q.0 e4))) o
-    load-step p code homes d form at (Frame offset) s program base m x both o =
+        ⊎_elim (λ e4. rw (e1, e2, e3) (rw e4 (refl, both.1 e4))) (λ q. let e4 = q.1 in rw (e1, e2, e3) (rw e4 (given s.out (both.0 q.0 e4)))) o
+    load-step p code homes held d form at (Frame offset) s program base m x both o =
         let e1 = x.function in
         let e2 = x.in_function in
         let e3 = x.in_block in
-        ⊎_elim (λ e4. rw (e1, e2, e3) (rw e4 (refl, both.1 e4))) (λ q. let e4 = q.1 in rw (e1, e2, e3) (rw e4 ([], nothing-written s.out, both.0 q.0 e4))) o
+        ⊎_elim (λ e4. rw (e1, e2, e3) (rw e4 (refl, both.1 e4))) (λ q. let e4 = q.1 in rw (e1, e2, e3) (rw e4 (given s.out (both.0 q.0 e4)))) o
 
 -- a store, by what it writes
-carry-store : (p : Program) (code : Tac) (homes : List (Option Home)) (size : Size) (at : Place) (a : Address) (b : Operand) (s : tac.State) (program : List (Option Instr)) (base : ℕ) (m : State) →
-    StandsBefore p code homes (Store (spots.Region at a) size b) s program base m →
-    Carried (layout_of code homes) (graph_of code) program base (words_of (Store (spots.Region at a) size b)) (shape_of (layout_of code homes) (Store (spots.Region at a) size b)) s m (step p s)
-carry-store p code homes size at a b s program base m x =
+carry-store : (p : Program) (code : Tac) (homes : List (Option Home)) (held : Option ℕ) (size : Size) (at : Place) (a : Address) (b : Operand) (s : tac.State) (program : List (Option Instr)) (base : ℕ) (m : State) →
+    StandsBefore p code homes held (Store (spots.Region at a) size b) s program base m →
+    Carried (layout_of code homes) (graph_of code) program base (words_of (Store (spots.Region at a) size b)) (held_after (Store (spots.Region at a) size b)) (shape_of (layout_of code homes) held (Store (spots.Region at a) size b)) s m (step p s)
+carry-store p code homes held size at a b s program base m x =
     let fit = both-true (spot_fits code (bytes_of size) (spots.Region at a)) (operand_fits code b) x.fits in
     let i : Instruction = Store (spots.Region at a) size b in
     let both =
-    region-stores (layout_of code homes) size at a b (used code s) (next code s) (world_of s) base program m x.stands (spot-place code at (bytes_of size) a fit.0)
-    (address-reached code (used code s) s at (bytes_of size) a fit.0 x.frame (λ t u. reads p code homes i s program base m x t (has-left (address_reads a) (operand_reads b) t u)))
-    (operand-read code (used code s) b fit.1 (λ t u. reads p code homes i s program base m x t (has-right (address_reads a) (operand_reads b) t u))) x.holds
-    (housed code homes s.here.block s.here.at x.right) (fewer p code homes i s program base m x refl) in
-    store-step p code homes size at a b s program base m x both
+    region-stores (layout_of code homes) held size at a b (used code s) (next code s) (world_of s) base program m x.stands x.five (spot-place code at (bytes_of size) a fit.0)
+    (address-reached code (used code s) s at (bytes_of size) a fit.0 x.frame (λ t u. reads p code homes held i s program base m x t (has-left (address_reads a) (operand_reads b) t u)))
+    (operand-read code (used code s) b fit.1 (λ t u. reads p code homes held i s program base m x t (has-right (address_reads a) (operand_reads b) t u))) x.holds
+    (housed code homes s.here.block s.here.at x.right) (fewer p code homes held i s program base m x refl) in
+    store-step p code homes held size at a b s program base m x both
     (some-or-none (put_bytes s.region (address_in (world_of s) a) (low_bytes (bytes_of size) (value_in s.here.temps b))))
   where
-    store-step : (p : Program) (code : Tac) (homes : List (Option Home)) (size : Size) (at : Place) (a : Address) (b : Operand) (s : tac.State) (program : List (Option Instr)) (base : ℕ) (m : State) →
-        StandsBefore p code homes (Store (spots.Region at a) size b) s program base m →
+    store-step : (p : Program) (code : Tac) (homes : List (Option Home)) (held : Option ℕ) (size : Size) (at : Place) (a : Address) (b : Operand) (s : tac.State) (program : List (Option Instr)) (base : ℕ) (m : State) →
+        StandsBefore p code homes held (Store (spots.Region at a) size b) s program base m →
         ((r : Contents) → put_bytes s.region (address_in (world_of s) a) (low_bytes (bytes_of size) (value_in s.here.temps b)) ≡ Some r →
         Comes (layout_of code homes) program (next code s) (with_region (world_of s) r) base (words_of (Store (spots.Region at a) size b))
-        (behind m (stored (layout_of code homes) (spots.Region at a) size b)) [] m)
+        (behind m (stored (layout_of code homes) held (spots.Region at a) size b)) [] m)
         × (put_bytes s.region (address_in (world_of s) a) (low_bytes (bytes_of size) (value_in s.here.temps b)) ≡ None →
         Ends program BadAddress at (words_of (Store (spots.Region at a) size b)) m) →
         (put_bytes s.region (address_in (world_of s) a) (low_bytes (bytes_of size) (value_in s.here.temps b)) ≡ None)
         ⊎ ((r : Contents) × (put_bytes s.region (address_in (world_of s) a) (low_bytes (bytes_of size) (value_in s.here.temps b)) ≡ Some r)) →
-        Carried (layout_of code homes) (graph_of code) program base (words_of (Store (spots.Region at a) size b)) (shape_of (layout_of code homes) (Store (spots.Region at a) size b)) s m (step p s)
-    store-step p code homes size at (Word (Temp t)) b s program base m x both o =
+        Carried (layout_of code homes) (graph_of code) program base (words_of (Store (spots.Region at a) size b)) (held_after (Store (spots.Region at a) size b)) (shape_of (layout_of code homes) held (Store (spots.Region at a) size b)) s m (step p s)
+    store-step p code homes held size at (Word (Temp t)) b s program base m x both o =
         let e1 = x.function in
         let e2 = x.in_function in
         let e3 = x.in_block in
-        ⊎_elim (λ e4. rw (e1, e2, e3) (rw e4 (refl, both.1 e4))) (λ q. let e4 = q.1 in rw (e1, e2, e3) (rw e4 ([], nothing-written s.out, both.0 q.0 e4))) o
-    store-step p code homes size at (Word (Constant c)) b s program base m x both o =
+        ⊎_elim (λ e4. rw (e1, e2, e3) (rw e4 (refl, both.1 e4))) (λ q. let e4 = q.1 in rw (e1, e2, e3) (rw e4 ([], nothing-written s.out, both.0 q.0 e4, tt))) o
+    store-step p code homes held size at (Word (Constant c)) b s program base m x both o =
         let e1 = x.function in
         let e2 = x.in_function in
         let e3 = x.in_block in
-        ⊎_elim (λ e4. rw (e1, e2, e3) (rw e4 (refl, both.1 e4))) (λ q. let e4 = q.1 in rw (e1, e2, e3) (rw e4 ([], nothing-written s.out, both.0 q.0 e4))) o
-    store-step p code homes size at (Frame offset) b s program base m x both o =
+        ⊎_elim (λ e4. rw (e1, e2, e3) (rw e4 (refl, both.1 e4))) (λ q. let e4 = q.1 in rw (e1, e2, e3) (rw e4 ([], nothing-written s.out, both.0 q.0 e4, tt))) o
+    store-step p code homes held size at (Frame offset) b s program base m x both o =
         let e1 = x.function in
         let e2 = x.in_function in
         let e3 = x.in_block in
-        ⊎_elim (λ e4. rw (e1, e2, e3) (rw e4 (refl, both.1 e4))) (λ q. let e4 = q.1 in rw (e1, e2, e3) (rw e4 ([], nothing-written s.out, both.0 q.0 e4))) o
+        ⊎_elim (λ e4. rw (e1, e2, e3) (rw e4 (refl, both.1 e4))) (λ q. let e4 = q.1 in rw (e1, e2, e3) (rw e4 ([], nothing-written s.out, both.0 q.0 e4, tt))) o
 
 -- areas have at most 128 bytes
 areas-short : (sizes : List ℕ) (n : ℕ) → list_all area_fits sizes ≡ true → unwrap_or (slice_get sizes n) 0 ≤ most_moved
@@ -312,32 +306,28 @@ area-spot code n offset size e f =
     let l : offset + size ≤ area_size code n = leb-true (offset + size) (area_size code n) b.1 in
     (ltb-true n (length code.areas) b.0, omega (arith, l, areas-short code.areas n f))
 
-carry-area-load : (p : Program) (code : Tac) (homes : List (Option Home)) (d : ℕ) (form : Number) (n offset : ℕ) (s : tac.State) (program : List (Option Instr)) (base : ℕ) (m : State) →
-    StandsBefore p code homes (Load d form (spots.Area n offset)) s program base m →
-    Carried (layout_of code homes) (graph_of code) program base 8 (shape_of (layout_of code homes) (Load d form (spots.Area n offset))) s m (step p s)
-carry-area-load p code homes d form n offset s program base m x =
+carry-area-load : (p : Program) (code : Tac) (homes : List (Option Home)) (held : Option ℕ) (d : ℕ) (form : Number) (n offset : ℕ) (s : tac.State) (program : List (Option Instr)) (base : ℕ) (m : State) →
+    StandsBefore p code homes held (Load d form (spots.Area n offset)) s program base m →
+    Carried (layout_of code homes) (graph_of code) program base 8 (held_after (Load d form (spots.Area n offset))) (shape_of (layout_of code homes) held (Load d form (spots.Area n offset))) s m (step p s)
+carry-area-load p code homes held d form n offset s program base m x =
     let fit = both-true (nat_lt d code.temps) (spot_fits code (bytes_of form.size) (spots.Area n offset)) x.fits in
     let i : Instruction = Load d form (spots.Area n offset) in
     let e1 = x.function in
     let e2 = x.in_function in
     let e3 = x.in_block in
     rw (e1, e2, e3)
-    (by-test (λ moved. Carried (layout_of code homes) (graph_of code) program base 8 (shape_of (layout_of code homes) (Load d form (spots.Area n offset))) s m moved)
+    (by-test (λ moved. Carried (layout_of code homes) (graph_of code) program base 8 (held_after (Load d form (spots.Area n offset))) (shape_of (layout_of code homes) held (Load d form (spots.Area n offset))) s m moved)
     (nat_le (offset + bytes_of form.size) (length (s.here.areas n))) _ _
-    (λ h. (
-      [],
-      nothing-written s.out,
-      area-loads (layout_of code homes) d form n offset (used code s) (next code s) (world_of s) base program m x.stands
-          (area-spot code n offset (bytes_of form.size) fit.1 x.areas).0 (leb-true (offset + bytes_of form.size) (length (s.here.areas n)) h) x.holds
-          (housed code homes s.here.block s.here.at x.right) (housed code homes s.here.block (suc s.here.at) x.right)
-          (written-next p code homes i s program base m d x refl) (follows p code homes i s program base m d x refl),
-    ))
+    (λ h. (given s.out (area-loads (layout_of code homes) held d form n offset (used code s) (next code s) (world_of s) base program m x.stands
+    (area-spot code n offset (bytes_of form.size) fit.1 x.areas).0 (leb-true (offset + bytes_of form.size) (length (s.here.areas n)) h) x.holds
+    (housed code homes s.here.block s.here.at x.right) (housed code homes s.here.block (suc s.here.at) x.right)
+    (written-next p code homes held i s program base m d x refl) (follows p code homes held i s program base m d x refl))))
     (λ h. tt))
 
-carry-area-store : (p : Program) (code : Tac) (homes : List (Option Home)) (size : Size) (n offset : ℕ) (b : Operand) (s : tac.State) (program : List (Option Instr)) (base : ℕ) (m : State) →
-    StandsBefore p code homes (Store (spots.Area n offset) size b) s program base m →
-    Carried (layout_of code homes) (graph_of code) program base (words_of (Store (spots.Area n offset) size b)) (shape_of (layout_of code homes) (Store (spots.Area n offset) size b)) s m (step p s)
-carry-area-store p code homes size n offset b s program base m x =
+carry-area-store : (p : Program) (code : Tac) (homes : List (Option Home)) (held : Option ℕ) (size : Size) (n offset : ℕ) (b : Operand) (s : tac.State) (program : List (Option Instr)) (base : ℕ) (m : State) →
+    StandsBefore p code homes held (Store (spots.Area n offset) size b) s program base m →
+    Carried (layout_of code homes) (graph_of code) program base (words_of (Store (spots.Area n offset) size b)) (held_after (Store (spots.Area n offset) size b)) (shape_of (layout_of code homes) held (Store (spots.Area n offset) size b)) s m (step p s)
+carry-area-store p code homes held size n offset b s program base m x =
     let fit = both-true (spot_fits code (bytes_of size) (spots.Area n offset)) (operand_fits code b) x.fits in
     let spot = area-spot code n offset (bytes_of size) fit.0 x.areas in
     let i : Instruction = Store (spots.Area n offset) size b in
@@ -345,22 +335,23 @@ carry-area-store p code homes size n offset b s program base m x =
     let e2 = x.in_function in
     let e3 = x.in_block in
     rw (e1, e2, e3)
-    (by-test (λ moved. Carried (layout_of code homes) (graph_of code) program base (words_of (Store (spots.Area n offset) size b)) (shape_of (layout_of code homes) (Store (spots.Area n offset) size b)) s m moved)
+    (by-test (λ moved. Carried (layout_of code homes) (graph_of code) program base (words_of (Store (spots.Area n offset) size b)) (held_after (Store (spots.Area n offset) size b)) (shape_of (layout_of code homes) held (Store (spots.Area n offset) size b)) s m moved)
     (nat_le offset (length (s.here.areas n))) _ _
     (λ h. (
       [],
       nothing-written s.out,
-      area-stores (layout_of code homes) size n offset b (used code s) (next code s) (world_of s) base program m x.stands spot.0
+      area-stores (layout_of code homes) held size n offset b (used code s) (next code s) (world_of s) base program m x.stands spot.0
           (leb-true offset (length (s.here.areas n)) h) spot.1
-          (operand-read code (used code s) b fit.1 (reads p code homes i s program base m x)) x.holds
-          (housed code homes s.here.block s.here.at x.right) (fewer p code homes i s program base m x refl),
+          (operand-read code (used code s) b fit.1 (reads p code homes held i s program base m x)) x.holds
+          (housed code homes s.here.block s.here.at x.right) (fewer p code homes held i s program base m x refl),
+      tt,
     ))
     (λ h. tt))
 
-carry-clear : (p : Program) (code : Tac) (homes : List (Option Home)) (n size : ℕ) (s : tac.State) (program : List (Option Instr)) (base : ℕ) (m : State) → size ≤ most_moved →
-    StandsBefore p code homes (Clear n size) s program base m →
-    Carried (layout_of code homes) (graph_of code) program base 19 (shape_of (layout_of code homes) (Clear n size)) s m (step p s)
-carry-clear p code homes n size s program base m most x =
+carry-clear : (p : Program) (code : Tac) (homes : List (Option Home)) (held : Option ℕ) (n size : ℕ) (s : tac.State) (program : List (Option Instr)) (base : ℕ) (m : State) → size ≤ most_moved →
+    StandsBefore p code homes held (Clear n size) s program base m →
+    Carried (layout_of code homes) (graph_of code) program base 19 (held_after (Clear n size)) (shape_of (layout_of code homes) held (Clear n size)) s m (step p s)
+carry-clear p code homes held n size s program base m most x =
     let fit = both-true (area_there code n) (nat_le size (area_size code n)) x.fits in
     let i : Instruction = Clear n size in
     let e1 = x.function in
@@ -370,13 +361,14 @@ carry-clear p code homes n size s program base m most x =
       [],
       nothing-written s.out,
       clears (layout_of code homes) n size (used code s) (next code s) (world_of s) base program m x.stands (ltb-true n (length code.areas) fit.0) most x.holds
-          (housed code homes s.here.block s.here.at x.right) (fewer p code homes i s program base m x refl),
+          (housed code homes s.here.block s.here.at x.right) (fewer p code homes held i s program base m x refl),
+      tt,
     )
 
-carry-byte : (p : Program) (code : Tac) (homes : List (Option Home)) (a : Operand) (s : tac.State) (program : List (Option Instr)) (base : ℕ) (m : State) →
-    StandsBefore p code homes (PutByte a) s program base m →
-    Carried (layout_of code homes) (graph_of code) program base 11 (shape_of (layout_of code homes) (PutByte a)) s m (step p s)
-carry-byte p code homes a s program base m x =
+carry-byte : (p : Program) (code : Tac) (homes : List (Option Home)) (held : Option ℕ) (a : Operand) (s : tac.State) (program : List (Option Instr)) (base : ℕ) (m : State) →
+    StandsBefore p code homes held (PutByte a) s program base m →
+    Carried (layout_of code homes) (graph_of code) program base 11 (held_after (PutByte a)) (shape_of (layout_of code homes) held (PutByte a)) s m (step p s)
+carry-byte p code homes held a s program base m x =
     let i : Instruction = PutByte a in
     let e1 = x.function in
     let e2 = x.in_function in
@@ -384,31 +376,28 @@ carry-byte p code homes a s program base m x =
     rw (e1, e2, e3) (
       value_in s.here.temps a % 256 ∷ [],
       refl,
-      byte-puts (layout_of code homes) a (used code s) (next code s) (world_of s) base program m x.stands x.holds (housed code homes s.here.block s.here.at x.right)
-          (operand-read code (used code s) a x.fits (reads p code homes i s program base m x)) (fewer p code homes i s program base m x refl),
+      byte-puts (layout_of code homes) held a (used code s) (next code s) (world_of s) base program m x.stands x.five x.holds (housed code homes s.here.block s.here.at x.right)
+          (operand-read code (used code s) a x.fits (reads p code homes held i s program base m x)) (fewer p code homes held i s program base m x refl),
+      tt,
     )
 
-carry-alloc : (p : Program) (code : Tac) (homes : List (Option Home)) (d : ℕ) (a : Operand) (s : tac.State) (program : List (Option Instr)) (base : ℕ) (m : State) →
-    StandsBefore p code homes (Alloc d a) s program base m →
-    Carried (layout_of code homes) (graph_of code) program base (words_of (Alloc d a)) (shape_of (layout_of code homes) (Alloc d a)) s m (step p s)
-carry-alloc p code homes d a s program base m x =
+carry-alloc : (p : Program) (code : Tac) (homes : List (Option Home)) (held : Option ℕ) (d : ℕ) (a : Operand) (s : tac.State) (program : List (Option Instr)) (base : ℕ) (m : State) →
+    StandsBefore p code homes held (Alloc d a) s program base m →
+    Carried (layout_of code homes) (graph_of code) program base (words_of (Alloc d a)) (held_after (Alloc d a)) (shape_of (layout_of code homes) held (Alloc d a)) s m (step p s)
+carry-alloc p code homes held d a s program base m x =
     let fit = both-true (nat_lt d code.temps) (operand_fits code a) x.fits in
     let i : Instruction = Alloc d a in
     let e1 = x.function in
     let e2 = x.in_function in
     let e3 = x.in_block in
-    rw (e1, e2, e3) (
-      [],
-      nothing-written s.out,
-      allocs (layout_of code homes) d a (used code s) (next code s) (world_of s) base program m x.stands x.holds
-          (housed code homes s.here.block s.here.at x.right) (housed code homes s.here.block (suc s.here.at) x.right)
-          (operand-read code (used code s) a fit.1 (reads p code homes i s program base m x))
-          (written-next p code homes i s program base m d x refl) (follows p code homes i s program base m d x refl),
-    )
+    rw (e1, e2, e3) (given s.out (allocs (layout_of code homes) held d a (used code s) (next code s) (world_of s) base program m x.stands x.five x.holds
+    (housed code homes s.here.block s.here.at x.right) (housed code homes s.here.block (suc s.here.at) x.right)
+    (operand-read code (used code s) a fit.1 (reads p code homes held i s program base m x))
+    (written-next p code homes held i s program base m d x refl) (follows p code homes held i s program base m d x refl)))
 
 -- a range that is written, by where it lies
-module _ (p : Program) (code : Tac) (homes : List (Option Home)) (at : Place) (a b : Operand) (s : tac.State) (program : List (Option Instr)) (base : ℕ) (m : State)
-    (x : StandsBefore p code homes (Write at a b) s program base m) where
+module _ (p : Program) (code : Tac) (homes : List (Option Home)) (held : Option ℕ) (at : Place) (a b : Operand) (s : tac.State) (program : List (Option Instr)) (base : ℕ) (m : State)
+    (x : StandsBefore p code homes held (Write at a b) s program base m) where
   abbrev va : ℕ
   va = value_in s.here.temps a
 
@@ -421,9 +410,9 @@ module _ (p : Program) (code : Tac) (homes : List (Option Home)) (at : Place) (a
       let fit-a = both-true (place_fits at) (operand_fits code a) fit.0 in
       let i : Instruction = Write at a b in
       ranges (layout_of code homes) at a b (used code s) (next code s) (world_of s) base program m x.stands (place-small at fit-a.0)
-      (operand-read code (used code s) a fit-a.1 (λ t u. reads p code homes i s program base m x t (has-left (operand_reads a) (operand_reads b) t u)))
-      (operand-read code (used code s) b fit.1 (λ t u. reads p code homes i s program base m x t (has-right (operand_reads a) (operand_reads b) t u)))
-      x.holds (housed code homes s.here.block s.here.at x.right) (fewer p code homes i s program base m x refl)
+      (operand-read code (used code s) a fit-a.1 (λ t u. reads p code homes held i s program base m x t (has-left (operand_reads a) (operand_reads b) t u)))
+      (operand-read code (used code s) b fit.1 (λ t u. reads p code homes held i s program base m x t (has-right (operand_reads a) (operand_reads b) t u)))
+      x.holds (housed code homes s.here.block s.here.at x.right) (fewer p code homes held i s program base m x refl)
 
   write-goes : (bs : List ℕ) → range_of s.region va vb ≡ Some bs → Comes (layout_of code homes) program (next code s) (world_of s) base (words_of (Write at a b)) (behind m (range_written (layout_of code homes) at a b)) bs m
   write-goes bs e =
@@ -459,57 +448,57 @@ module _ (p : Program) (code : Tac) (homes : List (Option Home)) (at : Place) (a
       let most : length s.region.bytes ≤ 67108864 = x.holds.lawful.sized.2 in
       range-result.outside (λ z. omega (arith, z, large)) (⊎_elim (λ k. inl k) (λ k. inr (k, omega arith)) (cases_lt va first_address))
 
-write-step : (p : Program) (code : Tac) (homes : List (Option Home)) (at : Place) (a b : Operand) (s : tac.State) (program : List (Option Instr)) (base : ℕ) (m : State) →
-    StandsBefore p code homes (Write at a b) s program base m →
+write-step : (p : Program) (code : Tac) (homes : List (Option Home)) (held : Option ℕ) (at : Place) (a b : Operand) (s : tac.State) (program : List (Option Instr)) (base : ℕ) (m : State) →
+    StandsBefore p code homes held (Write at a b) s program base m →
     (is_negative (value_in s.here.temps b) ≡ true → Ends program BadAddress at (words_of (Write at a b)) m) →
     (range_of s.region (value_in s.here.temps a) (value_in s.here.temps b) ≡ None → Ends program BadAddress at (words_of (Write at a b)) m) →
     ((bs : List ℕ) → range_of s.region (value_in s.here.temps a) (value_in s.here.temps b) ≡ Some bs →
     Comes (layout_of code homes) program (next code s) (world_of s) base (words_of (Write at a b)) (behind m (range_written (layout_of code homes) at a b)) bs m) →
     (range_of s.region (value_in s.here.temps a) (value_in s.here.temps b) ≡ None) ⊎ ((bs : List ℕ) × (range_of s.region (value_in s.here.temps a) (value_in s.here.temps b) ≡ Some bs)) →
-    Carried (layout_of code homes) (graph_of code) program base (words_of (Write at a b)) (shape_of (layout_of code homes) (Write at a b)) s m (step p s)
-write-step p code homes at (Temp t) (Temp u) s program base m x below none goes o =
+    Carried (layout_of code homes) (graph_of code) program base (words_of (Write at a b)) (held_after (Write at a b)) (shape_of (layout_of code homes) held (Write at a b)) s m (step p s)
+write-step p code homes held at (Temp t) (Temp u) s program base m x below none goes o =
     let e1 = x.function in
     let e2 = x.in_function in
     let e3 = x.in_block in
     ⊎_elim
-    (λ e4. rw (e1, e2, e3) (rw e4 (by-test (λ moved. Carried (layout_of code homes) (graph_of code) program base (words_of (Write at (Temp t) (Temp u))) (shape_of (layout_of code homes) (Write at (Temp t) (Temp u))) s m moved) (is_negative (s.here.temps u)) _ _ (λ h. (refl, below h)) (λ h. (refl, none e4)))))
+    (λ e4. rw (e1, e2, e3) (rw e4 (by-test (λ moved. Carried (layout_of code homes) (graph_of code) program base (words_of (Write at (Temp t) (Temp u))) (held_after (Write at (Temp t) (Temp u))) (shape_of (layout_of code homes) held (Write at (Temp t) (Temp u))) s m moved) (is_negative (s.here.temps u)) _ _ (λ h. (refl, below h)) (λ h. (refl, none e4)))))
     (λ q.
     let e4 = q.1 in
-    rw (e1, e2, e3) (rw e4 (by-test (λ moved. Carried (layout_of code homes) (graph_of code) program base (words_of (Write at (Temp t) (Temp u))) (shape_of (layout_of code homes) (Write at (Temp t) (Temp u))) s m moved) (is_negative (s.here.temps u)) _ _ (λ h. (refl, below h)) (λ h. (q.0, refl, goes q.0 e4))))) o
-write-step p code homes at (Temp t) (Constant e) s program base m x below none goes o =
+    rw (e1, e2, e3) (rw e4 (by-test (λ moved. Carried (layout_of code homes) (graph_of code) program base (words_of (Write at (Temp t) (Temp u))) (held_after (Write at (Temp t) (Temp u))) (shape_of (layout_of code homes) held (Write at (Temp t) (Temp u))) s m moved) (is_negative (s.here.temps u)) _ _ (λ h. (refl, below h)) (λ h. (q.0, refl, goes q.0 e4, tt))))) o
+write-step p code homes held at (Temp t) (Constant e) s program base m x below none goes o =
     let e1 = x.function in
     let e2 = x.in_function in
     let e3 = x.in_block in
     ⊎_elim
-    (λ e4. rw (e1, e2, e3) (rw e4 (by-test (λ moved. Carried (layout_of code homes) (graph_of code) program base (words_of (Write at (Temp t) (Constant e))) (shape_of (layout_of code homes) (Write at (Temp t) (Constant e))) s m moved) (is_negative e) _ _ (λ h. (refl, below h)) (λ h. (refl, none e4)))))
+    (λ e4. rw (e1, e2, e3) (rw e4 (by-test (λ moved. Carried (layout_of code homes) (graph_of code) program base (words_of (Write at (Temp t) (Constant e))) (held_after (Write at (Temp t) (Constant e))) (shape_of (layout_of code homes) held (Write at (Temp t) (Constant e))) s m moved) (is_negative e) _ _ (λ h. (refl, below h)) (λ h. (refl, none e4)))))
     (λ q.
     let e4 = q.1 in
-    rw (e1, e2, e3) (rw e4 (by-test (λ moved. Carried (layout_of code homes) (graph_of code) program base (words_of (Write at (Temp t) (Constant e))) (shape_of (layout_of code homes) (Write at (Temp t) (Constant e))) s m moved) (is_negative e) _ _ (λ h. (refl, below h)) (λ h. (q.0, refl, goes q.0 e4))))) o
-write-step p code homes at (Constant c) (Temp u) s program base m x below none goes o =
+    rw (e1, e2, e3) (rw e4 (by-test (λ moved. Carried (layout_of code homes) (graph_of code) program base (words_of (Write at (Temp t) (Constant e))) (held_after (Write at (Temp t) (Constant e))) (shape_of (layout_of code homes) held (Write at (Temp t) (Constant e))) s m moved) (is_negative e) _ _ (λ h. (refl, below h)) (λ h. (q.0, refl, goes q.0 e4, tt))))) o
+write-step p code homes held at (Constant c) (Temp u) s program base m x below none goes o =
     let e1 = x.function in
     let e2 = x.in_function in
     let e3 = x.in_block in
     ⊎_elim
-    (λ e4. rw (e1, e2, e3) (rw e4 (by-test (λ moved. Carried (layout_of code homes) (graph_of code) program base (words_of (Write at (Constant c) (Temp u))) (shape_of (layout_of code homes) (Write at (Constant c) (Temp u))) s m moved) (is_negative (s.here.temps u)) _ _ (λ h. (refl, below h)) (λ h. (refl, none e4)))))
+    (λ e4. rw (e1, e2, e3) (rw e4 (by-test (λ moved. Carried (layout_of code homes) (graph_of code) program base (words_of (Write at (Constant c) (Temp u))) (held_after (Write at (Constant c) (Temp u))) (shape_of (layout_of code homes) held (Write at (Constant c) (Temp u))) s m moved) (is_negative (s.here.temps u)) _ _ (λ h. (refl, below h)) (λ h. (refl, none e4)))))
     (λ q.
     let e4 = q.1 in
-    rw (e1, e2, e3) (rw e4 (by-test (λ moved. Carried (layout_of code homes) (graph_of code) program base (words_of (Write at (Constant c) (Temp u))) (shape_of (layout_of code homes) (Write at (Constant c) (Temp u))) s m moved) (is_negative (s.here.temps u)) _ _ (λ h. (refl, below h)) (λ h. (q.0, refl, goes q.0 e4))))) o
-write-step p code homes at (Constant c) (Constant e) s program base m x below none goes o =
+    rw (e1, e2, e3) (rw e4 (by-test (λ moved. Carried (layout_of code homes) (graph_of code) program base (words_of (Write at (Constant c) (Temp u))) (held_after (Write at (Constant c) (Temp u))) (shape_of (layout_of code homes) held (Write at (Constant c) (Temp u))) s m moved) (is_negative (s.here.temps u)) _ _ (λ h. (refl, below h)) (λ h. (q.0, refl, goes q.0 e4, tt))))) o
+write-step p code homes held at (Constant c) (Constant e) s program base m x below none goes o =
     let e1 = x.function in
     let e2 = x.in_function in
     let e3 = x.in_block in
     ⊎_elim
-    (λ e4. rw (e1, e2, e3) (rw e4 (by-test (λ moved. Carried (layout_of code homes) (graph_of code) program base (words_of (Write at (Constant c) (Constant e))) (shape_of (layout_of code homes) (Write at (Constant c) (Constant e))) s m moved) (is_negative e) _ _ (λ h. (refl, below h)) (λ h. (refl, none e4)))))
+    (λ e4. rw (e1, e2, e3) (rw e4 (by-test (λ moved. Carried (layout_of code homes) (graph_of code) program base (words_of (Write at (Constant c) (Constant e))) (held_after (Write at (Constant c) (Constant e))) (shape_of (layout_of code homes) held (Write at (Constant c) (Constant e))) s m moved) (is_negative e) _ _ (λ h. (refl, below h)) (λ h. (refl, none e4)))))
     (λ q.
     let e4 = q.1 in
-    rw (e1, e2, e3) (rw e4 (by-test (λ moved. Carried (layout_of code homes) (graph_of code) program base (words_of (Write at (Constant c) (Constant e))) (shape_of (layout_of code homes) (Write at (Constant c) (Constant e))) s m moved) (is_negative e) _ _ (λ h. (refl, below h)) (λ h. (q.0, refl, goes q.0 e4))))) o
+    rw (e1, e2, e3) (rw e4 (by-test (λ moved. Carried (layout_of code homes) (graph_of code) program base (words_of (Write at (Constant c) (Constant e))) (held_after (Write at (Constant c) (Constant e))) (shape_of (layout_of code homes) held (Write at (Constant c) (Constant e))) s m moved) (is_negative e) _ _ (λ h. (refl, below h)) (λ h. (q.0, refl, goes q.0 e4, tt))))) o
 
-carry-write : (p : Program) (code : Tac) (homes : List (Option Home)) (at : Place) (a b : Operand) (s : tac.State) (program : List (Option Instr)) (base : ℕ) (m : State) →
-    StandsBefore p code homes (Write at a b) s program base m →
-    Carried (layout_of code homes) (graph_of code) program base (words_of (Write at a b)) (shape_of (layout_of code homes) (Write at a b)) s m (step p s)
-carry-write p code homes at a b s program base m x =
-    write-step p code homes at a b s program base m x (write-below p code homes at a b s program base m x) (write-none p code homes at a b s program base m x)
-    (write-goes p code homes at a b s program base m x) (some-or-none (range_of s.region (value_in s.here.temps a) (value_in s.here.temps b)))
+carry-write : (p : Program) (code : Tac) (homes : List (Option Home)) (held : Option ℕ) (at : Place) (a b : Operand) (s : tac.State) (program : List (Option Instr)) (base : ℕ) (m : State) →
+    StandsBefore p code homes held (Write at a b) s program base m →
+    Carried (layout_of code homes) (graph_of code) program base (words_of (Write at a b)) (held_after (Write at a b)) (shape_of (layout_of code homes) held (Write at a b)) s m (step p s)
+carry-write p code homes held at a b s program base m x =
+    write-step p code homes held at a b s program base m x (write-below p code homes held at a b s program base m x) (write-none p code homes held at a b s program base m x)
+    (write-goes p code homes held at a b s program base m x) (some-or-none (range_of s.region (value_in s.here.temps a) (value_in s.here.temps b)))
 
 -- a move fits where its spots do
 move-fits : (code : Tac) (to from : Spot) (size : ℕ) → instruction_fits code (Move to from size) ≡ true → ((spot_fits code size to ≡ true) × (spot_fits code size from ≡ true)) × (are_apart to from ≡ true)
@@ -537,31 +526,32 @@ address-same s (Word (Temp t)) = refl
 address-same s (Word (Constant c)) = refl
 address-same s (Frame offset) = refl
 
-carry-area-move : (p : Program) (code : Tac) (homes : List (Option Home)) (n offset k other size : ℕ) (s : tac.State) (program : List (Option Instr)) (base : ℕ) (m : State) →
-    StandsBefore p code homes (Move (spots.Area n offset) (spots.Area k other) size) s program base m →
-    Carried (layout_of code homes) (graph_of code) program base 42 (shape_of (layout_of code homes) (Move (spots.Area n offset) (spots.Area k other) size)) s m (step p s)
-carry-area-move p code homes n offset k other zero s program base m x =
+carry-area-move : (p : Program) (code : Tac) (homes : List (Option Home)) (held : Option ℕ) (n offset k other size : ℕ) (s : tac.State) (program : List (Option Instr)) (base : ℕ) (m : State) →
+    StandsBefore p code homes held (Move (spots.Area n offset) (spots.Area k other) size) s program base m →
+    Carried (layout_of code homes) (graph_of code) program base 42 (held_after (Move (spots.Area n offset) (spots.Area k other) size)) (shape_of (layout_of code homes) held (Move (spots.Area n offset) (spots.Area k other) size)) s m (step p s)
+carry-area-move p code homes held n offset k other zero s program base m x =
     let fit = move-fits code (spots.Area n offset) (spots.Area k other) 0 x.fits in
     let i : Instruction = Move (spots.Area n offset) (spots.Area k other) 0 in
     let e1 = x.function in
     let e2 = x.in_function in
     let e3 = x.in_block in
     rw (e1, e2, e3)
-    (by-test (λ moved. Carried (layout_of code homes) (graph_of code) program base 42 (shape_of (layout_of code homes) (Move (spots.Area n offset) (spots.Area k other) 0)) s m moved)
+    (by-test (λ moved. Carried (layout_of code homes) (graph_of code) program base 42 (held_after (Move (spots.Area n offset) (spots.Area k other) 0)) (shape_of (layout_of code homes) held (Move (spots.Area n offset) (spots.Area k other) 0)) s m moved)
     (nat_le (other + 0) (length (s.here.areas k))) _ _
     (λ h.
-    by-test (λ moved. Carried (layout_of code homes) (graph_of code) program base 42 (shape_of (layout_of code homes) (Move (spots.Area n offset) (spots.Area k other) 0)) s m moved)
+    by-test (λ moved. Carried (layout_of code homes) (graph_of code) program base 42 (held_after (Move (spots.Area n offset) (spots.Area k other) 0)) (shape_of (layout_of code homes) held (Move (spots.Area n offset) (spots.Area k other) 0)) s m moved)
     (nat_le offset (length (s.here.areas n))) _ _
     (λ g. (
       [],
       nothing-written s.out,
       nothing-comes (layout_of code homes) (used code s) (next code s) (world_of s) base n offset 42 program m x.stands (omega arith) (area-spot code n offset 0 fit.0.0 x.areas).0 x.holds
-          (housed code homes s.here.block s.here.at x.right) (fewer p code homes i s program base m x refl),
+          (housed code homes s.here.block s.here.at x.right) (fewer p code homes held i s program base m x refl),
+      tt,
     ))
     (λ g. tt))
     (λ h. tt))
-carry-area-move p code homes n offset k other (suc size) s program base m x =
-    let is : bytes_moved (layout_of code homes) (spots.Area n offset) (spots.Area k other) (suc size) ≡ some_moved (layout_of code homes) (spots.Area n offset) (spots.Area k other) (suc size) = some-is (layout_of code homes) (spots.Area n offset) (spots.Area k other) (suc size) (λ e. omega (arith, e)) in
+carry-area-move p code homes held n offset k other (suc size) s program base m x =
+    let is : bytes_moved (layout_of code homes) held (spots.Area n offset) (spots.Area k other) (suc size) ≡ some_moved (layout_of code homes) held (spots.Area n offset) (spots.Area k other) (suc size) = some-is (layout_of code homes) held (spots.Area n offset) (spots.Area k other) (suc size) (λ e. omega (arith, e)) in
     let fit = move-fits code (spots.Area n offset) (spots.Area k other) (suc size) x.fits in
     let to = area-spot code n offset (suc size) fit.0.0 x.areas in
     let from = area-spot code k other (suc size) fit.0.1 x.areas in
@@ -569,28 +559,29 @@ carry-area-move p code homes n offset k other (suc size) s program base m x =
     let e1 = x.function in
     let e2 = x.in_function in
     let e3 = x.in_block in
-    subst (λ c. Carried (layout_of code homes) (graph_of code) program base 42 c s m (step p s)) (sym is)
+    subst (λ c. Carried (layout_of code homes) (graph_of code) program base 42 None c s m (step p s)) (sym is)
     (rw (e1, e2, e3)
-    (by-test (λ moved. Carried (layout_of code homes) (graph_of code) program base 42 (some_moved (layout_of code homes) (spots.Area n offset) (spots.Area k other) (suc size)) s m moved)
+    (by-test (λ moved. Carried (layout_of code homes) (graph_of code) program base 42 None (some_moved (layout_of code homes) held (spots.Area n offset) (spots.Area k other) (suc size)) s m moved)
     (nat_le (other + suc size) (length (s.here.areas k))) _ _
     (λ h.
-    by-test (λ moved. Carried (layout_of code homes) (graph_of code) program base 42 (some_moved (layout_of code homes) (spots.Area n offset) (spots.Area k other) (suc size)) s m moved)
+    by-test (λ moved. Carried (layout_of code homes) (graph_of code) program base 42 None (some_moved (layout_of code homes) held (spots.Area n offset) (spots.Area k other) (suc size)) s m moved)
     (nat_le offset (length (s.here.areas n))) _ _
     (λ g. (
       [],
       nothing-written s.out,
-      area-moves (layout_of code homes) n offset k other (suc size) (used code s) (next code s) (world_of s) base program m (subst (λ c. Stands program m.pc c) is x.stands) to.0 from.0 (apart-areas n k fit.1)
+      area-moves (layout_of code homes) held n offset k other (suc size) (used code s) (next code s) (world_of s) base program m (subst (λ c. Stands program m.pc c) is x.stands) to.0 from.0 (apart-areas n k fit.1)
           (leb-true offset (length (s.here.areas n)) g) to.1 (leb-true (other + suc size) (length (s.here.areas k)) h) x.holds
-          (housed code homes s.here.block s.here.at x.right) (fewer p code homes i s program base m x refl),
+          (housed code homes s.here.block s.here.at x.right) (fewer p code homes held i s program base m x refl),
+      tt,
     ))
     (λ g. tt))
     (λ h. tt)))
 
-carry-region-move : (p : Program) (code : Tac) (homes : List (Option Home)) (n offset : ℕ) (at : Place) (a : Address) (size : ℕ) (s : tac.State) (program : List (Option Instr)) (base : ℕ) (m : State) →
-    StandsBefore p code homes (Move (spots.Area n offset) (spots.Region at a) size) s program base m →
+carry-region-move : (p : Program) (code : Tac) (homes : List (Option Home)) (held : Option ℕ) (n offset : ℕ) (at : Place) (a : Address) (size : ℕ) (s : tac.State) (program : List (Option Instr)) (base : ℕ) (m : State) →
+    StandsBefore p code homes held (Move (spots.Area n offset) (spots.Region at a) size) s program base m →
     Carried (layout_of code homes) (graph_of code) program base (words_of (Move (spots.Area n offset) (spots.Region at a) size))
-    (shape_of (layout_of code homes) (Move (spots.Area n offset) (spots.Region at a) size)) s m (step p s)
-carry-region-move p code homes n offset at a zero s program base m x =
+    (held_after (Move (spots.Area n offset) (spots.Region at a) size)) (shape_of (layout_of code homes) held (Move (spots.Area n offset) (spots.Region at a) size)) s m (step p s)
+carry-region-move p code homes held n offset at a zero s program base m x =
     let fit = move-fits code (spots.Area n offset) (spots.Region at a) 0 x.fits in
     let i : Instruction = Move (spots.Area n offset) (spots.Region at a) 0 in
     let weight : ℕ = words_of i in
@@ -601,26 +592,27 @@ carry-region-move p code homes n offset at a zero s program base m x =
     rw (e1, e2, e3)
     (by-fetched at s (range_of s.region (tac.address s a) 0) (λ bs. tac.to_spot (spots.Area n offset) bs s)
     (λ moved. Carried (layout_of code homes) (graph_of code) program base (words_of (Move (spots.Area n offset) (spots.Region at a) 0))
-    (shape_of (layout_of code homes) (Move (spots.Area n offset) (spots.Region at a) 0)) s m moved)
+    (held_after (Move (spots.Area n offset) (spots.Region at a) 0)) (shape_of (layout_of code homes) held (Move (spots.Area n offset) (spots.Region at a) 0)) s m moved)
     (λ bs e.
     let same : [] ≡ bs = cc in
     subst
     (λ z. Carried (layout_of code homes) (graph_of code) program base (words_of (Move (spots.Area n offset) (spots.Region at a) 0))
-    (shape_of (layout_of code homes) (Move (spots.Area n offset) (spots.Region at a) 0)) s m (tac.to_spot (spots.Area n offset) z s)) same
+    (held_after (Move (spots.Area n offset) (spots.Region at a) 0)) (shape_of (layout_of code homes) held (Move (spots.Area n offset) (spots.Region at a) 0)) s m (tac.to_spot (spots.Area n offset) z s)) same
     (by-test
     (λ moved. Carried (layout_of code homes) (graph_of code) program base (words_of (Move (spots.Area n offset) (spots.Region at a) 0))
-    (shape_of (layout_of code homes) (Move (spots.Area n offset) (spots.Region at a) 0)) s m moved)
+    (held_after (Move (spots.Area n offset) (spots.Region at a) 0)) (shape_of (layout_of code homes) held (Move (spots.Area n offset) (spots.Region at a) 0)) s m moved)
     (nat_le offset (length (s.here.areas n))) _ _
     (λ g. (
       [],
       nothing-written s.out,
       nothing-comes (layout_of code homes) (used code s) (next code s) (world_of s) base n offset (words_of (Move (spots.Area n offset) (spots.Region at a) 0)) program m x.stands (omega arith)
-          (area-spot code n offset 0 fit.0.0 x.areas).0 x.holds (housed code homes s.here.block s.here.at x.right) (fewer p code homes i s program base m x refl),
+          (area-spot code n offset 0 fit.0.0 x.areas).0 x.holds (housed code homes s.here.block s.here.at x.right) (fewer p code homes held i s program base m x refl),
+      tt,
     ))
     (λ g. tt)))
     (λ e. let no : Some [] ≡ None = sym none ∙ e in cc))
-carry-region-move p code homes n offset at a (suc size) s program base m x =
-    let is : bytes_moved (layout_of code homes) (spots.Area n offset) (spots.Region at a) (suc size) ≡ some_moved (layout_of code homes) (spots.Area n offset) (spots.Region at a) (suc size) = some-is (layout_of code homes) (spots.Area n offset) (spots.Region at a) (suc size) (λ e. omega (arith, e)) in
+carry-region-move p code homes held n offset at a (suc size) s program base m x =
+    let is : bytes_moved (layout_of code homes) held (spots.Area n offset) (spots.Region at a) (suc size) ≡ some_moved (layout_of code homes) held (spots.Area n offset) (spots.Region at a) (suc size) = some-is (layout_of code homes) held (spots.Area n offset) (spots.Region at a) (suc size) (λ e. omega (arith, e)) in
     let fit = move-fits code (spots.Area n offset) (spots.Region at a) (suc size) x.fits in
     let i : Instruction = Move (spots.Area n offset) (spots.Region at a) (suc size) in
     let to = area-spot code n offset (suc size) fit.0.0 x.areas in
@@ -628,29 +620,29 @@ carry-region-move p code homes n offset at a (suc size) s program base m x =
     let e2 = x.in_function in
     let e3 = x.in_block in
     let both =
-    region-moves (layout_of code homes) n offset at a (suc size) (used code s) (next code s) (world_of s) base program m (subst (λ c. Stands program m.pc c) is x.stands) (spot-place code at (suc size) a fit.0.1)
-    (address-reached code (used code s) s at (suc size) a fit.0.1 x.frame (reads p code homes i s program base m x)) (omega arith) to.0 to.1 x.holds
-    (housed code homes s.here.block s.here.at x.right) (fewer p code homes i s program base m x refl) in
+    region-moves (layout_of code homes) held n offset at a (suc size) (used code s) (next code s) (world_of s) base program m (subst (λ c. Stands program m.pc c) is x.stands) x.five (spot-place code at (suc size) a fit.0.1)
+    (address-reached code (used code s) s at (suc size) a fit.0.1 x.frame (reads p code homes held i s program base m x)) (omega arith) to.0 to.1 x.holds
+    (housed code homes s.here.block s.here.at x.right) (fewer p code homes held i s program base m x refl) in
     let there = address-same s a in
-    subst (λ c. Carried (layout_of code homes) (graph_of code) program base (words_of (Move (spots.Area n offset) (spots.Region at a) (suc size))) c s m (step p s)) (sym is)
+    subst (λ c. Carried (layout_of code homes) (graph_of code) program base (words_of (Move (spots.Area n offset) (spots.Region at a) (suc size))) None c s m (step p s)) (sym is)
     (rw (e1, e2, e3)
     (by-fetched at s (range_of s.region (tac.address s a) (suc size)) (λ bs. tac.to_spot (spots.Area n offset) bs s)
     (λ moved. Carried (layout_of code homes) (graph_of code) program base (words_of (Move (spots.Area n offset) (spots.Region at a) (suc size)))
-    (some_moved (layout_of code homes) (spots.Area n offset) (spots.Region at a) (suc size)) s m moved)
+    None (some_moved (layout_of code homes) held (spots.Area n offset) (spots.Region at a) (suc size)) s m moved)
     (λ bs e.
     by-test
     (λ moved. Carried (layout_of code homes) (graph_of code) program base (words_of (Move (spots.Area n offset) (spots.Region at a) (suc size)))
-    (some_moved (layout_of code homes) (spots.Area n offset) (spots.Region at a) (suc size)) s m moved)
+    None (some_moved (layout_of code homes) held (spots.Area n offset) (spots.Region at a) (suc size)) s m moved)
     (nat_le offset (length (s.here.areas n))) _ _
-    (λ g. ([], nothing-written s.out, both.0 bs (ap (λ z. range_of s.region z (suc size)) there ∙ e) (leb-true offset (length (s.here.areas n)) g)))
+    (λ g. ([], nothing-written s.out, both.0 bs (ap (λ z. range_of s.region z (suc size)) there ∙ e) (leb-true offset (length (s.here.areas n)) g), tt))
     (λ g. tt))
     (λ e. (refl, both.1 (ap (λ z. range_of s.region z (suc size)) there ∙ e)))))
 
-carry-move-out : (p : Program) (code : Tac) (homes : List (Option Home)) (at : Place) (a : Address) (n offset size : ℕ) (s : tac.State) (program : List (Option Instr)) (base : ℕ) (m : State) →
-    StandsBefore p code homes (Move (spots.Region at a) (spots.Area n offset) size) s program base m →
+carry-move-out : (p : Program) (code : Tac) (homes : List (Option Home)) (held : Option ℕ) (at : Place) (a : Address) (n offset size : ℕ) (s : tac.State) (program : List (Option Instr)) (base : ℕ) (m : State) →
+    StandsBefore p code homes held (Move (spots.Region at a) (spots.Area n offset) size) s program base m →
     Carried (layout_of code homes) (graph_of code) program base (words_of (Move (spots.Region at a) (spots.Area n offset) size))
-    (shape_of (layout_of code homes) (Move (spots.Region at a) (spots.Area n offset) size)) s m (step p s)
-carry-move-out p code homes at a n offset zero s program base m x =
+    (held_after (Move (spots.Region at a) (spots.Area n offset) size)) (shape_of (layout_of code homes) held (Move (spots.Region at a) (spots.Area n offset) size)) s m (step p s)
+carry-move-out p code homes held at a n offset zero s program base m x =
     let i : Instruction = Move (spots.Region at a) (spots.Area n offset) 0 in
     let e1 = x.function in
     let e2 = x.in_function in
@@ -659,25 +651,26 @@ carry-move-out p code homes at a n offset zero s program base m x =
     rw (e1, e2, e3)
     (by-test
     (λ moved. Carried (layout_of code homes) (graph_of code) program base (words_of (Move (spots.Region at a) (spots.Area n offset) 0))
-    (shape_of (layout_of code homes) (Move (spots.Region at a) (spots.Area n offset) 0)) s m moved)
+    (held_after (Move (spots.Region at a) (spots.Area n offset) 0)) (shape_of (layout_of code homes) held (Move (spots.Region at a) (spots.Area n offset) 0)) s m moved)
     (nat_le (offset + 0) (length (s.here.areas n))) _ _
     (λ h.
     by-written at s (put_bytes s.region (tac.address s a) [])
     (λ moved. Carried (layout_of code homes) (graph_of code) program base (words_of (Move (spots.Region at a) (spots.Area n offset) 0))
-    (shape_of (layout_of code homes) (Move (spots.Region at a) (spots.Area n offset) 0)) s m moved)
+    (held_after (Move (spots.Region at a) (spots.Area n offset) 0)) (shape_of (layout_of code homes) held (Move (spots.Region at a) (spots.Area n offset) 0)) s m moved)
     (λ r e.
     let same : s.region ≡ r = cc in (
       [],
       nothing-written s.out,
       subst (λ z. Comes (layout_of code homes) program (next code s) (with_region (world_of s) z) base (words_of (Move (spots.Region at a) (spots.Area n offset) 0))
-          (behind m (shape_of (layout_of code homes) (Move (spots.Region at a) (spots.Area n offset) 0))) [] m) same
+          (behind m (shape_of (layout_of code homes) held (Move (spots.Region at a) (spots.Area n offset) 0))) [] m) same
           (nothing-moves (layout_of code homes) (used code s) (next code s) (world_of s) base (words_of (Move (spots.Region at a) (spots.Area n offset) 0)) program m x.stands (omega arith) x.holds
-          (housed code homes s.here.block s.here.at x.right) (fewer p code homes i s program base m x refl)),
+          (housed code homes s.here.block s.here.at x.right) (fewer p code homes held i s program base m x refl)),
+      tt,
     ))
     (λ e. let no : Some s.region ≡ None = sym none ∙ e in cc))
     (λ h. tt))
-carry-move-out p code homes at a n offset (suc size) s program base m x =
-    let is : bytes_moved (layout_of code homes) (spots.Region at a) (spots.Area n offset) (suc size) ≡ some_moved (layout_of code homes) (spots.Region at a) (spots.Area n offset) (suc size) = some-is (layout_of code homes) (spots.Region at a) (spots.Area n offset) (suc size) (λ e. omega (arith, e)) in
+carry-move-out p code homes held at a n offset (suc size) s program base m x =
+    let is : bytes_moved (layout_of code homes) held (spots.Region at a) (spots.Area n offset) (suc size) ≡ some_moved (layout_of code homes) held (spots.Region at a) (spots.Area n offset) (suc size) = some-is (layout_of code homes) held (spots.Region at a) (spots.Area n offset) (suc size) (λ e. omega (arith, e)) in
     let fit = move-fits code (spots.Region at a) (spots.Area n offset) (suc size) x.fits in
     let i : Instruction = Move (spots.Region at a) (spots.Area n offset) (suc size) in
     let from = area-spot code n offset (suc size) fit.0.1 x.areas in
@@ -685,41 +678,41 @@ carry-move-out p code homes at a n offset (suc size) s program base m x =
     let e2 = x.in_function in
     let e3 = x.in_block in
     let there = address-same s a in
-    subst (λ c. Carried (layout_of code homes) (graph_of code) program base (words_of (Move (spots.Region at a) (spots.Area n offset) (suc size))) c s m (step p s)) (sym is)
+    subst (λ c. Carried (layout_of code homes) (graph_of code) program base (words_of (Move (spots.Region at a) (spots.Area n offset) (suc size))) None c s m (step p s)) (sym is)
     (rw (e1, e2, e3)
     (by-test
     (λ moved. Carried (layout_of code homes) (graph_of code) program base (words_of (Move (spots.Region at a) (spots.Area n offset) (suc size)))
-    (some_moved (layout_of code homes) (spots.Region at a) (spots.Area n offset) (suc size)) s m moved)
+    None (some_moved (layout_of code homes) held (spots.Region at a) (spots.Area n offset) (suc size)) s m moved)
     (nat_le (offset + suc size) (length (s.here.areas n))) _ _
     (λ h.
     let both =
-    stores-moved (layout_of code homes) at a n offset (suc size) (used code s) (next code s) (world_of s) base program m (subst (λ c. Stands program m.pc c) is x.stands) (spot-place code at (suc size) a fit.0.0)
-    (address-reached code (used code s) s at (suc size) a fit.0.0 x.frame (λ t u. reads p code homes i s program base m x t (has-left (address_reads a) [] t u))) (omega arith) from.0
-    (leb-true (offset + suc size) (length (s.here.areas n)) h) x.holds (housed code homes s.here.block s.here.at x.right) (fewer p code homes i s program base m x refl) in
+    stores-moved (layout_of code homes) held at a n offset (suc size) (used code s) (next code s) (world_of s) base program m (subst (λ c. Stands program m.pc c) is x.stands) x.five (spot-place code at (suc size) a fit.0.0)
+    (address-reached code (used code s) s at (suc size) a fit.0.0 x.frame (λ t u. reads p code homes held i s program base m x t (has-left (address_reads a) [] t u))) (omega arith) from.0
+    (leb-true (offset + suc size) (length (s.here.areas n)) h) x.holds (housed code homes s.here.block s.here.at x.right) (fewer p code homes held i s program base m x refl) in
     by-written at s (put_bytes s.region (tac.address s a) (part (s.here.areas n) offset (suc size)))
     (λ moved. Carried (layout_of code homes) (graph_of code) program base (words_of (Move (spots.Region at a) (spots.Area n offset) (suc size)))
-    (some_moved (layout_of code homes) (spots.Region at a) (spots.Area n offset) (suc size)) s m moved)
-    (λ r e. ([], nothing-written s.out, both.0 r (ap (λ z. put_bytes s.region z (part (s.here.areas n) offset (suc size))) there ∙ e)))
+    None (some_moved (layout_of code homes) held (spots.Region at a) (spots.Area n offset) (suc size)) s m moved)
+    (λ r e. ([], nothing-written s.out, both.0 r (ap (λ z. put_bytes s.region z (part (s.here.areas n) offset (suc size))) there ∙ e), tt))
     (λ e. (refl, both.1 (ap (λ z. put_bytes s.region z (part (s.here.areas n) offset (suc size))) there ∙ e))))
     (λ h. tt)))
 
 pub instructions : InstructionsAreCarried
-instructions p code homes (Compute d op form a b) s program base m h x = carry-compute p code homes d op form a b s program base m x
-instructions p code homes (TestDivisor at a) s program base m h x = carry-test p code homes at a s program base m x
-instructions p code homes (Copy d a) s program base m h x = carry-copy p code homes d a s program base m x
-instructions p code homes (Locate d offset) s program base m h x = carry-locate p code homes d offset s program base m x
-instructions p code homes (Load d form (spots.Region at a)) s program base m h x = carry-load p code homes d form at a s program base m x
-instructions p code homes (Load d form (spots.Area n offset)) s program base m h x = carry-area-load p code homes d form n offset s program base m x
-instructions p code homes (Store (spots.Region at a) size b) s program base m h x = carry-store p code homes size at a b s program base m x
-instructions p code homes (Store (spots.Area n offset) size b) s program base m h x = carry-area-store p code homes size n offset b s program base m x
-instructions p code homes (Move (spots.Area n offset) (spots.Area k other) size) s program base m h x = carry-area-move p code homes n offset k other size s program base m x
-instructions p code homes (Move (spots.Area n offset) (spots.Region at a) size) s program base m h x = carry-region-move p code homes n offset at a size s program base m x
-instructions p code homes (Move (spots.Region at a) (spots.Area n offset) size) s program base m h x = carry-move-out p code homes at a n offset size s program base m x
-instructions p code homes (Move (spots.Region at a) (spots.Region other b) size) s program base m h x =
+instructions p code homes held (Compute d op form a b) s program base m h x = carry-compute p code homes held d op form a b s program base m x
+instructions p code homes held (TestDivisor at a) s program base m h x = carry-test p code homes held at a s program base m x
+instructions p code homes held (Copy d a) s program base m h x = carry-copy p code homes held d a s program base m x
+instructions p code homes held (Locate d offset) s program base m h x = carry-locate p code homes held d offset s program base m x
+instructions p code homes held (Load d form (spots.Region at a)) s program base m h x = carry-load p code homes held d form at a s program base m x
+instructions p code homes held (Load d form (spots.Area n offset)) s program base m h x = carry-area-load p code homes held d form n offset s program base m x
+instructions p code homes held (Store (spots.Region at a) size b) s program base m h x = carry-store p code homes held size at a b s program base m x
+instructions p code homes held (Store (spots.Area n offset) size b) s program base m h x = carry-area-store p code homes held size n offset b s program base m x
+instructions p code homes held (Move (spots.Area n offset) (spots.Area k other) size) s program base m h x = carry-area-move p code homes held n offset k other size s program base m x
+instructions p code homes held (Move (spots.Area n offset) (spots.Region at a) size) s program base m h x = carry-region-move p code homes held n offset at a size s program base m x
+instructions p code homes held (Move (spots.Region at a) (spots.Area n offset) size) s program base m h x = carry-move-out p code homes held at a n offset size s program base m x
+instructions p code homes held (Move (spots.Region at a) (spots.Region other b) size) s program base m h x =
     let none : false ≡ true = (move-fits code (spots.Region at a) (spots.Region other b) size x.fits).1 in cc
-instructions p code homes (Clear n size) s program base m h x = carry-clear p code homes n size s program base m (leb-true size most_moved h) x
-instructions p code homes (Call to at f arguments) s program base m h x = cc
-instructions p code homes (CallValue to at sig a arguments) s program base m h x = cc
-instructions p code homes (PutByte a) s program base m h x = carry-byte p code homes a s program base m x
-instructions p code homes (Write at a b) s program base m h x = carry-write p code homes at a b s program base m x
-instructions p code homes (Alloc d a) s program base m h x = carry-alloc p code homes d a s program base m x
+instructions p code homes held (Clear n size) s program base m h x = carry-clear p code homes held n size s program base m (leb-true size most_moved h) x
+instructions p code homes held (Call to at f arguments) s program base m h x = cc
+instructions p code homes held (CallValue to at sig a arguments) s program base m h x = cc
+instructions p code homes held (PutByte a) s program base m h x = carry-byte p code homes held a s program base m x
+instructions p code homes held (Write at a b) s program base m h x = carry-write p code homes held at a b s program base m x
+instructions p code homes held (Alloc d a) s program base m h x = carry-alloc p code homes held d a s program base m x

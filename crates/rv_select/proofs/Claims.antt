@@ -19,34 +19,39 @@ use Rattle.tac_form.specs.declared.tac.Instruction.TheVariants.{Compute, Copy, L
 use Rattle.tac_form.specs.Flow.{bytes_of, put, width_of}
 use Rattle.tac_form.specs.Weights.{words_of}
 use Rattle.rv_operators.specs.Runs.{Stands}
-use Rattle.rv_select.specs.Places.{Layout, World, Holds, Housed, IsRead, home_of, value_in}
+use Rattle.rv_select.specs.Places.{IsHeld, Layout, World, Holds, Housed, IsRead, home_of, value_in}
 use Rattle.rv_select.specs.Shapes.{copied, computed, divisor_tested, loaded, located, put_to, stored}
 use Rattle.rv_select.specs.Steps.{AreFewer, Comes, Ends, Follows, IsPlace, behind, with_temp}
+
+-- The machine comes somewhere with the word of a temporary in x5.
+pub record Gives (y : Layout) (program : List (Option Instr)) (Next : ℕ → Type 0) (w : World) (base weight target d : ℕ) (m : State) : Type 0 where
+  pub comes : Comes y program Next w base weight target [] m
+  pub five : comes.after.registers 5 ≡ w.temps d
 
 -- a copy
 abbrev pub CopiesAreCarried : Type 1
 CopiesAreCarried =
-    (y : Layout) (d : ℕ) (a : Operand) (Used Next : ℕ → Type 0) (w : World) (base : ℕ) (program : List (Option Instr)) (m : State) →
-    Stands program m.pc (copied y d a) → Holds y Used w base m → Housed y Used → Housed y Next →
+    (y : Layout) (held : Option ℕ) (d : ℕ) (a : Operand) (Used Next : ℕ → Type 0) (w : World) (base : ℕ) (program : List (Option Instr)) (m : State) →
+    Stands program m.pc (copied y held d a) → IsHeld held w.temps m → Holds y Used w base m → Housed y Used → Housed y Next →
     IsRead Used a → Next d → Follows Used Next d →
-    Comes y program Next (with_temp w d (value_in w.temps a)) base (words_of (Copy d a)) (behind m (copied y d a)) [] m
+    Gives y program Next (with_temp w d (value_in w.temps a)) base (words_of (Copy d a)) (behind m (copied y held d a)) d m
 
 -- an operator on numbers, whose divisor isn't zero
 abbrev pub OperatorsAreCarried : Type 1
 OperatorsAreCarried =
-    (y : Layout) (d : ℕ) (op : BinaryOperator) (form : Number) (a b : Operand) (Used Next : ℕ → Type 0) (w : World) (base : ℕ)
+    (y : Layout) (held : Option ℕ) (d : ℕ) (op : BinaryOperator) (form : Number) (a b : Operand) (Used Next : ℕ → Type 0) (w : World) (base : ℕ)
     (program : List (Option Instr)) (m : State) →
-    Stands program m.pc (computed y d op (width_of form) a b) → (divides op ≡ true → value_in w.temps b ≢ 0) →
+    Stands program m.pc (computed y held d op (width_of form) a b) → IsHeld held w.temps m → (divides op ≡ true → value_in w.temps b ≢ 0) →
     Holds y Used w base m → Housed y Used → Housed y Next → IsRead Used a → IsRead Used b → Next d → Follows Used Next d →
-    Comes y program Next (with_temp w d (applied (width_of form) op (value_in w.temps a) (value_in w.temps b))) base
-    (words_of (Compute d op form a b)) (behind m (computed y d op (width_of form) a b)) [] m
+    Gives y program Next (with_temp w d (applied (width_of form) op (value_in w.temps a) (value_in w.temps b))) base
+    (words_of (Compute d op form a b)) (behind m (computed y held d op (width_of form) a b)) d m
 
 -- a test of a divisor: the run goes on where it isn't zero, and ends by a fault where it is
 abbrev pub DivisorsAreTested : Type 1
 DivisorsAreTested =
-    (y : Layout) (at : Place) (a : Operand) (Used Next : ℕ → Type 0) (w : World) (base : ℕ) (program : List (Option Instr)) (m : State) →
-    Stands program m.pc (divisor_tested y at a) → IsPlace at → Holds y Used w base m → Housed y Used → IsRead Used a → AreFewer Used Next →
-    (value_in w.temps a ≢ 0 → Comes y program Next w base (words_of (TestDivisor at a)) (behind m (divisor_tested y at a)) [] m)
+    (y : Layout) (held : Option ℕ) (at : Place) (a : Operand) (Used Next : ℕ → Type 0) (w : World) (base : ℕ) (program : List (Option Instr)) (m : State) →
+    Stands program m.pc (divisor_tested y held at a) → IsHeld held w.temps m → IsPlace at → Holds y Used w base m → Housed y Used → IsRead Used a → AreFewer Used Next →
+    (value_in w.temps a ≢ 0 → Comes y program Next w base (words_of (TestDivisor at a)) (behind m (divisor_tested y held at a)) [] m)
     × (value_in w.temps a ≡ 0 → Ends program DivZero at (words_of (TestDivisor at a)) m)
 
 -- the address of an offset of the frame in the region
@@ -55,7 +60,7 @@ AddressesAreCarried =
     (y : Layout) (d offset : ℕ) (Used Next : ℕ → Type 0) (w : World) (base : ℕ) (program : List (Option Instr)) (m : State) →
     Stands program m.pc (located offset ++ put_to (home_of y d)) → w.placed + offset < 2 ^ 64 →
     Holds y Used w base m → Housed y Used → Housed y Next → Next d → Follows Used Next d →
-    Comes y program Next (with_temp w d (w.placed + offset)) base (words_of (Locate d offset)) (behind m (located offset ++ put_to (home_of y d))) [] m
+    Gives y program Next (with_temp w d (w.placed + offset)) base (words_of (Locate d offset)) (behind m (located offset ++ put_to (home_of y d))) d m
 
 -- an address, and what has to be there where it is reached without a test
 abbrev pub address_in : World → Address → ℕ
@@ -73,22 +78,22 @@ with_region w r = record w { region = r }
 -- a load from the region
 abbrev pub RegionLoadsAreCarried : Type 1
 RegionLoadsAreCarried =
-    (y : Layout) (d : ℕ) (form : Number) (at : Place) (a : Address) (Used Next : ℕ → Type 0) (w : World) (base : ℕ) (program : List (Option Instr)) (m : State) →
-    Stands program m.pc (loaded y d form (spots.Region at a)) → IsPlace at → IsReached Used w (bytes_of form.size) a →
+    (y : Layout) (held : Option ℕ) (d : ℕ) (form : Number) (at : Place) (a : Address) (Used Next : ℕ → Type 0) (w : World) (base : ℕ) (program : List (Option Instr)) (m : State) →
+    Stands program m.pc (loaded y held d form (spots.Region at a)) → IsHeld held w.temps m → IsPlace at → IsReached Used w (bytes_of form.size) a →
     Holds y Used w base m → Housed y Used → Housed y Next → Next d → Follows Used Next d →
     ((bs : List ℕ) → range_of w.region (address_in w a) (bytes_of form.size) ≡ Some bs →
-    Comes y program Next (with_temp w d (wrapped (width_of form) (number_of bs))) base (words_of (Load d form (spots.Region at a)))
-    (behind m (loaded y d form (spots.Region at a))) [] m)
+    Gives y program Next (with_temp w d (wrapped (width_of form) (number_of bs))) base (words_of (Load d form (spots.Region at a)))
+    (behind m (loaded y held d form (spots.Region at a))) d m)
     × (range_of w.region (address_in w a) (bytes_of form.size) ≡ None → Ends program BadAddress at (words_of (Load d form (spots.Region at a))) m)
 
 -- a store to the region
 abbrev pub RegionStoresAreCarried : Type 1
 RegionStoresAreCarried =
-    (y : Layout) (size : Size) (at : Place) (a : Address) (b : Operand) (Used Next : ℕ → Type 0) (w : World) (base : ℕ) (program : List (Option Instr)) (m : State) →
-    Stands program m.pc (stored y (spots.Region at a) size b) → IsPlace at → IsReached Used w (bytes_of size) a → IsRead Used b →
+    (y : Layout) (held : Option ℕ) (size : Size) (at : Place) (a : Address) (b : Operand) (Used Next : ℕ → Type 0) (w : World) (base : ℕ) (program : List (Option Instr)) (m : State) →
+    Stands program m.pc (stored y held (spots.Region at a) size b) → IsHeld held w.temps m → IsPlace at → IsReached Used w (bytes_of size) a → IsRead Used b →
     Holds y Used w base m → Housed y Used → AreFewer Used Next →
     ((r : Contents) → put_bytes w.region (address_in w a) (low_bytes (bytes_of size) (value_in w.temps b)) ≡ Some r →
-    Comes y program Next (with_region w r) base (words_of (Store (spots.Region at a) size b)) (behind m (stored y (spots.Region at a) size b)) [] m)
+    Comes y program Next (with_region w r) base (words_of (Store (spots.Region at a) size b)) (behind m (stored y held (spots.Region at a) size b)) [] m)
     × (put_bytes w.region (address_in w a) (low_bytes (bytes_of size) (value_in w.temps b)) ≡ None →
     Ends program BadAddress at (words_of (Store (spots.Region at a) size b)) m)
 

@@ -35,12 +35,12 @@ use Rattle.rv_operators.specs.Codes.{is_comparison, x5, x6}
 use Rattle.rv_operators.specs.Runs.{Stands}
 use Rattle.rv_operators.proofs.Values.{signed-less}
 use Rattle.rv_select.specs.Places.{Holds, Housed, IsRead, Layout, World, layout_of, value_in}
-use Rattle.rv_select.specs.Shapes.{jump, taken}
+use Rattle.rv_select.specs.Shapes.{first_taken, jump, taken}
 use Rattle.rv_select.specs.Compared.{ComparesAreCarried, ComparesKeepWithin, StandsAtCompare, below_condition, chosen, compared, condition_of, least_condition, left_of, operands_taken, right_of}
 use Rattle.rv_select.specs.Steps.{AreFewer, Comes, Left, with_temp, world_of}
 use Rattle.rv_select.proofs.Straight.{Loads, Scratch, loads-five, loads-six, scratch-both}
 use Rattle.rv_select.proofs.Ways.{Near, Way, at_pc, near-both, near-pc, scratch-near, stands-back, stands-front, straight-way, way-both}
-use Rattle.rv_select.proofs.Homes.{operand-count, take-operand, taken-count}
+use Rattle.rv_select.proofs.Homes.{first-count, first-few, operand-count, take-first, take-operand, taken-count}
 use Rattle.rv_select.proofs.Moves.{scratch-holds, value-small}
 use Rattle.rv_select.proofs.Numbers.{pushed_words}
 use Rattle.rv_select.proofs.Faults.{branch-way}
@@ -146,8 +146,8 @@ unread-holds y Used w base d v m p = record {
 }
 
 -- the comparison at its place
-module _ (p : Program) (code : Tac) (homes : List (Option Home)) (d : ℕ) (op : BinaryOperator) (form : Number) (a b : Operand) (e f : Edge) (starts : ℕ → ℕ) (s : tac.State)
-    (program : List (Option Instr)) (base : ℕ) (m : State) (x : StandsAtCompare p code homes d op form a b e f starts s program base m) where
+module _ (p : Program) (code : Tac) (homes : List (Option Home)) (held : Option ℕ) (d : ℕ) (op : BinaryOperator) (form : Number) (a b : Operand) (e f : Edge) (starts : ℕ → ℕ) (s : tac.State)
+    (program : List (Option Instr)) (base : ℕ) (m : State) (x : StandsAtCompare p code homes held d op form a b e f starts s program base m) where
   abbrev y : Layout
   y = layout_of code homes
 
@@ -167,7 +167,7 @@ module _ (p : Program) (code : Tac) (homes : List (Option Home)) (d : ℕ) (op :
   after_it = tac.ahead (tac.set_temp d result s)
 
   abbrev A : List Instr
-  A = operands_taken y a b
+  A = operands_taken y held a b
 
   abbrev weight : ℕ
   weight = words_of (Compute d op form a b) + exit_words (Branch (Temp d) e f)
@@ -207,14 +207,14 @@ module _ (p : Program) (code : Tac) (homes : List (Option Home)) (d : ℕ) (op :
   compare-comes : (taken_it : Bool) (c : ℕ) → not (nat_eq result 0) ≡ taken_it → (if taken_it then e.block else f.block) ≡ c → (IsLive (graph_of code) c 0 d → ⊥) →
       ((q : ℕ → Bool) → q c ≡ true → list_any q (exit_next (Branch (Temp d) e f)) ≡ true) → Comes y program (InUse (graph_of code) c 0) (world_of after_it) base weight (starts c) [] m
   compare-comes taken_it c is block unread h =
-      let l : Loads 5 (taken y x5 a) m va = take-operand y x5 used (world_of s) base m a (λ q. omega (arith, q)) x.holds all-housed read-a in
-      let q : Holds y used (world_of s) base l.after = scratch-holds y used (world_of s) base (taken y x5 a) m l.after x.holds all-housed (loads-five (taken y x5 a) m va l) in
+      let l : Loads 5 (first_taken y held a) m va = take-first y held used (world_of s) base m a x.five x.holds all-housed read-a in
+      let q : Holds y used (world_of s) base l.after = scratch-holds y used (world_of s) base (first_taken y held a) m l.after x.holds all-housed (loads-five (first_taken y held a) m va l) in
       let k : Loads 6 (taken y x6 b) l.after vb = take-operand y x6 used (world_of s) base l.after b (λ i. omega (arith, i)) q all-housed read-b in
       let five : k.after.registers 5 ≡ va = k.keeps 5 (λ i. omega (arith, i)) (λ i. omega (arith, i)) ∙ l.gives in
-      let both : Scratch A m k.after = scratch-both (taken y x5 a) (taken y x6 b) m l.after k.after (loads-five (taken y x5 a) m va l) (loads-six (taken y x6 b) l.after vb k) in
+      let both : Scratch A m k.after = scratch-both (first_taken y held a) (taken y x6 b) m l.after k.after (loads-five (first_taken y held a) m va l) (loads-six (taken y x6 b) l.after vb k) in
       let count : length A ≤ weights.operand_words a + weights.operand_words b =
-      omega (arith, length-append (taken y x5 a) (taken y x6 b), operand-count y x5 a, operand-count y x6 b) in
-      let few : length A ≤ 16 = omega (arith, length-append (taken y x5 a) (taken y x6 b), taken-count y x5 a, taken-count y x6 b) in
+      omega (arith, length-append (first_taken y held a) (taken y x6 b), first-count y held a, operand-count y x6 b) in
+      let few : length A ≤ 16 = omega (arith, length-append (first_taken y held a) (taken y x6 b), first-few y held a, taken-count y x6 b) in
       chosen-comes y (without used d) (InUse (graph_of code) c 0) (world_of after_it) base (starts e.block) (starts f.block) (starts c) weight (condition_of form.signed op) (left_of op) (right_of op) taken_it A program m k.after
       both (unread-holds y used (world_of s) base d result m x.holds) (record { homes = λ t u. all-housed.homes t u.0; apart = λ t u i j g. all-housed.apart t u i.0 j.0 g }) (next-here c unread h)
       (omega arith) few x.near (x.blocks e.block) (x.blocks f.block) x.stands
@@ -248,8 +248,8 @@ module _ (p : Program) (code : Tac) (homes : List (Option Home)) (d : ℕ) (op :
       (λ c. ⊎_elim (λ k. rw k tt) (λ k. let q = k.1 in rw q (refl, comes)) (zero-or-more s.left)) (λ c. (refl, comes))))))
 
 pub compares : ComparesAreCarried
-compares p code homes d op form a b e f starts s program base m x =
-    let leave = carry-leave p code homes d op form a b e f starts s program base m x in
+compares p code homes held d op form a b e f starts s program base m x =
+    let leave = carry-leave p code homes held d op form a b e f starts s program base m x in
     let e1 = x.function in
     let e2 = x.in_function in
     let e3 = x.in_block in
@@ -259,16 +259,17 @@ compares p code homes d op form a b e f starts s program base m x =
     (by-test (λ moved. Left (layout_of code homes) (graph_of code) program base (words_of (Compute d op form a b) + exit_words (Branch (Temp d) e f)) starts s m (steps p 1 moved)) zero _ _ (λ h. tt) (λ h. leave))
 
 -- how many words there are
-compared-count : (y : Layout) (signed : Bool) (op : BinaryOperator) (a b : Operand) (at first second : ℕ) → length (operands_taken y a b ++ compared signed op at first second) ≡ length (operands_taken y a b) + 5
-compared-count y signed op a b at first second = length-append (operands_taken y a b) (compared signed op at first second)
+compared-count : (y : Layout) (held : Option ℕ) (signed : Bool) (op : BinaryOperator) (a b : Operand) (at first second : ℕ) → length (operands_taken y held a b ++ compared signed op at first second) ≡ length (operands_taken y held a b) + 5
+compared-count y held signed op a b at first second = length-append (operands_taken y held a b) (compared signed op at first second)
 
 pub compares-within : ComparesKeepWithin
-compares-within y d op form a b e f at other starts others = (
-  omega (arith, compared-count y form.signed op a b (at + 4 * length (operands_taken y a b)) (starts e.block) (starts f.block), length-append (taken y x5 a) (taken y x6 b), taken-count y x5 a, taken-count y x6 b),
-  omega (arith, compared-count y form.signed op a b (at + 4 * length (operands_taken y a b)) (starts e.block) (starts f.block), length-append (taken y x5 a) (taken y x6 b), operand-count y x5 a, operand-count y x6 b),
-  compared-count y form.signed op a b (at + 4 * length (operands_taken y a b)) (starts e.block) (starts f.block)
-      ∙ sym (compared-count y form.signed op a b (other + 4 * length (operands_taken y a b)) (others e.block) (others f.block)),
+compares-within y held d op form a b e f at other starts others = (
+  omega (arith, compared-count y held form.signed op a b (at + 4 * length (operands_taken y held a b)) (starts e.block) (starts f.block), length-append (first_taken y held a) (taken y x6 b), first-few y held a, taken-count y x6 b),
+  omega (arith, compared-count y held form.signed op a b (at + 4 * length (operands_taken y held a b)) (starts e.block) (starts f.block), length-append (first_taken y held a) (taken y x6 b), first-count y held a, operand-count y x6 b),
+  compared-count y held form.signed op a b (at + 4 * length (operands_taken y held a b)) (starts e.block) (starts f.block)
+      ∙ sym (compared-count y held form.signed op a b (other + 4 * length (operands_taken y held a b)) (others e.block) (others f.block)),
 )
 
-pub operand_words : (old : List ℕ) (y : Layout) (a b : Operand) → (length (old ++ map word_of (operands_taken y a b)) ≡ length old + length (operands_taken y a b)) × (length (operands_taken y a b) ≤ 16)
-operand_words old y a b = (pushed_words old (operands_taken y a b), omega (arith, length-append (taken y x5 a) (taken y x6 b), taken-count y x5 a, taken-count y x6 b))
+pub operand_words : (old : List ℕ) (y : Layout) (held : Option ℕ) (a b : Operand) →
+    (length (old ++ map word_of (operands_taken y held a b)) ≡ length old + length (operands_taken y held a b)) × (length (operands_taken y held a b) ≤ 16)
+operand_words old y held a b = (pushed_words old (operands_taken y held a b), omega (arith, length-append (first_taken y held a) (taken y x6 b), first-few y held a, taken-count y x6 b))

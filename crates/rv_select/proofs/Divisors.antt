@@ -18,13 +18,13 @@ use Rattle.rv_operators.specs.Codes.{x0, x5}
 use Rattle.rv_operators.specs.Runs.{Stands}
 use Rattle.rv_select.specs.Places.{World, Holds, Housed, Layout, value_in}
 use Rattle.rv_select.specs.Numbers.{constant, immediate_of}
-use Rattle.rv_select.specs.Shapes.{failed, located, over, taken, x8}
+use Rattle.rv_select.specs.Shapes.{failed, first_taken, located, over, x8}
 use Rattle.rv_select.specs.Steps.{Comes, Ends, AreFewer, IsPlace, behind}
 use Rattle.rv_select.proofs.Claims.{AddressesAreCarried, DivisorsAreTested}
 use Rattle.rv_select.proofs.Straight.{Loads, behind-both, loads-both, loads-five, loads-one, low-below, low-small}
 use Rattle.rv_select.proofs.Numbers.{constant-count, constant-loads, immediate-is}
 use Rattle.rv_select.proofs.Ways.{Near, Way, at_pc, near-both, near-pc, scratch-near, stands-back, stands-front, straight-way, way-both}
-use Rattle.rv_select.proofs.Homes.{operand-count, take-operand}
+use Rattle.rv_select.proofs.Homes.{first-count, take-first}
 use Rattle.rv_select.proofs.Faults.{branch-way, failed-count, fails, later-ends}
 use Rattle.rv_select.proofs.Moves.{fewer-holds, near-holds, near-keeps, straight-put}
 
@@ -76,9 +76,10 @@ tests y Used Next w base v most weight at A F program m l is fa enough ff stands
     )
 
 pub divisors : DivisorsAreTested
-divisors y at a Used Next w base program m stands place p h r f =
-    tests y Used Next w base (value_in w.temps a) (operand_words a) (words_of (TestDivisor at a)) at (taken y x5 a) (failed DivZero at) program m (take-operand y x5 Used w base m a (λ e. omega (arith, e)) p h r)
-    refl (operand-count y x5 a) (omega arith) (failed-count DivZero at) stands place p h f
+divisors y held at a Used Next w base program m stands five place p h r f =
+    tests y Used Next w base (value_in w.temps a) (operand_words a) (words_of (TestDivisor at a)) at (first_taken y held a) (failed DivZero at) program m
+    (take-first y held Used w base m a five p h r)
+    refl (first-count y held a) (omega arith) (failed-count DivZero at) stands place p h f
 
 -- x5 gets the address of an offset of the frame in the region
 near-located : (m : State) (placed offset : ℕ) → m.registers 8 ≡ placed → placed + offset < 2 ^ 64 → offset < 2048 →

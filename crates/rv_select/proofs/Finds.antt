@@ -13,10 +13,10 @@ use Rattle.tac_form.specs.declared.tac.Tac.{Tac}
 use Rattle.rv_machine.specs.Word.{low}
 use Rattle.rv_operators.specs.Runs.{Stands}
 use Rattle.rv_select.specs.Places.{Layout, frame_bytes}
-use Rattle.rv_select.specs.Shapes.{start_of, taken, x10}
-use Rattle.rv_select.specs.Calls.{block_code, block_starts, blocks_code, blocks_length, body_code, call_begun, call_ended, call_jump, exit_code, function_code, head_code, instruction_code, instructions_code, last_address, part_taken, starts_from}
+use Rattle.rv_select.specs.Shapes.{first_taken, held_after, start_of, x10}
+use Rattle.rv_select.specs.Calls.{block_code, block_starts, blocks_code, blocks_length, body_code, call_begun, call_ended, call_jump, exit_code, function_code, head_code, held_behind, instruction_code, instructions_code, last_address, part_taken, starts_from}
 use Rattle.rv_select.specs.Entering.{begun, entered, left, received, words_offset}
-use Rattle.rv_select.specs.Waiting.{instruction_at}
+use Rattle.rv_select.specs.Waiting.{held_at, instruction_at}
 use Rattle.rv_select.proofs.Ways.{stands-back, stands-front}
 
 near-low : (n : ℕ) → n ≤ 2 ^ 30 → low n ≡ n
@@ -33,44 +33,44 @@ stands-next program at a b h there =
     subst (λ q. Stands program q b) (near-low (at + 4 * length a) h) (stands-back program at a b (omega (arith, h)) there)
 
 -- the code of an instruction is as long wherever it and functions stand
-pub instruction-length : (y : Layout) (sizes : List ℕ) (places others : FnId → ℕ) (at other : ℕ) (i : Instruction) →
-    length (instruction_code y sizes places at i) ≡ length (instruction_code y sizes others other i)
-instruction-length y sizes places others at other (Call to place f arguments) =
+pub instruction-length : (y : Layout) (sizes : List ℕ) (places others : FnId → ℕ) (at other : ℕ) (held : Option ℕ) (i : Instruction) →
+    length (instruction_code y sizes places at held i) ≡ length (instruction_code y sizes others other held i)
+instruction-length y sizes places others at other held (Call to place f arguments) =
     let A = call_begun y place arguments in
     let C = call_ended y sizes to in
     length-append A (call_jump (at + 4 * length A) (places f) ++ C) ∙ sym
     (length-append A (call_jump (other + 4 * length A) (others f) ++ C))
-instruction-length y sizes places others at other (Compute d op form a b) = refl
-instruction-length y sizes places others at other (TestDivisor place a) = refl
-instruction-length y sizes places others at other (Copy d a) = refl
-instruction-length y sizes places others at other (Locate d offset) = refl
-instruction-length y sizes places others at other (Load d form spot) = refl
-instruction-length y sizes places others at other (Store spot size a) = refl
-instruction-length y sizes places others at other (Move to from size) = refl
-instruction-length y sizes places others at other (Clear n size) = refl
-instruction-length y sizes places others at other (CallValue to place sig a arguments) = refl
-instruction-length y sizes places others at other (PutByte a) = refl
-instruction-length y sizes places others at other (Write place a b) = refl
-instruction-length y sizes places others at other (Alloc d a) = refl
+instruction-length y sizes places others at other held (Compute d op form a b) = refl
+instruction-length y sizes places others at other held (TestDivisor place a) = refl
+instruction-length y sizes places others at other held (Copy d a) = refl
+instruction-length y sizes places others at other held (Locate d offset) = refl
+instruction-length y sizes places others at other held (Load d form spot) = refl
+instruction-length y sizes places others at other held (Store spot size a) = refl
+instruction-length y sizes places others at other held (Move to from size) = refl
+instruction-length y sizes places others at other held (Clear n size) = refl
+instruction-length y sizes places others at other held (CallValue to place sig a arguments) = refl
+instruction-length y sizes places others at other held (PutByte a) = refl
+instruction-length y sizes places others at other held (Write place a b) = refl
+instruction-length y sizes places others at other held (Alloc d a) = refl
 
-pub exit-length : (y : Layout) (at other last final : ℕ) (starts others : ℕ → ℕ) (e : Exit) →
-    length (exit_code y at starts last e) ≡ length (exit_code y other others final e)
-exit-length y at other last final starts others (Return v) =
+pub exit-length : (y : Layout) (held : Option ℕ) (at other last final : ℕ) (starts others : ℕ → ℕ) (e : Exit) →
+    length (exit_code y held at starts last e) ≡ length (exit_code y held other others final e)
+exit-length y held at other last final starts others (Return v) =
     let A = part_taken y x10 v in length-append A _ ∙ sym (length-append A _)
-exit-length y at other last final starts others (Jump e) = refl
-exit-length y at other last final starts others (Branch a e f) = length-append (taken y _ a) _ ∙ sym (length-append (taken y _ a) _)
-exit-length y at other last final starts others (Fail kind place) = refl
+exit-length y held at other last final starts others (Jump e) = refl
+exit-length y held at other last final starts others (Branch a e f) = length-append (first_taken y held a) _ ∙ sym (length-append (first_taken y held a) _)
+exit-length y held at other last final starts others (Fail kind place) = refl
 
-pub instructions-length : (y : Layout) (sizes : List ℕ) (places others : FnId → ℕ) (at other : ℕ) (is : List Instruction) →
-    length (instructions_code y sizes places at is) ≡ length (instructions_code y sizes others other is)
-instructions-length y sizes places others at other [] = refl
-instructions-length y sizes places others at other (i ∷ is) =
-    let A = instruction_code y sizes places at i in
-    let B = instruction_code y sizes others other i in
-    let C = instructions_code y sizes places (at + 4 * length A) is in
-    let D = instructions_code y sizes others (other + 4 * length B) is in
-    let a : length A ≡ length B = instruction-length y sizes places others at other i in
-    let c : length C ≡ length D = instructions-length y sizes places others (at + 4 * length A) (other + 4 * length B) is in
+pub instructions-length : (y : Layout) (sizes : List ℕ) (places others : FnId → ℕ) (at other : ℕ) (held : Option ℕ) (is : List Instruction) →
+    length (instructions_code y sizes places at held is) ≡ length (instructions_code y sizes others other held is)
+instructions-length y sizes places others at other held [] = refl
+instructions-length y sizes places others at other held (i ∷ is) =
+    let A = instruction_code y sizes places at held i in
+    let B = instruction_code y sizes others other held i in
+    let C = instructions_code y sizes places (at + 4 * length A) (held_after i) is in
+    let D = instructions_code y sizes others (other + 4 * length B) (held_after i) is in
+    let a : length A ≡ length B = instruction-length y sizes places others at other held i in
+    let c : length C ≡ length D = instructions-length y sizes places others (at + 4 * length A) (other + 4 * length B) (held_after i) is in
     length-append A C ∙ (sums (length A) (length B) (length C) (length D) a c ∙ sym (length-append B D))
   where
     sums : (a b c d : ℕ) → a ≡ b → c ≡ d → a + c ≡ b + d
@@ -79,12 +79,12 @@ instructions-length y sizes places others at other (i ∷ is) =
 pub block-length : (y : Layout) (sizes : List ℕ) (places others : FnId → ℕ) (starts ends : ℕ → ℕ) (last final at other : ℕ) (b : Block) →
     length (block_code y sizes places starts last at b) ≡ length (block_code y sizes others ends final other b)
 block-length y sizes places others starts ends last final at other b =
-    let A = instructions_code y sizes places at b.instructions in
-    let B = instructions_code y sizes others other b.instructions in
-    let C = exit_code y (at + 4 * length A) starts last b.exit in
-    let D = exit_code y (other + 4 * length B) ends final b.exit in
-    let a : length A ≡ length B = instructions-length y sizes places others at other b.instructions in
-    let c : length C ≡ length D = exit-length y (at + 4 * length A) (other + 4 * length B) last final starts ends b.exit in
+    let A = instructions_code y sizes places at None b.instructions in
+    let B = instructions_code y sizes others other None b.instructions in
+    let C = exit_code y (held_behind None b.instructions) (at + 4 * length A) starts last b.exit in
+    let D = exit_code y (held_behind None b.instructions) (other + 4 * length B) ends final b.exit in
+    let a : length A ≡ length B = instructions-length y sizes places others at other None b.instructions in
+    let c : length C ≡ length D = exit-length y (held_behind None b.instructions) (at + 4 * length A) (other + 4 * length B) last final starts ends b.exit in
     length-append A C ∙ (sums (length A) (length B) (length C) (length D) a c ∙ sym (length-append B D))
   where
     sums : (a b c d : ℕ) → a ≡ b → c ≡ d → a + c ≡ b + d
@@ -108,51 +108,65 @@ blocks-length y sizes places others starts ends last final at other (b ∷ bs) =
     sums a b c d e f = omega arith
 
 -- An instruction's code stands at its place, and what follows behind it.
-pub record Found (program : List (Option Instr)) (y : Layout) (sizes : List ℕ) (places : FnId → ℕ) (i : Instruction) (top at behind : ℕ) :
-    Type 0 where
-  pub stands : Stands program at (instruction_code y sizes places at i)
-  pub next : behind ≡ at + 4 * length (instruction_code y sizes places at i)
-  pub near : at + 4 * length (instruction_code y sizes places at i) ≤ top
+pub record Found (program : List (Option Instr)) (y : Layout) (sizes : List ℕ) (places : FnId → ℕ) (held : Option ℕ) (i : Instruction)
+    (top at behind : ℕ) : Type 0 where
+  pub stands : Stands program at (instruction_code y sizes places at held i)
+  pub next : behind ≡ at + 4 * length (instruction_code y sizes places at held i)
+  pub near : at + 4 * length (instruction_code y sizes places at held i) ≤ top
 
-pub find-instruction : (program : List (Option Instr)) (y : Layout) (sizes : List ℕ) (places : FnId → ℕ) (is : List Instruction) (k : ℕ)
-    (i : Instruction) (top at : ℕ) (rest : List Instr) →
-    slice_get is k ≡ Some i → top ≤ 2 ^ 30 → at + 4 * length (instructions_code y sizes places at is) ≤ top →
-    Stands program at (instructions_code y sizes places at is ++ rest) →
-    Found program y sizes places i top (instruction_at y sizes places at is k) (instruction_at y sizes places at is (suc k))
-find-instruction program y sizes places [] k i top at rest e small near there = cc
-find-instruction program y sizes places (j ∷ is) zero i top at rest e small near there =
+pub find-instruction : (program : List (Option Instr)) (y : Layout) (sizes : List ℕ) (places : FnId → ℕ) (held : Option ℕ)
+    (is : List Instruction) (k : ℕ) (i : Instruction) (top at : ℕ) (rest : List Instr) →
+    slice_get is k ≡ Some i → top ≤ 2 ^ 30 → at + 4 * length (instructions_code y sizes places at held is) ≤ top →
+    Stands program at (instructions_code y sizes places at held is ++ rest) →
+    Found program y sizes places (held_at held is k) i top (instruction_at y sizes places at held is k)
+    (instruction_at y sizes places at held is (suc k))
+find-instruction program y sizes places held [] k i top at rest e small near there = cc
+find-instruction program y sizes places held (j ∷ is) zero i top at rest e small near there =
     let same : j ≡ i = cc in
-    let A = instruction_code y sizes places at j in
-    let B = instructions_code y sizes places (at + 4 * length A) is in
-    let here : Found program y sizes places j top at (at + 4 * length A) = record {
+    let A = instruction_code y sizes places at held j in
+    let B = instructions_code y sizes places (at + 4 * length A) (held_after j) is in
+    let here : Found program y sizes places held j top at (at + 4 * length A) = record {
       stands = stands-front program at A (B ++ rest) (subst (λ z. Stands program at z) (append_assoc A B rest) there);
       next = refl;
       near = omega (arith, near, length-append A B);
     } in
-    subst (λ x. Found program y sizes places x top at (at + 4 * length A)) same here
-find-instruction program y sizes places (j ∷ is) (suc k) i top at rest e small near there =
-    let A = instruction_code y sizes places at j in
-    let B = instructions_code y sizes places (at + 4 * length A) is in
+    subst (λ x. Found program y sizes places held x top at (at + 4 * length A)) same here
+find-instruction program y sizes places held (j ∷ is) (suc k) i top at rest e small near there =
+    let A = instruction_code y sizes places at held j in
+    let B = instructions_code y sizes places (at + 4 * length A) (held_after j) is in
     let count : length (A ++ B) ≡ length A + length B = length-append A B in
-    find-instruction program y sizes places is k i top (at + 4 * length A) rest e small (omega (arith, near, count))
+    find-instruction program y sizes places (held_after j) is k i top (at + 4 * length A) rest e small (omega (arith, near, count))
     (stands-next program at A (B ++ rest) (omega (arith, near, count, small))
     (subst (λ z. Stands program at z) (append_assoc A B rest) there))
 
-pub find-exit : (program : List (Option Instr)) (y : Layout) (sizes : List ℕ) (places : FnId → ℕ) (is : List Instruction) (k at : ℕ)
-    (rest : List Instr) →
-    slice_get is k ≡ None → at + 4 * length (instructions_code y sizes places at is) ≤ 2 ^ 30 →
-    Stands program at (instructions_code y sizes places at is ++ rest) →
-    (instruction_at y sizes places at is k ≡ at + 4 * length (instructions_code y sizes places at is)) ×
-    Stands program (at + 4 * length (instructions_code y sizes places at is)) rest
-find-exit program y sizes places [] zero at rest e near there = (omega arith, subst (λ q. Stands program q rest) (no-more at) there)
-find-exit program y sizes places [] (suc k) at rest e near there = (omega arith, subst (λ q. Stands program q rest) (no-more at) there)
-find-exit program y sizes places (j ∷ is) zero at rest e near there = cc
-find-exit program y sizes places (j ∷ is) (suc k) at rest e near there =
-    let A = instruction_code y sizes places at j in
-    let B = instructions_code y sizes places (at + 4 * length A) is in
+-- what x5 holds behind an instruction, and before an exit
+pub held-next : (held : Option ℕ) (is : List Instruction) (k : ℕ) (i : Instruction) → slice_get is k ≡ Some i →
+    held_at held is (suc k) ≡ held_after i
+held-next held [] k i e = cc
+held-next held (j ∷ is) zero i e = let same : j ≡ i = cc in ap held_after same
+held-next held (j ∷ is) (suc k) i e = held-next (held_after j) is k i e
+
+pub held-last : (held : Option ℕ) (is : List Instruction) (k : ℕ) → slice_get is k ≡ None → held_at held is k ≡ held_behind held is
+held-last held [] zero e = refl
+held-last held [] (suc k) e = refl
+held-last held (j ∷ is) zero e = cc
+held-last held (j ∷ is) (suc k) e = held-last (held_after j) is k e
+
+pub find-exit : (program : List (Option Instr)) (y : Layout) (sizes : List ℕ) (places : FnId → ℕ) (held : Option ℕ)
+    (is : List Instruction) (k at : ℕ) (rest : List Instr) →
+    slice_get is k ≡ None → at + 4 * length (instructions_code y sizes places at held is) ≤ 2 ^ 30 →
+    Stands program at (instructions_code y sizes places at held is ++ rest) →
+    (instruction_at y sizes places at held is k ≡ at + 4 * length (instructions_code y sizes places at held is)) ×
+    Stands program (at + 4 * length (instructions_code y sizes places at held is)) rest
+find-exit program y sizes places held [] zero at rest e near there = (omega arith, subst (λ q. Stands program q rest) (no-more at) there)
+find-exit program y sizes places held [] (suc k) at rest e near there = (omega arith, subst (λ q. Stands program q rest) (no-more at) there)
+find-exit program y sizes places held (j ∷ is) zero at rest e near there = cc
+find-exit program y sizes places held (j ∷ is) (suc k) at rest e near there =
+    let A = instruction_code y sizes places at held j in
+    let B = instructions_code y sizes places (at + 4 * length A) (held_after j) is in
     let count : length (A ++ B) ≡ length A + length B = length-append A B in
     let all : at + 4 * length A + 4 * length B ≡ at + 4 * length (A ++ B) = omega (arith, count) in
-    let found = find-exit program y sizes places is k (at + 4 * length A) rest e (omega (arith, near, count))
+    let found = find-exit program y sizes places (held_after j) is k (at + 4 * length A) rest e (omega (arith, near, count))
     (stands-next program at A (B ++ rest) (omega (arith, near, count)) (subst (λ z. Stands program at z) (append_assoc A B rest) there)) in
     (found.0 ∙ all, subst (λ q. Stands program q rest) all found.1)
 
@@ -205,12 +219,12 @@ starts-near y sizes places starts last top (j ∷ bs) (suc k) at even near =
     subst (λ n. (start_of (starts_from y sizes (at + 4 * n) bs) k ≤ top) × (start_of (starts_from y sizes (at + 4 * n) bs) k % 4 ≡ 0))
     (block-length y sizes places (λ f. 0) starts (λ c. 0) last 0 at 0 j) found
 
-pub instruction-aligned : (y : Layout) (sizes : List ℕ) (places : FnId → ℕ) (is : List Instruction) (k at : ℕ) → at % 4 ≡ 0 →
-    instruction_at y sizes places at is k % 4 ≡ 0
-instruction-aligned y sizes places is zero at h = h
-instruction-aligned y sizes places [] (suc k) at h = h
-instruction-aligned y sizes places (i ∷ is) (suc k) at h =
-    instruction-aligned y sizes places is k (at + 4 * length (instruction_code y sizes places at i)) (omega (arith, h))
+pub instruction-aligned : (y : Layout) (sizes : List ℕ) (places : FnId → ℕ) (held : Option ℕ) (is : List Instruction) (k at : ℕ) →
+    at % 4 ≡ 0 → instruction_at y sizes places at held is k % 4 ≡ 0
+instruction-aligned y sizes places held is zero at h = h
+instruction-aligned y sizes places held [] (suc k) at h = h
+instruction-aligned y sizes places held (i ∷ is) (suc k) at h =
+    instruction-aligned y sizes places (held_after i) is k (at + 4 * length (instruction_code y sizes places at held i)) (omega (arith, h))
 
 -- The parts of a function's code.
 pub record FoundFunction (program : List (Option Instr)) (y : Layout) (code : Tac) (places : FnId → ℕ) (at : ℕ) : Type 0 where

@@ -1,7 +1,7 @@
 -- Words at homes.
 use Rattle.std.proofs.Common.{◌≡◌, ◌≢◌, ℕ, ◌+◌, ◌*◌, ◌^◌, ◌<◌, ◌≤◌, List, [], ◌∷◌, Bool, true, false, length, take, drop, refl, sym, ap, ◌∙◌, subst, ⊎_elim, inl, inr, arith}
-use Rattle.std.specs.Prelude.{◌⊎◌, nat_lt, if◌then◌else◌}
-use Rattle.std.proofs.lemmas.Bool.{cases_lt, ltb-true}
+use Rattle.std.specs.Prelude.{◌⊎◌, nat_lt, if◌then◌else◌, Option, Some, None}
+use Rattle.std.proofs.lemmas.Bool.{cases_lt, eqb-true, ltb-true}
 use Rattle.rv_isa.specs.declared.instr.Instr.{Instr}
 use Rattle.rv_isa.specs.declared.instr.Instr.TheVariants.{Load, Store}
 use Rattle.rv_isa.specs.declared.operation.LoadOp.TheVariants.{Ld}
@@ -15,17 +15,18 @@ use Rattle.rv_machine.specs.Memory.{place_of}
 use Rattle.rv_machine.specs.Machine.{State, GoesOn, act, at_with, value_at, loads, loads_from, stores, stores_to}
 use Rattle.tac_form.specs.declared.tac.Operand.{Operand}
 use Rattle.tac_form.specs.declared.tac.Operand.TheVariants.{Temp, Constant}
+use Rattle.tac_form.specs.Flow.{Temps}
 use Rattle.tac_form.specs.Weights.{constant_words, operand_words}
 use Rattle.rv_operators.specs.Claims.{acts, then_on}
 use Rattle.rv_operators.specs.Codes.{x5}
 use Rattle.rv_operators.specs.Runs.{AreStraight}
 use Rattle.rv_operators.proofs.Runs.{straight-both}
-use Rattle.rv_select.specs.Places.{AreBytes, Layout, World, HasFrame, Holds, Housed, IsHome, IsRead, home_of, private_word, slot_offset, value_in, word_at}
+use Rattle.rv_select.specs.Places.{AreBytes, Layout, World, HasFrame, Holds, Housed, IsHeld, IsHome, IsRead, home_of, private_word, slot_offset, value_in, word_at}
 use Rattle.rv_select.specs.Numbers.{constant, register_of}
-use Rattle.rv_select.specs.Shapes.{moved, put_to, taken, taken_from}
+use Rattle.rv_select.specs.Shapes.{first_taken, is_held, moved, put_to, taken, taken_from}
 use Rattle.rv_select.proofs.Bytes.{other-than-word, private-place, stored-length, stored-word}
 use Rattle.rv_select.proofs.Numbers.{constant-count, constant-loads, one-count, register-is, small-count}
-use Rattle.rv_select.proofs.Straight.{Loads, behind-both, goes-both, loads-one, low-first, low-small, register-value, written-elsewhere, written-there}
+use Rattle.rv_select.proofs.Straight.{Loads, behind-both, goes-both, loads-one, low-first, low-here, low-small, register-value, written-elsewhere, written-there}
 use Rattle.rv_select.proofs.Words.{low-are-bytes, overwritten-bytes}
 use Rattle.rv_select.proofs.Frames.{Reach, framed-count, framed-loads, reach}
 
@@ -97,6 +98,47 @@ constant-weight d c = either (nat_lt c 2048) (nat_lt c (2 ^ 31)) refl refl
 pub operand-count : (y : Layout) (d : Register) (a : Operand) → length (taken y d a) ≤ operand_words a
 operand-count y d (Temp t) = home-count d (home_of y t)
 operand-count y d (Constant c) = constant-weight d c
+
+-- where x5 holds the operand, no code takes it
+held-is : (held : Option ℕ) (t : ℕ) (temps : Temps) (m : State) → IsHeld held temps m → is_held held t ≡ true → m.registers 5 ≡ temps t
+held-is None t temps m f e = cc
+held-is (Some u) t temps m f e = f ∙ ap temps (eqb-true u t e)
+
+held-loads : (m : State) (v : ℕ) → m.pc < 2 ^ 64 → m.registers 5 ≡ v → Loads 5 [] m v
+held-loads m v small e = record {
+  after = m;
+  goes = refl;
+  gives = e;
+  behind = low-here m.pc small;
+  keeps = λ r five seven. refl;
+  region = refl;
+  private = refl;
+  straight = refl;
+}
+
+pub take-first : (y : Layout) (held : Option ℕ) (Used : ℕ → Type 0) (w : World) (base : ℕ) (m : State) (a : Operand) → IsHeld held w.temps m →
+    Holds y Used w base m → Housed y Used → IsRead Used a → Loads 5 (first_taken y held a) m (value_in w.temps a)
+take-first y held Used w base m (Constant k) f p h r = constant-loads x5 m k (λ e. omega (arith, e)) r
+take-first y held Used w base m (Temp t) f p h r = either (is_held held t) refl
+  where
+    either : (b : Bool) → is_held held t ≡ b → Loads 5 (if b then [] else taken y x5 (Temp t)) m (w.temps t)
+    either true e = held-loads m (w.temps t) p.pc (held-is held t w.temps m f e)
+    either false e = take-operand y x5 Used w base m (Temp t) (λ z. omega (arith, z)) p h r
+
+-- and else as much as for any operand
+first-least : (y : Layout) (held : Option ℕ) (a : Operand) → length (first_taken y held a) ≤ length (taken y x5 a)
+first-least y held (Constant k) = omega arith
+first-least y held (Temp t) = either (is_held held t)
+  where
+    either : (b : Bool) → length (if b then [] else taken y x5 (Temp t)) ≤ length (taken y x5 (Temp t))
+    either true = omega arith
+    either false = omega arith
+
+pub first-count : (y : Layout) (held : Option ℕ) (a : Operand) → length (first_taken y held a) ≤ operand_words a
+first-count y held a = omega (arith, first-least y held a, operand-count y x5 a)
+
+pub first-few : (y : Layout) (held : Option ℕ) (a : Operand) → length (first_taken y held a) ≤ 8
+first-few y held a = omega (arith, first-least y held a, taken-count y x5 a)
 
 pub put-count : (h : Home) → length (put_to h) ≤ 3
 put-count (homes.Register x) = omega arith

@@ -1,5 +1,5 @@
 -- The code of instructions depends on a layout's homes alone.
-use Rattle.std.proofs.Common.{◌≡◌, ℕ, ◌+◌, ◌*◌, List, [], ◌∷◌, ◌++◌, length, Option, refl, ap, ◌∙◌}
+use Rattle.std.proofs.Common.{◌≡◌, ℕ, ◌+◌, ◌*◌, List, [], ◌∷◌, ◌++◌, length, Option, None, refl, ap, ◌∙◌}
 use Rattle.tl_base.specs.declared.ids.FnId.{FnId}
 use Rattle.reg_alloc.specs.declared.assignment.Home.{Home}
 use Rattle.rv_isa.specs.declared.instr.Instr.{Instr}
@@ -16,9 +16,9 @@ use Rattle.tac_form.specs.declared.tac.Block.{Block}
 use Rattle.rv_operators.specs.Codes.{x5}
 use Rattle.rv_select.specs.Numbers.{constant}
 use Rattle.rv_select.specs.Places.{Layout}
-use Rattle.rv_select.specs.Shapes.{place_number, x11}
+use Rattle.rv_select.specs.Shapes.{held_after, place_number, x11}
 use Rattle.rv_select.specs.Entering.{received, received_one, stored_below}
-use Rattle.rv_select.specs.Calls.{block_code, blocks_calls, blocks_code, call_ended, call_jump, depth_tested, exit_code, instruction_calls, instruction_code, instructions_calls, instructions_code, one_more, part_taken, passed, starts_from}
+use Rattle.rv_select.specs.Calls.{block_code, blocks_calls, blocks_code, call_ended, call_jump, depth_tested, exit_code, held_behind, instruction_calls, instruction_code, instructions_calls, instructions_code, one_more, part_taken, passed, starts_from}
 
 abbrev laid : List (Option Home) → (a p : ℕ) → Layout
 laid h a p = record { homes = h; areas = a; parameters = p }
@@ -43,47 +43,48 @@ passed-same h a p b q i (parts.Area n ∷ ps) =
 abbrev begun-with : ℕ → List Instr → List Instr
 begun-with place passes = constant x11 place ++ (depth_tested ++ (passes ++ one_more))
 
-instruction-same : (h : List (Option Home)) (a p b q : ℕ) (sizes : List ℕ) (places : FnId → ℕ) (at : ℕ) (i : Instruction) →
-    instruction_code (laid h a p) sizes places at i ≡ instruction_code (laid h b q) sizes places at i
-instruction-same h a p b q sizes places at (Call (destinations.Temp t) place f arguments) =
+instruction-same : (h : List (Option Home)) (a p b q : ℕ) (sizes : List ℕ) (places : FnId → ℕ) (at : ℕ) (held : Option ℕ) (i : Instruction) →
+    instruction_code (laid h a p) sizes places at held i ≡ instruction_code (laid h b q) sizes places at held i
+instruction-same h a p b q sizes places at held (Call (destinations.Temp t) place f arguments) =
     ap (λ z. begun-with (place_number place) z ++ (call_jump (at + 4 * length (begun-with (place_number place) z)) (places f) ++ call_ended (laid h a p) sizes (destinations.Temp t)))
     (passed-same h a p b q 0 arguments)
-instruction-same h a p b q sizes places at (Call (destinations.Area n) place f arguments) =
+instruction-same h a p b q sizes places at held (Call (destinations.Area n) place f arguments) =
     ap (λ z. begun-with (place_number place) z ++ (call_jump (at + 4 * length (begun-with (place_number place) z)) (places f) ++ call_ended (laid h a p) sizes (destinations.Area n)))
     (passed-same h a p b q 0 arguments)
-instruction-same h a p b q sizes places at (Compute d op form x y) = refl
-instruction-same h a p b q sizes places at (TestDivisor place x) = refl
-instruction-same h a p b q sizes places at (Copy d x) = refl
-instruction-same h a p b q sizes places at (Locate d offset) = refl
-instruction-same h a p b q sizes places at (Load d form spot) = refl
-instruction-same h a p b q sizes places at (Store spot size x) = refl
-instruction-same h a p b q sizes places at (Move to from size) = refl
-instruction-same h a p b q sizes places at (Clear n size) = refl
-instruction-same h a p b q sizes places at (CallValue to place sig x arguments) = refl
-instruction-same h a p b q sizes places at (PutByte x) = refl
-instruction-same h a p b q sizes places at (Write place x y) = refl
-instruction-same h a p b q sizes places at (Alloc d x) = refl
+instruction-same h a p b q sizes places at held (Compute d op form x y) = refl
+instruction-same h a p b q sizes places at held (TestDivisor place x) = refl
+instruction-same h a p b q sizes places at held (Copy d x) = refl
+instruction-same h a p b q sizes places at held (Locate d offset) = refl
+instruction-same h a p b q sizes places at held (Load d form spot) = refl
+instruction-same h a p b q sizes places at held (Store spot size x) = refl
+instruction-same h a p b q sizes places at held (Move to from size) = refl
+instruction-same h a p b q sizes places at held (Clear n size) = refl
+instruction-same h a p b q sizes places at held (CallValue to place sig x arguments) = refl
+instruction-same h a p b q sizes places at held (PutByte x) = refl
+instruction-same h a p b q sizes places at held (Write place x y) = refl
+instruction-same h a p b q sizes places at held (Alloc d x) = refl
 
-exit-same : (h : List (Option Home)) (a p b q at : ℕ) (starts : ℕ → ℕ) (last : ℕ) (e : Exit) → exit_code (laid h a p) at starts last e ≡ exit_code (laid h b q) at starts last e
-exit-same h a p b q at starts last (Return v) = refl
-exit-same h a p b q at starts last (Jump e) = refl
-exit-same h a p b q at starts last (Branch x e f) = refl
-exit-same h a p b q at starts last (Fail kind place) = refl
+exit-same : (h : List (Option Home)) (a p b q : ℕ) (held : Option ℕ) (at : ℕ) (starts : ℕ → ℕ) (last : ℕ) (e : Exit) → exit_code (laid h a p) held at starts last e ≡ exit_code (laid h b q) held at starts last e
+exit-same h a p b q held at starts last (Return v) = refl
+exit-same h a p b q held at starts last (Jump e) = refl
+exit-same h a p b q held at starts last (Branch x e f) = refl
+exit-same h a p b q held at starts last (Fail kind place) = refl
 
-instructions-same : (h : List (Option Home)) (a p b q : ℕ) (sizes : List ℕ) (places : FnId → ℕ) (at : ℕ) (is : List Instruction) →
-    instructions_code (laid h a p) sizes places at is ≡ instructions_code (laid h b q) sizes places at is
-instructions-same h a p b q sizes places at [] = refl
-instructions-same h a p b q sizes places at (i ∷ is) =
-    let A : List Instr = instruction_code (laid h a p) sizes places at i in
-    ap (λ z. A ++ z) (instructions-same h a p b q sizes places (at + 4 * length A) is)
-    ∙ ap (λ z. z ++ instructions_code (laid h b q) sizes places (at + 4 * length z) is) (instruction-same h a p b q sizes places at i)
+instructions-same : (h : List (Option Home)) (a p b q : ℕ) (sizes : List ℕ) (places : FnId → ℕ) (at : ℕ) (held : Option ℕ) (is : List Instruction) →
+    instructions_code (laid h a p) sizes places at held is ≡ instructions_code (laid h b q) sizes places at held is
+instructions-same h a p b q sizes places at held [] = refl
+instructions-same h a p b q sizes places at held (i ∷ is) =
+    let A : List Instr = instruction_code (laid h a p) sizes places at held i in
+    ap (λ z. A ++ z) (instructions-same h a p b q sizes places (at + 4 * length A) (held_after i) is)
+    ∙ ap (λ z. z ++ instructions_code (laid h b q) sizes places (at + 4 * length z) (held_after i) is) (instruction-same h a p b q sizes places at held i)
 
 block-same : (h : List (Option Home)) (a p b q : ℕ) (sizes : List ℕ) (places : FnId → ℕ) (starts : ℕ → ℕ) (last at : ℕ) (k : Block) →
     block_code (laid h a p) sizes places starts last at k ≡ block_code (laid h b q) sizes places starts last at k
 block-same h a p b q sizes places starts last at k =
-    let A : List Instr = instructions_code (laid h a p) sizes places at k.instructions in
-    ap (λ z. A ++ z) (exit-same h a p b q (at + 4 * length A) starts last k.exit)
-    ∙ ap (λ z. z ++ exit_code (laid h b q) (at + 4 * length z) starts last k.exit) (instructions-same h a p b q sizes places at k.instructions)
+    let A : List Instr = instructions_code (laid h a p) sizes places at None k.instructions in
+    let held : Option ℕ = held_behind None k.instructions in
+    ap (λ z. A ++ z) (exit-same h a p b q held (at + 4 * length A) starts last k.exit)
+    ∙ ap (λ z. z ++ exit_code (laid h b q) held (at + 4 * length z) starts last k.exit) (instructions-same h a p b q sizes places at None k.instructions)
 
 pub blocks-same : (h : List (Option Home)) (a p b q : ℕ) (sizes : List ℕ) (places : FnId → ℕ) (starts : ℕ → ℕ) (last at : ℕ) (ks : List Block) →
     blocks_code (laid h a p) sizes places starts last at ks ≡ blocks_code (laid h b q) sizes places starts last at ks
@@ -109,22 +110,22 @@ call-same h a p b q at (PutByte x) = refl
 call-same h a p b q at (Write place x y) = refl
 call-same h a p b q at (Alloc d x) = refl
 
-instructions-calls-same : (h : List (Option Home)) (a p b q : ℕ) (sizes : List ℕ) (at : ℕ) (is : List Instruction) →
-    instructions_calls (laid h a p) sizes at is ≡ instructions_calls (laid h b q) sizes at is
-instructions-calls-same h a p b q sizes at [] = refl
-instructions-calls-same h a p b q sizes at (i ∷ is) =
-    let A : List Instr = instruction_code (laid h a p) sizes (λ f. 0) 0 i in
-    ap (λ z. z ++ instructions_calls (laid h a p) sizes (at + length A) is) (call-same h a p b q at i)
-    ∙ (ap (λ z. instruction_calls (laid h b q) at i ++ z) (instructions-calls-same h a p b q sizes (at + length A) is)
-    ∙ ap (λ z. instruction_calls (laid h b q) at i ++ instructions_calls (laid h b q) sizes (at + length z) is) (instruction-same h a p b q sizes (λ f. 0) 0 i))
+instructions-calls-same : (h : List (Option Home)) (a p b q : ℕ) (sizes : List ℕ) (at : ℕ) (held : Option ℕ) (is : List Instruction) →
+    instructions_calls (laid h a p) sizes at held is ≡ instructions_calls (laid h b q) sizes at held is
+instructions-calls-same h a p b q sizes at held [] = refl
+instructions-calls-same h a p b q sizes at held (i ∷ is) =
+    let A : List Instr = instruction_code (laid h a p) sizes (λ f. 0) 0 held i in
+    ap (λ z. z ++ instructions_calls (laid h a p) sizes (at + length A) (held_after i) is) (call-same h a p b q at i)
+    ∙ (ap (λ z. instruction_calls (laid h b q) at i ++ z) (instructions-calls-same h a p b q sizes (at + length A) (held_after i) is)
+    ∙ ap (λ z. instruction_calls (laid h b q) at i ++ instructions_calls (laid h b q) sizes (at + length z) (held_after i) is) (instruction-same h a p b q sizes (λ f. 0) 0 held i))
 
 pub blocks-calls-same : (h : List (Option Home)) (a p b q : ℕ) (sizes : List ℕ) (at : ℕ) (ks : List Block) → blocks_calls (laid h a p) sizes at ks ≡ blocks_calls (laid h b q) sizes at ks
 blocks-calls-same h a p b q sizes at [] = refl
 blocks-calls-same h a p b q sizes at (k ∷ ks) =
     let A : List Instr = block_code (laid h a p) sizes (λ f. 0) (λ c. 0) 0 0 k in
-    ap (λ z. z ++ blocks_calls (laid h a p) sizes (at + length A) ks) (instructions-calls-same h a p b q sizes at k.instructions)
-    ∙ (ap (λ z. instructions_calls (laid h b q) sizes at k.instructions ++ z) (blocks-calls-same h a p b q sizes (at + length A) ks)
-    ∙ ap (λ z. instructions_calls (laid h b q) sizes at k.instructions ++ blocks_calls (laid h b q) sizes (at + length z) ks) (block-same h a p b q sizes (λ f. 0) (λ c. 0) 0 0 k))
+    ap (λ z. z ++ blocks_calls (laid h a p) sizes (at + length A) ks) (instructions-calls-same h a p b q sizes at None k.instructions)
+    ∙ (ap (λ z. instructions_calls (laid h b q) sizes at None k.instructions ++ z) (blocks-calls-same h a p b q sizes (at + length A) ks)
+    ∙ ap (λ z. instructions_calls (laid h b q) sizes at None k.instructions ++ blocks_calls (laid h b q) sizes (at + length z) ks) (block-same h a p b q sizes (λ f. 0) (λ c. 0) 0 0 k))
 
 pub starts-same : (h : List (Option Home)) (a p b q : ℕ) (sizes : List ℕ) (at : ℕ) (ks : List Block) → starts_from (laid h a p) sizes at ks ≡ starts_from (laid h b q) sizes at ks
 starts-same h a p b q sizes at [] = refl

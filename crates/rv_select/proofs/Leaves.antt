@@ -29,11 +29,11 @@ use Rattle.tac_form.specs.Weights.{exit_words}
 use Rattle.rv_operators.specs.Codes.{x0, x5}
 use Rattle.rv_operators.specs.Runs.{Stands}
 use Rattle.rv_select.specs.Places.{Holds, Housed, Layout, World, layout_of, value_in}
-use Rattle.rv_select.specs.Shapes.{branch_jumps, jump, taken}
+use Rattle.rv_select.specs.Shapes.{branch_jumps, first_taken, jump}
 use Rattle.rv_select.specs.Steps.{AreFewer, Comes, ExitsAreCarried, Left, StandsAtExit, world_of}
 use Rattle.rv_select.proofs.Straight.{Loads, loads-five}
 use Rattle.rv_select.proofs.Ways.{Near, Way, at_pc, near-both, near-pc, near-same, scratch-near, stands-back, stands-front, straight-way, way-both, way-none}
-use Rattle.rv_select.proofs.Homes.{operand-count, take-operand, taken-count}
+use Rattle.rv_select.proofs.Homes.{first-count, first-few, take-first}
 use Rattle.rv_select.proofs.Faults.{branch-way, fails}
 use Rattle.rv_select.proofs.Divisors.{stays}
 use Rattle.rv_select.proofs.Lives.{housed}
@@ -133,8 +133,8 @@ zero-or-more zero = inl refl
 zero-or-more (suc k) = inr (k, refl)
 
 -- what follows an exit was in use before it
-module _ (p : Program) (code : Tac) (homes : List (Option Home)) (exit : Exit) (starts : ℕ → ℕ) (s : tac.State) (program : List (Option Instr)) (base : ℕ) (m : State)
-    (x : StandsAtExit p code homes exit starts s program base m) where
+module _ (p : Program) (code : Tac) (homes : List (Option Home)) (held : Option ℕ) (exit : Exit) (starts : ℕ → ℕ) (s : tac.State) (program : List (Option Instr)) (base : ℕ) (m : State)
+    (x : StandsAtExit p code homes held exit starts s program base m) where
   abbrev here : ℕ → Type 0
   here = InUse (graph_of code) s.here.block s.here.at
 
@@ -155,14 +155,14 @@ module _ (p : Program) (code : Tac) (homes : List (Option Home)) (exit : Exit) (
   where-housed : Housed (layout_of code homes) here
   where-housed = housed code homes s.here.block s.here.at x.right
 
-carry-jump : (p : Program) (code : Tac) (homes : List (Option Home)) (e : Edge) (starts : ℕ → ℕ) (s : tac.State) (program : List (Option Instr)) (base : ℕ) (m : State) →
-    StandsAtExit p code homes (Jump e) starts s program base m → Left (layout_of code homes) (graph_of code) program base 2 starts s m (step p s)
-carry-jump p code homes e starts s program base m x =
+carry-jump : (p : Program) (code : Tac) (homes : List (Option Home)) (held : Option ℕ) (e : Edge) (starts : ℕ → ℕ) (s : tac.State) (program : List (Option Instr)) (base : ℕ) (m : State) →
+    StandsAtExit p code homes held (Jump e) starts s program base m → Left (layout_of code homes) (graph_of code) program base 2 starts s m (step p s)
+carry-jump p code homes held e starts s program base m x =
     let y : Layout = layout_of code homes in
     let comes : Comes y program (InUse (graph_of code) e.block 0) (world_of s) base 2 (starts e.block) [] m =
     jump-comes y (InUse (graph_of code) s.here.block s.here.at) (InUse (graph_of code) e.block 0) (world_of s) base 0 2 m.pc (starts e.block) program m m x.holds
-    (where-housed p code homes (Jump e) starts s program base m x)
-    (next-here p code homes (Jump e) starts s program base m x e.block (λ q h. or-left (q e.block) false h)) (way-none program m) (near-same m) refl (omega (arith, x.near))
+    (where-housed p code homes held (Jump e) starts s program base m x)
+    (next-here p code homes held (Jump e) starts s program base m x e.block (λ q h. or-left (q e.block) false h)) (way-none program m) (near-same m) refl (omega (arith, x.near))
     (x.blocks e.block).0 (x.blocks e.block).1 x.stands (omega arith) in
     let e1 = x.function in
     let e2 = x.in_function in
@@ -172,10 +172,10 @@ carry-jump p code homes e starts s program base m x =
     (by-test (λ moved. Left (layout_of code homes) (graph_of code) program base 2 starts s m moved) e.counts _ _
     (λ h. ⊎_elim (λ z. rw z tt) (λ z. let q = z.1 in rw q (refl, comes)) (zero-or-more s.left)) (λ h. (refl, comes))))
 
-carry-fail : (p : Program) (code : Tac) (homes : List (Option Home)) (kind : FaultKind) (at : Place) (starts : ℕ → ℕ) (s : tac.State) (program : List (Option Instr)) (base : ℕ) (m : State) →
-    nat_le (fault_number kind) 5 ≡ true → StandsAtExit p code homes (Fail kind at) starts s program base m →
+carry-fail : (p : Program) (code : Tac) (homes : List (Option Home)) (held : Option ℕ) (kind : FaultKind) (at : Place) (starts : ℕ → ℕ) (s : tac.State) (program : List (Option Instr)) (base : ℕ) (m : State) →
+    nat_le (fault_number kind) 5 ≡ true → StandsAtExit p code homes held (Fail kind at) starts s program base m →
     Left (layout_of code homes) (graph_of code) program base 11 starts s m (step p s)
-carry-fail p code homes kind at starts s program base m few x =
+carry-fail p code homes held kind at starts s program base m few x =
     let e1 = x.function in
     let e2 = x.in_function in
     let e3 = x.in_block in
@@ -190,26 +190,26 @@ carry-fail p code homes kind at starts s program base m few x =
     some NoReturn = omega arith
     some BadCall = omega arith
 
-carry-branch : (p : Program) (code : Tac) (homes : List (Option Home)) (a : Operand) (e f : Edge) (starts : ℕ → ℕ) (s : tac.State) (program : List (Option Instr)) (base : ℕ) (m : State) →
-    StandsAtExit p code homes (Branch a e f) starts s program base m →
+carry-branch : (p : Program) (code : Tac) (homes : List (Option Home)) (held : Option ℕ) (a : Operand) (e f : Edge) (starts : ℕ → ℕ) (s : tac.State) (program : List (Option Instr)) (base : ℕ) (m : State) →
+    StandsAtExit p code homes held (Branch a e f) starts s program base m →
     Left (layout_of code homes) (graph_of code) program base (exit_words (Branch a e f)) starts s m (step p s)
-carry-branch p code homes a e f starts s program base m x =
+carry-branch p code homes held a e f starts s program base m x =
     let y : Layout = layout_of code homes in
     let used : ℕ → Type 0 = InUse (graph_of code) s.here.block s.here.at in
     let v : ℕ = value_in s.here.temps a in
-    let few : length (taken y x5 a) + 3 ≤ exit_words (Branch a e f) = omega (arith, operand-count y x5 a) in
+    let few : length (first_taken y held a) + 3 ≤ exit_words (Branch a e f) = omega (arith, first-count y held a) in
     let fit = both-true (operand_fits code a && edge_fits code e) (edge_fits code f) x.fits in
     let fit-a = both-true (operand_fits code a) (edge_fits code e) fit.0 in
-    let h : Housed y used = where-housed p code homes (Branch a e f) starts s program base m x in
-    let l : Loads 5 (taken y x5 a) m v =
-    take-operand y x5 used (world_of s) base m a (λ q. omega (arith, q)) x.holds h (operand-read code used a fit-a.0 (reads-here p code homes (Branch a e f) starts s program base m x)) in
+    let h : Housed y used = where-housed p code homes held (Branch a e f) starts s program base m x in
+    let l : Loads 5 (first_taken y held a) m v =
+    take-first y held used (world_of s) base m a x.five x.holds h (operand-read code used a fit-a.0 (reads-here p code homes held (Branch a e f) starts s program base m x)) in
     let first : v ≢ 0 → Comes y program (InUse (graph_of code) e.block 0) (world_of s) base (exit_words (Branch a e f)) (starts e.block) [] m =
-    λ n. branch-comes y used (InUse (graph_of code) e.block 0) (world_of s) base (exit_words (Branch a e f)) v e.block f.block (starts e.block) true (taken y x5 a) starts program m l x.holds h
-    (next-here p code homes (Branch a e f) starts s program base m x e.block (λ q g. or-left (q e.block) (q f.block || false) g)) few (taken-count y x5 a) x.near x.blocks x.stands
+    λ n. branch-comes y used (InUse (graph_of code) e.block 0) (world_of s) base (exit_words (Branch a e f)) v e.block f.block (starts e.block) true (first_taken y held a) starts program m l x.holds h
+    (next-here p code homes held (Branch a e f) starts s program base m x e.block (λ q g. or-left (q e.block) (q f.block || false) g)) few (first-few y held a) x.near x.blocks x.stands
     (ap not (ne_eqb v 0 n)) refl in
     let second : v ≡ 0 → Comes y program (InUse (graph_of code) f.block 0) (world_of s) base (exit_words (Branch a e f)) (starts f.block) [] m =
-    λ z. branch-comes y used (InUse (graph_of code) f.block 0) (world_of s) base (exit_words (Branch a e f)) v e.block f.block (starts f.block) false (taken y x5 a) starts program m l x.holds h
-    (next-here p code homes (Branch a e f) starts s program base m x f.block (λ q g. or-second (q e.block) (q f.block || false) (or-left (q f.block) false g))) few (taken-count y x5 a) x.near x.blocks x.stands
+    λ z. branch-comes y used (InUse (graph_of code) f.block 0) (world_of s) base (exit_words (Branch a e f)) v e.block f.block (starts f.block) false (first_taken y held a) starts program m l x.holds h
+    (next-here p code homes held (Branch a e f) starts s program base m x f.block (λ q g. or-second (q e.block) (q f.block || false) (or-left (q f.block) false g))) few (first-few y held a) x.near x.blocks x.stands
     (ap not (eq-eqb v 0 z)) refl in
     let e1 = x.function in
     let e2 = x.in_function in
@@ -227,7 +227,7 @@ carry-branch p code homes a e f starts s program base m x =
     (λ c. ⊎_elim (λ k. rw k tt) (λ k. let q = k.1 in rw q (refl, comes)) (zero-or-more s.left)) (λ c. (refl, comes)))))
 
 pub exits : ExitsAreCarried
-exits p code homes (Jump e) starts s program base m h x = carry-jump p code homes e starts s program base m x
-exits p code homes (Branch a e f) starts s program base m h x = carry-branch p code homes a e f starts s program base m x
-exits p code homes (Return v) starts s program base m h x = cc
-exits p code homes (Fail kind at) starts s program base m h x = carry-fail p code homes kind at starts s program base m h x
+exits p code homes held (Jump e) starts s program base m h x = carry-jump p code homes held e starts s program base m x
+exits p code homes held (Branch a e f) starts s program base m h x = carry-branch p code homes held a e f starts s program base m x
+exits p code homes held (Return v) starts s program base m h x = cc
+exits p code homes held (Fail kind at) starts s program base m h x = carry-fail p code homes held kind at starts s program base m h x

@@ -1,5 +1,5 @@
 -- Code is as long wherever it, functions and blocks stand.
-use Rattle.std.proofs.Common.{◌≡◌, ℕ, ◌+◌, ◌*◌, List, [], ◌∷◌, ◌++◌, length, refl, sym, ◌∙◌, arith}
+use Rattle.std.proofs.Common.{◌≡◌, ℕ, ◌+◌, ◌*◌, List, [], ◌∷◌, ◌++◌, length, Option, None, refl, sym, ◌∙◌, arith}
 use Rattle.std.proofs.lemmas.List.{length-append}
 use Rattle.tl_base.specs.declared.ids.FnId.{FnId}
 use Rattle.tac_form.specs.declared.tac.Instruction.{Instruction}
@@ -8,46 +8,46 @@ use Rattle.tac_form.specs.declared.tac.Exit.{Exit}
 use Rattle.tac_form.specs.declared.tac.Exit.TheVariants.{Branch, Fail, Jump, Return}
 use Rattle.tac_form.specs.declared.tac.Block.{Block}
 use Rattle.rv_select.specs.Places.{Layout}
-use Rattle.rv_select.specs.Shapes.{taken, x10}
-use Rattle.rv_select.specs.Calls.{block_code, blocks_code, call_begun, call_ended, call_jump, exit_code, instruction_code, instructions_code, part_taken}
+use Rattle.rv_select.specs.Shapes.{first_taken, held_after, x10}
+use Rattle.rv_select.specs.Calls.{block_code, blocks_code, call_begun, call_ended, call_jump, exit_code, held_behind, instruction_code, instructions_code, part_taken}
 
 -- the code of an instruction is as long wherever it and functions stand
-pub instruction-length : (y : Layout) (sizes : List ℕ) (places others : FnId → ℕ) (at other : ℕ) (i : Instruction) →
-    length (instruction_code y sizes places at i) ≡ length (instruction_code y sizes others other i)
-instruction-length y sizes places others at other (Call to place f arguments) =
+pub instruction-length : (y : Layout) (sizes : List ℕ) (places others : FnId → ℕ) (at other : ℕ) (held : Option ℕ) (i : Instruction) →
+    length (instruction_code y sizes places at held i) ≡ length (instruction_code y sizes others other held i)
+instruction-length y sizes places others at other held (Call to place f arguments) =
     let A = call_begun y place arguments in
     let C = call_ended y sizes to in
     length-append A (call_jump (at + 4 * length A) (places f) ++ C) ∙ sym (length-append A (call_jump (other + 4 * length A) (others f) ++ C))
-instruction-length y sizes places others at other (Compute d op form a b) = refl
-instruction-length y sizes places others at other (TestDivisor place a) = refl
-instruction-length y sizes places others at other (Copy d a) = refl
-instruction-length y sizes places others at other (Locate d offset) = refl
-instruction-length y sizes places others at other (Load d form spot) = refl
-instruction-length y sizes places others at other (Store spot size a) = refl
-instruction-length y sizes places others at other (Move to from size) = refl
-instruction-length y sizes places others at other (Clear n size) = refl
-instruction-length y sizes places others at other (CallValue to place sig a arguments) = refl
-instruction-length y sizes places others at other (PutByte a) = refl
-instruction-length y sizes places others at other (Write place a b) = refl
-instruction-length y sizes places others at other (Alloc d a) = refl
+instruction-length y sizes places others at other held (Compute d op form a b) = refl
+instruction-length y sizes places others at other held (TestDivisor place a) = refl
+instruction-length y sizes places others at other held (Copy d a) = refl
+instruction-length y sizes places others at other held (Locate d offset) = refl
+instruction-length y sizes places others at other held (Load d form spot) = refl
+instruction-length y sizes places others at other held (Store spot size a) = refl
+instruction-length y sizes places others at other held (Move to from size) = refl
+instruction-length y sizes places others at other held (Clear n size) = refl
+instruction-length y sizes places others at other held (CallValue to place sig a arguments) = refl
+instruction-length y sizes places others at other held (PutByte a) = refl
+instruction-length y sizes places others at other held (Write place a b) = refl
+instruction-length y sizes places others at other held (Alloc d a) = refl
 
-pub exit-length : (y : Layout) (at other last final : ℕ) (starts others : ℕ → ℕ) (e : Exit) → length (exit_code y at starts last e) ≡ length (exit_code y other others final e)
-exit-length y at other last final starts others (Return v) =
+pub exit-length : (y : Layout) (held : Option ℕ) (at other last final : ℕ) (starts others : ℕ → ℕ) (e : Exit) → length (exit_code y held at starts last e) ≡ length (exit_code y held other others final e)
+exit-length y held at other last final starts others (Return v) =
     let A = part_taken y x10 v in length-append A _ ∙ sym (length-append A _)
-exit-length y at other last final starts others (Jump e) = refl
-exit-length y at other last final starts others (Branch a e f) = length-append (taken y _ a) _ ∙ sym (length-append (taken y _ a) _)
-exit-length y at other last final starts others (Fail kind place) = refl
+exit-length y held at other last final starts others (Jump e) = refl
+exit-length y held at other last final starts others (Branch a e f) = length-append (first_taken y held a) _ ∙ sym (length-append (first_taken y held a) _)
+exit-length y held at other last final starts others (Fail kind place) = refl
 
-pub instructions-length : (y : Layout) (sizes : List ℕ) (places others : FnId → ℕ) (at other : ℕ) (is : List Instruction) →
-    length (instructions_code y sizes places at is) ≡ length (instructions_code y sizes others other is)
-instructions-length y sizes places others at other [] = refl
-instructions-length y sizes places others at other (i ∷ is) =
-    let A = instruction_code y sizes places at i in
-    let B = instruction_code y sizes others other i in
-    let C = instructions_code y sizes places (at + 4 * length A) is in
-    let D = instructions_code y sizes others (other + 4 * length B) is in
-    let a : length A ≡ length B = instruction-length y sizes places others at other i in
-    let c : length C ≡ length D = instructions-length y sizes places others (at + 4 * length A) (other + 4 * length B) is in
+pub instructions-length : (y : Layout) (sizes : List ℕ) (places others : FnId → ℕ) (at other : ℕ) (held : Option ℕ) (is : List Instruction) →
+    length (instructions_code y sizes places at held is) ≡ length (instructions_code y sizes others other held is)
+instructions-length y sizes places others at other held [] = refl
+instructions-length y sizes places others at other held (i ∷ is) =
+    let A = instruction_code y sizes places at held i in
+    let B = instruction_code y sizes others other held i in
+    let C = instructions_code y sizes places (at + 4 * length A) (held_after i) is in
+    let D = instructions_code y sizes others (other + 4 * length B) (held_after i) is in
+    let a : length A ≡ length B = instruction-length y sizes places others at other held i in
+    let c : length C ≡ length D = instructions-length y sizes places others (at + 4 * length A) (other + 4 * length B) (held_after i) is in
     length-append A C ∙ (sums (length A) (length B) (length C) (length D) a c ∙ sym (length-append B D))
   where
     sums : (a b c d : ℕ) → a ≡ b → c ≡ d → a + c ≡ b + d
@@ -56,12 +56,12 @@ instructions-length y sizes places others at other (i ∷ is) =
 pub block-length : (y : Layout) (sizes : List ℕ) (places others : FnId → ℕ) (starts ends : ℕ → ℕ) (last final at other : ℕ) (b : Block) →
     length (block_code y sizes places starts last at b) ≡ length (block_code y sizes others ends final other b)
 block-length y sizes places others starts ends last final at other b =
-    let A = instructions_code y sizes places at b.instructions in
-    let B = instructions_code y sizes others other b.instructions in
-    let C = exit_code y (at + 4 * length A) starts last b.exit in
-    let D = exit_code y (other + 4 * length B) ends final b.exit in
-    let a : length A ≡ length B = instructions-length y sizes places others at other b.instructions in
-    let c : length C ≡ length D = exit-length y (at + 4 * length A) (other + 4 * length B) last final starts ends b.exit in
+    let A = instructions_code y sizes places at None b.instructions in
+    let B = instructions_code y sizes others other None b.instructions in
+    let C = exit_code y (held_behind None b.instructions) (at + 4 * length A) starts last b.exit in
+    let D = exit_code y (held_behind None b.instructions) (other + 4 * length B) ends final b.exit in
+    let a : length A ≡ length B = instructions-length y sizes places others at other None b.instructions in
+    let c : length C ≡ length D = exit-length y (held_behind None b.instructions) (at + 4 * length A) (other + 4 * length B) last final starts ends b.exit in
     length-append A C ∙ (sums (length A) (length B) (length C) (length D) a c ∙ sym (length-append B D))
   where
     sums : (a b c d : ℕ) → a ≡ b → c ≡ d → a + c ≡ b + d

@@ -9,6 +9,7 @@ pub mod Small
 pub mod Words
 pub mod Claims
 pub mod Sequences
+pub mod Holding
 pub mod Moves
 pub mod Faults
 pub mod Divisors

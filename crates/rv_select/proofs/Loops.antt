@@ -1,5 +1,5 @@
 -- Code that a loop puts, an item at a time, with what is still to come.
-use Rattle.std.proofs.Common.{◌≡◌, ℕ, ◌+◌, ◌*◌, ◌<◌, ◌≤◌, true, List, [], ◌∷◌, ◌++◌, length, get_or, drop, append_assoc, refl, sym, ap, ◌∙◌, arith}
+use Rattle.std.proofs.Common.{◌≡◌, ℕ, ◌+◌, ◌*◌, ◌<◌, ◌≤◌, true, List, [], ◌∷◌, ◌++◌, length, get_or, drop, append_assoc, Option, None, refl, sym, ap, ◌∙◌, subst, arith}
 use Rattle.std.specs.Prelude.{map}
 use Rattle.std.specs.List.{list_all}
 use Rattle.std.proofs.lemmas.List.{append-nil, drop_all, drop_more}
@@ -9,7 +9,8 @@ use Rattle.tac_form.specs.declared.tac.Instruction.{Instruction}
 use Rattle.tac_form.specs.declared.tac.Block.{Block}
 use Rattle.rv_select.specs.declared.selected.Call.{Call as Site}
 use Rattle.rv_select.specs.Places.{Layout}
-use Rattle.rv_select.specs.Calls.{block_code, block_has_code, blocks_calls, blocks_code, has_code, instruction_calls, instruction_code, instructions_calls, instructions_code, starts_from}
+use Rattle.rv_select.specs.Shapes.{held_after}
+use Rattle.rv_select.specs.Calls.{block_code, block_has_code, blocks_calls, blocks_code, has_code, held_behind, instruction_calls, instruction_code, instructions_calls, instructions_code, starts_from}
 use Rattle.rv_select.proofs.Lengths.{block-length, instruction-length}
 use Rattle.rv_select.proofs.Numbers.{pushed_words}
 use Rattle.rv_select.proofs.Pushed.{behind-placed}
@@ -50,37 +51,50 @@ pub items-end : {S : Type 0} (out whole total : List S) → out ++ whole ≡ tot
 items-end out whole total e f = sym (append-nil out) ∙ (ap (λ z. out ++ z) (sym f) ∙ e)
 
 -- Instructions.
-pub instructions-turn : (y : Layout) (sizes : List ℕ) (i : ℕ) (xs : List Instruction) (x : Instruction) (old new total : List ℕ) →
-    x ≡ get_or xs i x → i < length xs →
-    new ≡ old ++ map word_of (instruction_code y sizes (λ f. 0) (4 * length old) x) →
-    old ++ map word_of (instructions_code y sizes (λ f. 0) (4 * length old) (drop i xs)) ≡ total →
-    new ++ map word_of (instructions_code y sizes (λ f. 0) (4 * length new) (drop (i + 1) xs)) ≡ total
-instructions-turn y sizes i xs x old new total e h put before =
-    words-turn old new (instruction_code y sizes (λ f. 0) (4 * length old) x)
-    (λ n. instructions_code y sizes (λ f. 0) n (drop (i + 1) xs)) (instructions_code y sizes (λ f. 0) (4 * length old) (drop i xs)) total
-    put before (ap (instructions_code y sizes (λ f. 0) (4 * length old)) (drop-item xs i x e h))
+pub instructions-turn : (y : Layout) (sizes : List ℕ) (held next : Option ℕ) (i : ℕ) (xs : List Instruction) (x : Instruction) (old new total : List ℕ) →
+    x ≡ get_or xs i x → i < length xs → next ≡ held_after x →
+    new ≡ old ++ map word_of (instruction_code y sizes (λ f. 0) (4 * length old) held x) →
+    old ++ map word_of (instructions_code y sizes (λ f. 0) (4 * length old) held (drop i xs)) ≡ total →
+    new ++ map word_of (instructions_code y sizes (λ f. 0) (4 * length new) next (drop (i + 1) xs)) ≡ total
+instructions-turn y sizes held next i xs x old new total e h is put before =
+    subst (λ o. new ++ map word_of (instructions_code y sizes (λ f. 0) (4 * length new) o (drop (i + 1) xs)) ≡ total) (sym is)
+    (words-turn old new (instruction_code y sizes (λ f. 0) (4 * length old) held x)
+    (λ n. instructions_code y sizes (λ f. 0) n (held_after x) (drop (i + 1) xs))
+    (instructions_code y sizes (λ f. 0) (4 * length old) held (drop i xs)) total
+    put before (ap (instructions_code y sizes (λ f. 0) (4 * length old) held) (drop-item xs i x e h)))
 
-pub instructions-end : (y : Layout) (sizes : List ℕ) (at i : ℕ) (xs : List Instruction) → length xs ≤ i →
-    map word_of (instructions_code y sizes (λ f. 0) at (drop i xs)) ≡ []
-instructions-end y sizes at i xs h = ap (λ z. map word_of (instructions_code y sizes (λ f. 0) at z)) (drop-end xs i h)
+pub instructions-end : (y : Layout) (sizes : List ℕ) (held : Option ℕ) (at i : ℕ) (xs : List Instruction) → length xs ≤ i →
+    map word_of (instructions_code y sizes (λ f. 0) at held (drop i xs)) ≡ []
+instructions-end y sizes held at i xs h = ap (λ z. map word_of (instructions_code y sizes (λ f. 0) at held z)) (drop-end xs i h)
 
-pub calls-turn : (y : Layout) (sizes : List ℕ) (i : ℕ) (xs : List Instruction) (x : Instruction) (old new : List ℕ) (before between total : List Site) →
-    x ≡ get_or xs i x → i < length xs →
-    new ≡ old ++ map word_of (instruction_code y sizes (λ f. 0) (4 * length old) x) →
+pub calls-turn : (y : Layout) (sizes : List ℕ) (held next : Option ℕ) (i : ℕ) (xs : List Instruction) (x : Instruction) (old new : List ℕ)
+    (before between total : List Site) → x ≡ get_or xs i x → i < length xs → next ≡ held_after x →
+    new ≡ old ++ map word_of (instruction_code y sizes (λ f. 0) (4 * length old) held x) →
     between ≡ before ++ instruction_calls y (length old) x →
-    before ++ instructions_calls y sizes (length old) (drop i xs) ≡ total →
-    between ++ instructions_calls y sizes (length new) (drop (i + 1) xs) ≡ total
-calls-turn y sizes i xs x old new before between total e h put calls b =
-    let C : List Instr = instruction_code y sizes (λ f. 0) (4 * length old) x in
-    let n : ℕ = length (instruction_code y sizes (λ f. 0) 0 x) in
+    before ++ instructions_calls y sizes (length old) held (drop i xs) ≡ total →
+    between ++ instructions_calls y sizes (length new) next (drop (i + 1) xs) ≡ total
+calls-turn y sizes held next i xs x old new before between total e h is put calls b =
+    let C : List Instr = instruction_code y sizes (λ f. 0) (4 * length old) held x in
+    let n : ℕ = length (instruction_code y sizes (λ f. 0) 0 held x) in
     let count : length new ≡ length old + n =
-    ap length put ∙ (pushed_words old C ∙ ap (λ k. length old + k) (instruction-length y sizes (λ f. 0) (λ f. 0) (4 * length old) 0 x)) in
-    items-turn before between (instruction_calls y (length old) x) (λ k. instructions_calls y sizes k (drop (i + 1) xs)) (length new)
-    (length old + n) (instructions_calls y sizes (length old) (drop i xs)) total count calls b
-    (ap (instructions_calls y sizes (length old)) (drop-item xs i x e h))
+    ap length put ∙ (pushed_words old C ∙ ap (λ k. length old + k) (instruction-length y sizes (λ f. 0) (λ f. 0) (4 * length old) 0 held x)) in
+    subst (λ o. between ++ instructions_calls y sizes (length new) o (drop (i + 1) xs) ≡ total) (sym is)
+    (items-turn before between (instruction_calls y (length old) x) (λ k. instructions_calls y sizes k (held_after x) (drop (i + 1) xs)) (length new)
+    (length old + n) (instructions_calls y sizes (length old) held (drop i xs)) total count calls b
+    (ap (instructions_calls y sizes (length old) held) (drop-item xs i x e h)))
 
-pub calls-end : (y : Layout) (sizes : List ℕ) (at i : ℕ) (xs : List Instruction) → length xs ≤ i → instructions_calls y sizes at (drop i xs) ≡ []
-calls-end y sizes at i xs h = ap (instructions_calls y sizes at) (drop-end xs i h)
+pub calls-end : (y : Layout) (sizes : List ℕ) (held : Option ℕ) (at i : ℕ) (xs : List Instruction) → length xs ≤ i →
+    instructions_calls y sizes at held (drop i xs) ≡ []
+calls-end y sizes held at i xs h = ap (instructions_calls y sizes at held) (drop-end xs i h)
+
+-- what x5 holds behind instructions
+pub held-turn : (held next whole : Option ℕ) (i : ℕ) (xs : List Instruction) (x : Instruction) → x ≡ get_or xs i x → i < length xs →
+    next ≡ held_after x → held_behind held (drop i xs) ≡ whole → held_behind next (drop (i + 1) xs) ≡ whole
+held-turn held next whole i xs x e h is before =
+    ap (λ o. held_behind o (drop (i + 1) xs)) is ∙ (sym (ap (held_behind held) (drop-item xs i x e h)) ∙ before)
+
+pub held-end : (held whole : Option ℕ) (i : ℕ) (xs : List Instruction) → length xs ≤ i → held_behind held (drop i xs) ≡ whole → held ≡ whole
+held-end held whole i xs h before = sym (ap (held_behind held) (drop-end xs i h)) ∙ before
 
 pub has-turn : (i : ℕ) (xs : List Instruction) (x : Instruction) → x ≡ get_or xs i x → i < length xs → list_all has_code (drop i xs) ≡ true →
     (has_code x ≡ true) × (list_all has_code (drop (i + 1) xs) ≡ true)
@@ -105,11 +119,11 @@ blocks-end y sizes starts last at i xs h = ap (λ z. map word_of (blocks_code y 
 pub blocks-calls-turn : (y : Layout) (sizes : List ℕ) (starts : ℕ → ℕ) (last i : ℕ) (xs : List Block) (x : Block) (old new : List ℕ)
     (before between total : List Site) → x ≡ get_or xs i x → i < length xs →
     new ≡ old ++ map word_of (block_code y sizes (λ f. 0) starts last (4 * length old) x) →
-    between ≡ before ++ instructions_calls y sizes (length old) x.instructions →
+    between ≡ before ++ instructions_calls y sizes (length old) None x.instructions →
     before ++ blocks_calls y sizes (length old) (drop i xs) ≡ total →
     between ++ blocks_calls y sizes (length new) (drop (i + 1) xs) ≡ total
 blocks-calls-turn y sizes starts last i xs x old new before between total e h put calls b =
-    items-turn before between (instructions_calls y sizes (length old) x.instructions) (λ k. blocks_calls y sizes k (drop (i + 1) xs)) (length new)
+    items-turn before between (instructions_calls y sizes (length old) None x.instructions) (λ k. blocks_calls y sizes k (drop (i + 1) xs)) (length new)
     (length old + length (block_code y sizes (λ f. 0) (λ c. 0) 0 0 x)) (blocks_calls y sizes (length old) (drop i xs)) total
     (block-end y sizes starts last x old new put) calls b (ap (blocks_calls y sizes (length old)) (drop-item xs i x e h))
 

@@ -1,8 +1,10 @@
 -- Copies and operators.
-use Rattle.std.proofs.Common.{◌≡◌, ◌≢◌, ℕ, ◌+◌, ◌*◌, ◌^◌, ◌<◌, ◌≤◌, true, false, List, [], ◌++◌, length, take, drop, append_assoc, Option, refl, sym, ap, ◌∙◌, subst, ⊎_elim, inl, inr, arith}
-use Rattle.std.specs.Prelude.{if◌then◌else◌, ◌⊎◌, IsTrue}
-use Rattle.std.proofs.lemmas.Bool.{cases_eq, eq-eqb, ne_eqb}
+use Rattle.std.proofs.Common.{◌≡◌, ◌≢◌, ℕ, ◌+◌, ◌*◌, ◌^◌, ◌<◌, ◌≤◌, Bool, true, false, not, ◌&&◌, List, [], ◌++◌, length, take, drop, append_assoc, Option, refl, sym, ap, ◌∙◌, subst, ⊎_elim, inl, inr, arith}
+use Rattle.std.specs.Prelude.{if◌then◌else◌, nat_eq, ◌⊎◌, IsTrue}
+use Rattle.std.proofs.lemmas.Bool.{cases_Bool, cases_eq, eq-eqb, ne_eqb}
 use Rattle.std.proofs.lemmas.List.{length-append}
+use Rattle.std.proofs.lemmas.Nat.{and_comm, or_comm, xor_comm}
+use Rattle.std.proofs.Math.Nat.{mul_comm}
 use Rattle.rv_isa.specs.declared.instr.Instr.{Instr}
 use Rattle.rv_isa.specs.declared.instr.Instr.TheVariants.{Store}
 use Rattle.rv_isa.specs.declared.operation.StoreOp.TheVariants.{Sd}
@@ -13,7 +15,9 @@ use Rattle.rv_machine.specs.Word.{low}
 use Rattle.rv_machine.specs.Machine.{State}
 use Rattle.terra_words.specs.declared.words.Width.{Width}
 use Rattle.terra_words.specs.declared.words.BinaryOperator.{BinaryOperator}
-use Rattle.terra_words.specs.Words.{applied, divides}
+use Rattle.terra_words.specs.declared.words.BinaryOperator.TheVariants as ops
+use Rattle.terra_words.specs.Words.{applied, divides, flag, wrapped}
+use Rattle.tac_form.specs.declared.tac.Number.{Number}
 use Rattle.tac_form.specs.declared.tac.Size.{Size}
 use Rattle.tac_form.specs.declared.tac.Size.TheVariants.{One, Two, Four, Eight}
 use Rattle.tac_form.specs.declared.tac.Operand.{Operand}
@@ -26,15 +30,18 @@ use Rattle.rv_operators.specs.Codes.{x5, x6, code_of, is_width}
 use Rattle.rv_operators.specs.Runs.{Stands}
 use Rattle.rv_operators.proofs.Operators.{computed as operator-computes}
 use Rattle.rv_operators.proofs.Short.{code-short}
-use Rattle.rv_select.specs.Places.{AreBytes, Layout, World, Holds, Housed, IsHome, IsRead, Keeps, area_offset, frame_bytes, home_of, is_lasting, slot_offset, uses, value_in, word_at}
-use Rattle.rv_select.specs.Shapes.{computed, put_to, taken}
+use Rattle.rv_select.specs.Places.{AreBytes, Layout, World, Holds, Housed, IsHeld, IsHome, IsRead, Keeps, area_offset, frame_bytes, home_of, is_lasting, slot_offset, uses, value_in, word_at}
+use Rattle.rv_select.specs.Folded.{folded, is_folded}
+use Rattle.rv_select.specs.Numbers.{constant}
+use Rattle.rv_select.specs.Shapes.{applied_to, first_taken, is_held, is_symmetric, is_turned, operated, put_to, taken}
 use Rattle.rv_select.specs.Steps.{Comes, Follows, behind, with_temp}
-use Rattle.rv_select.proofs.Claims.{CopiesAreCarried, OperatorsAreCarried}
+use Rattle.rv_select.proofs.Claims.{CopiesAreCarried, Gives, OperatorsAreCarried}
 use Rattle.rv_select.proofs.Straight.{Loads, Scratch, behind-both, leads-scratch, loads-five, loads-six, low-below, scratch-both}
 use Rattle.rv_select.proofs.Ways.{Near, Way, scratch-near, stands-back, stands-front, straight-way, way-both}
 use Rattle.rv_select.proofs.Frames.{framed-some}
-use Rattle.rv_select.proofs.Homes.{Puts, operand-count, put-count, put-home, region-small, take-operand}
-use Rattle.rv_select.proofs.Sequences.{operator-count}
+use Rattle.rv_select.proofs.Homes.{Puts, first-count, operand-count, put-count, put-home, region-small, take-first, take-operand}
+use Rattle.rv_select.proofs.Holding.{applied-count, folded-few, folds}
+use Rattle.rv_select.proofs.Numbers.{constant-loads}
 use Rattle.rv_select.proofs.Small.{applied-small}
 
 -- a word at a home depends on neither scratch registers nor the region
@@ -173,11 +180,11 @@ pub some-put : (h : Home) → 1 ≤ length (put_to h)
 some-put (homes.Register x) = omega arith
 some-put (homes.Slot k) = framed-some (λ r offset. Store Sd r x5 offset) (slot_offset k)
 
--- a way to a state near, and a put there
+-- a way to a state near, and a put there, which leaves the word in x5
 pub then-put : (y : Layout) (Used Next : ℕ → Type 0) (w : World) (base d v k weight target : ℕ) (program : List (Option Instr)) (m n : State) →
     Holds y Used w base m → Housed y Used → Housed y Next → Next d → Follows Used Next d → Way program k m n → Near m n → n.pc < 2 ^ 64 →
     n.registers 5 ≡ v → v < 2 ^ 64 → k + 3 ≤ weight → Stands program n.pc (put_to (home_of y d)) → low (n.pc + 4 * length (put_to (home_of y d))) ≡ target →
-    Comes y program Next (with_temp w d v) base weight target [] m
+    Gives y program Next (with_temp w d v) base weight target d m
 then-put y Used Next w base d v k weight target program m n p h h' u follows way near small e l few stands to =
     let b : List Instr = put_to (home_of y d) in
     let q : Holds y Used w base n = near-holds y Used w base m n p h near small in
@@ -188,21 +195,26 @@ then-put y Used Next w base d v k weight target program m n p h h' u follows way
     let whole : Way program (k + length b) m r.after =
     way-both program k (length b) m n r.after way (straight-way program b n r.after stands r.straight r.goes) in
     record {
-      steps = k + length b;
-      after = r.after;
-      some = omega arith;
-      few = omega arith;
-      runs = whole.runs;
-      at = r.behind ∙ to;
-      holds = put-holds y Used Next w base d v b n r q h' u follows e l;
-      keeps = keeps-both y base m n r.after (near-keeps y base m n near) (put-keeps y base b n (home_of y d) r (h'.homes d u));
+      comes = record {
+        steps = k + length b;
+        after = r.after;
+        some = omega arith;
+        few = omega arith;
+        runs = whole.runs;
+        at = r.behind ∙ to;
+        holds = put-holds y Used Next w base d v b n r q h' u follows e l;
+        keeps = keeps-both y base m n r.after (near-keeps y base m n near) (put-keeps y base b n (home_of y d) r (h'.homes d u));
+      };
+      five =
+          r.keeps 5 (λ z. omega (arith, z)) (no-home y (home_of y d) 5 (h'.homes d u) (inl (omega arith)))
+          ∙ (e ∙ sym (ap (λ c. if c then v else w.temps d) (eq-eqb d d refl)));
     }
 
 -- straight code that leaves a word in x5, and a put
 pub straight-put : (y : Layout) (Used Next : ℕ → Type 0) (w : World) (base d v weight : ℕ) (a : List Instr) (program : List (Option Instr)) (m n : State) →
     Holds y Used w base m → Housed y Used → Housed y Next → Next d → Follows Used Next d → Scratch a m n → n.registers 5 ≡ v → v < 2 ^ 64 →
     length a + 3 ≤ weight → Stands program m.pc (a ++ put_to (home_of y d)) →
-    Comes y program Next (with_temp w d v) base weight (behind m (a ++ put_to (home_of y d))) [] m
+    Gives y program Next (with_temp w d v) base weight (behind m (a ++ put_to (home_of y d))) d m
 straight-put y Used Next w base d v weight a program m n p h h' u follows s e l few stands =
     let b : List Instr = put_to (home_of y d) in
     then-put y Used Next w base d v (length a) weight (behind m (a ++ b)) program m n p h h' u follows
@@ -216,38 +228,58 @@ value-small Used y w base m (Temp t) p r = p.words t r
 value-small Used y w base m (Constant c) p r = r
 
 pub copies : CopiesAreCarried
-copies y d a Used Next w base program m stands p h h' r u follows =
-    let l : Loads 5 (taken y x5 a) m (value_in w.temps a) = take-operand y x5 Used w base m a (λ e. omega (arith, e)) p h r in
-    straight-put y Used Next w base d (value_in w.temps a) (words_of (Copy d a)) (taken y x5 a) program m l.after p h h' u follows (loads-five (taken y x5 a) m (value_in w.temps a) l) l.gives
-    (value-small Used y w base m a p r) (omega (arith, operand-count y x5 a)) stands
+copies y held d a Used Next w base program m stands f p h h' r u follows =
+    let A : List Instr = first_taken y held a in
+    let l : Loads 5 A m (value_in w.temps a) = take-first y held Used w base m a f p h r in
+    straight-put y Used Next w base d (value_in w.temps a) (words_of (Copy d a)) A program m l.after p h h' u follows
+    (loads-five A m (value_in w.temps a) l) l.gives (value-small Used y w base m a p r) (omega (arith, first-count y held a)) stands
 
--- an operator over operands that stand in x5 and x6
-computes : (y : Layout) (Used Next : ℕ → Type 0) (w : World) (base d va vb na nb : ℕ) (op : BinaryOperator) (wide : Width) (A B : List Instr)
-    (program : List (Option Instr)) (m : State) → is_width wide.bits ≡ true → (divides op ≡ true → vb ≢ 0) → va < 2 ^ 64 → vb < 2 ^ 64 →
-    (l : Loads 5 A m va) → (k : Loads 6 B l.after vb) → length A ≤ na → length B ≤ nb →
-    Holds y Used w base m → Housed y Used → Housed y Next → Next d → Follows Used Next d →
-    Stands program m.pc ((A ++ (B ++ code_of wide op)) ++ put_to (home_of y d)) →
-    Comes y program Next (with_temp w d (applied wide op va vb)) base (na + nb + operator_words op + 3) (behind m ((A ++ (B ++ code_of wide op)) ++ put_to (home_of y d))) [] m
-computes y Used Next w base d va vb na nb op wide A B program m is divisor sa sb l k fa fb p h h' u follows stands =
+-- Code that comes to a word in x5.
+pub record Applies (code : List Instr) (m : State) (v : ℕ) : Type 0 where
+  pub after : State
+  pub scratch : Scratch code m after
+  pub gives : after.registers 5 ≡ v
+
+-- an operator of x5 and a word that is put into x6
+loads-apply : (op : BinaryOperator) (wide : Width) (B : List Instr) (m : State) (va vb : ℕ) → is_width wide.bits ≡ true → (divides op ≡ true → vb ≢ 0) →
+    m.registers 5 ≡ va → va < 2 ^ 64 → vb < 2 ^ 64 → Loads 6 B m vb → Applies (B ++ code_of wide op) m (applied wide op va vb)
+loads-apply op wide B m va vb is divisor e sa sb k =
     let n : State = k.after in
-    let five : n.registers 5 ≡ va = k.keeps 5 (λ e. omega (arith, e)) (λ e. omega (arith, e)) ∙ l.gives in
+    let five : n.registers 5 ≡ va = k.keeps 5 (λ e. omega (arith, e)) (λ e. omega (arith, e)) ∙ e in
     let o : Leads (code_of wide op) n (applied wide op (n.registers 5) (n.registers 6)) =
     operator-computes wide op is n (subst (λ x. x < 2 ^ 64) (sym five) sa) (subst (λ x. x < 2 ^ 64) (sym k.gives) sb)
     (λ e z. divisor e (sym k.gives ∙ z)) in
-    let short : length (code_of wide op) ≤ operator_words op = operator-count wide op in
-    let s : Scratch (A ++ (B ++ code_of wide op)) m o.after =
-    scratch-both A (B ++ code_of wide op) m l.after o.after (loads-five A m va l)
-    (scratch-both B (code_of wide op) l.after n o.after (loads-six B l.after vb k) (leads-scratch (code_of wide op) n _ o (code-short wide op).straight)) in
-    let gives : o.after.registers 5 ≡ applied wide op va vb =
-    o.gives ∙ (ap (λ x. applied wide op x (n.registers 6)) five ∙ ap (λ x. applied wide op va x) k.gives) in
-    let count : length (A ++ (B ++ code_of wide op)) ≡ length A + (length B + length (code_of wide op)) =
-    length-append A (B ++ code_of wide op) ∙ ap (λ x. length A + x) (length-append B (code_of wide op)) in
-    straight-put y Used Next w base d (applied wide op va vb) (na + nb + operator_words op + 3) (A ++ (B ++ code_of wide op)) program m o.after p h h' u follows s gives
-    (applied-small wide op va vb is) (omega (arith, count, short, fa, fb)) stands
+    record {
+      after = o.after;
+      scratch = scratch-both B (code_of wide op) m n o.after (loads-six B m vb k) (leads-scratch (code_of wide op) n _ o (code-short wide op).straight);
+      gives = o.gives ∙ (ap (λ x. applied wide op x (n.registers 6)) five ∙ ap (λ x. applied wide op va x) k.gives);
+    }
 
--- the parts one after the other
-in-row : (A B O P : List Instr) → (A ++ (B ++ O)) ++ P ≡ A ++ (B ++ (O ++ P))
-in-row A B O P = append_assoc A (B ++ O) P ∙ ap (λ x. A ++ x) (append_assoc B O P)
+-- an operator of x5 and a constant that instructions hold
+folded-apply : (op : BinaryOperator) (wide : Width) (c : ℕ) (m : State) (va : ℕ) → is_width wide.bits ≡ true →
+    m.registers 5 ≡ va → va < 2 ^ 64 → c < 2 ^ 64 → is_folded op c ≡ true → Applies (folded wide op c) m (applied wide op va c)
+folded-apply op wide c m va is e sa sc f =
+    let o : Leads (folded wide op c) m (applied wide op (m.registers 5) c) = folds wide op c m is (subst (λ x. x < 2 ^ 64) (sym e) sa) sc f in
+    record {
+      after = o.after;
+      scratch = leads-scratch (folded wide op c) m _ o (folded-few wide op c).straight;
+      gives = o.gives ∙ ap (λ x. applied wide op x c) e;
+    }
+
+-- an operator of x5 and an operand
+applies : (y : Layout) (Used : ℕ → Type 0) (w : World) (base : ℕ) (op : BinaryOperator) (wide : Width) (b : Operand) (m : State) (va : ℕ) →
+    is_width wide.bits ≡ true → (divides op ≡ true → value_in w.temps b ≢ 0) → m.registers 5 ≡ va → va < 2 ^ 64 →
+    Holds y Used w base m → Housed y Used → IsRead Used b → Applies (applied_to y wide op b) m (applied wide op va (value_in w.temps b))
+applies y Used w base op wide (Temp t) m va is divisor e sa p h r =
+    loads-apply op wide (taken y x6 (Temp t)) m va (w.temps t) is divisor e sa (value-small Used y w base m (Temp t) p r)
+    (take-operand y x6 Used w base m (Temp t) (λ e. omega (arith, e)) p h r)
+applies y Used w base op wide (Constant c) m va is divisor e sa p h r =
+    ⊎_elim
+    (λ f. subst (λ x. Applies (if x then folded wide op c else constant x6 c ++ code_of wide op) m (applied wide op va c)) (sym f)
+    (folded-apply op wide c m va is e sa r f))
+    (λ f. subst (λ x. Applies (if x then folded wide op c else constant x6 c ++ code_of wide op) m (applied wide op va c)) (sym f)
+    (loads-apply op wide (constant x6 c) m va c is divisor e sa r (constant-loads x6 m c (λ e. omega (arith, e)) r)))
+    (cases_Bool (is_folded op c))
 
 -- numbers have the width of a type
 pub wide-size : (z : Size) → is_width (8 * bytes_of z) ≡ true
@@ -256,17 +288,101 @@ wide-size Two = refl
 wide-size Four = refl
 wide-size Eight = refl
 
-pub operators : OperatorsAreCarried
-operators y d op form a b Used Next w base program m stands divisor p h h' ra rb u follows =
+-- operands in the order in which they are taken
+abbrev OperandsAreCarried : Type 1
+OperandsAreCarried =
+    (y : Layout) (held : Option ℕ) (d : ℕ) (op : BinaryOperator) (form : Number) (a b : Operand) (Used Next : ℕ → Type 0) (w : World) (base : ℕ)
+    (program : List (Option Instr)) (m : State) →
+    Stands program m.pc (operated y held d op (width_of form) a b) → IsHeld held w.temps m → (divides op ≡ true → value_in w.temps b ≢ 0) →
+    Holds y Used w base m → Housed y Used → Housed y Next → IsRead Used a → IsRead Used b → Next d → Follows Used Next d →
+    Gives y program Next (with_temp w d (applied (width_of form) op (value_in w.temps a) (value_in w.temps b))) base
+    (words_of (Compute d op form a b)) (behind m (operated y held d op (width_of form) a b)) d m
+
+in-order : OperandsAreCarried
+in-order y held d op form a b Used Next w base program m stands f divisor p h h' ra rb u follows =
     let wide : Width = width_of form in
     let va = value_in w.temps a in
     let vb = value_in w.temps b in
-    let l : Loads 5 (taken y x5 a) m va = take-operand y x5 Used w base m a (λ e. omega (arith, e)) p h ra in
-    let q : Holds y Used w base l.after = scratch-holds y Used w base (taken y x5 a) m l.after p h (loads-five (taken y x5 a) m va l) in
-    let k : Loads 6 (taken y x6 b) l.after vb = take-operand y x6 Used w base l.after b (λ e. omega (arith, e)) q h rb in
-    let whole : (taken y x5 a ++ (taken y x6 b ++ code_of wide op)) ++ put_to (home_of y d) ≡ computed y d op wide a b =
-    in-row (taken y x5 a) (taken y x6 b) (code_of wide op) (put_to (home_of y d)) in
-    subst (λ x. Comes y program Next (with_temp w d (applied wide op va vb)) base (words_of (Compute d op form a b)) (behind m x) [] m) whole
-    (computes y Used Next w base d va vb (operand_words a) (operand_words b) op wide (taken y x5 a) (taken y x6 b) program m (wide-size form.size) divisor
-    (value-small Used y w base m a p ra) (value-small Used y w base m b p rb) l k (operand-count y x5 a) (operand-count y x6 b) p h h' u follows
-    (subst (λ x. Stands program m.pc x) (sym whole) stands))
+    let A : List Instr = first_taken y held a in
+    let S : List Instr = applied_to y wide op b in
+    let sa : va < 2 ^ 64 = value-small Used y w base m a p ra in
+    let l : Loads 5 A m va = take-first y held Used w base m a f p h ra in
+    let q : Holds y Used w base l.after = scratch-holds y Used w base A m l.after p h (loads-five A m va l) in
+    let o : Applies S l.after (applied wide op va vb) = applies y Used w base op wide b l.after va (wide-size form.size) divisor l.gives sa q h rb in
+    let few : length (A ++ S) + 3 ≤ words_of (Compute d op form a b) =
+    omega (arith, length-append A S, first-count y held a, applied-count y wide op b) in
+    subst (λ x. Gives y program Next (with_temp w d (applied wide op va vb)) base (words_of (Compute d op form a b)) (behind m x) d m)
+    (append_assoc A S (put_to (home_of y d)))
+    (straight-put y Used Next w base d (applied wide op va vb) (words_of (Compute d op form a b)) (A ++ S) program m o.after p h h' u follows
+    (scratch-both A S m l.after o.after (loads-five A m va l) o.scratch) o.gives (applied-small wide op va vb (wide-size form.size)) few
+    (subst (λ x. Stands program m.pc x) (sym (append_assoc A S (put_to (home_of y d)))) stands))
+
+-- operands that change places
+and-left : (a b : Bool) → (a && b) ≡ true → a ≡ true
+and-left true b e = refl
+and-left false b e = cc
+
+no-divisor : (op : BinaryOperator) → is_symmetric op ≡ true → divides op ≡ false
+no-divisor ops.Add e = refl
+no-divisor ops.Multiply e = refl
+no-divisor ops.Xor e = refl
+no-divisor ops.And e = refl
+no-divisor ops.Or e = refl
+no-divisor ops.Equal e = refl
+no-divisor ops.NotEqual e = refl
+no-divisor ops.Subtract e = cc
+no-divisor ops.Divide e = cc
+no-divisor ops.Modulo e = cc
+no-divisor ops.ShiftLeft e = cc
+no-divisor ops.ShiftRight e = cc
+no-divisor ops.Less e = cc
+no-divisor ops.LessEqual e = cc
+no-divisor ops.Greater e = cc
+no-divisor ops.GreaterEqual e = cc
+
+equal-turned : (x y : ℕ) → nat_eq x y ≡ nat_eq y x
+equal-turned x y =
+    ⊎_elim (λ e. eq-eqb x y e ∙ sym (eq-eqb y x (sym e))) (λ n. ne_eqb x y n ∙ sym (ne_eqb y x (λ e. n (sym e)))) (cases_eq x y)
+
+symmetric : (wide : Width) (op : BinaryOperator) (x y : ℕ) → is_symmetric op ≡ true → applied wide op x y ≡ applied wide op y x
+unfolding applied
+symmetric wide ops.Add x y e = let same : x + y ≡ y + x = omega arith in ap (wrapped wide) same
+symmetric wide ops.Multiply x y e = ap (wrapped wide) (mul_comm x y)
+symmetric wide ops.Xor x y e = ap (wrapped wide) (xor_comm x y)
+symmetric wide ops.And x y e = ap (wrapped wide) (and_comm x y)
+symmetric wide ops.Or x y e = ap (wrapped wide) (or_comm x y)
+symmetric wide ops.Equal x y e = ap flag (equal-turned x y)
+symmetric wide ops.NotEqual x y e = ap (λ b. flag (not b)) (equal-turned x y)
+symmetric wide ops.Subtract x y e = cc
+symmetric wide ops.Divide x y e = cc
+symmetric wide ops.Modulo x y e = cc
+symmetric wide ops.ShiftLeft x y e = cc
+symmetric wide ops.ShiftRight x y e = cc
+symmetric wide ops.Less x y e = cc
+symmetric wide ops.LessEqual x y e = cc
+symmetric wide ops.Greater x y e = cc
+symmetric wide ops.GreaterEqual x y e = cc
+
+pub operators : OperatorsAreCarried
+operators y held d op form a b Used Next w base program m stands f divisor p h h' ra rb u follows = either (is_turned held op b) refl stands
+  where
+    turned : (b : Operand) → is_turned held op b ≡ true → (is_symmetric op ≡ true) × (divides op ≡ false)
+    turned (Temp t) e = let s : is_symmetric op ≡ true = and-left (is_symmetric op) (is_held held t) e in (s, no-divisor op s)
+    turned (Constant c) e = cc
+
+    either : (c : Bool) → is_turned held op b ≡ c →
+        Stands program m.pc (if c then operated y held d op (width_of form) b a else operated y held d op (width_of form) a b) →
+        Gives y program Next (with_temp w d (applied (width_of form) op (value_in w.temps a) (value_in w.temps b))) base
+        (words_of (Compute d op form a b))
+        (behind m (if c then operated y held d op (width_of form) b a else operated y held d op (width_of form) a b)) d m
+    either false e there = in-order y held d op form a b Used Next w base program m there f divisor p h h' ra rb u follows
+    either true e there =
+        let t = turned b e in
+        let never : divides op ≡ true → value_in w.temps a ≢ 0 = λ g. let none : false ≡ true = sym t.1 ∙ g in cc in
+        let same : words_of (Compute d op form b a) ≡ words_of (Compute d op form a b) = omega arith in
+        subst (λ n. Gives y program Next (with_temp w d (applied (width_of form) op (value_in w.temps a) (value_in w.temps b))) base n
+        (behind m (operated y held d op (width_of form) b a)) d m) same
+        (subst (λ v. Gives y program Next (with_temp w d v) base (words_of (Compute d op form b a))
+        (behind m (operated y held d op (width_of form) b a)) d m)
+        (symmetric (width_of form) op (value_in w.temps b) (value_in w.temps a) t.0)
+        (in-order y held d op form b a Used Next w base program m there f never p h h' rb ra u follows))

@@ -16,7 +16,7 @@ use Rattle.rv_machine.specs.Arithmetic.{shifted_left}
 use Rattle.terra_words.specs.Words.{wrapped}
 use Rattle.rv_operators.specs.Codes.{x0}
 use Rattle.rv_operators.proofs.Values.{width, wrapped-32}
-use Rattle.rv_select.specs.Numbers.{register_if, register_of, immediate_if, immediate_of, below_zero_if, below_zero, lower_of, upper_number, upper_if, upper_of, short_constant, eleven, ten, moved_up, long_constant, constant}
+use Rattle.rv_select.specs.Numbers.{register_if, register_of, immediate_if, immediate_of, below_zero_if, below_zero, lower_of, upper_number, upper_if, upper_of, short_constant, eleven, half, in_four, in_two, ten, moved_up, long_constant, constant}
 use Rattle.rv_select.proofs.Straight.{Loads, loads-one, loads-both, loads-as, loaded-value}
 
 register-if : (n : ℕ) (b : Bool) (e : nat_le n 31 ≡ b) → b ≡ true → (register_if n b e).number ≡ n
@@ -154,8 +154,8 @@ up-third : (v h e : ℕ) → v % 2 ^ 54 ≡ h % 2 ^ 54 → low (low (v * 2 ^ 10)
 unfolding low
 up-third v h e q = omega arith
 
-long-loads : (d : Register) (m : State) (n : ℕ) → d.number ≢ 0 → n < 2 ^ 64 → Loads d.number (long_constant d n) m n
-long-loads d m n o h =
+four-loads : (d : Register) (m : State) (n : ℕ) → d.number ≢ 0 → n < 2 ^ 64 → Loads d.number (in_four d n) m n
+four-loads d m n o h =
     let a : List Instr = short_constant d (n / 2 ^ 32) in
     let b : List Instr = moved_up d eleven (n / 2 ^ 21 % 2 ^ 11) in
     let c : List Instr = moved_up d eleven (n / 2 ^ 10 % 2 ^ 11) in
@@ -179,6 +179,28 @@ long-loads d m n o h =
     (loads-both d.number v0 v3 a (b ++ (c ++ f)) m la
     (loads-both d.number v1 v3 b (c ++ f) la.after lb (loads-both d.number v2 v3 c f lb.after lc lf)))
 
+up-half : (v h e : ℕ) → v % 2 ^ 32 ≡ h % 2 ^ 32 → low (low (v * 2 ^ 32) + e) ≡ (h * 2 ^ 32 + e) % 2 ^ 64
+unfolding low
+up-half v h e q = omega arith
+
+two-loads : (d : Register) (m : State) (n : ℕ) → d.number ≢ 0 → n < 2 ^ 64 → n % 2 ^ 32 < 2 ^ 11 → Loads d.number (in_two d n) m n
+two-loads d m n o h k =
+    let a : List Instr = short_constant d (n / 2 ^ 32) in
+    let v0 : ℕ = extended_word (n / 2 ^ 32) in
+    let v1 : ℕ = low (low (v0 * 2 ^ 32) + n % 2 ^ 11) in
+    let la : Loads d.number a m v0 = short-loads d m (n / 2 ^ 32) o in
+    let lb : Loads d.number (moved_up d half (n % 2 ^ 11)) la.after v1 = up-loads d half (n % 2 ^ 11) v0 la.after o (omega arith) la.gives in
+    let e : v1 ≡ (n / 2 ^ 32 * 2 ^ 32 + n % 2 ^ 11) % 2 ^ 64 = up-half v0 (n / 2 ^ 32) (n % 2 ^ 11) (extended-low (n / 2 ^ 32)) in
+    let f : (n / 2 ^ 32 * 2 ^ 32 + n % 2 ^ 11) % 2 ^ 64 ≡ n = omega (arith, h, k) in
+    loads-as d.number v1 n (in_two d n) m (e ∙ f) (loads-both d.number v0 v1 a (moved_up d half (n % 2 ^ 11)) m la lb)
+
+long-loads : (d : Register) (m : State) (n : ℕ) → d.number ≢ 0 → n < 2 ^ 64 → Loads d.number (long_constant d n) m n
+long-loads d m n o h =
+    ⊎_elim
+    (λ k. subst (λ b. Loads d.number (if b then in_two d n else in_four d n) m n) (sym (lt-ltb (n % 2 ^ 32) (2 ^ 11) k)) (two-loads d m n o h k))
+    (λ k. subst (λ b. Loads d.number (if b then in_two d n else in_four d n) m n) (sym (le-ltb (n % 2 ^ 32) (2 ^ 11) k)) (four-loads d m n o h))
+    (cases_lt (n % 2 ^ 32) (2 ^ 11))
+
 pub constant-loads : (d : Register) (m : State) (n : ℕ) → d.number ≢ 0 → n < 2 ^ 64 → Loads d.number (constant d n) m n
 constant-loads d m n o h =
     ⊎_elim
@@ -195,16 +217,26 @@ short-count d n = either (nat_eq (upper_number n) 0)
     either true = omega arith
     either false = omega arith
 
+long-count : (d : Register) (n : ℕ) → length (long_constant d n) ≤ 8
+long-count d n = either (nat_lt (n % 2 ^ 32) (2 ^ 11))
+  where
+    two : (a : List Instr) → length a ≤ 2 → length (a ++ moved_up d half (n % 2 ^ 11)) ≤ 8
+    two a h = omega (arith, length-append a (moved_up d half (n % 2 ^ 11)))
+
+    four : (a : List Instr) → length a ≤ 2 →
+        length (a ++ (moved_up d eleven (n / 2 ^ 21 % 2 ^ 11) ++ (moved_up d eleven (n / 2 ^ 10 % 2 ^ 11) ++ moved_up d ten (n % 2 ^ 10)))) ≤ 8
+    four a h = omega (arith, length-append a (moved_up d eleven (n / 2 ^ 21 % 2 ^ 11) ++ (moved_up d eleven (n / 2 ^ 10 % 2 ^ 11) ++ moved_up d ten (n % 2 ^ 10))))
+
+    either : (b : Bool) → length (if b then in_two d n else in_four d n) ≤ 8
+    either true = two (short_constant d (n / 2 ^ 32)) (short-count d (n / 2 ^ 32))
+    either false = four (short_constant d (n / 2 ^ 32)) (short-count d (n / 2 ^ 32))
+
 pub constant-count : (d : Register) (n : ℕ) → length (constant d n) ≤ 8
 constant-count d n = either (nat_eq (extended_word n) n)
   where
     either : (b : Bool) → length (if b then short_constant d n else long_constant d n) ≤ 8
     either true = let h : length (short_constant d n) ≤ 2 = short-count d n in omega arith
-    either false = long (short_constant d (n / 2 ^ 32)) (short-count d (n / 2 ^ 32))
-      where
-        long : (a : List Instr) → length a ≤ 2 →
-            length (a ++ (moved_up d eleven (n / 2 ^ 21 % 2 ^ 11) ++ (moved_up d eleven (n / 2 ^ 10 % 2 ^ 11) ++ moved_up d ten (n % 2 ^ 10)))) ≤ 8
-        long a h = omega (arith, length-append a (moved_up d eleven (n / 2 ^ 21 % 2 ^ 11) ++ (moved_up d eleven (n / 2 ^ 10 % 2 ^ 11) ++ moved_up d ten (n % 2 ^ 10))))
+    either false = long-count d n
 
 -- which numbers are the extension of their low 32 bits
 both-tests : (a b c d : ℕ) → (a < b → c ≡ d) → (b ≤ a → c ≢ d) → nat_lt a b ≡ nat_eq c d

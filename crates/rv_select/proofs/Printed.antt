@@ -16,7 +16,7 @@ use Rattle.rv_machine.specs.Machine.{GoesOn, State, Writes, act, at_with, loads,
 use Rattle.rv_operators.specs.Codes.{x0, x5, x6, zero_immediate}
 use Rattle.rv_operators.specs.Runs.{Stands}
 use Rattle.rv_select.specs.Numbers.{constant, immediate_of}
-use Rattle.rv_select.specs.Places.{AreBytes, Holds, Housed, IsRead, Layout, World, home_of, value_in}
+use Rattle.rv_select.specs.Places.{AreBytes, Holds, Housed, IsHeld, IsRead, Layout, World, home_of, value_in}
 use Rattle.rv_select.specs.Shapes.{byte_put, byte_taken, byte_written, moved, x2, x10, x11, x12, x17}
 use Rattle.rv_select.specs.Steps.{AreFewer, Comes, behind}
 use Rattle.rv_select.proofs.Bytes.{private-part}
@@ -25,7 +25,7 @@ use Rattle.rv_select.proofs.Words.{drop-bytes, number-bytes, take-bytes}
 use Rattle.rv_select.proofs.Straight.{Loads, behind-both, loads-five, low-below, written-elsewhere}
 use Rattle.rv_select.proofs.Numbers.{constant-loads, small-count}
 use Rattle.rv_select.proofs.Ways.{Way, scratch-near, stands-back, stands-front, step-way, straight-way, way-both}
-use Rattle.rv_select.proofs.Homes.{home-count, region-small, take-operand}
+use Rattle.rv_select.proofs.Homes.{first-count, region-small, take-first}
 use Rattle.rv_select.proofs.Faults.{small-load}
 use Rattle.rv_select.proofs.Areas.{saved}
 use Rattle.rv_select.proofs.Calm.{Calm, Wrote, calm-both, calm-comes, held-not, near-calm, then-wrote, write-act, wrote}
@@ -149,15 +149,15 @@ module _ (program : List (Option Instr)) (t : State) (base v : ℕ) (five : t.re
   byte-goes = (s8, byte-out, byte-calm, pc-eight t.pc)
 
 -- an operand's byte goes to x5
-byte-loads : (y : Layout) (Used : ℕ → Type 0) (w : World) (base : ℕ) (m : State) (a : Operand) → Holds y Used w base m → Housed y Used → IsRead Used a →
-    (v : ℕ) × Loads 5 (byte_taken y x5 a) m v × (v % 256 ≡ value_in w.temps a % 256)
-byte-loads y Used w base m (Temp t) p h r = (w.temps t, take-operand y x5 Used w base m (Temp t) (λ e. omega (arith, e)) p h r, refl)
-byte-loads y Used w base m (Constant c) p h r =
+byte-loads : (y : Layout) (held : Option ℕ) (Used : ℕ → Type 0) (w : World) (base : ℕ) (m : State) (a : Operand) → IsHeld held w.temps m →
+    Holds y Used w base m → Housed y Used → IsRead Used a → (v : ℕ) × Loads 5 (byte_taken y held a) m v × (v % 256 ≡ value_in w.temps a % 256)
+byte-loads y held Used w base m (Temp t) f p h r = (w.temps t, take-first y held Used w base m (Temp t) f p h r, refl)
+byte-loads y held Used w base m (Constant c) f p h r =
     (c % 256, constant-loads x5 m (c % 256) (λ e. omega (arith, e)) (omega arith), omega arith)
 
-pub byte-count : (y : Layout) (a : Operand) → length (byte_taken y x5 a) ≤ 3
-byte-count y (Temp t) = home-count x5 (home_of y t)
-byte-count y (Constant c) = let few : length (constant x5 (c % 256)) ≤ 2 = small-count x5 (c % 256) (omega arith) in omega (arith, few)
+pub byte-count : (y : Layout) (held : Option ℕ) (a : Operand) → length (byte_taken y held a) ≤ 3
+byte-count y held (Temp t) = first-count y held (Temp t)
+byte-count y held (Constant c) = let few : length (constant x5 (c % 256)) ≤ 2 = small-count x5 (c % 256) (omega arith) in omega (arith, few)
 
 -- the state after a byte, and a way before it
 byte-ends : (y : Layout) (Used Next : ℕ → Type 0) (w : World) (base v x : ℕ) (A : List Instr) (program : List (Option Instr)) (m t z : State) →
@@ -181,9 +181,9 @@ byte-comes y Used Next w base v x A program m l p h f few same stands =
     byte-ends y Used Next w base v x A program m t g.0 p h f few (straight-way program A m t (stands-front program m.pc A byte_written stands) l.straight l.goes)
     (near-calm m t (scratch-near A m t (loads-five A m v l))) l.behind same g.1 g.2 g.3
 
-pub byte-puts : (y : Layout) (a : Operand) (Used Next : ℕ → Type 0) (w : World) (base : ℕ) (program : List (Option Instr)) (m : State) →
-    Stands program m.pc (byte_put y a) → Holds y Used w base m → Housed y Used → IsRead Used a → AreFewer Used Next →
-    Comes y program Next w base 11 (behind m (byte_put y a)) (value_in w.temps a % 256 ∷ []) m
-byte-puts y a Used Next w base program m stands p h r f =
-    let g = byte-loads y Used w base m a p h r in
-    byte-comes y Used Next w base g.0 (value_in w.temps a) (byte_taken y x5 a) program m g.1 p h f (byte-count y a) g.2 stands
+pub byte-puts : (y : Layout) (held : Option ℕ) (a : Operand) (Used Next : ℕ → Type 0) (w : World) (base : ℕ) (program : List (Option Instr)) (m : State) →
+    Stands program m.pc (byte_put y held a) → IsHeld held w.temps m → Holds y Used w base m → Housed y Used → IsRead Used a → AreFewer Used Next →
+    Comes y program Next w base 11 (behind m (byte_put y held a)) (value_in w.temps a % 256 ∷ []) m
+byte-puts y held a Used Next w base program m stands five p h r f =
+    let g = byte-loads y held Used w base m a five p h r in
+    byte-comes y Used Next w base g.0 (value_in w.temps a) (byte_taken y held a) program m g.1 p h f (byte-count y held a) g.2 stands

@@ -211,8 +211,8 @@ receives program y code U Used Fin base last depth region (Temp d ∷ ds) (word 
     let l : Loads 5 A m (private_word m (base + at)) =
     word-loads base at m p.pc p.frame.pointer (omega (arith, room)) p.frame.private (region-small y Used w base m p) in
     let one : Comes y program Next (with_temp w d x) base 6 (low (m.pc + 4 * length (A ++ B))) [] m =
-    straight-put y Used Next w base d x 6 A program m l.after p (housed-fewer y U Used sub h) (housed-fewer y U Next in-u h) (inl refl) (λ t u. u)
-    (loads-five A m (private_word m (base + at)) l) (l.gives ∙ words.0.0) words.0.1 (omega (arith, framed-count (λ r far. Load Ld x5 r far) at)) (stands-front program m.pc (A ++ B) (C ++ rest) all) in
+    (straight-put y Used Next w base d x 6 A program m l.after p (housed-fewer y U Used sub h) (housed-fewer y U Next in-u h) (inl refl) (λ t u. u)
+    (loads-five A m (private_word m (base + at)) l) (l.gives ∙ words.0.0) words.0.1 (omega (arith, framed-count (λ r far. Load Ld x5 r far) at)) (stands-front program m.pc (A ++ B) (C ++ rest) all)).comes in
     let t : State = one.after in
     let after-t : Stands program t.pc (C ++ rest) = subst (λ q. Stands program q (C ++ rest)) (sym one.at) (stands-back program m.pc (A ++ B) (C ++ rest) p.pc all) in
     let more : GotAll program y Fin (seen (takes_all ds vs (takes (Temp d) (word x) a)) region depth) base (receiving ds) C rest t =

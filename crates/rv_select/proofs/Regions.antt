@@ -25,17 +25,17 @@ use Rattle.tac_form.specs.Flow.{bytes_of, width_of}
 use Rattle.tac_form.specs.Weights.{operand_words, words_of}
 use Rattle.rv_operators.specs.Codes.{x5, x6, zero_immediate}
 use Rattle.rv_operators.specs.Runs.{Stands}
-use Rattle.rv_select.specs.Places.{AreBytes, World, Holds, Housed, IsRead, Layout, home_of, value_in}
+use Rattle.rv_select.specs.Places.{AreBytes, World, Holds, Housed, IsHeld, IsRead, Layout, home_of, value_in}
 use Rattle.rv_select.specs.Numbers.{below_zero}
 use Rattle.rv_select.specs.Shapes as shapes
-use Rattle.rv_select.specs.Shapes.{bounds_tested, failed, load_of, loaded, located, offset_of, over, put_to, reached, store_of, stored, taken, x4}
+use Rattle.rv_select.specs.Shapes.{bounds_tested, failed, first_taken, load_of, loaded, located, offset_of, over, put_to, reached, store_of, stored, x4}
 use Rattle.rv_select.specs.Steps.{Comes, Ends, Follows, IsPlace, behind, with_temp}
 use Rattle.rv_select.proofs.Straight.{Loads, behind-both, loads-five, low-below, low-small, written-elsewhere, written-there}
 use Rattle.rv_select.proofs.Numbers.{below-is}
 use Rattle.rv_select.proofs.Ways.{Near, Way, at_pc, near-both, near-pc, scratch-near, stands-back, stands-front, step-way, straight-way, way-both}
-use Rattle.rv_select.proofs.Homes.{operand-count, take-operand}
+use Rattle.rv_select.proofs.Homes.{first-count, take-first}
 use Rattle.rv_select.proofs.Words.{load-bytes, load-is, size-range, take-bytes, drop-bytes}
-use Rattle.rv_select.proofs.Claims.{RegionLoadsAreCarried}
+use Rattle.rv_select.proofs.Claims.{Gives, RegionLoadsAreCarried}
 use Rattle.rv_select.proofs.Small.{wrapped-small}
 use Rattle.rv_select.proofs.Moves.{then-put, value-small, wide-size}
 use Rattle.rv_select.proofs.Faults.{branch-way, failed-count, fails, later-ends}
@@ -173,38 +173,38 @@ reached-both program a b m n v first most way near pc short r = record {
 }
 
 -- an address in a word, with its test
-module _ (y : Layout) (Used : ℕ → Type 0) (w : World) (base : ℕ) (program : List (Option Instr)) (m : State) (at : Place) (a : Operand) (size : ℕ)
-    (p : Holds y Used w base m) (h : Housed y Used) (r : IsRead Used a) (some : 1 ≤ size) (few : size ≤ 128)
-    (there : Stands program m.pc (taken y x5 a ++ bounds_tested at size)) where
-  taken-load : Loads 5 (taken y x5 a) m (value_in w.temps a)
-  taken-load = take-operand y x5 Used w base m a (λ e. omega (arith, e)) p h r
+module _ (y : Layout) (held : Option ℕ) (Used : ℕ → Type 0) (w : World) (base : ℕ) (program : List (Option Instr)) (m : State) (at : Place) (a : Operand) (size : ℕ)
+    (f : IsHeld held w.temps m) (p : Holds y Used w base m) (h : Housed y Used) (r : IsRead Used a) (some : 1 ≤ size) (few : size ≤ 128)
+    (there : Stands program m.pc (first_taken y held a ++ bounds_tested at size)) where
+  taken-load : Loads 5 (first_taken y held a) m (value_in w.temps a)
+  taken-load = take-first y held Used w base m a f p h r
 
-  taken-way : (l : Loads 5 (taken y x5 a) m (value_in w.temps a)) → Way program (length (taken y x5 a)) m l.after
-  taken-way l = straight-way program (taken y x5 a) m l.after (stands-front program m.pc (taken y x5 a) (bounds_tested at size) there) l.straight l.goes
+  taken-way : (l : Loads 5 (first_taken y held a) m (value_in w.temps a)) → Way program (length (first_taken y held a)) m l.after
+  taken-way l = straight-way program (first_taken y held a) m l.after (stands-front program m.pc (first_taken y held a) (bounds_tested at size) there) l.straight l.goes
 
-  taken-rest : (l : Loads 5 (taken y x5 a) m (value_in w.temps a)) → Stands program l.after.pc (bounds_tested at size)
-  taken-rest l = subst (λ q. Stands program q (bounds_tested at size)) (sym l.behind) (stands-back program m.pc (taken y x5 a) (bounds_tested at size) p.pc there)
+  taken-rest : (l : Loads 5 (first_taken y held a) m (value_in w.temps a)) → Stands program l.after.pc (bounds_tested at size)
+  taken-rest l = subst (λ q. Stands program q (bounds_tested at size)) (sym l.behind) (stands-back program m.pc (first_taken y held a) (bounds_tested at size) p.pc there)
 
-  taken-four : (l : Loads 5 (taken y x5 a) m (value_in w.temps a)) → l.after.registers 4 ≡ end_address w.region
+  taken-four : (l : Loads 5 (first_taken y held a) m (value_in w.temps a)) → l.after.registers 4 ≡ end_address w.region
   taken-four l = l.keeps 4 (λ e. omega (arith, e)) (λ e. omega (arith, e)) ∙ p.limit
 
-  pub word-inside : first_address ≤ value_in w.temps a → value_in w.temps a + size ≤ end_address w.region → Reached program (taken y x5 a ++ bounds_tested at size) m (value_in w.temps a) (operand_words a + 4)
+  pub word-inside : first_address ≤ value_in w.temps a → value_in w.temps a + size ≤ end_address w.region → Reached program (first_taken y held a ++ bounds_tested at size) m (value_in w.temps a) (operand_words a + 4)
   word-inside i j =
-      let l : Loads 5 (taken y x5 a) m (value_in w.temps a) = taken-load in
+      let l : Loads 5 (first_taken y held a) m (value_in w.temps a) = taken-load in
       let e = end-small y Used w base m p in
-      reached-both program (taken y x5 a) (bounds_tested at size) m l.after (value_in w.temps a) (operand_words a) 4 (taken-way l)
-      (scratch-near (taken y x5 a) m l.after (loads-five (taken y x5 a) m (value_in w.temps a) l)) l.behind (operand-count y x5 a)
+      reached-both program (first_taken y held a) (bounds_tested at size) m l.after (value_in w.temps a) (operand_words a) 4 (taken-way l)
+      (scratch-near (first_taken y held a) m l.after (loads-five (first_taken y held a) m (value_in w.temps a) l)) l.behind (first-count y held a)
       (passes program l.after at (failed BadAddress at) (value_in w.temps a) (end_address w.region) size l.gives (taken-four l) e.0 some few (omega (arith, e.1))
       (failed-count BadAddress at) (taken-rest l) i j)
 
   pub word-outside : IsPlace at → (value_in w.temps a < first_address) ⊎ ((first_address ≤ value_in w.temps a) × (end_address w.region < value_in w.temps a + size)) →
       Ends program BadAddress at (operand_words a + 15) m
   word-outside place o =
-      let l : Loads 5 (taken y x5 a) m (value_in w.temps a) = taken-load in
+      let l : Loads 5 (first_taken y held a) m (value_in w.temps a) = taken-load in
       let e = end-small y Used w base m p in
-      later-ends program BadAddress at (length (taken y x5 a)) 15 (operand_words a + 15) m l.after (taken-way l)
+      later-ends program BadAddress at (length (first_taken y held a)) 15 (operand_words a + 15) m l.after (taken-way l)
       (outside program l.after at (failed BadAddress at) (value_in w.temps a) (end_address w.region) size l.gives (taken-four l) e.0 some few (omega (arith, e.1))
-      (failed-count BadAddress at) (taken-rest l) refl place o) (omega (arith, operand-count y x5 a))
+      (failed-count BadAddress at) (taken-rest l) refl place o) (omega (arith, first-count y held a))
 
 -- an address of the frame
 pub frame-reached : (y : Layout) (Used : ℕ → Type 0) (w : World) (base : ℕ) (program : List (Option Instr)) (m : State) (offset : ℕ) → Holds y Used w base m → w.placed + offset < 2 ^ 64 →
@@ -271,8 +271,8 @@ load-ends : (y : Layout) (d : ℕ) (form : Number) (Used Next : ℕ → Type 0) 
     Reached program code m a most → Holds y Used w base m → Housed y Used → Housed y Next → Next d → Follows Used Next d →
     a < 2 ^ 64 → first_address ≤ a → a + bytes_of form.size ≤ end_address w.region → wrapped (width_of form) (number_of (accessed w.region a (bytes_of form.size))) < 2 ^ 64 →
     Stands program m.pc (code ++ (Load (load_of form.signed form.size) x5 x5 zero_immediate ∷ put_to (home_of y d))) →
-    Comes y program Next (with_temp w d (wrapped (width_of form) (number_of (accessed w.region a (bytes_of form.size))))) base (most + 4)
-    (behind m (code ++ (Load (load_of form.signed form.size) x5 x5 zero_immediate ∷ put_to (home_of y d)))) [] m
+    Gives y program Next (with_temp w d (wrapped (width_of form) (number_of (accessed w.region a (bytes_of form.size))))) base (most + 4)
+    (behind m (code ++ (Load (load_of form.signed form.size) x5 x5 zero_immediate ∷ put_to (home_of y d)))) d m
 load-ends y d form Used Next w base most a code program m r p h h' u follows small low-end high-end value there =
     let i : Instr = Load (load_of form.signed form.size) x5 x5 zero_immediate in
     let b : List Instr = put_to (home_of y d) in
@@ -324,15 +324,21 @@ weaker y program Next w base weight more target out m h c = record {
   keeps = c.keeps;
 }
 
+weaker-gives : (y : Layout) (program : List (Option Instr)) (Next : ℕ → Type 0) (w : World) (base weight more target d : ℕ) (m : State) →
+    weight ≤ more → Gives y program Next w base weight target d m → Gives y program Next w base more target d m
+unfolding weaker
+weaker-gives y program Next w base weight more target d m h g =
+    record { comes = weaker y program Next w base weight more target [] m h g.comes; five = g.five }
+
 pub weaker-ends : (program : List (Option Instr)) (at : Place) (weight more : ℕ) (m : State) → weight ≤ more → Ends program BadAddress at weight m → Ends program BadAddress at more m
 weaker-ends program at weight more m h e = record { steps = e.steps; last = e.last; few = omega (arith, e.few); runs = e.runs }
 
 -- a load by whether the access is inside
 load-cases : (y : Layout) (d : ℕ) (form : Number) (at : Place) (Next : ℕ → Type 0) (w : World) (base weight target a : ℕ) (program : List (Option Instr)) (m : State) →
     ((first_address ≤ a) × (a + bytes_of form.size ≤ end_address w.region) →
-    Comes y program Next (with_temp w d (wrapped (width_of form) (number_of (accessed w.region a (bytes_of form.size))))) base weight target [] m) →
+    Gives y program Next (with_temp w d (wrapped (width_of form) (number_of (accessed w.region a (bytes_of form.size))))) base weight target d m) →
     ((a < first_address) ⊎ ((first_address ≤ a) × (end_address w.region < a + bytes_of form.size)) → Ends program BadAddress at weight m) →
-    ((bs : List ℕ) → range_of w.region a (bytes_of form.size) ≡ Some bs → Comes y program Next (with_temp w d (wrapped (width_of form) (number_of bs))) base weight target [] m)
+    ((bs : List ℕ) → range_of w.region a (bytes_of form.size) ≡ Some bs → Gives y program Next (with_temp w d (wrapped (width_of form) (number_of bs))) base weight target d m)
     × (range_of w.region a (bytes_of form.size) ≡ None → Ends program BadAddress at weight m)
 load-cases y d form at Next w base weight target a program m f g =
     let size : ℕ = bytes_of form.size in
@@ -343,7 +349,7 @@ load-cases y d form at Next w base weight target a program m f g =
     range-is w.region a size some ∙ ap (λ b. if b then Some (accessed w.region a size) else None) (inside-true w.region a size h.0 h.1) in (
       λ bs q.
           let same : accessed w.region a size ≡ bs = cc in
-          subst (λ z. Comes y program Next (with_temp w d (wrapped (width_of form) (number_of z))) base weight target [] m) same (f h),
+          subst (λ z. Gives y program Next (with_temp w d (wrapped (width_of form) (number_of z))) base weight target d m) same (f h),
       λ q. let none : Some (accessed w.region a size) ≡ None = sym e ∙ q in cc,
     ))
     (λ h.
@@ -356,8 +362,8 @@ pub low-enough : (y : Layout) (Used : ℕ → Type 0) (w : World) (base offset :
 low-enough y Used w base offset m p = let h : first_address ≤ w.placed = omega (arith, p.above) in omega arith
 
 pub region-loads : RegionLoadsAreCarried
-region-loads y d form at (Word a) Used Next w base program m there place r p h h' u follows =
-    let code : List Instr = taken y x5 a ++ bounds_tested at (bytes_of form.size) in
+region-loads y held d form at (Word a) Used Next w base program m there five place r p h h' u follows =
+    let code : List Instr = first_taken y held a ++ bounds_tested at (bytes_of form.size) in
     let rest : List Instr = Load (load_of form.signed form.size) x5 x5 zero_immediate ∷ put_to (home_of y d) in
     let v : ℕ = value_in w.temps a in
     let some : 1 ≤ bytes_of form.size = (size-range form.size).0 in
@@ -365,13 +371,13 @@ region-loads y d form at (Word a) Used Next w base program m there place r p h h
     let front : Stands program m.pc code = stands-front program m.pc code rest there in
     load-cases y d form at Next w base (words_of (instructions.Load d form (spots.Region at (Word a)))) (behind m (code ++ rest)) v program m
     (λ i.
-    weaker y program Next _ base (operand_words a + 4 + 4) (words_of (instructions.Load d form (spots.Region at (Word a)))) (behind m (code ++ rest)) [] m (omega arith)
+    weaker-gives y program Next _ base (operand_words a + 4 + 4) (words_of (instructions.Load d form (spots.Region at (Word a)))) (behind m (code ++ rest)) d m (omega arith)
     (load-ends y d form Used Next w base (operand_words a + 4) v code program m
-    (word-inside y Used w base program m at a (bytes_of form.size) p h r some (omega arith) front i.0 i.1)
+    (word-inside y held Used w base program m at a (bytes_of form.size) five p h r some (omega arith) front i.0 i.1)
     p h h' u follows (value-small Used y w base m a p r) i.0 i.1 (wrapped-small (width_of form) _ (wide-size form.size)) there))
     (λ o.
-    weaker-ends program at (operand_words a + 15) (words_of (instructions.Load d form (spots.Region at (Word a)))) m (omega arith) (word-outside y Used w base program m at a (bytes_of form.size) p h r some (omega arith) front place o))
-region-loads y d form at (Frame offset) Used Next w base program m there place r p h h' u follows =
+    weaker-ends program at (operand_words a + 15) (words_of (instructions.Load d form (spots.Region at (Word a)))) m (omega arith) (word-outside y held Used w base program m at a (bytes_of form.size) five p h r some (omega arith) front place o))
+region-loads y held d form at (Frame offset) Used Next w base program m there five place r p h h' u follows =
     let code : List Instr = located offset in
     let rest : List Instr = Load (load_of form.signed form.size) x5 x5 zero_immediate ∷ put_to (home_of y d) in
     let a : ℕ = w.placed + offset in
@@ -379,7 +385,7 @@ region-loads y d form at (Frame offset) Used Next w base program m there place r
     let small : a < 2 ^ 64 = omega (arith, r, e.0) in
     load-cases y d form at Next w base 14 (behind m (code ++ rest)) a program m
     (λ i.
-    weaker y program Next _ base 13 14 (behind m (code ++ rest)) [] m (omega arith)
+    weaker-gives y program Next _ base 13 14 (behind m (code ++ rest)) d m (omega arith)
     (load-ends y d form Used Next w base 9 a code program m
     (frame-reached y Used w base program m offset p small (stands-front program m.pc code rest there))
     p h h' u follows small i.0 i.1 (wrapped-small (width_of form) _ (wide-size form.size)) there))

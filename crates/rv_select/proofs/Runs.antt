@@ -20,7 +20,7 @@ use Rattle.tac_form.specs.Flow as tac
 use Rattle.tac_form.specs.Flow.{Goes, Program, Stops, step, steps}
 use Rattle.tac_form.specs.Weights.{exit_words, words_of}
 use Rattle.rv_select.specs.Places.{Layout, layout_of}
-use Rattle.rv_select.specs.Shapes.{has_exit_shape, has_shape, start_of}
+use Rattle.rv_select.specs.Shapes.{has_exit_shape, has_shape, held_after, start_of}
 use Rattle.rv_select.specs.Calls.{block_code, block_has_code, block_starts, has_code, has_exit_code, head_code, instruction_code, starts_from}
 use Rattle.rv_select.specs.Waiting.{Arrives, Image, IsLinked, IsPlaced, Placed, StandsIn, Stepped, entries_of, instruction_at, instructions_in, place_in}
 use Rattle.rv_select.specs.Whole.{AreShort, Ended, RunsAreCarried, StepsAreCarried, steps_left}
@@ -32,12 +32,13 @@ use Rattle.rv_select.proofs.Stands.{both-true, list-all-get}
 use Rattle.rv_select.proofs.Through.{exit-step, inner-step}
 
 -- an instruction stands nowhere below where the first does, nor a block below where the first does
-at-least : (y : Layout) (sizes : List ℕ) (places : FnId → ℕ) (at : ℕ) (is : List Instruction) (k : ℕ) →
-    at ≤ instruction_at y sizes places at is k
-at-least y sizes places at is zero = omega arith
-at-least y sizes places at [] (suc k) = omega arith
-at-least y sizes places at (i ∷ is) (suc k) =
-    more (length (instruction_code y sizes places at i)) _ (at-least y sizes places (at + 4 * length (instruction_code y sizes places at i)) is k)
+at-least : (y : Layout) (sizes : List ℕ) (places : FnId → ℕ) (at : ℕ) (held : Option ℕ) (is : List Instruction) (k : ℕ) →
+    at ≤ instruction_at y sizes places at held is k
+at-least y sizes places at held is zero = omega arith
+at-least y sizes places at held [] (suc k) = omega arith
+at-least y sizes places at held (i ∷ is) (suc k) =
+    more (length (instruction_code y sizes places at held i)) _
+    (at-least y sizes places (at + 4 * length (instruction_code y sizes places at held i)) (held_after i) is k)
   where
     more : (n z : ℕ) → at + 4 * n ≤ z → at ≤ z
     more n z h = omega (arith, h)
@@ -60,7 +61,7 @@ place-high p image code x b k block e z =
     let S : ℕ = start_of (block_starts y code x.at) b in
     let first : x.at + 4 * length (head_code y code) ≤ S = start-least y code.areas (x.at + 4 * length (head_code y code)) code.blocks b block e in
     let more : S ≤ place_in p image code x b k =
-    at-least y code.areas (entries_of p image) S (instructions_in (slice_get code.blocks b)) k in
+    at-least y code.areas (entries_of p image) S None (instructions_in (slice_get code.blocks b)) k in
     let some : 1 ≤ length (head_code y code) = omega arith in
     never (length (head_code y code)) S (place_in p image code x b k) first more some z
   where

@@ -25,7 +25,7 @@ use Rattle.rv_operators.specs.Runs.{Stands}
 use Rattle.reg_alloc.specs.declared.assignment.Home.{Home}
 use Rattle.reg_alloc.specs.declared.assignment.Home.TheVariants as homes
 use Rattle.rv_select.specs.Places.{AreBytes, World, Holds, Housed, IsRead, Keeps, Layout, home_of, value_in, word_at}
-use Rattle.rv_select.specs.Shapes.{bounds_tested, located, store_of, taken}
+use Rattle.rv_select.specs.Shapes.{bounds_tested, first_taken, located, store_of, taken}
 use Rattle.rv_select.specs.Steps.{AreFewer, Comes, Ends, behind}
 use Rattle.rv_select.proofs.Straight.{Loads, behind-both, loads-six, low-below, low-first, low-small}
 use Rattle.rv_select.proofs.Ways.{Near, Way, near-both, scratch-near, stands-back, stands-front, step-way, straight-way, way-both}
@@ -181,8 +181,8 @@ store-cases y size at Next w base weight target a v program m f g =
     (insides w.region a (bytes_of size))
 
 pub region-stores : RegionStoresAreCarried
-region-stores y size at (Word a) b Used Next w base program m there place r rb p h f =
-    let code : List Instr = taken y x5 a ++ bounds_tested at (bytes_of size) in
+region-stores y held size at (Word a) b Used Next w base program m there five place r rb p h f =
+    let code : List Instr = first_taken y held a ++ bounds_tested at (bytes_of size) in
     let rest : List Instr = taken y x6 b ++ Store (store_of size) x5 x6 zero_immediate ∷ [] in
     let v : ℕ = value_in w.temps a in
     let some : 1 ≤ bytes_of size = (size-range size).0 in
@@ -192,11 +192,11 @@ region-stores y size at (Word a) b Used Next w base program m there place r rb p
     (λ i.
     weaker y program Next _ base (operand_words a + 4 + (operand_words b + 1)) (words_of (instructions.Store (spots.Region at (Word a)) size b)) (behind m (code ++ rest)) [] m (omega arith)
     (store-ends y size b Used Next w base (operand_words a + 4) v code program m
-    (word-inside y Used w base program m at a (bytes_of size) p h r some (omega arith) front i.0 i.1)
+    (word-inside y held Used w base program m at a (bytes_of size) five p h r some (omega arith) front i.0 i.1)
     p h f rb (value-small Used y w base m a p r) i.0 i.1 there))
     (λ o.
-    weaker-ends program at (operand_words a + 15) (words_of (instructions.Store (spots.Region at (Word a)) size b)) m (omega arith) (word-outside y Used w base program m at a (bytes_of size) p h r some (omega arith) front place o))
-region-stores y size at (Frame offset) b Used Next w base program m there place r rb p h f =
+    weaker-ends program at (operand_words a + 15) (words_of (instructions.Store (spots.Region at (Word a)) size b)) m (omega arith) (word-outside y held Used w base program m at a (bytes_of size) five p h r some (omega arith) front place o))
+region-stores y held size at (Frame offset) b Used Next w base program m there five place r rb p h f =
     let code : List Instr = located offset in
     let rest : List Instr = taken y x6 b ++ Store (store_of size) x5 x6 zero_immediate ∷ [] in
     let a : ℕ = w.placed + offset in

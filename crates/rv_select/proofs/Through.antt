@@ -17,40 +17,40 @@ use Rattle.tac_form.specs.Weights.{exit_words, words_of}
 use Rattle.rv_machine.specs.Word.{low}
 use Rattle.rv_machine.specs.Machine.{State}
 use Rattle.rv_operators.specs.Runs.{Stands}
-use Rattle.rv_select.specs.Places.{Layout, layout_of}
-use Rattle.rv_select.specs.Shapes.{exit_shape, has_exit_shape, has_shape, shape_of, start_of}
+use Rattle.rv_select.specs.Places.{IsHeld, Layout, layout_of}
+use Rattle.rv_select.specs.Shapes.{exit_shape, has_exit_shape, has_shape, held_after, shape_of, start_of}
 use Rattle.rv_select.specs.Steps.{Carried, Comes, Left, StandsAtExit, StandsBefore, behind, world_of}
 use Rattle.rv_select.specs.Calls.{block_starts, exit_code, head_code, instruction_code, last_address}
-use Rattle.rv_select.specs.Waiting.{Arrives, Image, IsLinked, IsPlaced, StandsIn, Stepped, entries_of, place_in}
+use Rattle.rv_select.specs.Waiting.{Arrives, Image, IsLinked, IsPlaced, StandsIn, Stepped, entries_of, held_at, held_in, instructions_in, place_in}
 use Rattle.rv_select.proofs.Carries.{instructions, nothing-written}
-use Rattle.rv_select.proofs.Finds.{FoundFunction, starts-near}
+use Rattle.rv_select.proofs.Finds.{FoundFunction, held-next, starts-near}
 use Rattle.rv_select.proofs.Inner.{LeavesIf, LeavesTo, Stays, StaysIf, act-stays, leave-to}
 use Rattle.rv_select.proofs.Leaves.{exits}
 use Rattle.rv_select.proofs.Stands.{AtExit, AtPlace, at-exit, at-instruction, exit-within, instruction-within, the-function, within-parts}
 use Rattle.rv_select.proofs.Waits.{waits-keeps}
 
-pub code-is : (y : Layout) (sizes : List ℕ) (places : FnId → ℕ) (at : ℕ) (i : Instruction) → has_shape i ≡ true →
-    instruction_code y sizes places at i ≡ shape_of y i
-code-is y sizes places at (Call to place f arguments) h = cc
-code-is y sizes places at (Compute d op form a b) h = refl
-code-is y sizes places at (TestDivisor place a) h = refl
-code-is y sizes places at (Copy d a) h = refl
-code-is y sizes places at (Locate d offset) h = refl
-code-is y sizes places at (Load d form spot) h = refl
-code-is y sizes places at (Store spot size a) h = refl
-code-is y sizes places at (Move to from size) h = refl
-code-is y sizes places at (Clear n size) h = refl
-code-is y sizes places at (CallValue to place sig a arguments) h = cc
-code-is y sizes places at (PutByte a) h = refl
-code-is y sizes places at (Write place a b) h = refl
-code-is y sizes places at (Alloc d a) h = refl
+pub code-is : (y : Layout) (sizes : List ℕ) (places : FnId → ℕ) (at : ℕ) (held : Option ℕ) (i : Instruction) → has_shape i ≡ true →
+    instruction_code y sizes places at held i ≡ shape_of y held i
+code-is y sizes places at held (Call to place f arguments) h = cc
+code-is y sizes places at held (Compute d op form a b) h = refl
+code-is y sizes places at held (TestDivisor place a) h = refl
+code-is y sizes places at held (Copy d a) h = refl
+code-is y sizes places at held (Locate d offset) h = refl
+code-is y sizes places at held (Load d form spot) h = refl
+code-is y sizes places at held (Store spot size a) h = refl
+code-is y sizes places at held (Move to from size) h = refl
+code-is y sizes places at held (Clear n size) h = refl
+code-is y sizes places at held (CallValue to place sig a arguments) h = cc
+code-is y sizes places at held (PutByte a) h = refl
+code-is y sizes places at held (Write place a b) h = refl
+code-is y sizes places at held (Alloc d a) h = refl
 
-exit-is : (y : Layout) (at last : ℕ) (starts : ℕ → ℕ) (e : Exit) → has_exit_shape e ≡ true →
-    exit_code y at starts last e ≡ exit_shape y at starts e
-exit-is y at last starts (Return v) h = cc
-exit-is y at last starts (Jump e) h = refl
-exit-is y at last starts (Branch a e f) h = refl
-exit-is y at last starts (Fail kind place) h = refl
+exit-is : (y : Layout) (held : Option ℕ) (at last : ℕ) (starts : ℕ → ℕ) (e : Exit) → has_exit_shape e ≡ true →
+    exit_code y held at starts last e ≡ exit_shape y held at starts e
+exit-is y held at last starts (Return v) h = cc
+exit-is y held at last starts (Jump e) h = refl
+exit-is y held at last starts (Branch a e f) h = refl
+exit-is y held at last starts (Fail kind place) h = refl
 
 near-low : (n : ℕ) → n + 256 ≤ 2 ^ 30 → low n ≡ n
 unfolding low
@@ -59,31 +59,32 @@ near-low n h = omega arith
 -- the machine stands behind an instruction
 arrives : (p : Program) (image : Image) (program : List (Option Instr)) (most size weight : ℕ) → IsLinked p image program most →
     (s t : tac.State) (base : ℕ) (m : State)
-    (x : StandsIn p image program most size s base m) (out : List ℕ) (target : ℕ) → Stays s t →
+    (x : StandsIn p image program most size s base m) (out : List ℕ) (target : ℕ) (held : Option ℕ) → Stays s t →
     target ≡ place_in p image x.code (image s.here.function) s.here.block (suc s.here.at) →
-    Comes (layout_of x.code (image s.here.function).homes) program (InUse (graph_of x.code) t.here.block t.here.at) (world_of t) base
-    weight target out m →
+    held_in x.code s.here.block (suc s.here.at) ≡ held →
+    (c : Comes (layout_of x.code (image s.here.function).homes) program (InUse (graph_of x.code) t.here.block t.here.at) (world_of t) base
+    weight target out m) → IsHeld held t.here.temps c.after →
     Arrives p image program most size weight out t m
-arrives p image program most size weight linked s t base m x out target st to c =
+arrives p image program most size weight linked s t base m x out target held st to behind-it c five =
     subst
-    (λ z. Comes (layout_of x.code (image s.here.function).homes) program (InUse (graph_of x.code) z.here.block z.here.at) (world_of z) base
-    weight target out m → Arrives p image program most size weight out z m)
-    (sym st.is) made c
+    (λ z. (d : Comes (layout_of x.code (image s.here.function).homes) program (InUse (graph_of x.code) z.here.block z.here.at) (world_of z)
+    base weight target out m) → IsHeld held z.here.temps d.after → Arrives p image program most size weight out z m)
+    (sym st.is) made c five
   where
-    made : Comes (layout_of x.code (image s.here.function).homes) program (InUse (graph_of x.code) s.here.block (suc s.here.at))
+    made : (d : Comes (layout_of x.code (image s.here.function).homes) program (InUse (graph_of x.code) s.here.block (suc s.here.at))
         (world_of (record s {
           here = record s.here { at = suc s.here.at; temps = st.temps; areas = st.areas };
           region = st.region;
           out =
               st.out;
-        })) base weight target out m →
+        })) base weight target out m) → IsHeld held st.temps d.after →
         Arrives p image program most size weight out
         (record s {
           here = record s.here { at = suc s.here.at; temps = st.temps; areas = st.areas };
           region = st.region;
           out = st.out;
         }) m
-    made d = record {
+    made d h = record {
       steps = d.steps;
       after = d.after;
       base = base;
@@ -95,6 +96,7 @@ arrives p image program most size weight linked s t base m x out target st to c 
         function = x.function;
         pc = d.at ∙ to;
         holds = d.holds;
+        five = subst (λ o. IsHeld o st.temps d.after) (sym behind-it) h;
         frame = subst (λ n. s.here.base + x.code.frame ≤ 2 ^ 30 + n) (sym st.long) x.frame;
         region = st.long ∙ x.region;
         room = x.room;
@@ -105,16 +107,17 @@ arrives p image program most size weight linked s t base m x out target st to c 
 
 joined : (p : Program) (image : Image) (program : List (Option Instr)) (most size weight : ℕ) → IsLinked p image program most →
     (s : tac.State) (base : ℕ) (m : State)
-    (x : StandsIn p image program most size s base m) (code : List Instr) (moved : tac.Moved) →
-    behind m code ≡ place_in p image x.code (image s.here.function) s.here.block (suc s.here.at) → StaysIf s moved →
-    Carried (layout_of x.code (image s.here.function).homes) (graph_of x.code) program base weight code s m moved →
+    (x : StandsIn p image program most size s base m) (held : Option ℕ) (code : List Instr) (moved : tac.Moved) →
+    behind m code ≡ place_in p image x.code (image s.here.function) s.here.block (suc s.here.at) →
+    held_in x.code s.here.block (suc s.here.at) ≡ held → StaysIf s moved →
+    Carried (layout_of x.code (image s.here.function).homes) (graph_of x.code) program base weight held code s m moved →
     Stepped p image program most size weight s m moved
-joined p image program most size weight linked s base m x code (Goes t) to st c =
-    (c.0, c.1, arrives p image program most size weight linked s t base m x c.0 (behind m code) st to c.2)
-joined p image program most size weight linked s base m x code (Stops (Over (Fault kind at) out)) to st c = c
-joined p image program most size weight linked s base m x code (Stops (Over (Returned v) out)) to st c = absurd c
-joined p image program most size weight linked s base m x code (Stops (Over Stuck out)) to st c = tt
-joined p image program most size weight linked s base m x code (Stops (More out)) to st c = absurd c
+joined p image program most size weight linked s base m x held code (Goes t) to behind-it st c =
+    (c.0, c.1, arrives p image program most size weight linked s t base m x c.0 (behind m code) held st to behind-it c.2 c.3)
+joined p image program most size weight linked s base m x held code (Stops (Over (Fault kind at) out)) to behind-it st c = c
+joined p image program most size weight linked s base m x held code (Stops (Over (Returned v) out)) to behind-it st c = absurd c
+joined p image program most size weight linked s base m x held code (Stops (Over Stuck out)) to behind-it st c = tt
+joined p image program most size weight linked s base m x held code (Stops (More out)) to behind-it st c = absurd c
 
 -- an instruction that stays within its function
 pub inner-step : (p : Program) (image : Image) (program : List (Option Instr)) (most size : ℕ) → IsLinked p image program most →
@@ -123,10 +126,16 @@ pub inner-step : (p : Program) (image : Image) (program : List (Option Instr)) (
     slice_get x.code.blocks s.here.block ≡ Some block → slice_get block.instructions s.here.at ≡ Some i → has_shape i ≡ true →
     Stepped p image program most size (words_of i) s m (step p s)
 inner-step p image program most size linked s base m x block i in-f in-b h =
-    joined p image program most size (words_of i) linked s base m x (shape_of (layout_of x.code (image s.here.function).homes) i)
-    (step p s) to stays
-    (instructions p x.code (image s.here.function).homes i s program base m h before)
+    joined p image program most size (words_of i) linked s base m x (held_after i)
+    (shape_of (layout_of x.code (image s.here.function).homes) held i) (step p s) to behind-it stays
+    (instructions p x.code (image s.here.function).homes held i s program base m h before)
   where
+    held : Option ℕ
+    held = held_in x.code s.here.block s.here.at
+
+    behind-it : held_in x.code s.here.block (suc s.here.at) ≡ held_after i
+    behind-it = ap (λ o. held_at None (instructions_in o) (suc s.here.at)) in-f ∙ held-next None block.instructions s.here.at i in-b
+
     pl : IsPlaced p image program most x.code (image s.here.function)
     pl = linked s.here.function x.code x.function
 
@@ -135,23 +144,23 @@ inner-step p image program most size linked s base m x block i in-f in-b h =
     found = at-instruction p image program most x.code (image s.here.function) s.here.block s.here.at block i pl in-f in-b
 
     same : instruction_code (layout_of x.code (image s.here.function).homes) x.code.areas (entries_of p image)
-        (place_in p image x.code (image s.here.function) s.here.block s.here.at) i
-        ≡ shape_of (layout_of x.code (image s.here.function).homes) i
+        (place_in p image x.code (image s.here.function) s.here.block s.here.at) held i
+        ≡ shape_of (layout_of x.code (image s.here.function).homes) held i
     same = code-is (layout_of x.code (image s.here.function).homes) x.code.areas (entries_of p image)
-        (place_in p image x.code (image s.here.function) s.here.block s.here.at) i h
+        (place_in p image x.code (image s.here.function) s.here.block s.here.at) held i h
 
-    to : behind m (shape_of (layout_of x.code (image s.here.function).homes) i) ≡ place_in p image x.code (image s.here.function)
+    to : behind m (shape_of (layout_of x.code (image s.here.function).homes) held i) ≡ place_in p image x.code (image s.here.function)
         s.here.block (suc s.here.at)
     to =
         ap (λ c. low (m.pc + 4 * length c)) (sym same)
         ∙ (ap (λ q. low (q + 4 * length (instruction_code (layout_of x.code (image s.here.function).homes) x.code.areas (entries_of p image)
-        (place_in p image x.code (image s.here.function) s.here.block s.here.at) i))) x.pc
+        (place_in p image x.code (image s.here.function) s.here.block s.here.at) held i))) x.pc
         ∙ (near-low _ found.near ∙ sym found.next))
 
     stays : StaysIf s (step p s)
     stays = let e1 = x.function in rw (e1, in-f, in-b) (act-stays p i s h)
 
-    before : StandsBefore p x.code (image s.here.function).homes i s program base m
+    before : StandsBefore p x.code (image s.here.function).homes held i s program base m
     before = record {
       block = block;
       function = x.function;
@@ -162,9 +171,10 @@ inner-step p image program most size linked s base m x block i in-f in-b h =
       areas = (within-parts p image program most x.code (image s.here.function) pl).areas;
       frame = x.frame;
       right = pl.right;
-      stands = subst (λ q. Stands program q (shape_of (layout_of x.code (image s.here.function).homes) i)) (sym x.pc)
+      stands = subst (λ q. Stands program q (shape_of (layout_of x.code (image s.here.function).homes) held i)) (sym x.pc)
           (subst (λ c. Stands program (place_in p image x.code (image s.here.function) s.here.block s.here.at) c) same found.stands);
       holds = x.holds;
+      five = x.five;
     }
 
 -- the machine stands where a block begins
@@ -197,6 +207,7 @@ comes-to p image program most size weight linked s t base m x exit l c =
         function = x.function;
         pc = d.at;
         holds = d.holds;
+        five = tt;
         frame = x.frame;
         region = x.region;
         room = x.room;
@@ -229,14 +240,17 @@ pub exit-step : (p : Program) (image : Image) (program : List (Option Instr)) (m
     Stepped p image program most size (exit_words block.exit) s m (step p s)
 exit-step p image program most size linked s base m x block in-f in-b h =
     left-joined p image program most size (exit_words block.exit) linked s base m x block.exit (step p s) leaves
-    (exits p x.code (image s.here.function).homes block.exit
+    (exits p x.code (image s.here.function).homes held block.exit
     (start_of (block_starts (layout_of x.code (image s.here.function).homes) x.code (image s.here.function).at)) s program base m h
     before)
   where
     pl : IsPlaced p image program most x.code (image s.here.function)
     pl = linked s.here.function x.code x.function
 
-    found : AtExit p image program x.code (image s.here.function) block.exit
+    held : Option ℕ
+    held = held_in x.code s.here.block s.here.at
+
+    found : AtExit p image program x.code (image s.here.function) held block.exit
         (place_in p image x.code (image s.here.function) s.here.block s.here.at)
     found = at-exit p image program most x.code (image s.here.function) s.here.block s.here.at block pl in-f in-b
 
@@ -271,7 +285,7 @@ exit-step p image program most size linked s base m x block in-f in-b h =
               n.1,
         )
 
-    before : StandsAtExit p x.code (image s.here.function).homes block.exit
+    before : StandsAtExit p x.code (image s.here.function).homes held block.exit
         (start_of (block_starts (layout_of x.code (image s.here.function).homes) x.code (image s.here.function).at)) s program base m
     before = record {
       block = block;
@@ -283,13 +297,14 @@ exit-step p image program most size linked s base m x block in-f in-b h =
       right = pl.right;
       near = subst (λ q. q + 256 ≤ 2 ^ 30) (sym x.pc) found.near;
       blocks = starts;
-      stands = subst (λ q. Stands program q (exit_shape (layout_of x.code (image s.here.function).homes) q
+      stands = subst (λ q. Stands program q (exit_shape (layout_of x.code (image s.here.function).homes) held q
           (start_of (block_starts (layout_of x.code (image s.here.function).homes) x.code (image s.here.function).at)) block.exit))
           (sym x.pc)
           (subst (λ c. Stands program (place_in p image x.code (image s.here.function) s.here.block s.here.at) c)
-          (exit-is (layout_of x.code (image s.here.function).homes) (place_in p image x.code (image s.here.function) s.here.block s.here.at)
+          (exit-is (layout_of x.code (image s.here.function).homes) held (place_in p image x.code (image s.here.function) s.here.block s.here.at)
           (last_address (layout_of x.code (image s.here.function).homes) x.code (image s.here.function).at)
           (start_of (block_starts (layout_of x.code (image s.here.function).homes) x.code (image s.here.function).at)) block.exit h)
           found.stands);
       holds = x.holds;
+      five = x.five;
     }

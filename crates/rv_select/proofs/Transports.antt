@@ -28,8 +28,8 @@ use Rattle.tac_form.specs.Weights.{operand_words, words_of}
 use Rattle.rv_operators.specs.Codes.{x0, x5, x6}
 use Rattle.rv_operators.specs.Runs.{Stands}
 use Rattle.rv_operators.proofs.Runs.{straight-both}
-use Rattle.rv_select.specs.Places.{AreBytes, Layout, World, Holds, Housed, area_offset, frame_bytes, home_of, value_in}
-use Rattle.rv_select.specs.Shapes.{all_carried, area_reached, bounds_tested, bytes_moved, carried_eights, carried_if, from_area, located, moved, some_moved, taken, to_area}
+use Rattle.rv_select.specs.Places.{AreBytes, Layout, World, Holds, Housed, IsHeld, area_offset, frame_bytes, home_of, value_in}
+use Rattle.rv_select.specs.Shapes.{all_carried, area_reached, bounds_tested, bytes_moved, carried_eights, carried_if, first_taken, from_area, located, moved, some_moved, to_area}
 use Rattle.rv_select.specs.Steps.{AreFewer, Comes, Ends, IsPlace, behind}
 use Rattle.rv_select.proofs.Claims.{IsReached, address_in, with_area, with_region}
 use Rattle.rv_select.proofs.Areas.{Saves, area-comes, area-near, area-room, area-written, then-saves}
@@ -121,11 +121,11 @@ pub small-after : (code : List Instr) (m z : State) → z.pc ≡ low (m.pc + 4 *
 small-after code m z e = subst (λ k. k < 2 ^ 64) (sym e) (low-below (m.pc + 4 * length code))
 
 -- from an area to another
-pub area-moves : (y : Layout) (n offset k other size : ℕ) (Used Next : ℕ → Type 0) (w : World) (base : ℕ) (program : List (Option Instr)) (m : State) →
-    Stands program m.pc (some_moved y (spots.Area n offset) (spots.Area k other) size) → n < y.areas → k < y.areas → n ≢ k → offset ≤ length (w.areas n) → offset + size ≤ 128 →
+pub area-moves : (y : Layout) (held : Option ℕ) (n offset k other size : ℕ) (Used Next : ℕ → Type 0) (w : World) (base : ℕ) (program : List (Option Instr)) (m : State) →
+    Stands program m.pc (some_moved y held (spots.Area n offset) (spots.Area k other) size) → n < y.areas → k < y.areas → n ≢ k → offset ≤ length (w.areas n) → offset + size ≤ 128 →
     other + size ≤ length (w.areas k) → Holds y Used w base m → Housed y Used → AreFewer Used Next →
-    Comes y program Next (with_area w n (overwritten (w.areas n) offset (part (w.areas k) other size))) base 42 (behind m (some_moved y (spots.Area n offset) (spots.Area k other) size)) [] m
-area-moves y n offset k other size Used Next w base program m stands there from-there differ within most source p h f =
+    Comes y program Next (with_area w n (overwritten (w.areas n) offset (part (w.areas k) other size))) base 42 (behind m (some_moved y held (spots.Area n offset) (spots.Area k other) size)) [] m
+area-moves y held n offset k other size Used Next w base program m stands there from-there differ within most source p h f =
     let A : List Instr = area_reached y x5 n offset in
     let B : List Instr = area_reached y x6 k other in
     let C : List Instr = all_carried x6 x5 size in
@@ -366,14 +366,14 @@ put-cases r a size bs P Q some count f g =
     (insides r a size)
 
 -- from the region to an area
-pub region-moves : (y : Layout) (n offset : ℕ) (at : Place) (a : Address) (size : ℕ) (Used Next : ℕ → Type 0) (w : World) (base : ℕ) (program : List (Option Instr)) (m : State) →
-    Stands program m.pc (some_moved y (spots.Area n offset) (spots.Region at a) size) → IsPlace at → IsReached Used w size a → 1 ≤ size → n < y.areas → offset + size ≤ 128 →
+pub region-moves : (y : Layout) (held : Option ℕ) (n offset : ℕ) (at : Place) (a : Address) (size : ℕ) (Used Next : ℕ → Type 0) (w : World) (base : ℕ) (program : List (Option Instr)) (m : State) →
+    Stands program m.pc (some_moved y held (spots.Area n offset) (spots.Region at a) size) → IsHeld held w.temps m → IsPlace at → IsReached Used w size a → 1 ≤ size → n < y.areas → offset + size ≤ 128 →
     Holds y Used w base m → Housed y Used → AreFewer Used Next →
     ((bs : List ℕ) → range_of w.region (address_in w a) size ≡ Some bs → offset ≤ length (w.areas n) →
-    Comes y program Next (with_area w n (overwritten (w.areas n) offset bs)) base (words_of (Move (spots.Area n offset) (spots.Region at a) size)) (behind m (some_moved y (spots.Area n offset) (spots.Region at a) size)) [] m)
+    Comes y program Next (with_area w n (overwritten (w.areas n) offset bs)) base (words_of (Move (spots.Area n offset) (spots.Region at a) size)) (behind m (some_moved y held (spots.Area n offset) (spots.Region at a) size)) [] m)
     × (range_of w.region (address_in w a) size ≡ None → Ends program BadAddress at (words_of (Move (spots.Area n offset) (spots.Region at a) size)) m)
-region-moves y n offset at (Word a) size Used Next w base program m there place r some area few p h f =
-    let F : List Instr = taken y x5 a ++ bounds_tested at size in
+region-moves y held n offset at (Word a) size Used Next w base program m there five place r some area few p h f =
+    let F : List Instr = first_taken y held a ++ bounds_tested at size in
     let T : List Instr = to_area y n offset size in
     let v : ℕ = value_in w.temps a in
     let weight : ℕ = words_of (Move (spots.Area n offset) (spots.Region at (Word a)) size) in
@@ -381,9 +381,9 @@ region-moves y n offset at (Word a) size Used Next w base program m there place 
     range-cases w.region v size (λ bs. offset ≤ length (w.areas n) → Comes y program Next (with_area w n (overwritten (w.areas n) offset bs)) base weight (behind m (F ++ T)) [] m) (Ends program BadAddress at weight m) some
     (λ i within.
     weaker y program Next _ base (operand_words a + 4 + 39) weight (behind m (F ++ T)) [] m (omega arith)
-    (to-area y n offset size Used Next w base (operand_words a + 4) v F program m (word-inside y Used w base program m at a size p h r some (omega arith) front i.0 i.1) there area within few i.0 i.1 p h f))
-    (λ o. weaker-ends program at (operand_words a + 15) weight m (omega arith) (word-outside y Used w base program m at a size p h r some (omega arith) front place o))
-region-moves y n offset at (Frame far) size Used Next w base program m there place r some area few p h f =
+    (to-area y n offset size Used Next w base (operand_words a + 4) v F program m (word-inside y held Used w base program m at a size five p h r some (omega arith) front i.0 i.1) there area within few i.0 i.1 p h f))
+    (λ o. weaker-ends program at (operand_words a + 15) weight m (omega arith) (word-outside y held Used w base program m at a size five p h r some (omega arith) front place o))
+region-moves y held n offset at (Frame far) size Used Next w base program m there five place r some area few p h f =
     let F : List Instr = located far in
     let T : List Instr = to_area y n offset size in
     let a : ℕ = w.placed + far in
@@ -394,14 +394,14 @@ region-moves y n offset at (Frame far) size Used Next w base program m there pla
     (λ o. absurd (⊎_elim (λ k. omega (arith, k, low-enough y Used w base far m p)) (λ k. omega (arith, k.1, r)) o))
 
 -- from an area to the region
-pub stores-moved : (y : Layout) (at : Place) (a : Address) (n offset size : ℕ) (Used Next : ℕ → Type 0) (w : World) (base : ℕ) (program : List (Option Instr)) (m : State) →
-    Stands program m.pc (some_moved y (spots.Region at a) (spots.Area n offset) size) → IsPlace at → IsReached Used w size a → 1 ≤ size → n < y.areas → offset + size ≤ length (w.areas n) →
+pub stores-moved : (y : Layout) (held : Option ℕ) (at : Place) (a : Address) (n offset size : ℕ) (Used Next : ℕ → Type 0) (w : World) (base : ℕ) (program : List (Option Instr)) (m : State) →
+    Stands program m.pc (some_moved y held (spots.Region at a) (spots.Area n offset) size) → IsHeld held w.temps m → IsPlace at → IsReached Used w size a → 1 ≤ size → n < y.areas → offset + size ≤ length (w.areas n) →
     Holds y Used w base m → Housed y Used → AreFewer Used Next →
     ((r : Contents) → put_bytes w.region (address_in w a) (part (w.areas n) offset size) ≡ Some r →
-    Comes y program Next (with_region w r) base (words_of (Move (spots.Region at a) (spots.Area n offset) size)) (behind m (some_moved y (spots.Region at a) (spots.Area n offset) size)) [] m)
+    Comes y program Next (with_region w r) base (words_of (Move (spots.Region at a) (spots.Area n offset) size)) (behind m (some_moved y held (spots.Region at a) (spots.Area n offset) size)) [] m)
     × (put_bytes w.region (address_in w a) (part (w.areas n) offset size) ≡ None → Ends program BadAddress at (words_of (Move (spots.Region at a) (spots.Area n offset) size)) m)
-stores-moved y at (Word a) n offset size Used Next w base program m there place r some area source p h f =
-    let F : List Instr = taken y x5 a ++ bounds_tested at size in
+stores-moved y held at (Word a) n offset size Used Next w base program m there five place r some area source p h f =
+    let F : List Instr = first_taken y held a ++ bounds_tested at size in
     let T : List Instr = from_area y n offset size in
     let v : ℕ = value_in w.temps a in
     let weight : ℕ = words_of (Move (spots.Region at (Word a)) (spots.Area n offset) size) in
@@ -411,9 +411,9 @@ stores-moved y at (Word a) n offset size Used Next w base program m there place 
     put-cases w.region v size X (λ c. Comes y program Next (with_region w c) base weight (behind m (F ++ T)) [] m) (Ends program BadAddress at weight m) some (part-length (w.areas n) offset size source)
     (λ i.
     weaker y program Next _ base (operand_words a + 4 + 39) weight (behind m (F ++ T)) [] m (omega arith)
-    (from-area y n offset size Used Next w base (operand_words a + 4) v F program m (word-inside y Used w base program m at a size p h r some (omega arith) front i.0 i.1) there area source i.0 i.1 p h f))
-    (λ o. weaker-ends program at (operand_words a + 15) weight m (omega arith) (word-outside y Used w base program m at a size p h r some (omega arith) front place o))
-stores-moved y at (Frame far) n offset size Used Next w base program m there place r some area source p h f =
+    (from-area y n offset size Used Next w base (operand_words a + 4) v F program m (word-inside y held Used w base program m at a size five p h r some (omega arith) front i.0 i.1) there area source i.0 i.1 p h f))
+    (λ o. weaker-ends program at (operand_words a + 15) weight m (omega arith) (word-outside y held Used w base program m at a size five p h r some (omega arith) front place o))
+stores-moved y held at (Frame far) n offset size Used Next w base program m there five place r some area source p h f =
     let F : List Instr = located far in
     let T : List Instr = from_area y n offset size in
     let a : ℕ = w.placed + far in
@@ -425,13 +425,13 @@ stores-moved y at (Frame far) n offset size Used Next w base program m there pla
     (λ o. absurd (⊎_elim (λ k. omega (arith, k, low-enough y Used w base far m p)) (λ k. omega (arith, k.1, r)) o))
 
 -- the code of a move, by whether there are bytes
-pub some-is : (y : Layout) (to from : Spot) (size : ℕ) → size ≢ 0 → bytes_moved y to from size ≡ some_moved y to from size
-some-is y to from size h = ap (λ b. if b then moved x0 x0 ∷ [] else some_moved y to from size) (ne_eqb size 0 h)
+pub some-is : (y : Layout) (held : Option ℕ) (to from : Spot) (size : ℕ) → size ≢ 0 → bytes_moved y held to from size ≡ some_moved y held to from size
+some-is y held to from size h = ap (λ b. if b then moved x0 x0 ∷ [] else some_moved y held to from size) (ne_eqb size 0 h)
 
-pub moved-count : (y : Layout) (to from : Spot) (size k : ℕ) → length (some_moved y to from size) ≤ k → 1 ≤ k → length (bytes_moved y to from size) ≤ k
-moved-count y to from size k h one = either (nat_eq size 0)
+pub moved-count : (y : Layout) (held : Option ℕ) (to from : Spot) (size k : ℕ) → length (some_moved y held to from size) ≤ k → 1 ≤ k → length (bytes_moved y held to from size) ≤ k
+moved-count y held to from size k h one = either (nat_eq size 0)
   where
-    either : (b : Bool) → length (if b then moved x0 x0 ∷ [] else some_moved y to from size) ≤ k
+    either : (b : Bool) → length (if b then moved x0 x0 ∷ [] else some_moved y held to from size) ≤ k
     either true = one
     either false = h
 

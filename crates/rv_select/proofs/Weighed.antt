@@ -1,5 +1,5 @@
 -- A function's code and its frame keep within their weights.
-use Rattle.std.proofs.Common.{◌≡◌, ℕ, suc, ◌+◌, ◌*◌, ◌≤◌, true, List, [], ◌∷◌, ◌++◌, length, sum_by, Option, refl, sym, ap, ◌∙◌, subst, arith}
+use Rattle.std.proofs.Common.{◌≡◌, ℕ, suc, ◌+◌, ◌*◌, ◌≤◌, true, List, [], ◌∷◌, ◌++◌, length, sum_by, Option, None, refl, sym, ap, ◌∙◌, subst, arith}
 use Rattle.std.specs.Prelude.{fold}
 use Rattle.std.specs.List.{list_all}
 use Rattle.std.proofs.lemmas.List.{length-append, length-map}
@@ -20,9 +20,9 @@ use Rattle.tac_form.specs.Fits.{area_fits}
 use Rattle.tac_form.specs.Weights.{block_words, code_words, exit_words, private_bytes, words_of}
 use Rattle.rv_select.specs.declared.selected.Code.{Code}
 use Rattle.rv_select.specs.Places.{Layout, frame_bytes, layout_of}
-use Rattle.rv_select.specs.Shapes.{start_of}
+use Rattle.rv_select.specs.Shapes.{held_after, start_of}
 use Rattle.rv_select.specs.Entering.{begun, entered, left, received, receiving, words_offset}
-use Rattle.rv_select.specs.Calls.{IsSelected, KeepsWithin, all_has_code, block_code, block_has_code, block_starts, blocks_code, body_code, exit_code, function_code, has_code, has_exit_code, head_code, instruction_code, instructions_code, last_address}
+use Rattle.rv_select.specs.Calls.{IsSelected, KeepsWithin, all_has_code, block_code, block_has_code, block_starts, blocks_code, body_code, exit_code, function_code, has_code, has_exit_code, head_code, held_behind, instruction_code, instructions_code, last_address}
 use Rattle.rv_select.proofs.Falls.{params-least}
 use Rattle.rv_select.proofs.Stands.{both-true}
 use Rattle.rv_select.proofs.Weights.{exits-within, within}
@@ -32,46 +32,48 @@ use Rattle.rv_select.proofs.Within.{calls-within, frames-within, parameters-with
 both : (a b : List Instr) (n k : ℕ) → length a ≤ n → length b ≤ k → length (a ++ b) ≤ n + k
 both a b n k h g = omega (arith, h, g, length-append a b)
 
-instruction-weight : (y : Layout) (sizes : List ℕ) (places : FnId → ℕ) (at : ℕ) (i : Instruction) → list_all area_fits sizes ≡ true →
-    has_code i ≡ true → length (instruction_code y sizes places at i) ≤ words_of i
-instruction-weight y sizes places at (Call to place f arguments) small h = calls-within y sizes places at to place f arguments small
-instruction-weight y sizes places at (CallValue to place sig a arguments) small h = cc
-instruction-weight y sizes places at (Compute d op form a b) small h = within y (Compute d op form a b) h
-instruction-weight y sizes places at (TestDivisor place a) small h = within y (TestDivisor place a) h
-instruction-weight y sizes places at (Copy d a) small h = within y (Copy d a) h
-instruction-weight y sizes places at (Locate d offset) small h = within y (Locate d offset) h
-instruction-weight y sizes places at (Load d form spot) small h = within y (Load d form spot) h
-instruction-weight y sizes places at (Store spot n a) small h = within y (Store spot n a) h
-instruction-weight y sizes places at (Move to from n) small h = within y (Move to from n) h
-instruction-weight y sizes places at (Clear n k) small h = within y (Clear n k) h
-instruction-weight y sizes places at (PutByte a) small h = within y (PutByte a) h
-instruction-weight y sizes places at (Write place a b) small h = within y (Write place a b) h
-instruction-weight y sizes places at (Alloc d a) small h = within y (Alloc d a) h
+instruction-weight : (y : Layout) (sizes : List ℕ) (places : FnId → ℕ) (at : ℕ) (held : Option ℕ) (i : Instruction) → list_all area_fits sizes ≡ true →
+    has_code i ≡ true → length (instruction_code y sizes places at held i) ≤ words_of i
+instruction-weight y sizes places at held (Call to place f arguments) small h = calls-within y sizes places at to place f arguments small
+instruction-weight y sizes places at held (CallValue to place sig a arguments) small h = cc
+instruction-weight y sizes places at held (Compute d op form a b) small h = within y held (Compute d op form a b) h
+instruction-weight y sizes places at held (TestDivisor place a) small h = within y held (TestDivisor place a) h
+instruction-weight y sizes places at held (Copy d a) small h = within y held (Copy d a) h
+instruction-weight y sizes places at held (Locate d offset) small h = within y held (Locate d offset) h
+instruction-weight y sizes places at held (Load d form spot) small h = within y held (Load d form spot) h
+instruction-weight y sizes places at held (Store spot n a) small h = within y held (Store spot n a) h
+instruction-weight y sizes places at held (Move to from n) small h = within y held (Move to from n) h
+instruction-weight y sizes places at held (Clear n k) small h = within y held (Clear n k) h
+instruction-weight y sizes places at held (PutByte a) small h = within y held (PutByte a) h
+instruction-weight y sizes places at held (Write place a b) small h = within y held (Write place a b) h
+instruction-weight y sizes places at held (Alloc d a) small h = within y held (Alloc d a) h
 
-instructions-weight : (y : Layout) (sizes : List ℕ) (places : FnId → ℕ) (at : ℕ) (is : List Instruction) → list_all area_fits sizes ≡ true →
-    list_all has_code is ≡ true → length (instructions_code y sizes places at is) ≤ sum_by words_of is
-instructions-weight y sizes places at [] small h = omega arith
-instructions-weight y sizes places at (i ∷ is) small h =
+instructions-weight : (y : Layout) (sizes : List ℕ) (places : FnId → ℕ) (at : ℕ) (held : Option ℕ) (is : List Instruction) →
+    list_all area_fits sizes ≡ true →
+    list_all has_code is ≡ true → length (instructions_code y sizes places at held is) ≤ sum_by words_of is
+instructions-weight y sizes places at held [] small h = omega arith
+instructions-weight y sizes places at held (i ∷ is) small h =
     let e = both-true (has_code i) (list_all has_code is) h in
-    let A = instruction_code y sizes places at i in
-    subst (λ n. length (A ++ instructions_code y sizes places (at + 4 * length A) is) ≤ n) (sym (sum_by-cons words_of i is))
-    (both A (instructions_code y sizes places (at + 4 * length A) is) (words_of i) (sum_by words_of is)
-    (instruction-weight y sizes places at i small e.0) (instructions-weight y sizes places (at + 4 * length A) is small e.1))
+    let A = instruction_code y sizes places at held i in
+    subst (λ n. length (A ++ instructions_code y sizes places (at + 4 * length A) (held_after i) is) ≤ n) (sym (sum_by-cons words_of i is))
+    (both A (instructions_code y sizes places (at + 4 * length A) (held_after i) is) (words_of i) (sum_by words_of is)
+    (instruction-weight y sizes places at held i small e.0) (instructions-weight y sizes places (at + 4 * length A) (held_after i) is small e.1))
 
-exit-weight : (code : Tac) (y : Layout) (at : ℕ) (starts : ℕ → ℕ) (last : ℕ) (e : Exit) → has_exit_code e ≡ true →
-    length (exit_code y at starts last e) ≤ exit_words e
-exit-weight code y at starts last (Return v) h = (frames-within code y 0 at last v).1
-exit-weight code y at starts last (Jump e) h = (exits-within y (Jump e) at at starts starts h).0
-exit-weight code y at starts last (Branch a e f) h = (exits-within y (Branch a e f) at at starts starts h).0
-exit-weight code y at starts last (Fail kind place) h = (exits-within y (Fail kind place) at at starts starts h).0
+exit-weight : (code : Tac) (y : Layout) (held : Option ℕ) (at : ℕ) (starts : ℕ → ℕ) (last : ℕ) (e : Exit) → has_exit_code e ≡ true →
+    length (exit_code y held at starts last e) ≤ exit_words e
+exit-weight code y held at starts last (Return v) h = (frames-within code y 0 at last v).1
+exit-weight code y held at starts last (Jump e) h = (exits-within y held (Jump e) at at starts starts h).0
+exit-weight code y held at starts last (Branch a e f) h = (exits-within y held (Branch a e f) at at starts starts h).0
+exit-weight code y held at starts last (Fail kind place) h = (exits-within y held (Fail kind place) at at starts starts h).0
 
 block-weight : (code : Tac) (y : Layout) (sizes : List ℕ) (places : FnId → ℕ) (starts : ℕ → ℕ) (last at : ℕ) (b : Block) →
     list_all area_fits sizes ≡ true → block_has_code b ≡ true → length (block_code y sizes places starts last at b) ≤ block_words b
 block-weight code y sizes places starts last at b small h =
     let e = both-true (list_all has_code b.instructions) (has_exit_code b.exit) h in
-    let A = instructions_code y sizes places at b.instructions in
-    both A (exit_code y (at + 4 * length A) starts last b.exit) (sum_by words_of b.instructions) (exit_words b.exit)
-    (instructions-weight y sizes places at b.instructions small e.0) (exit-weight code y (at + 4 * length A) starts last b.exit e.1)
+    let A = instructions_code y sizes places at None b.instructions in
+    let held : Option ℕ = held_behind None b.instructions in
+    both A (exit_code y held (at + 4 * length A) starts last b.exit) (sum_by words_of b.instructions) (exit_words b.exit)
+    (instructions-weight y sizes places at None b.instructions small e.0) (exit-weight code y held (at + 4 * length A) starts last b.exit e.1)
 
 blocks-weight : (code : Tac) (y : Layout) (sizes : List ℕ) (places : FnId → ℕ) (starts : ℕ → ℕ) (last at : ℕ) (bs : List Block) →
     list_all area_fits sizes ≡ true → list_all block_has_code bs ≡ true →

@@ -1,5 +1,6 @@
 -- The code of an instruction keeps within its weight.
-use Rattle.std.proofs.Common.{◌≡◌, ℕ, ◌+◌, ◌*◌, ◌/◌, ◌≤◌, List, [], ◌∷◌, ◌++◌, length, refl, sym, ◌∙◌, arith}
+use Rattle.std.proofs.Common.{◌≡◌, ℕ, ◌+◌, ◌*◌, ◌/◌, ◌≤◌, Bool, true, false, List, [], ◌∷◌, ◌++◌, length, Option, refl, sym, ◌∙◌, arith}
+use Rattle.std.specs.Prelude.{if◌then◌else◌}
 use Rattle.std.proofs.lemmas.Bool.{leb-true}
 use Rattle.std.proofs.lemmas.List.{length-append}
 use Rattle.tl_base.specs.declared.place.Place.{Place}
@@ -8,6 +9,8 @@ use Rattle.rv_isa.specs.declared.instr.Instr.TheVariants as instrs
 use Rattle.rv_isa.specs.declared.operation.BranchCondition.TheVariants.{Eq, Ne}
 use Rattle.rv_isa.specs.declared.operation.ImmediateOp.TheVariants.{Addi}
 use Rattle.terra_words.specs.declared.words.FaultKind.TheVariants.{BadAddress, DivZero}
+use Rattle.terra_words.specs.declared.words.BinaryOperator.{BinaryOperator}
+use Rattle.tac_form.specs.declared.tac.Number.{Number}
 use Rattle.tac_form.specs.declared.tac.Operand.{Operand}
 use Rattle.tac_form.specs.declared.tac.Address.TheVariants.{Word, Frame}
 use Rattle.tac_form.specs.declared.tac.Spot.TheVariants as spots
@@ -15,13 +18,13 @@ use Rattle.tac_form.specs.declared.tac.Instruction.TheVariants.{Alloc, Call, Cal
 use Rattle.tac_form.specs.declared.tac.Exit.TheVariants.{Branch, Fail, Jump, Return}
 use Rattle.tac_form.specs.Flow.{bytes_of, width_of}
 use Rattle.tac_form.specs.Weights.{operand_words, operator_words, words_of}
-use Rattle.rv_operators.specs.Codes.{x0, x5, x6, code_of, zero_immediate}
+use Rattle.rv_operators.specs.Codes.{x0, x5, x6, zero_immediate}
 use Rattle.rv_select.specs.Places.{Layout, area_offset, home_of}
-use Rattle.rv_select.specs.Shapes.{all_carried, area_reached, bounds_tested, branch_jumps, byte_taken, bytes_given, failed, framed, from_area, heap_aligned, limit_found, load_of, located, over, put_to, range_tested, reached, store_of, taken, to_area, write_call, x11, x12, zeros}
+use Rattle.rv_select.specs.Shapes.{all_carried, applied_to, area_reached, bounds_tested, branch_jumps, byte_taken, bytes_given, failed, first_taken, framed, from_area, heap_aligned, is_turned, limit_found, load_of, located, operated, over, put_to, range_tested, reached, store_of, taken, to_area, write_call, x11, x12, zeros}
 use Rattle.rv_select.specs.Steps.{ExitsKeepWithin, ShapesKeepWithin}
 use Rattle.rv_select.proofs.Frames.{framed-count}
-use Rattle.rv_select.proofs.Homes.{operand-count, put-count}
-use Rattle.rv_select.proofs.Sequences.{operator-count}
+use Rattle.rv_select.proofs.Homes.{first-count, operand-count, put-count}
+use Rattle.rv_select.proofs.Holding.{applied-count}
 use Rattle.rv_select.proofs.Faults.{failed-count}
 use Rattle.rv_select.proofs.Divisors.{located-count}
 use Rattle.rv_select.proofs.Clears.{zeros-count}
@@ -41,8 +44,8 @@ one-more i a n h = omega arith
 tested : (at : Place) (size : ℕ) → length (bounds_tested at size) ≤ 15
 tested at size = let h : length (failed BadAddress at) ≤ 11 = failed-count BadAddress at in omega arith
 
-word-reached : (y : Layout) (at : Place) (a : Operand) (size : ℕ) → length (reached y at (Word a) size) ≤ operand_words a + 15
-word-reached y at a size = both (taken y x5 a) (bounds_tested at size) (operand_words a) 15 (operand-count y x5 a) (tested at size)
+word-reached : (y : Layout) (held : Option ℕ) (at : Place) (a : Operand) (size : ℕ) → length (reached y held at (Word a) size) ≤ operand_words a + 15
+word-reached y held at a size = both (first_taken y held a) (bounds_tested at size) (operand_words a) 15 (first-count y held a) (tested at size)
 
 store-part : (y : Layout) (i : Instr) (b : Operand) → length (taken y x6 b ++ i ∷ []) ≤ operand_words b + 1
 store-part y i b = both (taken y x6 b) (i ∷ []) (operand_words b) 1 (operand-count y x6 b) (omega arith)
@@ -56,87 +59,100 @@ to-count y n offset size h = both (area_reached y x6 n offset) (all_carried x5 x
 from-count : (y : Layout) (n offset size : ℕ) → size ≤ 128 → length (from_area y n offset size) ≤ 39
 from-count y n offset size h = both (area_reached y x6 n offset) (all_carried x6 x5 size) 3 36 (area-count y x6 n offset) (carried-count x6 x5 size h)
 
+operated-count : (y : Layout) (held : Option ℕ) (d : ℕ) (op : BinaryOperator) (form : Number) (a b : Operand) →
+    length (operated y held d op (width_of form) a b) ≤ operand_words a + (operand_words b + operator_words op + 3)
+operated-count y held d op form a b =
+    both (first_taken y held a) _ (operand_words a) (operand_words b + operator_words op + 3) (first-count y held a)
+    (both (applied_to y (width_of form) op b) (put_to (home_of y d)) (operand_words b + operator_words op) 3
+    (applied-count y (width_of form) op b) (put-count (home_of y d)))
+
 pub within : ShapesKeepWithin
-within y (Compute d op form a b) h =
-    more (operand_words a + (operand_words b + (operator_words op + 3))) (words_of (Compute d op form a b)) _ (omega arith)
-    (both (taken y x5 a) _ (operand_words a) (operand_words b + (operator_words op + 3)) (operand-count y x5 a)
-    (both (taken y x6 b) _ (operand_words b) (operator_words op + 3) (operand-count y x6 b)
-    (both (code_of (width_of form) op) (put_to (home_of y d)) (operator_words op) 3 (operator-count (width_of form) op) (put-count (home_of y d)))))
-within y (TestDivisor at a) h =
+within y held (Compute d op form a b) h =
+    either (is_turned held op b) (operated y held d op (width_of form) b a) (operated y held d op (width_of form) a b)
+    (more (operand_words b + (operand_words a + operator_words op + 3)) (words_of (Compute d op form a b)) _ (omega arith)
+    (operated-count y held d op form b a))
+    (more (operand_words a + (operand_words b + operator_words op + 3)) (words_of (Compute d op form a b)) _ (omega arith)
+    (operated-count y held d op form a b))
+  where
+    either : (c : Bool) (x z : List Instr) → length x ≤ words_of (Compute d op form a b) → length z ≤ words_of (Compute d op form a b) →
+        length (if c then x else z) ≤ words_of (Compute d op form a b)
+    either true x z f g = f
+    either false x z f g = g
+within y held (TestDivisor at a) h =
     more (operand_words a + 12) (words_of (TestDivisor at a)) _ (omega arith)
-    (both (taken y x5 a) (instrs.Branch Ne x5 x0 (over (failed DivZero at)) ∷ failed DivZero at) (operand_words a) 12 (operand-count y x5 a)
+    (both (first_taken y held a) (instrs.Branch Ne x5 x0 (over (failed DivZero at)) ∷ failed DivZero at) (operand_words a) 12 (first-count y held a)
     (one-more (instrs.Branch Ne x5 x0 (over (failed DivZero at))) (failed DivZero at) 11 (failed-count DivZero at)))
-within y (Copy d a) h = both (taken y x5 a) (put_to (home_of y d)) (operand_words a) 3 (operand-count y x5 a) (put-count (home_of y d))
-within y (Locate d offset) h = both (located offset) (put_to (home_of y d)) 9 3 (located-count offset) (put-count (home_of y d))
-within y (Load d form (spots.Region at (Word a))) h =
+within y held (Copy d a) h = both (first_taken y held a) (put_to (home_of y d)) (operand_words a) 3 (first-count y held a) (put-count (home_of y d))
+within y held (Locate d offset) h = both (located offset) (put_to (home_of y d)) 9 3 (located-count offset) (put-count (home_of y d))
+within y held (Load d form (spots.Region at (Word a))) h =
     more (operand_words a + 15 + 4) (words_of (Load d form (spots.Region at (Word a)))) _ (omega arith)
-    (both (reached y at (Word a) (bytes_of form.size)) (instrs.Load (load_of form.signed form.size) x5 x5 zero_immediate ∷ put_to (home_of y d)) (operand_words a + 15) 4
-    (word-reached y at a (bytes_of form.size)) (one-more (instrs.Load (load_of form.signed form.size) x5 x5 zero_immediate) (put_to (home_of y d)) 3 (put-count (home_of y d))))
-within y (Load d form (spots.Region at (Frame offset))) h =
+    (both (reached y held at (Word a) (bytes_of form.size)) (instrs.Load (load_of form.signed form.size) x5 x5 zero_immediate ∷ put_to (home_of y d)) (operand_words a + 15) 4
+    (word-reached y held at a (bytes_of form.size)) (one-more (instrs.Load (load_of form.signed form.size) x5 x5 zero_immediate) (put_to (home_of y d)) 3 (put-count (home_of y d))))
+within y held (Load d form (spots.Region at (Frame offset))) h =
     more 13 14 _ (omega arith)
     (both (located offset) (instrs.Load (load_of form.signed form.size) x5 x5 zero_immediate ∷ put_to (home_of y d)) 9 4
     (located-count offset) (one-more (instrs.Load (load_of form.signed form.size) x5 x5 zero_immediate) (put_to (home_of y d)) 3 (put-count (home_of y d))))
-within y (Load d form (spots.Area n offset)) h =
+within y held (Load d form (spots.Area n offset)) h =
     more 6 8 _ (omega arith)
     (both (framed (λ r far. instrs.Load (load_of form.signed form.size) x5 r far) (area_offset y n + offset)) (put_to (home_of y d)) 3 3
     (framed-count (λ r far. instrs.Load (load_of form.signed form.size) x5 r far) (area_offset y n + offset)) (put-count (home_of y d)))
-within y (Store (spots.Region at (Word a)) size b) h =
+within y held (Store (spots.Region at (Word a)) size b) h =
     more (operand_words a + 15 + (operand_words b + 1)) (words_of (Store (spots.Region at (Word a)) size b)) _ (omega arith)
-    (both (reached y at (Word a) (bytes_of size)) (taken y x6 b ++ instrs.Store (store_of size) x5 x6 zero_immediate ∷ []) (operand_words a + 15) (operand_words b + 1)
-    (word-reached y at a (bytes_of size)) (store-part y (instrs.Store (store_of size) x5 x6 zero_immediate) b))
-within y (Store (spots.Region at (Frame offset)) size b) h =
+    (both (reached y held at (Word a) (bytes_of size)) (taken y x6 b ++ instrs.Store (store_of size) x5 x6 zero_immediate ∷ []) (operand_words a + 15) (operand_words b + 1)
+    (word-reached y held at a (bytes_of size)) (store-part y (instrs.Store (store_of size) x5 x6 zero_immediate) b))
+within y held (Store (spots.Region at (Frame offset)) size b) h =
     more (9 + (operand_words b + 1)) (words_of (Store (spots.Region at (Frame offset)) size b)) _ (omega arith)
     (both (located offset) (taken y x6 b ++ instrs.Store (store_of size) x5 x6 zero_immediate ∷ []) 9 (operand_words b + 1)
     (located-count offset) (store-part y (instrs.Store (store_of size) x5 x6 zero_immediate) b))
-within y (Store (spots.Area n offset) size b) h =
+within y held (Store (spots.Area n offset) size b) h =
     more (operand_words b + 3) (words_of (Store (spots.Area n offset) size b)) _ (omega arith)
     (both (taken y x6 b) (framed (λ r far. instrs.Store (store_of size) r x6 far) (area_offset y n + offset)) (operand_words b) 3 (operand-count y x6 b)
     (framed-count (λ r far. instrs.Store (store_of size) r x6 far) (area_offset y n + offset)))
-within y (Move (spots.Area n offset) (spots.Area k other) size) h =
-    moved-count y (spots.Area n offset) (spots.Area k other) size 42
+within y held (Move (spots.Area n offset) (spots.Area k other) size) h =
+    moved-count y held (spots.Area n offset) (spots.Area k other) size 42
     (both (area_reached y x5 n offset) (from_area y k other size) 3 39 (area-count y x5 n offset) (from-count y k other size (leb-true size 128 h))) (omega arith)
-within y (Move (spots.Area n offset) (spots.Region at (Word a)) size) h =
-    moved-count y (spots.Area n offset) (spots.Region at (Word a)) size (words_of (Move (spots.Area n offset) (spots.Region at (Word a)) size))
+within y held (Move (spots.Area n offset) (spots.Region at (Word a)) size) h =
+    moved-count y held (spots.Area n offset) (spots.Region at (Word a)) size (words_of (Move (spots.Area n offset) (spots.Region at (Word a)) size))
     (more (operand_words a + 15 + 39) (words_of (Move (spots.Area n offset) (spots.Region at (Word a)) size)) _ (omega arith)
-    (both (reached y at (Word a) size) (to_area y n offset size) (operand_words a + 15) 39 (word-reached y at a size) (to-count y n offset size (leb-true size 128 h)))) (omega arith)
-within y (Move (spots.Area n offset) (spots.Region at (Frame far)) size) h =
-    moved-count y (spots.Area n offset) (spots.Region at (Frame far)) size 48
+    (both (reached y held at (Word a) size) (to_area y n offset size) (operand_words a + 15) 39 (word-reached y held at a size) (to-count y n offset size (leb-true size 128 h)))) (omega arith)
+within y held (Move (spots.Area n offset) (spots.Region at (Frame far)) size) h =
+    moved-count y held (spots.Area n offset) (spots.Region at (Frame far)) size 48
     (both (located far) (to_area y n offset size) 9 39 (located-count far) (to-count y n offset size (leb-true size 128 h))) (omega arith)
-within y (Move (spots.Region at (Word a)) (spots.Area n offset) size) h =
-    moved-count y (spots.Region at (Word a)) (spots.Area n offset) size (words_of (Move (spots.Region at (Word a)) (spots.Area n offset) size))
+within y held (Move (spots.Region at (Word a)) (spots.Area n offset) size) h =
+    moved-count y held (spots.Region at (Word a)) (spots.Area n offset) size (words_of (Move (spots.Region at (Word a)) (spots.Area n offset) size))
     (more (operand_words a + 15 + 39) (words_of (Move (spots.Region at (Word a)) (spots.Area n offset) size)) _ (omega arith)
-    (both (reached y at (Word a) size) (from_area y n offset size) (operand_words a + 15) 39 (word-reached y at a size) (from-count y n offset size (leb-true size 128 h)))) (omega arith)
-within y (Move (spots.Region at (Frame far)) (spots.Area n offset) size) h =
-    moved-count y (spots.Region at (Frame far)) (spots.Area n offset) size 48
+    (both (reached y held at (Word a) size) (from_area y n offset size) (operand_words a + 15) 39 (word-reached y held at a size) (from-count y n offset size (leb-true size 128 h)))) (omega arith)
+within y held (Move (spots.Region at (Frame far)) (spots.Area n offset) size) h =
+    moved-count y held (spots.Region at (Frame far)) (spots.Area n offset) size 48
     (both (located far) (from_area y n offset size) 9 39 (located-count far) (from-count y n offset size (leb-true size 128 h))) (omega arith)
-within y (Move (spots.Region at a) (spots.Region other b) size) h =
-    moved-count y (spots.Region at a) (spots.Region other b) size (words_of (Move (spots.Region at a) (spots.Region other b) size)) (omega arith) (omega arith)
-within y (Clear n size) h =
+within y held (Move (spots.Region at a) (spots.Region other b) size) h =
+    moved-count y held (spots.Region at a) (spots.Region other b) size (words_of (Move (spots.Region at a) (spots.Region other b) size)) (omega arith) (omega arith)
+within y held (Clear n size) h =
     let most : size ≤ 128 = leb-true size 128 h in
     both (area_reached y x5 n 0) (zeros ((size + 7) / 8) 0) 3 16 (framed-count (λ r far. instrs.RegisterImmediate Addi x5 r far) (area_offset y n + 0))
     (omega (arith, zeros-count ((size + 7) / 8) 0))
-within y (Call to at f arguments) h = cc
-within y (CallValue to at sig a arguments) h = cc
-within y (PutByte a) h = both (byte_taken y x5 a) _ 3 8 (byte-count y a) (omega arith)
-within y (Write at a b) h =
+within y held (Call to at f arguments) h = cc
+within y held (CallValue to at sig a arguments) h = cc
+within y held (PutByte a) h = both (byte_taken y held a) _ 3 8 (byte-count y held a) (omega arith)
+within y held (Write at a b) h =
     more (operand_words a + (operand_words b + 20)) (words_of (Write at a b)) _ (omega arith)
     (both (taken y x11 a) _ (operand_words a) (operand_words b + 20) (operand-count y x11 a)
     (both (taken y x12 b) (instrs.Branch Eq x12 x0 (over (range_tested at ++ write_call)) ∷ (range_tested at ++ write_call)) (operand_words b) 20 (operand-count y x12 b)
     (one-more (instrs.Branch Eq x12 x0 (over (range_tested at ++ write_call))) (range_tested at ++ write_call) 19
     (both (range_tested at) write_call 16 3 (range-count at) (omega arith)))))
-within y (Alloc d a) h =
+within y held (Alloc d a) h =
     more (operand_words a + 16) (words_of (Alloc d a)) _ (omega arith)
-    (both (taken y x5 a) (heap_aligned ++ (limit_found ++ (bytes_given ++ put_to (home_of y d)))) (operand_words a) 16 (operand-count y x5 a) (omega (arith, put-count (home_of y d))))
+    (both (first_taken y held a) (heap_aligned ++ (limit_found ++ (bytes_given ++ put_to (home_of y d)))) (operand_words a) 16 (first-count y held a) (omega (arith, put-count (home_of y d))))
 
 -- exits
-branch-count : (y : Layout) (a : Operand) (at : ℕ) (starts : ℕ → ℕ) (first second : ℕ) → length (taken y x5 a ++ branch_jumps at starts first second) ≡ length (taken y x5 a) + 5
-branch-count y a at starts first second = length-append (taken y x5 a) (branch_jumps at starts first second)
+branch-count : (y : Layout) (held : Option ℕ) (a : Operand) (at : ℕ) (starts : ℕ → ℕ) (first second : ℕ) → length (first_taken y held a ++ branch_jumps at starts first second) ≡ length (first_taken y held a) + 5
+branch-count y held a at starts first second = length-append (first_taken y held a) (branch_jumps at starts first second)
 
 pub exits-within : ExitsKeepWithin
-exits-within y (Jump e) at other starts others h = (omega arith, refl)
-exits-within y (Branch a e f) at other starts others h = (
-  omega (arith, branch-count y a (at + 4 * length (taken y x5 a)) starts e.block f.block, operand-count y x5 a),
-  branch-count y a (at + 4 * length (taken y x5 a)) starts e.block f.block ∙ sym (branch-count y a (other + 4 * length (taken y x5 a)) others e.block f.block),
+exits-within y held (Jump e) at other starts others h = (omega arith, refl)
+exits-within y held (Branch a e f) at other starts others h = (
+  omega (arith, branch-count y held a (at + 4 * length (first_taken y held a)) starts e.block f.block, first-count y held a),
+  branch-count y held a (at + 4 * length (first_taken y held a)) starts e.block f.block ∙ sym (branch-count y held a (other + 4 * length (first_taken y held a)) others e.block f.block),
 )
-exits-within y (Return v) at other starts others h = cc
-exits-within y (Fail kind place) at other starts others h = (failed-count kind place, refl)
+exits-within y held (Return v) at other starts others h = cc
+exits-within y held (Fail kind place) at other starts others h = (failed-count kind place, refl)

@@ -1,5 +1,5 @@
 -- Calls and returns, and the code of a whole function.
-use Rattle.std.specs.Prelude.{◌≡◌, ℕ, ◌+◌, ◌*◌, ◌≤◌, IsTrue, Bool, ◌&&◌, true, List, [], ◌∷◌, ◌++◌, length, map, Option}
+use Rattle.std.specs.Prelude.{◌≡◌, ℕ, ◌+◌, ◌*◌, ◌≤◌, IsTrue, Bool, ◌&&◌, true, List, [], ◌∷◌, ◌++◌, length, map, Option, None}
 use Rattle.std.specs.List.{list_all}
 use Rattle.tl_base.specs.declared.place.Place.{Place}
 use Rattle.tl_base.specs.declared.ids.FnId.{FnId}
@@ -27,7 +27,7 @@ use Rattle.rv_select.specs.declared.selected.Code.{Code}
 use Rattle.rv_select.specs.declared.selected.Call.{Call as Site}
 use Rattle.rv_select.specs.Numbers.{below_zero, constant, immediate_of, lower_of, upper_of}
 use Rattle.rv_select.specs.Places.{Layout, frame_bytes, layout_of}
-use Rattle.rv_select.specs.Shapes.{area_reached, distance, exit_shape, fault_call, has_exit_shape, has_shape, jump, moved, over, place_number, shape_of, small, start_of, taken, x10, x11}
+use Rattle.rv_select.specs.Shapes.{area_reached, distance, exit_shape, fault_call, has_exit_shape, has_shape, held_after, jump, moved, over, place_number, shape_of, small, start_of, taken, x10, x11}
 use Rattle.rv_select.specs.Entering.{begun, entered, left, received, result_put, stored_below, words_offset, x1, x28}
 
 -- The run fails at the place in x11 where 511 calls wait already.
@@ -68,29 +68,34 @@ called y sizes places at to place f arguments =
     call_begun y place arguments
     ++ (call_jump (at + 4 * length (call_begun y place arguments)) (places f) ++ call_ended y sizes to)
 
--- the code of an instruction that stands at an address
-abbrev pub instruction_code : Layout → (sizes : List ℕ) → (places : FnId → ℕ) → (at : ℕ) → Instruction → List Instr
-instruction_code y sizes places at (Call to place f arguments) = called y sizes places at to place f arguments
-instruction_code y sizes places at i = shape_of y i
+-- the code of an instruction that stands at an address, where x5 may hold the word of a temporary
+abbrev pub instruction_code : Layout → (sizes : List ℕ) → (places : FnId → ℕ) → (at : ℕ) → (held : Option ℕ) → Instruction → List Instr
+instruction_code y sizes places at held (Call to place f arguments) = called y sizes places at to place f arguments
+instruction_code y sizes places at held i = shape_of y held i
 
 -- that of an exit, by the addresses of blocks and of the code that leaves the function: it gives back a part
 abbrev pub returned : Layout → (at last : ℕ) → Part → List Instr
 returned y at last v = part_taken y x10 v ++ jump (at + 4 * length (part_taken y x10 v)) last
 
-abbrev pub exit_code : Layout → (at : ℕ) → (starts : ℕ → ℕ) → (last : ℕ) → Exit → List Instr
-exit_code y at starts last (Return v) = returned y at last v
-exit_code y at starts last e = exit_shape y at starts e
+abbrev pub exit_code : Layout → (held : Option ℕ) → (at : ℕ) → (starts : ℕ → ℕ) → (last : ℕ) → Exit → List Instr
+exit_code y held at starts last (Return v) = returned y at last v
+exit_code y held at starts last e = exit_shape y held at starts e
 
-abbrev pub instructions_code : Layout → (sizes : List ℕ) → (places : FnId → ℕ) → (at : ℕ) → List Instruction → List Instr
-instructions_code y sizes places at [] = []
-instructions_code y sizes places at (i ∷ is) =
-    instruction_code y sizes places at i
-    ++ instructions_code y sizes places (at + 4 * length (instruction_code y sizes places at i)) is
+abbrev pub instructions_code : Layout → (sizes : List ℕ) → (places : FnId → ℕ) → (at : ℕ) → (held : Option ℕ) → List Instruction → List Instr
+instructions_code y sizes places at held [] = []
+instructions_code y sizes places at held (i ∷ is) =
+    instruction_code y sizes places at held i
+    ++ instructions_code y sizes places (at + 4 * length (instruction_code y sizes places at held i)) (held_after i) is
+
+-- what x5 holds behind instructions; nothing is known of it where a block begins
+abbrev pub held_behind : (held : Option ℕ) → List Instruction → Option ℕ
+held_behind held [] = held
+held_behind held (i ∷ is) = held_behind (held_after i) is
 
 abbrev pub block_code : Layout → (sizes : List ℕ) → (places : FnId → ℕ) (starts : ℕ → ℕ) → (last at : ℕ) → Block → List Instr
 block_code y sizes places starts last at b =
-    instructions_code y sizes places at b.instructions
-    ++ exit_code y (at + 4 * length (instructions_code y sizes places at b.instructions)) starts last b.exit
+    instructions_code y sizes places at None b.instructions
+    ++ exit_code y (held_behind None b.instructions) (at + 4 * length (instructions_code y sizes places at None b.instructions)) starts last b.exit
 
 abbrev pub blocks_code : Layout → (sizes : List ℕ) → (places : FnId → ℕ) (starts : ℕ → ℕ) → (last at : ℕ) → List Block → List Instr
 blocks_code y sizes places starts last at [] = []
@@ -104,16 +109,16 @@ instruction_calls y at (Call to place f arguments) =
     record { at = at + length (call_begun y place arguments); callee = f } ∷ []
 instruction_calls y at i = []
 
-abbrev pub instructions_calls : Layout → (sizes : List ℕ) → (at : ℕ) → List Instruction → List Site
-instructions_calls y sizes at [] = []
-instructions_calls y sizes at (i ∷ is) =
+abbrev pub instructions_calls : Layout → (sizes : List ℕ) → (at : ℕ) → (held : Option ℕ) → List Instruction → List Site
+instructions_calls y sizes at held [] = []
+instructions_calls y sizes at held (i ∷ is) =
     instruction_calls y at i
-    ++ instructions_calls y sizes (at + length (instruction_code y sizes (λ f. 0) 0 i)) is
+    ++ instructions_calls y sizes (at + length (instruction_code y sizes (λ f. 0) 0 held i)) (held_after i) is
 
 abbrev pub blocks_calls : Layout → (sizes : List ℕ) → (at : ℕ) → List Block → List Site
 blocks_calls y sizes at [] = []
 blocks_calls y sizes at (b ∷ bs) =
-    instructions_calls y sizes at b.instructions
+    instructions_calls y sizes at None b.instructions
     ++ blocks_calls y sizes (at + length (block_code y sizes (λ f. 0) (λ c. 0) 0 0 b)) bs
 
 -- how many words the blocks take, and where each begins

@@ -26,8 +26,8 @@ use Rattle.tac_form.specs.Live.{InUse, IsLive}
 use Rattle.tac_form.specs.Weights.{exit_words, words_of}
 use Rattle.rv_operators.specs.Codes.{is_comparison, x5, x6}
 use Rattle.rv_operators.specs.Runs.{Stands}
-use Rattle.rv_select.specs.Places.{Layout, Holds, layout_of}
-use Rattle.rv_select.specs.Shapes.{jump, offset_of, taken}
+use Rattle.rv_select.specs.Places.{IsHeld, Layout, Holds, layout_of}
+use Rattle.rv_select.specs.Shapes.{first_taken, jump, offset_of, taken}
 use Rattle.rv_select.specs.Steps.{Left, world_of}
 
 -- the branches on "below" and on "not below", of numbers with a sign and without
@@ -65,16 +65,17 @@ chosen condition a b at first second = instrs.Branch condition a b (offset_of 12
 abbrev pub compared : Bool → BinaryOperator → (at first second : ℕ) → List Instr
 compared signed op at first second = chosen (condition_of signed op) (left_of op) (right_of op) at first second
 
-abbrev pub operands_taken : Layout → (a b : Operand) → List Instr
-operands_taken y a b = taken y x5 a ++ taken y x6 b
+abbrev pub operands_taken : Layout → (held : Option ℕ) → (a b : Operand) → List Instr
+operands_taken y held a b = first_taken y held a ++ taken y x6 b
 
-abbrev pub compared_shape : Layout → (at : ℕ) → (starts : ℕ → ℕ) → BinaryOperator → Number → (a b : Operand) → (e f : Edge) → List Instr
-compared_shape y at starts op form a b e f =
-    operands_taken y a b ++ compared form.signed op (at + 4 * length (operands_taken y a b)) (starts e.block) (starts f.block)
+abbrev pub compared_shape : Layout → (held : Option ℕ) → (at : ℕ) → (starts : ℕ → ℕ) → BinaryOperator → Number → (a b : Operand) → (e f : Edge) →
+    List Instr
+compared_shape y held at starts op form a b e f =
+    operands_taken y held a b ++ compared form.signed op (at + 4 * length (operands_taken y held a b)) (starts e.block) (starts f.block)
 
 -- Where a function's code stands at the last instruction of a block, a comparison, whose result the block's branch tests and nothing
 -- reads after that: its temporary is live at the begin of neither block. So no home gets it.
-pub record StandsAtCompare (p : Program) (code : Tac) (homes : List (Option Home)) (d : ℕ) (op : BinaryOperator) (form : Number) (a b : Operand) (e f : Edge)
+pub record StandsAtCompare (p : Program) (code : Tac) (homes : List (Option Home)) (held : Option ℕ) (d : ℕ) (op : BinaryOperator) (form : Number) (a b : Operand) (e f : Edge)
     (starts : ℕ → ℕ) (s : tac.State) (program : List (Option Instr)) (base : ℕ) (m : State) : Type 0 where
   pub block : Block
   pub function : p.code s.here.function ≡ Some code
@@ -89,21 +90,23 @@ pub record StandsAtCompare (p : Program) (code : Tac) (homes : List (Option Home
   pub right : IsRight code homes
   pub near : m.pc + 256 ≤ 2 ^ 30
   pub blocks : (b : ℕ) → (starts b < 2 ^ 30) × (starts b % 2 ≡ 0)
-  pub stands : Stands program m.pc (compared_shape (layout_of code homes) m.pc starts op form a b e f)
+  pub stands : Stands program m.pc (compared_shape (layout_of code homes) held m.pc starts op form a b e f)
   pub holds : Holds (layout_of code homes) (InUse (graph_of code) s.here.block s.here.at) (world_of s) base m
+  pub five : IsHeld held s.here.temps m
 
 -- The code carries out the two steps, within the weight of both.
 abbrev pub ComparesAreCarried : Type 0
 ComparesAreCarried =
-    (p : Program) (code : Tac) (homes : List (Option Home)) (d : ℕ) (op : BinaryOperator) (form : Number) (a b : Operand) (e f : Edge)
+    (p : Program) (code : Tac) (homes : List (Option Home)) (held : Option ℕ) (d : ℕ) (op : BinaryOperator) (form : Number) (a b : Operand)
+    (e f : Edge)
     (starts : ℕ → ℕ) (s : tac.State) (program : List (Option Instr)) (base : ℕ) (m : State) →
-    StandsAtCompare p code homes d op form a b e f starts s program base m →
+    StandsAtCompare p code homes held d op form a b e f starts s program base m →
     Left (layout_of code homes) (graph_of code) program base (words_of (Compute d op form a b) + exit_words (Branch (Temp d) e f)) starts s m (steps p 2 (Goes s))
 
 -- It has at most 21 words, fewer than the two weigh, and as many wherever it and the blocks stand.
 abbrev pub ComparesKeepWithin : Type 0
 ComparesKeepWithin =
-    (y : Layout) (d : ℕ) (op : BinaryOperator) (form : Number) (a b : Operand) (e f : Edge) (at other : ℕ) (starts others : ℕ → ℕ) →
-    (length (compared_shape y at starts op form a b e f) ≤ 21)
-    × (length (compared_shape y at starts op form a b e f) < words_of (Compute d op form a b) + exit_words (Branch (Temp d) e f))
-    × (length (compared_shape y at starts op form a b e f) ≡ length (compared_shape y other others op form a b e f))
+    (y : Layout) (held : Option ℕ) (d : ℕ) (op : BinaryOperator) (form : Number) (a b : Operand) (e f : Edge) (at other : ℕ) (starts others : ℕ → ℕ) →
+    (length (compared_shape y held at starts op form a b e f) ≤ 21)
+    × (length (compared_shape y held at starts op form a b e f) < words_of (Compute d op form a b) + exit_words (Branch (Temp d) e f))
+    × (length (compared_shape y held at starts op form a b e f) ≡ length (compared_shape y held other others op form a b e f))

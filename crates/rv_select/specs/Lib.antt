@@ -2,6 +2,8 @@
 pub mod Places
 -- Numbers as operands of instructions, and code that loads them.
 pub mod Numbers
+-- Operators of a constant that instructions hold.
+pub mod Folded
 -- Which instructions carry out those of three-address code.
 pub mod Shapes
 -- What these instructions promise.

@@ -67,11 +67,21 @@ ten = record { count = 10; in_range = lit≤ tt }
 abbrev pub moved_up : Register → ShiftCount → ℕ → List Instr
 moved_up d count n = Shift Slli d d count ∷ RegisterImmediate Addi d d (immediate_of n) ∷ []
 
+abbrev pub half : ShiftCount
+half = record { count = 32; in_range = lit≤ tt }
+
 -- a number of 64 bits to a register: its upper 32 bits, and then 11, 11 and 10 more
-abbrev pub long_constant : Register → ℕ → List Instr
-long_constant d n =
+abbrev pub in_four : Register → ℕ → List Instr
+in_four d n =
     short_constant d (n / 2 ^ 32)
     ++ (moved_up d eleven (n / 2 ^ 21 % 2 ^ 11) ++ (moved_up d eleven (n / 2 ^ 10 % 2 ^ 11) ++ moved_up d ten (n % 2 ^ 10)))
+
+-- the same where at most the last 11 of the lower 32 bits are set, as in most places
+abbrev pub in_two : Register → ℕ → List Instr
+in_two d n = short_constant d (n / 2 ^ 32) ++ moved_up d half (n % 2 ^ 11)
+
+abbrev pub long_constant : Register → ℕ → List Instr
+long_constant d n = if nat_lt (n % 2 ^ 32) (2 ^ 11) then in_two d n else in_four d n
 
 abbrev pub constant : Register → ℕ → List Instr
 constant d n = if nat_eq (extended_word n) n then short_constant d n else long_constant d n

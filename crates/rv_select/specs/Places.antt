@@ -2,12 +2,13 @@
 --
 -- x2 has the address of the activation's frame in private memory. x3 is the end of the heap, x4 that of the region, x8 the
 -- address of the frame in the region, and x28 the number of calls that wait. x18 to x27 hold temporaries. x1, x5 to x7 and x10
--- to x17 are scratch: between two instructions of three-address code they hold nothing.
+-- to x17 are scratch: between two instructions of three-address code they hold nothing, but for x5, which behind an instruction of a
+-- block may hold the word that this one put to a temporary's home.
 --
 -- The private frame has, from x2 upwards, the return address and a word for each of x18 to x27, in which a function that uses
 -- one keeps its caller's word; then the slots, a word each; then 128 bytes for each area; and at its end the words of the
 -- parameters, which the caller stores below its own frame, the first uppermost.
-use Rattle.std.specs.Prelude.{◌≡◌, ℕ, ◌+◌, ◌*◌, ◌^◌, ◌<◌, ◌≤◌, Bool, false, ◌&&◌, ◌||◌, nat_eq, nat_le, List, take, drop, length, Option, Some, slice_get, IsTrue, ◌⊎◌, [], ◌∷◌}
+use Rattle.std.specs.Prelude.{◌≡◌, ℕ, ◌+◌, ◌*◌, ◌^◌, ◌<◌, ◌≤◌, Bool, false, ◌&&◌, ◌||◌, nat_eq, nat_le, List, take, drop, length, Option, Some, None, slice_get, IsTrue, ◌⊎◌, [], ◌∷◌}
 use Rattle.std.specs.List.{list_any}
 use Rattle.reg_alloc.specs.declared.assignment.Home.{Home}
 use Rattle.reg_alloc.specs.declared.assignment.Home.TheVariants.{Register, Slot}
@@ -128,6 +129,11 @@ pub record Keeps (y : Layout) (base : ℕ) (m after : State) : Type 0 where
   pub long : length after.private ≡ length m.private
   pub outside : (at n : ℕ) → base ≤ at → (at + n ≤ base + kept_bytes) ⊎ (base + frame_bytes y ≤ at) →
       take n (drop at after.private) ≡ take n (drop at m.private)
+
+-- whether x5 holds the word of a temporary, where it is said to
+abbrev pub IsHeld : (held : Option ℕ) → Temps → State → Type 0
+IsHeld None temps m = Unit {0}
+IsHeld (Some t) temps m = m.registers 5 ≡ temps t
 
 -- an operand's word, and what is in use where it is read
 abbrev pub value_in : Temps → Operand → ℕ

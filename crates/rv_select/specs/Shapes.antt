@@ -1,5 +1,5 @@
 -- Which instructions carry out those of three-address code that stay within a function.
-use Rattle.std.specs.Prelude.{◌≡◌, ℕ, suc, zero, ◌+◌, ◌-◌, ◌*◌, ◌/◌, ◌%◌, ◌^◌, pos, Bool, true, false, nat_eq, nat_le, if◌then◌else◌, List, [], ◌∷◌, ◌++◌, length, slice_get, unwrap_or}
+use Rattle.std.specs.Prelude.{◌≡◌, ℕ, suc, zero, ◌+◌, ◌-◌, ◌*◌, ◌/◌, ◌%◌, ◌^◌, pos, Bool, true, false, ◌&&◌, nat_eq, nat_le, if◌then◌else◌, List, [], ◌∷◌, ◌++◌, length, Option, Some, None, slice_get, unwrap_or}
 use Rattle.std.proofs.Common.{lit≤, subst, sym, refl, eqb→eq}
 use lib.Dec.{T}
 use Rattle.tl_base.specs.declared.place.Place.{Place}
@@ -22,6 +22,7 @@ use Rattle.reg_alloc.specs.declared.assignment.Home.{Home}
 use Rattle.reg_alloc.specs.declared.assignment.Home.TheVariants as homes
 use Rattle.terra_words.specs.declared.words.Width.{Width}
 use Rattle.terra_words.specs.declared.words.BinaryOperator.{BinaryOperator}
+use Rattle.terra_words.specs.declared.words.BinaryOperator.TheVariants as operators
 use Rattle.terra_words.specs.declared.words.FaultKind.{FaultKind}
 use Rattle.terra_words.specs.declared.words.FaultKind.TheVariants.{BadAddress, DivZero}
 use Rattle.terra_words.specs.Words.{fault_number}
@@ -39,8 +40,10 @@ use Rattle.tac_form.specs.declared.tac.Exit.TheVariants as exits
 use Rattle.tac_form.specs.declared.tac.Instruction.{Instruction}
 use Rattle.tac_form.specs.declared.tac.Instruction.TheVariants as instructions
 use Rattle.tac_form.specs.Flow.{bytes_of, width_of}
+use Rattle.tac_form.specs.Graph.{destination_write}
 use Rattle.tac_form.specs.Weights.{most_moved}
 use Rattle.rv_operators.specs.Codes.{x0, x5, x6, code_of, zero_immediate}
+use Rattle.rv_select.specs.Folded.{folded, is_folded}
 use Rattle.rv_select.specs.Numbers.{constant, immediate_of, below_zero, lower_of, register_of, upper_of}
 use Rattle.rv_select.specs.Places.{Layout, area_offset, home_of, slot_offset}
 
@@ -96,6 +99,15 @@ abbrev pub taken : Layout → Register → Operand → List Instr
 taken y d (Temp t) = taken_from d (home_of y t)
 taken y d (Constant c) = constant d c
 
+-- x5 gets an operand, unless it holds it: where an instruction leaves a temporary's word in x5, the next one knows
+abbrev pub is_held : (held : Option ℕ) → ℕ → Bool
+is_held None t = false
+is_held (Some u) t = nat_eq u t
+
+abbrev pub first_taken : Layout → (held : Option ℕ) → Operand → List Instr
+first_taken y held (Temp t) = if is_held held t then [] else taken y x5 (Temp t)
+first_taken y held (Constant c) = constant x5 c
+
 -- a home gets the word in x5
 abbrev pub put_to : Home → List Instr
 put_to (homes.Register x) = moved (register_of x) x5 ∷ []
@@ -143,14 +155,37 @@ abbrev pub branched_over : BranchCondition → Register → Register → FaultKi
 branched_over condition a b kind at = Branch condition a b (over (failed kind at)) ∷ failed kind at
 
 -- a copy, an operator, and a test of a divisor
-abbrev pub copied : Layout → ℕ → Operand → List Instr
-copied y d a = taken y x5 a ++ put_to (home_of y d)
+abbrev pub copied : Layout → (held : Option ℕ) → ℕ → Operand → List Instr
+copied y held d a = first_taken y held a ++ put_to (home_of y d)
 
-abbrev pub computed : Layout → ℕ → BinaryOperator → Width → Operand → Operand → List Instr
-computed y d op w a b = taken y x5 a ++ (taken y x6 b ++ (code_of w op ++ put_to (home_of y d)))
+-- x5 gets what an operator gives of x5 and an operand, which instructions hold where they can
+abbrev pub applied_to : Layout → Width → BinaryOperator → Operand → List Instr
+applied_to y w op (Temp t) = taken y x6 (Temp t) ++ code_of w op
+applied_to y w op (Constant c) = if is_folded op c then folded w op c else constant x6 c ++ code_of w op
 
-abbrev pub divisor_tested : Layout → Place → Operand → List Instr
-divisor_tested y at a = taken y x5 a ++ (Branch Ne x5 x0 (over (failed DivZero at)) ∷ failed DivZero at)
+abbrev pub operated : Layout → (held : Option ℕ) → ℕ → BinaryOperator → Width → Operand → Operand → List Instr
+operated y held d op w a b = first_taken y held a ++ (applied_to y w op b ++ put_to (home_of y d))
+
+-- the operators whose operands may change places, and do where x5 holds the second
+abbrev pub is_symmetric : BinaryOperator → Bool
+is_symmetric operators.Add = true
+is_symmetric operators.Multiply = true
+is_symmetric operators.Xor = true
+is_symmetric operators.And = true
+is_symmetric operators.Or = true
+is_symmetric operators.Equal = true
+is_symmetric operators.NotEqual = true
+is_symmetric _ = false
+
+abbrev pub is_turned : (held : Option ℕ) → BinaryOperator → Operand → Bool
+is_turned held op (Temp t) = is_symmetric op && is_held held t
+is_turned held op (Constant c) = false
+
+abbrev pub computed : Layout → (held : Option ℕ) → ℕ → BinaryOperator → Width → Operand → Operand → List Instr
+computed y held d op w a b = if is_turned held op b then operated y held d op w b a else operated y held d op w a b
+
+abbrev pub divisor_tested : Layout → (held : Option ℕ) → Place → Operand → List Instr
+divisor_tested y held at a = first_taken y held a ++ (Branch Ne x5 x0 (over (failed DivZero at)) ∷ failed DivZero at)
 
 -- x5 gets the address of an offset of the frame in the region
 abbrev pub located : ℕ → List Instr
@@ -172,9 +207,9 @@ bounds_tested at size =
     ∷ failed BadAddress at
 
 -- x5 gets the address of bytes in the region, tested where it isn't one of the frame's
-abbrev pub reached : Layout → Place → Address → ℕ → List Instr
-reached y at (Word a) size = taken y x5 a ++ bounds_tested at size
-reached y at (Frame offset) size = located offset
+abbrev pub reached : Layout → (held : Option ℕ) → Place → Address → ℕ → List Instr
+reached y held at (Word a) size = first_taken y held a ++ bounds_tested at size
+reached y held at (Frame offset) size = located offset
 
 -- how numbers of a size are loaded and stored
 abbrev pub load_of : Bool → Size → LoadOp
@@ -193,17 +228,17 @@ store_of Four = Sw
 store_of Eight = Sd
 
 -- loads and stores
-abbrev pub loaded : Layout → ℕ → Number → Spot → List Instr
-loaded y d form (spots.Region at a) =
-    reached y at a (bytes_of form.size)
+abbrev pub loaded : Layout → (held : Option ℕ) → ℕ → Number → Spot → List Instr
+loaded y held d form (spots.Region at a) =
+    reached y held at a (bytes_of form.size)
     ++ (Load (load_of form.signed form.size) x5 x5 zero_immediate ∷ put_to (home_of y d))
-loaded y d form (spots.Area n offset) =
+loaded y held d form (spots.Area n offset) =
     framed (λ r far. Load (load_of form.signed form.size) x5 r far) (area_offset y n + offset) ++ put_to (home_of y d)
 
-abbrev pub stored : Layout → Spot → Size → Operand → List Instr
-stored y (spots.Region at a) size b =
-    reached y at a (bytes_of size) ++ (taken y x6 b ++ Store (store_of size) x5 x6 zero_immediate ∷ [])
-stored y (spots.Area n offset) size b =
+abbrev pub stored : Layout → (held : Option ℕ) → Spot → Size → Operand → List Instr
+stored y held (spots.Region at a) size b =
+    reached y held at a (bytes_of size) ++ (taken y x6 b ++ Store (store_of size) x5 x6 zero_immediate ∷ [])
+stored y held (spots.Area n offset) size b =
     taken y x6 b ++ framed (λ r far. Store (store_of size) r x6 far) (area_offset y n + offset)
 
 -- bytes go from where one register points to where another does, through x7: eight at a time, then four, two and one
@@ -238,15 +273,15 @@ abbrev pub to_area : Layout → ℕ → (offset size : ℕ) → List Instr
 to_area y n offset size = area_reached y x6 n offset ++ all_carried x5 x6 size
 
 -- Bytes from one spot to another, of which at most one is in the region, and x5 reaches that one.
-abbrev pub some_moved : Layout → (to from : Spot) → ℕ → List Instr
-some_moved y (spots.Region at a) (spots.Area n offset) size = reached y at a size ++ from_area y n offset size
-some_moved y (spots.Area n offset) (spots.Region at a) size = reached y at a size ++ to_area y n offset size
-some_moved y (spots.Area n offset) (spots.Area m other) size = area_reached y x5 n offset ++ from_area y m other size
-some_moved y (spots.Region at a) (spots.Region other b) size = []
+abbrev pub some_moved : Layout → (held : Option ℕ) → (to from : Spot) → ℕ → List Instr
+some_moved y held (spots.Region at a) (spots.Area n offset) size = reached y held at a size ++ from_area y n offset size
+some_moved y held (spots.Area n offset) (spots.Region at a) size = reached y held at a size ++ to_area y n offset size
+some_moved y held (spots.Area n offset) (spots.Area m other) size = area_reached y x5 n offset ++ from_area y m other size
+some_moved y held (spots.Region at a) (spots.Region other b) size = []
 
 -- No bytes lie nowhere, so a move of none only takes a step.
-abbrev pub bytes_moved : Layout → (to from : Spot) → ℕ → List Instr
-bytes_moved y to from size = if nat_eq size 0 then moved x0 x0 ∷ [] else some_moved y to from size
+abbrev pub bytes_moved : Layout → (held : Option ℕ) → (to from : Spot) → ℕ → List Instr
+bytes_moved y held to from size = if nat_eq size 0 then moved x0 x0 ∷ [] else some_moved y held to from size
 
 -- zeros, eight at a time, from where x5 points. The bytes of an area behind those that it holds may be any
 abbrev pub zero_put : ℕ → Instr
@@ -264,10 +299,10 @@ abbrev pub write_call : List Instr
 write_call =
     RegisterImmediate Addi x10 x0 (immediate_of 1) ∷ RegisterImmediate Addi x17 x0 (immediate_of 64) ∷ Ecall ∷ []
 
--- a register gets an operand whose low byte alone matters
-abbrev pub byte_taken : Layout → Register → Operand → List Instr
-byte_taken y d (Temp t) = taken y d (Temp t)
-byte_taken y d (Constant c) = constant d (c % 256)
+-- x5 gets an operand whose low byte alone matters
+abbrev pub byte_taken : Layout → (held : Option ℕ) → Operand → List Instr
+byte_taken y held (Temp t) = first_taken y held (Temp t)
+byte_taken y held (Constant c) = constant x5 (c % 256)
 
 -- One byte is written from the word of the return address, which x6 keeps meanwhile.
 abbrev pub byte_stored : List Instr
@@ -280,8 +315,8 @@ byte_written =
     ∷ RegisterImmediate Addi x12 x0 (immediate_of 1)
     ∷ (write_call ++ Store Sd x2 x6 zero_immediate ∷ []))
 
-abbrev pub byte_put : Layout → Operand → List Instr
-byte_put y a = byte_taken y x5 a ++ byte_written
+abbrev pub byte_put : Layout → (held : Option ℕ) → Operand → List Instr
+byte_put y held a = byte_taken y held a ++ byte_written
 
 -- Bytes of the region are written. No bytes lie anywhere, and a count below zero is larger than every region.
 abbrev pub range_tested : Place → List Instr
@@ -330,26 +365,36 @@ bytes_given =
     ∷ []
 
 -- Bytes of the heap: from the next multiple of 16 on, if as many are left there. A count below zero is larger than what is left.
-abbrev pub allocated : Layout → ℕ → Operand → List Instr
-allocated y d a =
-    taken y x5 a
+abbrev pub allocated : Layout → (held : Option ℕ) → ℕ → Operand → List Instr
+allocated y held d a =
+    first_taken y held a
     ++ (heap_aligned ++ (limit_found ++ (bytes_given ++ put_to (home_of y d))))
 
--- the code of an instruction, and which have one so far
-abbrev pub shape_of : Layout → Instruction → List Instr
-shape_of y (instructions.Compute d op form a b) = computed y d op (width_of form) a b
-shape_of y (instructions.TestDivisor at a) = divisor_tested y at a
-shape_of y (instructions.Copy d a) = copied y d a
-shape_of y (instructions.Locate d offset) = located offset ++ put_to (home_of y d)
-shape_of y (instructions.Load d form spot) = loaded y d form spot
-shape_of y (instructions.Store spot size a) = stored y spot size a
-shape_of y (instructions.Move to from size) = bytes_moved y to from size
-shape_of y (instructions.Clear n size) = cleared y n size
-shape_of y (instructions.Call to at f arguments) = []
-shape_of y (instructions.CallValue to at sig a arguments) = []
-shape_of y (instructions.PutByte a) = byte_put y a
-shape_of y (instructions.Write at a b) = range_written y at a b
-shape_of y (instructions.Alloc d a) = allocated y d a
+-- the code of an instruction, where x5 may hold the word of a temporary, and which have one so far
+abbrev pub shape_of : Layout → (held : Option ℕ) → Instruction → List Instr
+shape_of y held (instructions.Compute d op form a b) = computed y held d op (width_of form) a b
+shape_of y held (instructions.TestDivisor at a) = divisor_tested y held at a
+shape_of y held (instructions.Copy d a) = copied y held d a
+shape_of y held (instructions.Locate d offset) = located offset ++ put_to (home_of y d)
+shape_of y held (instructions.Load d form spot) = loaded y held d form spot
+shape_of y held (instructions.Store spot size a) = stored y held spot size a
+shape_of y held (instructions.Move to from size) = bytes_moved y held to from size
+shape_of y held (instructions.Clear n size) = cleared y n size
+shape_of y held (instructions.Call to at f arguments) = []
+shape_of y held (instructions.CallValue to at sig a arguments) = []
+shape_of y held (instructions.PutByte a) = byte_put y held a
+shape_of y held (instructions.Write at a b) = range_written y at a b
+shape_of y held (instructions.Alloc d a) = allocated y held d a
+
+-- the temporary whose word an instruction leaves in x5: the one that it puts to its home last, as a call does with its result
+abbrev pub held_after : Instruction → Option ℕ
+held_after (instructions.Compute d op form a b) = Some d
+held_after (instructions.Copy d a) = Some d
+held_after (instructions.Locate d offset) = Some d
+held_after (instructions.Load d form spot) = Some d
+held_after (instructions.Alloc d a) = Some d
+held_after (instructions.Call to at f arguments) = destination_write to
+held_after _ = None
 
 abbrev pub has_shape : Instruction → Bool
 has_shape (instructions.Compute d op form a b) = true
@@ -383,11 +428,12 @@ branch_jumps at starts first second = two_jumps at (starts first) (starts second
 abbrev pub start_of : List ℕ → ℕ → ℕ
 start_of starts block = unwrap_or (slice_get starts block) 0
 
-abbrev pub exit_shape : Layout → (at : ℕ) → (starts : ℕ → ℕ) → Exit → List Instr
-exit_shape y at starts (exits.Jump e) = jump at (starts e.block)
-exit_shape y at starts (exits.Branch a e f) = taken y x5 a ++ branch_jumps (at + 4 * length (taken y x5 a)) starts e.block f.block
-exit_shape y at starts (exits.Return v) = []
-exit_shape y at starts (exits.Fail kind at_place) = failed kind at_place
+abbrev pub exit_shape : Layout → (held : Option ℕ) → (at : ℕ) → (starts : ℕ → ℕ) → Exit → List Instr
+exit_shape y held at starts (exits.Jump e) = jump at (starts e.block)
+exit_shape y held at starts (exits.Branch a e f) =
+    first_taken y held a ++ branch_jumps (at + 4 * length (first_taken y held a)) starts e.block f.block
+exit_shape y held at starts (exits.Return v) = []
+exit_shape y held at starts (exits.Fail kind at_place) = failed kind at_place
 
 -- which exits have a code so far
 abbrev pub has_exit_shape : Exit → Bool

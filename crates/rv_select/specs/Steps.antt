@@ -25,8 +25,8 @@ use Rattle.tac_form.specs.Live.{InUse}
 use Rattle.tac_form.specs.Fits.{area_fits, exit_fits, instruction_fits}
 use Rattle.tac_form.specs.Weights.{exit_words, words_of}
 use Rattle.rv_operators.specs.Runs.{Stands}
-use Rattle.rv_select.specs.Places.{Layout, World, Holds, Keeps, layout_of}
-use Rattle.rv_select.specs.Shapes.{exit_shape, has_exit_shape, has_shape, place_number, shape_of}
+use Rattle.rv_select.specs.Places.{IsHeld, Layout, World, Holds, Keeps, layout_of}
+use Rattle.rv_select.specs.Shapes.{exit_shape, has_exit_shape, has_shape, held_after, place_number, shape_of}
 
 -- what is in use after an instruction was in use before it, or is what it writes
 abbrev pub Follows : (Used Next : ℕ → Type 0) → (d : ℕ) → Type 0
@@ -78,20 +78,20 @@ world_of s = record {
 }
 
 -- The machine does from a state what three-address code does in a step from another, on the code of one instruction. Where the step
--- goes on, it comes behind this code to a state that holds what three-address code sees then, and writes what it writes; where the
--- step ends the run by a fault, it ends the run by the same. Of code that is stuck nothing is promised.
-abbrev pub Carried : Layout → List FlowBlock → List (Option Instr) → (base weight : ℕ) → List Instr → tac.State → State → tac.Moved → Type 0
-Carried y graph program base weight code s m (Goes t) =
+-- goes on, it comes behind this code to a state that holds what three-address code sees then, in x5 too, and writes what it writes; where
+-- the step ends the run by a fault, it ends the run by the same. Of code that is stuck nothing is promised.
+abbrev pub Carried : Layout → List FlowBlock → List (Option Instr) → (base weight : ℕ) → (held : Option ℕ) → List Instr → tac.State → State → tac.Moved → Type 0
+Carried y graph program base weight held code s m (Goes t) =
     (out : List ℕ) × (t.out ≡ s.out ++ out) ×
-    Comes y program (InUse graph t.here.block t.here.at) (world_of t) base weight (behind m code) out m
-Carried y graph program base weight code s m (Stops (Over (Fault kind at) out)) = (out ≡ s.out) × Ends program kind at weight m
-Carried y graph program base weight code s m (Stops (Over (Returned v) out)) = ⊥
-Carried y graph program base weight code s m (Stops (Over Stuck out)) = Unit {0}
-Carried y graph program base weight code s m (Stops (More out)) = ⊥
+    (c : Comes y program (InUse graph t.here.block t.here.at) (world_of t) base weight (behind m code) out m) × IsHeld held t.here.temps c.after
+Carried y graph program base weight held code s m (Stops (Over (Fault kind at) out)) = (out ≡ s.out) × Ends program kind at weight m
+Carried y graph program base weight held code s m (Stops (Over (Returned v) out)) = ⊥
+Carried y graph program base weight held code s m (Stops (Over Stuck out)) = Unit {0}
+Carried y graph program base weight held code s m (Stops (More out)) = ⊥
 
 -- Where a function's code stands at one of its instructions: its three-address code is right for machine code, its temporaries have
--- right homes, and the machine stands before the instruction's code and holds what three-address code sees.
-pub record StandsBefore (p : Program) (code : Tac) (homes : List (Option Home)) (i : Instruction) (s : tac.State) (program : List (Option Instr)) (base : ℕ) (m : State) : Type 0 where
+-- right homes, and the machine stands before the instruction's code and holds what three-address code sees, in x5 too.
+pub record StandsBefore (p : Program) (code : Tac) (homes : List (Option Home)) (held : Option ℕ) (i : Instruction) (s : tac.State) (program : List (Option Instr)) (base : ℕ) (m : State) : Type 0 where
   pub block : Block
   pub function : p.code s.here.function ≡ Some code
   pub in_function : slice_get code.blocks s.here.block ≡ Some block
@@ -100,19 +100,20 @@ pub record StandsBefore (p : Program) (code : Tac) (homes : List (Option Home)) 
   pub areas : IsTrue (list_all area_fits code.areas)
   pub frame : s.here.base + code.frame ≤ end_address s.region
   pub right : IsRight code homes
-  pub stands : Stands program m.pc (shape_of (layout_of code homes) i)
+  pub stands : Stands program m.pc (shape_of (layout_of code homes) held i)
   pub holds : Holds (layout_of code homes) (InUse (graph_of code) s.here.block s.here.at) (world_of s) base m
+  pub five : IsHeld held s.here.temps m
 
 -- Each instruction that has code so far is carried out by it, within its weight.
 abbrev pub InstructionsAreCarried : Type 0
 InstructionsAreCarried =
-    (p : Program) (code : Tac) (homes : List (Option Home)) (i : Instruction) (s : tac.State) (program : List (Option Instr)) (base : ℕ) (m : State) →
-    IsTrue (has_shape i) → StandsBefore p code homes i s program base m →
-    Carried (layout_of code homes) (graph_of code) program base (words_of i) (shape_of (layout_of code homes) i) s m (step p s)
+    (p : Program) (code : Tac) (homes : List (Option Home)) (held : Option ℕ) (i : Instruction) (s : tac.State) (program : List (Option Instr)) (base : ℕ)
+    (m : State) → IsTrue (has_shape i) → StandsBefore p code homes held i s program base m →
+    Carried (layout_of code homes) (graph_of code) program base (words_of i) (held_after i) (shape_of (layout_of code homes) held i) s m (step p s)
 
 -- The code of an instruction has at most as many words as its weight.
 abbrev pub ShapesKeepWithin : Type 0
-ShapesKeepWithin = (y : Layout) (i : Instruction) → IsTrue (has_shape i) → length (shape_of y i) ≤ words_of i
+ShapesKeepWithin = (y : Layout) (held : Option ℕ) (i : Instruction) → IsTrue (has_shape i) → length (shape_of y held i) ≤ words_of i
 
 -- The machine does from a state what an exit does that stays in its function: it comes to the address of the block at which
 -- three-address code stands then. Where three-address code needs one more count, nothing is promised.
@@ -125,7 +126,7 @@ Left y graph program base weight starts s m (Stops (Over Stuck out)) = Unit {0}
 Left y graph program base weight starts s m (Stops (More out)) = Unit {0}
 
 -- Where a function's code stands at a block's exit. Code and blocks stand at addresses below 2 ^ 30.
-pub record StandsAtExit (p : Program) (code : Tac) (homes : List (Option Home)) (exit : Exit) (starts : ℕ → ℕ) (s : tac.State) (program : List (Option Instr)) (base : ℕ) (m : State) : Type 0 where
+pub record StandsAtExit (p : Program) (code : Tac) (homes : List (Option Home)) (held : Option ℕ) (exit : Exit) (starts : ℕ → ℕ) (s : tac.State) (program : List (Option Instr)) (base : ℕ) (m : State) : Type 0 where
   pub block : Block
   pub function : p.code s.here.function ≡ Some code
   pub in_function : slice_get code.blocks s.here.block ≡ Some block
@@ -135,18 +136,20 @@ pub record StandsAtExit (p : Program) (code : Tac) (homes : List (Option Home)) 
   pub right : IsRight code homes
   pub near : m.pc + 256 ≤ 2 ^ 30
   pub blocks : (b : ℕ) → (starts b < 2 ^ 30) × (starts b % 2 ≡ 0)
-  pub stands : Stands program m.pc (exit_shape (layout_of code homes) m.pc starts exit)
+  pub stands : Stands program m.pc (exit_shape (layout_of code homes) held m.pc starts exit)
   pub holds : Holds (layout_of code homes) (InUse (graph_of code) s.here.block s.here.at) (world_of s) base m
+  pub five : IsHeld held s.here.temps m
 
 -- Each exit that has code so far is carried out by it, within its weight.
 abbrev pub ExitsAreCarried : Type 0
 ExitsAreCarried =
-    (p : Program) (code : Tac) (homes : List (Option Home)) (exit : Exit) (starts : ℕ → ℕ) (s : tac.State) (program : List (Option Instr)) (base : ℕ) (m : State) →
-    IsTrue (has_exit_shape exit) → StandsAtExit p code homes exit starts s program base m →
+    (p : Program) (code : Tac) (homes : List (Option Home)) (held : Option ℕ) (exit : Exit) (starts : ℕ → ℕ) (s : tac.State) (program : List (Option Instr))
+    (base : ℕ) (m : State) → IsTrue (has_exit_shape exit) → StandsAtExit p code homes held exit starts s program base m →
     Left (layout_of code homes) (graph_of code) program base (exit_words exit) starts s m (step p s)
 
 -- The code of an exit has at most as many words as its weight, and as many wherever it and the blocks stand.
 abbrev pub ExitsKeepWithin : Type 0
 ExitsKeepWithin =
-    (y : Layout) (exit : Exit) (at other : ℕ) (starts others : ℕ → ℕ) → IsTrue (has_exit_shape exit) →
-    (length (exit_shape y at starts exit) ≤ exit_words exit) × (length (exit_shape y at starts exit) ≡ length (exit_shape y other others exit))
+    (y : Layout) (held : Option ℕ) (exit : Exit) (at other : ℕ) (starts others : ℕ → ℕ) → IsTrue (has_exit_shape exit) →
+    (length (exit_shape y held at starts exit) ≤ exit_words exit) ×
+    (length (exit_shape y held at starts exit) ≡ length (exit_shape y held other others exit))

@@ -22,8 +22,8 @@ use Rattle.tac_form.specs.Live.{InUse}
 use Rattle.tac_form.specs.Fits.{Counted, Fits}
 use Rattle.tac_form.specs.Weights.{most_moved}
 use Rattle.rv_operators.specs.Runs.{Stands}
-use Rattle.rv_select.specs.Places.{AreBytes, Holds, Keeps, Layout, area_offset, frame_bytes, home_of, layout_of, private_word, uses, word_at}
-use Rattle.rv_select.specs.Shapes.{start_of}
+use Rattle.rv_select.specs.Places.{AreBytes, Holds, IsHeld, Keeps, Layout, area_offset, frame_bytes, home_of, layout_of, private_word, uses, word_at}
+use Rattle.rv_select.specs.Shapes.{held_after, start_of}
 use Rattle.rv_select.specs.Steps.{Ends, world_of}
 use Rattle.rv_select.specs.Entering.{begun, kept_offset}
 use Rattle.rv_select.specs.Calls.{all_has_code, block_starts, call_begun, function_code, instruction_code}
@@ -69,12 +69,17 @@ abbrev pub IsLinked : Program → Image → List (Option Instr) → (most : ℕ)
 IsLinked p image program most =
     (f : FnId) (code : Tac) → p.code f ≡ Some code → IsPlaced p image program most code (image f)
 
--- where an instruction stands, by where the first does
-abbrev pub instruction_at : Layout → (sizes : List ℕ) → (places : FnId → ℕ) → (at : ℕ) → List Instruction → ℕ → ℕ
-instruction_at y sizes places at is zero = at
-instruction_at y sizes places at [] (suc k) = at
-instruction_at y sizes places at (i ∷ is) (suc k) =
-    instruction_at y sizes places (at + 4 * length (instruction_code y sizes places at i)) is k
+-- where an instruction stands, by where the first does, and what x5 holds there
+abbrev pub instruction_at : Layout → (sizes : List ℕ) → (places : FnId → ℕ) → (at : ℕ) → (held : Option ℕ) → List Instruction → ℕ → ℕ
+instruction_at y sizes places at held is zero = at
+instruction_at y sizes places at held [] (suc k) = at
+instruction_at y sizes places at held (i ∷ is) (suc k) =
+    instruction_at y sizes places (at + 4 * length (instruction_code y sizes places at held i)) (held_after i) is k
+
+abbrev pub held_at : (held : Option ℕ) → List Instruction → ℕ → Option ℕ
+held_at held is zero = held
+held_at held [] (suc k) = held
+held_at held (i ∷ is) (suc k) = held_at (held_after i) is k
 
 abbrev pub instructions_in : Option Block → List Instruction
 instructions_in None = []
@@ -83,7 +88,10 @@ instructions_in (Some b) = b.instructions
 abbrev pub place_in : Program → Image → Tac → Placed → (block at : ℕ) → ℕ
 place_in p image code x b k =
     let y : Layout = layout_of code x.homes in
-    instruction_at y code.areas (entries_of p image) (start_of (block_starts y code x.at) b) (instructions_in (slice_get code.blocks b)) k
+    instruction_at y code.areas (entries_of p image) (start_of (block_starts y code x.at) b) None (instructions_in (slice_get code.blocks b)) k
+
+abbrev pub held_in : Tac → (block at : ℕ) → Option ℕ
+held_in code b k = held_at None (instructions_in (slice_get code.blocks b)) k
 
 -- what the caller's registers are once the function has put them back
 abbrev pub restored : Layout → (base : ℕ) → State → State
@@ -134,13 +142,15 @@ Waits p image most size (c ∷ cs) link base placed m =
     (restored (layout_of w.code (image c.waits.function).homes) base m)
 
 -- The machine stands where three-address code does in a state: before the code of the next instruction, or of the exit. It holds what
--- three-address code sees, and all callers wait; and below the frame there is room for each call that may still be made.
+-- three-address code sees, and in x5 what the instruction before left there, and all callers wait; and below the frame there is room for
+-- each call that may still be made.
 pub record StandsIn (p : Program) (image : Image) (program : List (Option Instr)) (most size : ℕ) (s : tac.State) (base : ℕ) (m : State) :
     Type 0 where
   pub code : Tac
   pub function : p.code s.here.function ≡ Some code
   pub pc : m.pc ≡ place_in p image code (image s.here.function) s.here.block s.here.at
   pub holds : Holds (layout_of code (image s.here.function).homes) (InUse (graph_of code) s.here.block s.here.at) (world_of s) base m
+  pub five : IsHeld (held_in code s.here.block s.here.at) s.here.temps m
   pub frame : s.here.base + code.frame ≤ end_address s.region
   pub region : length s.region.bytes ≡ size
   pub room : HasRoom most (length s.callers) base

@@ -16,8 +16,8 @@ use tac_form::{Edge, Number, Operand};
 use terra_words::BinaryOperator;
 use tl_base::NoMemory;
 
-/// The words of a block's last instruction, a comparison, and of its exit, a branch on the comparison's result, by the address at
-/// which they stand and those at which the blocks begin. They serve where the result is read by that branch alone: where its
+/// The words of a block's last instruction, a comparison, and of its exit, a branch on the comparison's result, where x5 may hold the
+/// word of a temporary, by the address at which they stand and those at which the blocks begin. They serve where the result is read by that branch alone: where its
 /// temporary is live at the begin of neither block. No home gets the result then.
 ///
 /// Where `select` finds such a block, it calls this in place of `push_instruction` for the last instruction and of `push_exit`; the
@@ -25,6 +25,7 @@ use tl_base::NoMemory;
 pub fn push_compared(
     code: &mut Vec<u32>,
     homes: &[Option<Home>],
+    held: Option<u64>,
     at: u64,
     starts: &[u64],
     operator: BinaryOperator,
@@ -35,28 +36,29 @@ pub fn push_compared(
     second: Edge,
 ) -> Result<(), NoMemory>
     requires { at + 256 ≤ 2 ^ 30 }
-    ensures { OnOk result (code.new.items ≡ code.old.items ++ map word_of (compared_shape (with_homes homes.now) at (start_of starts.now) operator form a b first second)) }
+    ensures { OnOk result (code.new.items ≡ code.old.items ++ map word_of (compared_shape (with_homes homes.now) held at (start_of starts.now) operator form a b first second)) }
 {
-    let words = push_counted(code, homes, a, b)?;
+    let words = push_counted(code, homes, held, a, b)?;
     let to = start_of(starts, first.block);
     let other = start_of(starts, second.block);
     push_test(code, form.signed, operator, at + 4 * words, to, other)
 }
 
-/// x5 and x6 get operands. The answer is how many words that takes.
+/// x5 and x6 get operands, the first unless x5 holds it. The answer is how many words that takes.
 #[tactic(auto, using(crate::proofs::Compares::operand_words))]
 fn push_counted(
     code: &mut Vec<u32>,
     homes: &[Option<Home>],
+    held: Option<u64>,
     a: Operand,
     b: Operand,
 ) -> Result<u64, NoMemory>
-    ensures code { OnOk result (code.new.items ≡ code.old.items ++ map word_of (operands_taken (with_homes homes.now) a b)) }
-    ensures words { IfOk result (λ words. words ≡ length (operands_taken (with_homes homes.now) a b)) }
+    ensures code { OnOk result (code.new.items ≡ code.old.items ++ map word_of (operands_taken (with_homes homes.now) held a b)) }
+    ensures words { IfOk result (λ words. words ≡ length (operands_taken (with_homes homes.now) held a b)) }
     ensures few { IfOk result (λ words. words ≤ 16) }
 {
     let before = code.len();
-    push_operands(code, homes, a, b)?;
+    push_operands(code, homes, held, a, b)?;
     Ok((code.len() - before) as u64)
 }
 

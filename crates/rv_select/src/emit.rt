@@ -4,7 +4,7 @@ ghost use Rattle.std.specs.Prelude.{◌≡◌, ◌+◌, ◌^◌, ◌<◌, ◌≤
 ghost use Rattle.rv_isa.specs.declared.instr.Instr.TheVariants as instrs;
 ghost use Rattle.rv_isa.specs.declared.operation.ImmediateOp.TheVariants as immediates;
 ghost use Rattle.rv_isa.specs.Table.{word_of};
-ghost use Rattle.rv_select.specs.Numbers.{constant, long_constant, moved_up, short_constant};
+ghost use Rattle.rv_select.specs.Numbers.{constant, in_four, in_two, long_constant, moved_up, short_constant};
 ghost use Rattle.rv_machine.specs.Word.{extended_word};
 ghost use Rattle.rv_select.specs.Places.{area_offset, home_of, slot_offset, with_homes};
 ghost use Rattle.rv_select.specs.Shapes.{far_part, framed, moved, put_to, taken, taken_from, x11};
@@ -99,6 +99,23 @@ fn push_moved_up(
 
 fn push_long_constant(code: &mut Vec<u32>, rd: Register, number: u64) -> Result<(), NoMemory>
     ensures { OnOk result (code.new.items ≡ code.old.items ++ map word_of (long_constant rd number)) }
+{
+    if number % (1 << 32) < 2048 {
+        push_in_two(code, rd, number)
+    } else {
+        push_in_four(code, rd, number)
+    }
+}
+
+fn push_in_two(code: &mut Vec<u32>, rd: Register, number: u64) -> Result<(), NoMemory>
+    ensures { OnOk result (code.new.items ≡ code.old.items ++ map word_of (in_two rd number)) }
+{
+    push_short_constant(code, rd, number >> 32)?;
+    push_moved_up(code, rd, ShiftCount { count: 32 }, number % 2048)
+}
+
+fn push_in_four(code: &mut Vec<u32>, rd: Register, number: u64) -> Result<(), NoMemory>
+    ensures { OnOk result (code.new.items ≡ code.old.items ++ map word_of (in_four rd number)) }
 {
     push_short_constant(code, rd, number >> 32)?;
     push_moved_up(code, rd, ShiftCount { count: 11 }, (number >> 21) % 2048)?;
@@ -342,6 +359,17 @@ pub(crate) fn constant_words(number: u64) -> u64
 {
     if is_short(number) {
         short_constant_words(number)
+    } else {
+        long_constant_words(number)
+    }
+}
+
+fn long_constant_words(number: u64) -> u64
+    ensures words { result ≡ length (long_constant x11 number) }
+    ensures few { result ≤ 8 }
+{
+    if number % (1 << 32) < 2048 {
+        short_constant_words(number >> 32) + 2
     } else {
         short_constant_words(number >> 32) + 6
     }

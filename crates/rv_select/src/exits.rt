@@ -2,9 +2,8 @@
 
 ghost use Rattle.std.specs.Prelude.{◌≡◌, ◌*◌, ◌+◌, ◌^◌, ◌≤◌, [], ◌∷◌, ◌++◌, map, length, IsTrue, IfOk, OnOk};
 ghost use Rattle.rv_isa.specs.Table.{word_of};
-ghost use Rattle.rv_operators.specs.Codes.{x5};
 ghost use Rattle.rv_select.specs.Places.{with_homes};
-ghost use Rattle.rv_select.specs.Shapes.{distance, exit_shape, has_exit_shape, jump, start_of, taken, two_jumps};
+ghost use Rattle.rv_select.specs.Shapes.{distance, exit_shape, first_taken, has_exit_shape, jump, start_of, two_jumps};
 
 use crate::emit::{X0, X5, put};
 use crate::instructions::{push_failed, push_first};
@@ -14,23 +13,24 @@ use rv_isa::{BranchCondition, Instr};
 use tac_form::{Exit, Operand};
 use tl_base::NoMemory;
 
-/// The words of an exit that stays in its function or ends the run by a fault, by the address at which they stand and those at
-/// which the blocks begin.
+/// The words of an exit that stays in its function or ends the run by a fault, where x5 may hold the word of a temporary, by the
+/// address at which they stand and those at which the blocks begin.
 pub fn push_exit(
     code: &mut Vec<u32>,
     homes: &[Option<Home>],
+    held: Option<u64>,
     at: u64,
     starts: &[u64],
     exit: &Exit,
 ) -> Result<(), NoMemory>
     requires shape { IsTrue (has_exit_shape exit.now) }
     requires near { at + 256 ≤ 2 ^ 30 }
-    ensures { OnOk result (code.new.items ≡ code.old.items ++ map word_of (exit_shape (with_homes homes.now) at (start_of starts.now) exit.now)) }
+    ensures { OnOk result (code.new.items ≡ code.old.items ++ map word_of (exit_shape (with_homes homes.now) held at (start_of starts.now) exit.now)) }
 {
     match exit {
         Exit::Jump(edge) => push_jump(code, at, start_of(starts, edge.block)),
         Exit::Branch(a, first, second) => {
-            let words = push_tested(code, homes, *a)?;
+            let words = push_tested(code, homes, held, *a)?;
             let to = start_of(starts, first.block);
             let other = start_of(starts, second.block);
             push_branch_jumps(code, at + 4 * words, to, other)
@@ -50,14 +50,19 @@ pub(crate) fn start_of(starts: &[u64], block: u64) -> u64
     }
 }
 
-/// x5 gets an operand. The answer is how many words that takes.
+/// x5 gets an operand, unless it holds it. The answer is how many words that takes.
 #[tactic(auto, using(crate::proofs::Numbers::pushed_words))]
-fn push_tested(code: &mut Vec<u32>, homes: &[Option<Home>], a: Operand) -> Result<u64, NoMemory>
-    ensures code { OnOk result (code.new.items ≡ code.old.items ++ map word_of (taken (with_homes homes.now) x5 a)) }
-    ensures words { IfOk result (λ words. words ≡ length (taken (with_homes homes.now) x5 a)) }
+fn push_tested(
+    code: &mut Vec<u32>,
+    homes: &[Option<Home>],
+    held: Option<u64>,
+    a: Operand,
+) -> Result<u64, NoMemory>
+    ensures code { OnOk result (code.new.items ≡ code.old.items ++ map word_of (first_taken (with_homes homes.now) held a)) }
+    ensures words { IfOk result (λ words. words ≡ length (first_taken (with_homes homes.now) held a)) }
 {
     let before = code.len();
-    push_first(code, homes, a)?;
+    push_first(code, homes, held, a)?;
     Ok((code.len() - before) as u64)
 }
 

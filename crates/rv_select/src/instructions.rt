@@ -1,18 +1,22 @@
 // The words of instructions of three-address code.
 
-ghost use Rattle.std.specs.Prelude.{◌≡◌, ◌*◌, ◌+◌, ◌≤◌, [], ◌∷◌, ◌++◌, map, length, IsTrue, OnOk};
+ghost use Rattle.std.specs.Prelude.{◌≡◌, ◌*◌, ◌+◌, ◌≤◌, [], ◌∷◌, ◌++◌, map, length, if◌then◌else◌, IsTrue, OnOk};
 ghost use Rattle.rv_isa.specs.declared.instr.Instr.TheVariants as instrs;
 ghost use Rattle.rv_isa.specs.Table.{word_of};
 ghost use Rattle.terra_words.specs.Words.{fault_number};
+ghost use Rattle.tac_form.specs.declared.tac.Operand.TheVariants as operands;
 ghost use Rattle.tac_form.specs.Flow.{bytes_of, width_of};
 ghost use Rattle.rv_operators.specs.Codes.{code_of, x5, x6, zero_immediate};
+ghost use Rattle.rv_select.specs.Folded.{folded, is_folded};
+ghost use Rattle.rv_select.specs.Numbers.{constant};
 ghost use Rattle.rv_select.specs.Places.{home_of, with_homes};
-ghost use Rattle.rv_select.specs.Shapes.{area_reached, bounds_tested, cleared, computed, copied, divisor_tested, failed, fault_call, branched_over, has_shape, load_of, loaded, located, place_number, put_to, reached, shape_of, small, store_of, stored, taken, zero_put, zeros};
+ghost use Rattle.rv_select.specs.Shapes.{applied_to, area_reached, bounds_tested, cleared, computed, copied, divisor_tested, failed, fault_call, first_taken, branched_over, has_shape, held_after, is_held, is_symmetric, is_turned, load_of, loaded, located, operated, place_number, put_to, reached, shape_of, small, store_of, stored, taken, zero_put, zeros};
 
 use crate::emit::{
     X0, X5, X6, area_offset, constant_words, push_constant, push_frame_address, push_frame_load,
     push_frame_store, push_put, push_taken, put,
 };
+use crate::folded::{is_folded, push_folded};
 use crate::moving::push_bytes_moved;
 use crate::operands::{below_zero, immediate, offset, upper};
 use crate::outputs::{push_allocated, push_byte_put, push_range_written};
@@ -21,7 +25,7 @@ use rv_isa::{
     BranchCondition, Immediate, ImmediateOp, Instr, LoadOp, Register, RegisterOp, StoreOp,
 };
 use rv_operators::push_operator;
-use tac_form::{Address, Instruction, Number, Operand, Size, Spot};
+use tac_form::{Address, Destination, Instruction, Number, Operand, Size, Spot};
 use terra_words::{BinaryOperator, FaultKind, Width};
 use tl_base::{NoMemory, Place};
 
@@ -42,30 +46,46 @@ const FAULT_CALL: u64 = 1024;
 /// Where the region begins.
 pub(crate) const REGION: u64 = 0x4000_0000;
 
-/// The words of an instruction.
+/// The words of an instruction, where x5 may hold the word of a temporary.
 pub fn push_instruction(
     code: &mut Vec<u32>,
     homes: &[Option<Home>],
+    held: Option<u64>,
     instruction: &Instruction,
 ) -> Result<(), NoMemory>
     requires { IsTrue (has_shape instruction.now) }
-    ensures { OnOk result (code.new.items ≡ code.old.items ++ map word_of (shape_of (with_homes homes.now) instruction.now)) }
+    ensures { OnOk result (code.new.items ≡ code.old.items ++ map word_of (shape_of (with_homes homes.now) held instruction.now)) }
 {
     match instruction {
         Instruction::Compute(temp, operator, form, a, b) => {
-            push_computed(code, homes, *temp, *operator, *form, *a, *b)
+            push_computed(code, homes, held, *temp, *operator, *form, *a, *b)
         }
-        Instruction::TestDivisor(at, a) => push_divisor_test(code, homes, *at, *a),
-        Instruction::Copy(temp, a) => push_copied(code, homes, *temp, *a),
+        Instruction::TestDivisor(at, a) => push_divisor_test(code, homes, held, *at, *a),
+        Instruction::Copy(temp, a) => push_copied(code, homes, held, *temp, *a),
         Instruction::Locate(temp, offset) => push_address(code, homes, *temp, *offset),
-        Instruction::Load(temp, form, spot) => push_loaded(code, homes, *temp, *form, *spot),
-        Instruction::Store(spot, size, a) => push_stored(code, homes, *spot, *size, *a),
-        Instruction::Move(to, from, size) => push_bytes_moved(code, homes, *to, *from, *size),
+        Instruction::Load(temp, form, spot) => push_loaded(code, homes, held, *temp, *form, *spot),
+        Instruction::Store(spot, size, a) => push_stored(code, homes, held, *spot, *size, *a),
+        Instruction::Move(to, from, size) => push_bytes_moved(code, homes, held, *to, *from, *size),
         Instruction::Clear(area, size) => push_cleared(code, homes, *area, *size),
-        Instruction::PutByte(a) => push_byte_put(code, homes, *a),
+        Instruction::PutByte(a) => push_byte_put(code, homes, held, *a),
         Instruction::Write(at, a, b) => push_range_written(code, homes, *at, *a, *b),
-        Instruction::Alloc(temp, a) => push_allocated(code, homes, *temp, *a),
+        Instruction::Alloc(temp, a) => push_allocated(code, homes, held, *temp, *a),
         _ => Ok(()),
+    }
+}
+
+/// The temporary whose word an instruction leaves in x5.
+pub fn held_after(instruction: &Instruction) -> Option<u64>
+    ensures { result ≡ held_after instruction.now }
+{
+    match instruction {
+        Instruction::Compute(temp, _, _, _, _)
+        | Instruction::Copy(temp, _)
+        | Instruction::Locate(temp, _)
+        | Instruction::Load(temp, _, _)
+        | Instruction::Alloc(temp, _)
+        | Instruction::Call(Destination::Temp(temp), _, _, _) => Some(*temp),
+        _ => None,
     }
 }
 
@@ -84,49 +104,170 @@ fn push_address(
 fn push_copied(
     code: &mut Vec<u32>,
     homes: &[Option<Home>],
+    held: Option<u64>,
     temp: u64,
     a: Operand,
 ) -> Result<(), NoMemory>
-    ensures { OnOk result (code.new.items ≡ code.old.items ++ map word_of (copied (with_homes homes.now) temp a)) }
+    ensures { OnOk result (code.new.items ≡ code.old.items ++ map word_of (copied (with_homes homes.now) held temp a)) }
 {
-    push_first(code, homes, a)?;
+    push_first(code, homes, held, a)?;
     push_put(code, homes, temp)
 }
 
 fn push_computed(
     code: &mut Vec<u32>,
     homes: &[Option<Home>],
+    held: Option<u64>,
     temp: u64,
     operator: BinaryOperator,
     form: Number,
     a: Operand,
     b: Operand,
 ) -> Result<(), NoMemory>
-    ensures { OnOk result (code.new.items ≡ code.old.items ++ map word_of (computed (with_homes homes.now) temp operator (width_of form) a b)) }
+    ensures { OnOk result (code.new.items ≡ code.old.items ++ map word_of (computed (with_homes homes.now) held temp operator (width_of form) a b)) }
 {
-    push_operands(code, homes, a, b)?;
-    push_result(code, homes, temp, operator, form)
+    if is_turned(held, operator, b) {
+        push_operated(code, homes, held, temp, operator, form, b, a)
+    } else {
+        push_operated(code, homes, held, temp, operator, form, a, b)
+    }
 }
 
-/// x5 and x6 get operands.
-pub(crate) fn push_operands(
+/// The same with the operands in this order.
+fn push_operated(
     code: &mut Vec<u32>,
     homes: &[Option<Home>],
+    held: Option<u64>,
+    temp: u64,
+    operator: BinaryOperator,
+    form: Number,
     a: Operand,
     b: Operand,
 ) -> Result<(), NoMemory>
-    ensures { OnOk result (code.new.items ≡ code.old.items ++ map word_of (taken (with_homes homes.now) x5 a ++ taken (with_homes homes.now) x6 b)) }
+    ensures { OnOk result (code.new.items ≡ code.old.items ++ map word_of (operated (with_homes homes.now) held temp operator (width_of form) a b)) }
 {
-    push_first(code, homes, a)?;
+    push_first(code, homes, held, a)?;
+    push_applied(code, homes, operator, form, b)?;
+    push_put(code, homes, temp)
+}
+
+/// Whether the operands change places: where x5 holds the second.
+fn is_turned(held: Option<u64>, operator: BinaryOperator, b: Operand) -> bool
+    ensures { result ≡ is_turned held operator b }
+{
+    match b {
+        Operand::Temp(temp) => is_symmetric(operator) && is_held(held, temp),
+        Operand::Constant(_) => false,
+    }
+}
+
+fn is_symmetric(operator: BinaryOperator) -> bool
+    ensures { result ≡ is_symmetric operator }
+{
+    match operator {
+        BinaryOperator::Add => true,
+        BinaryOperator::Multiply => true,
+        BinaryOperator::Xor => true,
+        BinaryOperator::And => true,
+        BinaryOperator::Or => true,
+        BinaryOperator::Equal => true,
+        BinaryOperator::NotEqual => true,
+        _ => false,
+    }
+}
+
+/// x5 gets what an operator gives of x5 and an operand.
+fn push_applied(
+    code: &mut Vec<u32>,
+    homes: &[Option<Home>],
+    operator: BinaryOperator,
+    form: Number,
+    b: Operand,
+) -> Result<(), NoMemory>
+    ensures { OnOk result (code.new.items ≡ code.old.items ++ map word_of (applied_to (with_homes homes.now) (width_of form) operator b)) }
+{
+    match b {
+        Operand::Temp(_) => {
+            push_second(code, homes, b)?;
+            push_operation(code, operator, form)
+        }
+        Operand::Constant(number) => push_with_constant(code, operator, form, number),
+    }
+}
+
+/// The same with a constant, which instructions hold where they can.
+fn push_with_constant(
+    code: &mut Vec<u32>,
+    operator: BinaryOperator,
+    form: Number,
+    number: u64,
+) -> Result<(), NoMemory>
+    ensures { OnOk result (code.new.items ≡ code.old.items ++ map word_of (if is_folded operator number then folded (width_of form) operator number else constant x6 number ++ code_of (width_of form) operator)) }
+{
+    if is_folded(operator, number) {
+        push_folded(code, operator, form, number)
+    } else {
+        push_constant(code, X6, number)?;
+        push_operation(code, operator, form)
+    }
+}
+
+/// x5 and x6 get operands, the first unless x5 holds it.
+pub(crate) fn push_operands(
+    code: &mut Vec<u32>,
+    homes: &[Option<Home>],
+    held: Option<u64>,
+    a: Operand,
+    b: Operand,
+) -> Result<(), NoMemory>
+    ensures { OnOk result (code.new.items ≡ code.old.items ++ map word_of (first_taken (with_homes homes.now) held a ++ taken (with_homes homes.now) x6 b)) }
+{
+    push_first(code, homes, held, a)?;
     push_second(code, homes, b)
 }
 
-/// x5 gets an operand.
+/// x5 gets an operand, unless it holds it.
 pub(crate) fn push_first(
     code: &mut Vec<u32>,
     homes: &[Option<Home>],
+    held: Option<u64>,
     a: Operand,
 ) -> Result<(), NoMemory>
+    ensures { OnOk result (code.new.items ≡ code.old.items ++ map word_of (first_taken (with_homes homes.now) held a)) }
+{
+    match a {
+        Operand::Temp(temp) => push_first_temp(code, homes, held, temp),
+        Operand::Constant(number) => push_constant(code, X5, number),
+    }
+}
+
+/// x5 gets a temporary's word, unless it holds it.
+pub(crate) fn push_first_temp(
+    code: &mut Vec<u32>,
+    homes: &[Option<Home>],
+    held: Option<u64>,
+    temp: u64,
+) -> Result<(), NoMemory>
+    ensures { OnOk result (code.new.items ≡ code.old.items ++ map word_of (first_taken (with_homes homes.now) held (operands.Temp temp))) }
+{
+    if is_held(held, temp) {
+        Ok(())
+    } else {
+        push_taken_first(code, homes, Operand::Temp(temp))
+    }
+}
+
+fn is_held(held: Option<u64>, temp: u64) -> bool
+    ensures { result ≡ is_held held temp }
+{
+    match held {
+        Some(other) => other == temp,
+        None => false,
+    }
+}
+
+/// x5 gets an operand.
+fn push_taken_first(code: &mut Vec<u32>, homes: &[Option<Home>], a: Operand) -> Result<(), NoMemory>
     ensures { OnOk result (code.new.items ≡ code.old.items ++ map word_of (taken (with_homes homes.now) x5 a)) }
 {
     push_taken(code, homes, X5, a)
@@ -137,20 +278,6 @@ fn push_second(code: &mut Vec<u32>, homes: &[Option<Home>], b: Operand) -> Resul
     ensures { OnOk result (code.new.items ≡ code.old.items ++ map word_of (taken (with_homes homes.now) x6 b)) }
 {
     push_taken(code, homes, X6, b)
-}
-
-/// A temporary's home gets what an operator gives of x5 and x6.
-fn push_result(
-    code: &mut Vec<u32>,
-    homes: &[Option<Home>],
-    temp: u64,
-    operator: BinaryOperator,
-    form: Number,
-) -> Result<(), NoMemory>
-    ensures { OnOk result (code.new.items ≡ code.old.items ++ map word_of (code_of (width_of form) operator ++ put_to (home_of (with_homes homes.now) temp))) }
-{
-    push_operation(code, operator, form)?;
-    push_put(code, homes, temp)
 }
 
 /// An operator on numbers of a form.
@@ -165,7 +292,7 @@ fn push_operation(
 }
 
 /// The width of the words of a number.
-fn width_of(form: Number) -> Width
+pub(crate) fn width_of(form: Number) -> Width
     ensures { result ≡ width_of form }
 {
     Width {
@@ -174,7 +301,7 @@ fn width_of(form: Number) -> Width
     }
 }
 
-fn bytes_of(size: Size) -> u64
+pub(crate) fn bytes_of(size: Size) -> u64
     ensures bytes { result ≡ bytes_of size }
     ensures few { result ≤ 8 }
     ensures some { 1 ≤ result }
@@ -276,12 +403,13 @@ pub(crate) fn push_branch_over(
 fn push_divisor_test(
     code: &mut Vec<u32>,
     homes: &[Option<Home>],
+    held: Option<u64>,
     at: Place,
     a: Operand,
 ) -> Result<(), NoMemory>
-    ensures { OnOk result (code.new.items ≡ code.old.items ++ map word_of (divisor_tested (with_homes homes.now) at a)) }
+    ensures { OnOk result (code.new.items ≡ code.old.items ++ map word_of (divisor_tested (with_homes homes.now) held at a)) }
 {
-    push_first(code, homes, a)?;
+    push_first(code, homes, held, a)?;
     push_branch_over(code, BranchCondition::Ne, X5, X0, FaultKind::DivZero, at)
 }
 
@@ -357,17 +485,18 @@ fn push_bounds_test(code: &mut Vec<u32>, at: Place, size: u64) -> Result<(), NoM
 pub(crate) fn push_reached(
     code: &mut Vec<u32>,
     homes: &[Option<Home>],
+    held: Option<u64>,
     at: Place,
     address: Address,
     size: u64,
 ) -> Result<(), NoMemory>
     requires some { 1 ≤ size }
     requires few { size ≤ 128 }
-    ensures { OnOk result (code.new.items ≡ code.old.items ++ map word_of (reached (with_homes homes.now) at address size)) }
+    ensures { OnOk result (code.new.items ≡ code.old.items ++ map word_of (reached (with_homes homes.now) held at address size)) }
 {
     match address {
         Address::Word(a) => {
-            push_first(code, homes, a)?;
+            push_first(code, homes, held, a)?;
             push_bounds_test(code, at, size)
         }
         Address::Frame(offset) => push_located(code, offset),
@@ -404,15 +533,16 @@ fn store_of(size: Size) -> StoreOp
 fn push_loaded(
     code: &mut Vec<u32>,
     homes: &[Option<Home>],
+    held: Option<u64>,
     temp: u64,
     form: Number,
     spot: Spot,
 ) -> Result<(), NoMemory>
-    ensures { OnOk result (code.new.items ≡ code.old.items ++ map word_of (loaded (with_homes homes.now) temp form spot)) }
+    ensures { OnOk result (code.new.items ≡ code.old.items ++ map word_of (loaded (with_homes homes.now) held temp form spot)) }
 {
     match spot {
         Spot::Region(at, address) => {
-            push_reached(code, homes, at, address, bytes_of(form.size))?;
+            push_reached(code, homes, held, at, address, bytes_of(form.size))?;
             push_load(code, form)?;
             push_put(code, homes, temp)
         }
@@ -442,15 +572,16 @@ fn push_load(code: &mut Vec<u32>, form: Number) -> Result<(), NoMemory>
 fn push_stored(
     code: &mut Vec<u32>,
     homes: &[Option<Home>],
+    held: Option<u64>,
     spot: Spot,
     size: Size,
     b: Operand,
 ) -> Result<(), NoMemory>
-    ensures { OnOk result (code.new.items ≡ code.old.items ++ map word_of (stored (with_homes homes.now) spot size b)) }
+    ensures { OnOk result (code.new.items ≡ code.old.items ++ map word_of (stored (with_homes homes.now) held spot size b)) }
 {
     match spot {
         Spot::Region(at, address) => {
-            push_reached(code, homes, at, address, bytes_of(size))?;
+            push_reached(code, homes, held, at, address, bytes_of(size))?;
             push_second(code, homes, b)?;
             push_store(code, size)
         }

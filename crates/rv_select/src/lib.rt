@@ -11,6 +11,7 @@ pub mod compared;
 mod emit;
 mod entries;
 pub mod exits;
+mod folded;
 pub mod instructions;
 pub mod law;
 mod moving;
@@ -23,7 +24,7 @@ pub mod selection;
 pub use calls::push_call_jump;
 pub use compared::push_compared;
 pub use exits::push_exit;
-pub use instructions::push_instruction;
+pub use instructions::{held_after, push_instruction};
 pub use law::{
     calls_are_begun, calls_keep_within, compares_are_carried, compares_keep_within,
     exits_are_carried, exits_keep_within, frames_keep_within, functions_are_entered,

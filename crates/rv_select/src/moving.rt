@@ -18,38 +18,40 @@ use tl_base::NoMemory;
 pub(crate) fn push_bytes_moved(
     code: &mut Vec<u32>,
     homes: &[Option<Home>],
+    held: Option<u64>,
     to: Spot,
     from: Spot,
     size: u64,
 ) -> Result<(), NoMemory>
     requires { size ≤ 128 }
-    ensures { OnOk result (code.new.items ≡ code.old.items ++ map word_of (bytes_moved (with_homes homes.now) to from size)) }
+    ensures { OnOk result (code.new.items ≡ code.old.items ++ map word_of (bytes_moved (with_homes homes.now) held to from size)) }
 {
     if size == 0 {
         return push_moved(code, X0, X0);
     }
-    push_some_moved(code, homes, to, from, size)
+    push_some_moved(code, homes, held, to, from, size)
 }
 
 /// At least one byte goes from one spot to another. At most one of them is in the region.
 fn push_some_moved(
     code: &mut Vec<u32>,
     homes: &[Option<Home>],
+    held: Option<u64>,
     to: Spot,
     from: Spot,
     size: u64,
 ) -> Result<(), NoMemory>
     requires some { 1 ≤ size }
     requires few { size ≤ 128 }
-    ensures { OnOk result (code.new.items ≡ code.old.items ++ map word_of (some_moved (with_homes homes.now) to from size)) }
+    ensures { OnOk result (code.new.items ≡ code.old.items ++ map word_of (some_moved (with_homes homes.now) held to from size)) }
 {
     match (to, from) {
         (Spot::Region(at, address), Spot::Area(area, offset)) => {
-            push_reached(code, homes, at, address, size)?;
+            push_reached(code, homes, held, at, address, size)?;
             push_from_area(code, homes, area, offset, size)
         }
         (Spot::Area(area, offset), Spot::Region(at, address)) => {
-            push_reached(code, homes, at, address, size)?;
+            push_reached(code, homes, held, at, address, size)?;
             push_to_area(code, homes, area, offset, size)
         }
         (Spot::Area(area, offset), Spot::Area(other, begin)) => {

@@ -2,13 +2,13 @@
 
 ghost use Rattle.std.specs.Prelude.{◌≡◌, [], ◌∷◌, ◌++◌, map, OnOk};
 ghost use Rattle.rv_isa.specs.Table.{word_of};
-ghost use Rattle.rv_operators.specs.Codes.{x5};
 ghost use Rattle.rv_select.specs.Places.{with_homes};
 ghost use Rattle.rv_select.specs.Shapes.{allocated, byte_put, byte_stored, byte_taken, byte_written, bytes_given, heap_aligned, limit_found, range_call, range_tested, range_written, taken, write_call, x11, x12};
 
 use crate::emit::{X0, X2, X5, X6, X7, push_constant, push_moved, push_put, push_taken, put};
 use crate::instructions::{
-    REGION, X4, X10, X11, X17, failed_words, push_branch_over, push_first, push_small,
+    REGION, X4, X10, X11, X17, failed_words, push_branch_over, push_first, push_first_temp,
+    push_small,
 };
 use crate::operands::{immediate, offset, upper};
 use reg_alloc::Home;
@@ -32,20 +32,26 @@ const WRITE_CALL: u64 = 64;
 pub(crate) fn push_byte_put(
     code: &mut Vec<u32>,
     homes: &[Option<Home>],
+    held: Option<u64>,
     a: Operand,
 ) -> Result<(), NoMemory>
-    ensures { OnOk result (code.new.items ≡ code.old.items ++ map word_of (byte_put (with_homes homes.now) a)) }
+    ensures { OnOk result (code.new.items ≡ code.old.items ++ map word_of (byte_put (with_homes homes.now) held a)) }
 {
-    push_byte_taken(code, homes, a)?;
+    push_byte_taken(code, homes, held, a)?;
     push_byte_written(code)
 }
 
 /// x5 gets an operand whose low byte alone matters.
-fn push_byte_taken(code: &mut Vec<u32>, homes: &[Option<Home>], a: Operand) -> Result<(), NoMemory>
-    ensures { OnOk result (code.new.items ≡ code.old.items ++ map word_of (byte_taken (with_homes homes.now) x5 a)) }
+fn push_byte_taken(
+    code: &mut Vec<u32>,
+    homes: &[Option<Home>],
+    held: Option<u64>,
+    a: Operand,
+) -> Result<(), NoMemory>
+    ensures { OnOk result (code.new.items ≡ code.old.items ++ map word_of (byte_taken (with_homes homes.now) held a)) }
 {
     match a {
-        Operand::Temp(_) => push_first(code, homes, a),
+        Operand::Temp(temp) => push_first_temp(code, homes, held, temp),
         Operand::Constant(number) => push_constant(code, X5, number % 256),
     }
 }
@@ -201,12 +207,13 @@ fn push_range_test(code: &mut Vec<u32>, at: Place) -> Result<(), NoMemory>
 pub(crate) fn push_allocated(
     code: &mut Vec<u32>,
     homes: &[Option<Home>],
+    held: Option<u64>,
     temp: u64,
     a: Operand,
 ) -> Result<(), NoMemory>
-    ensures { OnOk result (code.new.items ≡ code.old.items ++ map word_of (allocated (with_homes homes.now) temp a)) }
+    ensures { OnOk result (code.new.items ≡ code.old.items ++ map word_of (allocated (with_homes homes.now) held temp a)) }
 {
-    push_first(code, homes, a)?;
+    push_first(code, homes, held, a)?;
     push_heap_aligned(code)?;
     push_limit_found(code)?;
     push_bytes_given(code)?;

@@ -1,9 +1,9 @@
 // The code of a function.
 
-ghost use Rattle.std.specs.Prelude.{◌≡◌, ◌*◌, ◌+◌, ◌^◌, ◌<◌, ◌≤◌, ◌&&◌, [], ◌∷◌, ◌++◌, map, length, IfOk, IsTrue, OnOk};
+ghost use Rattle.std.specs.Prelude.{◌≡◌, ◌*◌, ◌+◌, ◌^◌, ◌<◌, ◌≤◌, ◌&&◌, [], ◌∷◌, ◌++◌, map, length, IfOk, IsTrue, None, OnOk};
 ghost use Rattle.std.specs.List.{list_all};
 ghost use Rattle.rv_isa.specs.Table.{word_of};
-ghost use Rattle.rv_select.specs.Calls.{IsSelected, KeepsWithin, all_has_code, block_code, block_has_code, block_starts, blocks_calls, blocks_code, call_jump, called, exit_code, has_code, has_exit_code, head_code, instruction_calls, instruction_code, instructions_calls, instructions_code, last_address, returned, starts_from};
+ghost use Rattle.rv_select.specs.Calls.{IsSelected, KeepsWithin, all_has_code, block_code, block_has_code, block_starts, blocks_calls, blocks_code, call_jump, called, exit_code, has_code, has_exit_code, head_code, held_behind, instruction_calls, instruction_code, instructions_calls, instructions_code, last_address, returned, starts_from};
 ghost use Rattle.rv_select.specs.Entering.{begun, entered, received, words_offset};
 ghost use Rattle.rv_select.specs.Places.{frame_bytes, layout_of, with_homes};
 ghost use Rattle.rv_select.specs.Shapes.{jump, start_of};
@@ -12,7 +12,7 @@ ghost use Rattle.tac_form.specs.declared.tac.Instruction.TheVariants as instruct
 use crate::calls::{push_call_begun, push_call_ended, push_call_jump, push_given};
 use crate::entries::{push_begun, push_entered, push_left, push_received};
 use crate::exits::{push_exit, push_jump};
-use crate::instructions::{push_failed, push_instruction};
+use crate::instructions::{held_after, push_instruction};
 use crate::selected::{Call, Code};
 use reg_alloc::{Assignment, Home};
 use std::alloc::Global;
@@ -63,16 +63,17 @@ fn push_called(
     push_call_ended(code, homes, sizes, to)
 }
 
-/// The code of an instruction.
+/// The code of an instruction, where x5 may hold the word of a temporary.
 fn push_one(
     code: &mut Vec<u32>,
     calls: &mut Vec<Call>,
     homes: &[Option<Home>],
     sizes: &[u64],
+    held: Option<u64>,
     instruction: &Instruction,
 ) -> Result<(), NoMemory>
     requires { IsTrue (has_code instruction.now) }
-    ensures code { OnOk result (code.new.items ≡ code.old.items ++ map word_of (instruction_code (with_homes homes.now) sizes.now (λ f. 0) (4 * length code.old.items) instruction.now)) }
+    ensures code { OnOk result (code.new.items ≡ code.old.items ++ map word_of (instruction_code (with_homes homes.now) sizes.now (λ f. 0) (4 * length code.old.items) held instruction.now)) }
     ensures calls { OnOk result (calls.new.items ≡ calls.old.items ++ instruction_calls (with_homes homes.now) (length code.old.items) instruction.now) }
 {
     match instruction {
@@ -86,26 +87,29 @@ fn push_one(
             *callee,
             arguments.as_slice(),
         ),
-        _ => push_instruction(code, homes, instruction),
+        _ => push_instruction(code, homes, held, instruction),
     }
 }
 
-/// The code of instructions.
+/// The code of instructions. The answer is the temporary whose word x5 holds behind them, if any.
 fn push_all(
     code: &mut Vec<u32>,
     calls: &mut Vec<Call>,
     homes: &[Option<Home>],
     sizes: &[u64],
     instructions: &[Instruction],
-) -> Result<(), NoMemory>
+) -> Result<Option<u64>, NoMemory>
     requires { IsTrue (list_all has_code instructions.now) }
-    ensures code { OnOk result (code.new.items ≡ code.old.items ++ map word_of (instructions_code (with_homes homes.now) sizes.now (λ f. 0) (4 * length code.old.items) instructions.now)) }
-    ensures calls { OnOk result (calls.new.items ≡ calls.old.items ++ instructions_calls (with_homes homes.now) sizes.now (length code.old.items) instructions.now) }
+    ensures code { OnOk result (code.new.items ≡ code.old.items ++ map word_of (instructions_code (with_homes homes.now) sizes.now (λ f. 0) (4 * length code.old.items) None instructions.now)) }
+    ensures calls { OnOk result (calls.new.items ≡ calls.old.items ++ instructions_calls (with_homes homes.now) sizes.now (length code.old.items) None instructions.now) }
+    ensures held { IfOk result (λ held. held ≡ held_behind None instructions.now) }
 {
+    let mut held = None;
     for instruction in instructions {
-        push_one(code, calls, homes, sizes, instruction)?;
+        push_one(code, calls, homes, sizes, held, instruction)?;
+        held = held_after(instruction);
     }
-    Ok(())
+    Ok(held)
 }
 
 /// A jump from where the code ends.
@@ -129,22 +133,23 @@ fn push_returned(
     push_jump_here(code, last)
 }
 
-/// The code of an exit.
+/// The code of an exit, where x5 may hold the word of a temporary.
 fn push_end(
     code: &mut Vec<u32>,
     homes: &[Option<Home>],
+    held: Option<u64>,
     starts: &[u64],
     last: u64,
     exit: &Exit,
 ) -> Result<(), NoMemory>
     requires { IsTrue (has_exit_code exit.now) }
-    ensures { OnOk result (code.new.items ≡ code.old.items ++ map word_of (exit_code (with_homes homes.now) (4 * length code.old.items) (start_of starts.now) last exit.now)) }
+    ensures { OnOk result (code.new.items ≡ code.old.items ++ map word_of (exit_code (with_homes homes.now) held (4 * length code.old.items) (start_of starts.now) last exit.now)) }
 {
     match exit {
         Exit::Return(part) => push_returned(code, homes, *part, last),
         _ => {
             let at = address(code)?;
-            push_exit(code, homes, at, starts, exit)
+            push_exit(code, homes, held, at, starts, exit)
         }
     }
 }
@@ -161,10 +166,10 @@ fn push_block(
 ) -> Result<(), NoMemory>
     requires { IsTrue (block_has_code block.now) }
     ensures code { OnOk result (code.new.items ≡ code.old.items ++ map word_of (block_code (with_homes homes.now) sizes.now (λ f. 0) (start_of starts.now) last (4 * length code.old.items) block.now)) }
-    ensures calls { OnOk result (calls.new.items ≡ calls.old.items ++ instructions_calls (with_homes homes.now) sizes.now (length code.old.items) block.now.instructions) }
+    ensures calls { OnOk result (calls.new.items ≡ calls.old.items ++ instructions_calls (with_homes homes.now) sizes.now (length code.old.items) None block.now.instructions) }
 {
-    push_all(code, calls, homes, sizes, block.instructions.as_slice())?;
-    push_end(code, homes, starts, last, &block.exit)
+    let held = push_all(code, calls, homes, sizes, block.instructions.as_slice())?;
+    push_end(code, homes, held, starts, last, &block.exit)
 }
 
 /// The code of blocks, each of whose addresses goes to a list.

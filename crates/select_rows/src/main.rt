@@ -86,10 +86,10 @@ fn words_answer(alloc: Global, name: &str) -> Result<String, NoMemory> {
         let a = Operand::Temp(0);
         let b = Operand::Temp(1);
         let sum = Instruction::Compute(0, BinaryOperator::Add, form, a, b);
-        push_instruction(&mut code, &homes, &sum)?;
+        push_instruction(&mut code, &homes, None, &sum)?;
     } else {
         let copy = Instruction::Copy(0, Operand::Constant(5));
-        push_instruction(&mut code, &[Some(Home::Register(18))], &copy)?;
+        push_instruction(&mut code, &[Some(Home::Register(18))], None, &copy)?;
     }
     numbers(alloc, &code)
 }
@@ -189,13 +189,13 @@ fn result(
     ];
     let mut code = Vec::new(alloc);
     code.push(ENTER)?;
-    push_instruction(&mut code, &homes, &Instruction::Copy(0, x))?;
-    push_instruction(&mut code, &homes, &Instruction::Copy(1, y))?;
+    push_instruction(&mut code, &homes, None, &Instruction::Copy(0, x))?;
+    push_instruction(&mut code, &homes, None, &Instruction::Copy(1, y))?;
     if is_division(operator) {
-        push_instruction(&mut code, &homes, &Instruction::TestDivisor(HERE, b))?;
+        push_instruction(&mut code, &homes, None, &Instruction::TestDivisor(HERE, b))?;
     }
     let compute = Instruction::Compute(2, operator, form, a, b);
-    push_instruction(&mut code, &homes, &compute)?;
+    push_instruction(&mut code, &homes, None, &compute)?;
     code.push(RESULT)?;
     code.push(LEAVE)?;
     run(alloc, code, &[])

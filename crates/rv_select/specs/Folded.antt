@@ -1,0 +1,92 @@
+-- Operators of x5 and a constant that instructions hold: in twelve bits with a sign, or as the count of a shift.
+use Rattle.std.specs.Prelude.{◌≡◌, ℕ, ◌+◌, ◌-◌, ◌%◌, ◌^◌, Bool, true, false, ◌&&◌, ◌||◌, nat_eq, nat_le, nat_lt, if◌then◌else◌, List, [], ◌∷◌, ◌++◌}
+use Rattle.std.proofs.Common.{lit≤, subst, sym, refl}
+use lib.Dec.{T, leb→le}
+use Rattle.rv_isa.specs.declared.instr.Instr.{Instr}
+use Rattle.rv_isa.specs.declared.instr.Instr.TheVariants.{Addiw, RegisterImmediate, RegisterRegister, Shift}
+use Rattle.rv_isa.specs.declared.operation.ImmediateOp.{ImmediateOp}
+use Rattle.rv_isa.specs.declared.operation.ImmediateOp.TheVariants.{Addi, Slti, Sltiu, Xori, Ori, Andi}
+use Rattle.rv_isa.specs.declared.operation.RegisterOp.TheVariants.{Sltu}
+use Rattle.rv_isa.specs.declared.operation.ShiftOp.{ShiftOp}
+use Rattle.rv_isa.specs.declared.operation.ShiftOp.TheVariants.{Slli, Srli, Srai}
+use Rattle.rv_isa.specs.declared.operand.ShiftCount.{ShiftCount}
+use Rattle.terra_words.specs.declared.words.Width.{Width}
+use Rattle.terra_words.specs.declared.words.BinaryOperator.{BinaryOperator}
+use Rattle.terra_words.specs.declared.words.BinaryOperator.TheVariants.{Add, Subtract, Xor, And, Or, ShiftLeft, ShiftRight, Equal, NotEqual, Less, LessEqual, Greater, GreaterEqual}
+use Rattle.rv_operators.specs.Codes.{cut, one_immediate, x0, x5}
+use Rattle.rv_select.specs.Numbers.{lower_of}
+
+-- a number that twelve bits with a sign hold: below 2,048, or one of the last 2,048 below 2 ^ 64, for those below zero
+abbrev pub is_near : ℕ → Bool
+is_near c = nat_lt c 2048 || nat_le (2 ^ 64 - 2048) c
+
+-- what to add in place of taking away
+abbrev pub opposite : ℕ → ℕ
+opposite c = (2 ^ 64 - c) % 2 ^ 64
+
+-- the count of a shift; no count is above 63
+abbrev pub count_if : (n : ℕ) (fits : Bool) → nat_le n 63 ≡ fits → ShiftCount
+count_if n true e = record { count = n; in_range = leb→le n 63 (subst T (sym e) tt) }
+count_if n false e = record { count = 0; in_range = lit≤ tt }
+
+abbrev pub count_of : ℕ → ShiftCount
+count_of n = count_if n (nat_le n 63) refl
+
+-- x5 and a number
+abbrev pub by_number : ImmediateOp → ℕ → Instr
+by_number op c = RegisterImmediate op x5 x5 (lower_of c)
+
+-- their sum: at 32 bits with a sign one instruction adds and cuts
+abbrev pub sum_of : Width → ℕ → List Instr
+sum_of w c = if w.signed && nat_eq w.bits 32 then Addiw x5 x5 (lower_of c) ∷ [] else by_number Addi c ∷ cut w
+
+abbrev pub test_of : Bool → ImmediateOp
+test_of true = Slti
+test_of false = Sltiu
+
+-- a test turned round
+abbrev pub turned_round : List Instr
+turned_round = RegisterImmediate Xori x5 x5 one_immediate ∷ []
+
+-- zero exactly where x5 is the number
+abbrev pub differing : ℕ → List Instr
+differing c = if nat_eq c 0 then [] else by_number Addi (opposite c) ∷ []
+
+abbrev pub shift_down : Bool → ShiftOp
+shift_down true = Srai
+shift_down false = Srli
+
+-- Whether instructions hold the second operand of an operator. A number is at most another where it is below one more than that, if one
+-- more is held.
+abbrev pub is_folded : BinaryOperator → ℕ → Bool
+is_folded Add c = is_near c
+is_folded Subtract c = nat_lt 0 c && is_near (opposite c)
+is_folded Xor c = is_near c
+is_folded And c = is_near c
+is_folded Or c = is_near c
+is_folded ShiftLeft c = true
+is_folded ShiftRight c = true
+is_folded Equal c = is_near (opposite c)
+is_folded NotEqual c = is_near (opposite c)
+is_folded Less c = is_near c
+is_folded GreaterEqual c = is_near c
+is_folded LessEqual c = nat_lt c 2047
+is_folded Greater c = nat_lt c 2047
+is_folded _ c = false
+
+-- the instructions
+abbrev pub folded : Width → BinaryOperator → ℕ → List Instr
+folded w Add c = sum_of w c
+folded w Subtract c = sum_of w (opposite c)
+folded w Xor c = by_number Xori c ∷ cut w
+folded w And c = by_number Andi c ∷ cut w
+folded w Or c = by_number Ori c ∷ cut w
+folded w ShiftLeft c = Shift Slli x5 x5 (count_of (c % w.bits)) ∷ cut w
+folded w ShiftRight c = Shift (shift_down w.signed) x5 x5 (count_of (c % w.bits)) ∷ cut w
+folded w Equal c = differing c ++ RegisterImmediate Sltiu x5 x5 one_immediate ∷ []
+folded w NotEqual c = differing c ++ RegisterRegister Sltu x5 x0 x5 ∷ []
+folded w Less c = by_number (test_of w.signed) c ∷ []
+folded w GreaterEqual c = by_number (test_of w.signed) c ∷ turned_round
+folded w LessEqual c = by_number (test_of w.signed) (c + 1) ∷ []
+folded w Greater c = by_number (test_of w.signed) (c + 1) ∷ turned_round
+folded w _ c = []
