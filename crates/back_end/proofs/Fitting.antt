@@ -17,7 +17,6 @@ use Rattle.elf_image.proofs.LawfulLemmas.{is_lawful_from}
 use Rattle.terra_memory.specs.Region.{IsMemorySize}
 use Rattle.terra_types.specs.declared.types.TypeForm.{TypeForm}
 use Rattle.terra_types.specs.declared.types.TypeForm.TheVariants as forms
-use Rattle.terra_types.specs.declared.types.Integer.{Integer}
 use Rattle.terra_types.specs.declared.types.Integer.TheVariants.{Int8, Int16, Int32, Int64, Uint8, Uint16, Uint32, Uint64}
 use Rattle.terra_term.specs.declared.store.Export.{Export}
 use Rattle.terra_term.specs.declared.lists.TypedName.{TypedName}

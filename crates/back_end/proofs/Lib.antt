@@ -10,6 +10,7 @@ pub mod Growing
 pub mod Making
 pub mod Mentioning
 pub mod Naming
+pub mod Parted
 pub mod Passing
 pub mod Placed
 pub mod Sounds

@@ -249,7 +249,7 @@ module _ (store : Contents) (exports : List Export) (functions : List Function) 
   code-of : (f : FnId) → Has ids f → code_in functions f ≡ option_map (lowered store []) (callable_of store f)
   code-of f h =
       let t = there store functions f h.0 h.1 in
-      let c = code-is store typed functions f t.0 whole.made t.1 in
+      let c = code-is store functions f t.0 whole.made t.1 in
       t.1 ∙ ap Some c.2 ∙ sym (ap (option_map (lowered store [])) c.1)
 
   made : IsMade store functions linked image most (Has ids)
@@ -260,7 +260,7 @@ module _ (store : Contents) (exports : List Export) (functions : List Function) 
     statics = statics;
     half = half;
     selected = are-selected store functions whole.made;
-    sound = are-sound store typed functions whole.made functions whole.made;
+    sound = are-sound store functions whole.made functions whole.made;
     text = text;
     lawful = lawful;
     text_is = text_is;
@@ -294,7 +294,7 @@ module _ (store : Contents) (exports : List Export) (functions : List Function) 
         (agrees store functions linked image most (Has ids) made e.function out.term out.is here narrow
         (whole-result (form_at store.types out.term.body.result) out.result) first.program first.decoded arguments
         (values-words store.types out.term.body.parameters arguments values) first.few values
-        (values-long store.types out.term.body.parameters arguments values ∙ sym (as-many store typed out.term narrow)));
+        (values-long store.types out.term.body.parameters arguments values ∙ sym (as-many store out.term narrow)));
   }
     where
       start : start_among ids linked.starts.items e.function ≡ (image_of functions e.function).at

@@ -7,6 +7,7 @@ use Rattle.tl_base.specs.declared.ids.FnId.{FnId}
 use Rattle.terra_types.specs.Opening.{AreTypes}
 use Rattle.terra_term.specs.Sizes.{body_size}
 use Rattle.terra_term.specs.Stores.{Callable, Contents, callable_of}
+use Rattle.terra_term.specs.WellTyped.{body_typed}
 use Rattle.tac_form.specs.declared.tac.Instruction.{Instruction}
 use Rattle.tac_form.specs.declared.tac.Instruction.TheVariants.{Compute, TestDivisor, Copy, Locate, Load, Store, Move, Clear, Call, CallValue, PutByte, Write, Alloc}
 use Rattle.tac_form.specs.declared.tac.Exit.{Exit}
@@ -16,7 +17,7 @@ use Rattle.tac_form.specs.declared.tac.Tac.{Tac}
 use Rattle.tac_form.specs.Flow.{area_size}
 use Rattle.tac_form.specs.Fits.{area_fits, area_there, are_apart, block_fits, destination_fits, edge_fits, exit_fits, instruction_fits, is_within, operand_fits, place_fits, spot_fits}
 use Rattle.tac_form.specs.Weights.{most_moved}
-use Rattle.tac_lower.specs.Laws.{AreTyped, GoodWhereTyped, IsGood}
+use Rattle.tac_lower.specs.Laws.{GoodWhereTyped, IsGood}
 use Rattle.tac_lower.specs.Lowering.{are_narrow, code_of, lowered, parameter_types, unreached}
 use Rattle.tac_lower.proofs.Weights.{received-count}
 use Rattle.tac_lower.specs.Pieces.{nothing_used}
@@ -126,7 +127,7 @@ module _ (In : FnId → ℕ → Type 0) (code : Tac) (small : list_all area_fits
       (both (list_all has_code b.instructions) (has_exit_code b.exit) (each-has b.instructions n.0.0 q.0) (exit-has b.exit n.0.1))
       (blocks-have bs n.1 p.1)
 
-module _ (store : Contents) (typed : AreTyped store) where
+module _ (store : Contents) where
   same-callable : (a b : Callable) → Some a ≡ Some b → a ≡ b
   same-callable a b q = cc
 
@@ -135,7 +136,7 @@ module _ (store : Contents) (typed : AreTyped store) where
   named f k is r =
       lowered-names (Passes store) store [] k
       (body-passes store k (subst (λ (c : Callable). all_plain c.body.body ≡ true) (same-callable r.term k (sym r.is ∙ is)) r.plain)
-      (typed f k is))
+      (subst (λ (c : Callable). body_typed store c.body ≡ true) (same-callable r.term k (sym r.is ∙ is)) r.passes))
 
   pub has-code : (f : FnId) (k : Callable) → callable_of store f ≡ Some k → IsReady store f → IsGood (lowered store [] k) →
       all_has_code (lowered store [] k) ≡ true
@@ -203,7 +204,7 @@ module _ (store : Contents) (typed : AreTyped store) where
   lowered-good f r types found tac is good here = (
     one tac (lowered store [] r.term) (sym here ∙ is ∙ ap (option_map (lowered store [])) r.is),
     subst (λ o. IfSome o (λ t. GoodWhereTyped store [] f t)) here good r.term r.is types (omega arith) r.place
-        (fewer (body_size r.term.body).nodes r.few) (typed f r.term r.is),
+        (fewer (body_size r.term.body).nodes r.few) r.passes,
   )
     where
       one : (a b : Tac) → Some a ≡ Some b → a ≡ b

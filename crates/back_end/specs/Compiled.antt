@@ -13,10 +13,12 @@ use Rattle.terra_term.specs.declared.store.Export.{Export}
 use Rattle.terra_term.specs.declared.lists.TypedName.{TypedName}
 use Rattle.terra_term.specs.Sizes.{body_size}
 use Rattle.terra_term.specs.Stores.{Callable, Contents, callable_of, static_bytes}
+use Rattle.terra_term.specs.WellTyped.{body_typed}
 use Rattle.terra_meaning.specs.Values.{AreValues, form_at}
 use Rattle.terra_meaning.specs.Laws.{Reaches}
 use Rattle.terra_meaning.specs.Meaning.{meaning}
 use Rattle.tac_form.specs.Fits.{place_fits}
+use Rattle.tac_lower.specs.Laws.{AreTyped}
 use Rattle.rv_machine.specs.Machine.{Ran}
 use Rattle.rv_machine.specs.ImageRun.{RvRun}
 use Rattle.back_end.specs.Agrees.{Agree, SameEnd}
@@ -45,11 +47,12 @@ pub record AreReached (store : Contents) (exports : List Export) (fs : List FnId
 abbrev pub most_nodes : ℕ
 most_nodes = 8192
 
--- A function that can be compiled: it is typed, has a place in a text and no more nodes than a body may have, and calls no function that is
--- a value.
+-- A function that can be compiled: it is typed, and passes the test of typed terms; it has a place in a text and no more nodes than a body
+-- may have, and calls no function that is a value.
 pub record IsReady (store : Contents) (f : FnId) : Type 0 where
   pub term : Callable
   pub is : callable_of store f ≡ Some term
+  pub passes : body_typed store term.body ≡ true
   pub place : place_fits term.at ≡ true
   pub few : (body_size term.body).nodes ≤ most_nodes
   pub plain : all_plain term.body.body ≡ true
@@ -58,6 +61,18 @@ pub record IsReady (store : Contents) (f : FnId) : Type 0 where
 abbrev pub AreReady : Contents → List Export → Type 0
 AreReady store exports =
     (i : ℕ) (e : Export) (f : FnId) → slice_get exports i ≡ Some e → Reaches store [] e.function f → IsReady store f
+
+-- A store in which all functions that can be called pass the test of typed terms, and which has all that the exports reach as this one has
+-- it. Such is this store with what was checked alone: it may have other functions besides, that were typed but call what is not.
+pub record IsTypedPart (store : Contents) (exports : List Export) (part : Contents) : Type 0 where
+  pub types : part.types ≡ store.types
+  pub statics : static_bytes part ≡ static_bytes store
+  pub same : (i : ℕ) (e : Export) (f : FnId) → slice_get exports i ≡ Some e → Reaches store [] e.function f →
+      callable_of part f ≡ callable_of store f
+  pub typed : AreTyped part
+
+abbrev pub HasTypedPart : Contents → List Export → Type 0
+HasTypedPart store exports = (part : Contents) × IsTypedPart store exports part
 
 -- integers, bools and pointers
 abbrev pub is_scalar : TypeForm → Bool

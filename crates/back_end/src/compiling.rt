@@ -3,8 +3,7 @@
 ghost use Rattle.std.specs.Prelude.{◌≡◌, ℕ, ◌/◌, ◌^◌, ◌<◌, ◌≤◌, IfOk, length, slice_index};
 ghost use Rattle.tl_base.specs.Limits.{IsLimits};
 ghost use Rattle.terra_term.specs.Stores.{contents_of, static_bytes};
-ghost use Rattle.tac_lower.specs.Laws.{AreTyped};
-ghost use Rattle.back_end.specs.Compiled.{AreExports, AreFew, AreNamed, AreReady, IsCompiled};
+ghost use Rattle.back_end.specs.Compiled.{AreExports, AreFew, AreNamed, AreReady, HasTypedPart, IsCompiled};
 
 use crate::function::compile_functions;
 use crate::symbols::push_symbols;
@@ -40,7 +39,7 @@ pub fn compile(
     limits: Limits,
 ) -> Result<Image, NoMemory>
     requires limits { IsLimits limits }
-    requires typed { AreTyped (contents_of store.now) }
+    requires typed { HasTypedPart (contents_of store.now) exports.now }
     requires half { length (static_bytes (contents_of store.now)) ≤ limits.memory / 2 }
     requires ready { AreReady (contents_of store.now) exports.now }
     requires few { AreFew (contents_of store.now) exports.now }

@@ -14,6 +14,7 @@ use Rattle.back_end.specs.Symbols.{symbols_of}
 use Rattle.back_end.specs.Working.{id_of}
 use Rattle.back_end.proofs.Fitting.{frame-fits, lawful, text-near}
 use Rattle.back_end.proofs.Making.{compiled}
+use Rattle.back_end.proofs.Parted.{compiled-back, exported-same, outward-part, symbols-part, whole-part}
 use Rattle.back_end.proofs.Sounds.{are-selected, are-there}
 use Rattle.back_end.proofs.compiling.compile.Goals as goal
 
@@ -73,7 +74,16 @@ returns c =
     lawful (contents_of c.args.store.now) c.args.exports.now c.in_ok-compiled.compiled.functions.items c.in_ok-linked.linked c.requires.exports
     c.requires.names c.requires.few c.in_ok-compiled.ensures.whole text image c.from.ensures (c.from-2.ensures ∙ c.in_ok-statics.ensures) memory
     c.requires.half heap refl symbols words bytes in
-    compiled (contents_of c.args.store.now) c.args.exports.now c.in_ok-compiled.compiled.functions.items c.in_ok-linked.linked image
-    (subst AreTypes c.types.ensures c.are_types.ensures) c.requires.typed
-    memory c.requires.half c.requires.exports c.in_ok-compiled.ensures.whole text can
-    (c.from-2.ensures ∙ c.in_ok-statics.ensures) c.from.ensures (omega arith) symbols
+    let store = contents_of c.args.store.now in
+    let part = c.requires.typed.0 in
+    let is = c.requires.typed.1 in
+    let fs = c.in_ok-compiled.compiled.functions.items in
+    compiled-back store c.args.exports.now part is c.args.limits.memory image
+    (compiled part c.args.exports.now fs c.in_ok-linked.linked image
+    (subst AreTypes (sym is.types) (subst AreTypes c.types.ensures c.are_types.ensures)) is.typed memory
+    (subst (λ (bytes : List ℕ). length bytes ≤ c.args.limits.memory / 2) (sym is.statics) c.requires.half)
+    (outward-part store c.args.exports.now part is c.requires.exports)
+    (whole-part store c.args.exports.now part is fs c.in_ok-compiled.ensures.whole) text can
+    (c.from-2.ensures ∙ c.in_ok-statics.ensures ∙ sym is.statics) c.from.ensures (omega arith)
+    (symbols ∙ symbols-part store c.args.exports.now part is (map id_of fs) c.in_ok-linked.linked.starts.items c.args.exports.now
+    (exported-same store c.args.exports.now part is)))

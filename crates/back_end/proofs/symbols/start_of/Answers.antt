@@ -1,7 +1,6 @@
-use Rattle.std.proofs.Common.{◌≡◌, ◌∙◌, get_or, sym, ap, arith}
+use Rattle.std.proofs.Common.{◌∙◌, sym, ap, arith}
 use Rattle.std.specs.Option.{is_some}
 use Rattle.std.proofs.lemmas.List.Quantifiers.{position-Some}
-use Rattle.back_end.specs.Symbols.{start_among}
 use Rattle.back_end.specs.Worklist.{is_id}
 use Rattle.back_end.proofs.Placed.{no-start, start-at}
 use Rattle.back_end.proofs.symbols.start_of.Goals as goal

@@ -1,0 +1,185 @@
+-- What is compiled from a typed part of a store is compiled from the store.
+use Rattle.std.proofs.Common.{◌≡◌, ℕ, suc, ◌+◌, ◌*◌, ◌≤◌, true, List, [], ◌∷◌, length, map, Some, refl, sym, ap, ◌∙◌, subst}
+use Rattle.std.specs.Prelude.{slice_get}
+use Rattle.tl_base.specs.declared.ids.FnId.{FnId}
+use Rattle.elf_image.specs.declared.image.Image.{Image}
+use Rattle.elf_image.specs.declared.image.Symbol.{Symbol}
+use Rattle.terra_words.specs.Runs.{word, Run}
+use Rattle.terra_types.specs.declared.types.TypeForm.{TypeForm}
+use Rattle.terra_term.specs.declared.store.Export.{Export}
+use Rattle.terra_term.specs.Stores.{Callable, Contents, callable_of}
+use Rattle.terra_meaning.specs.Values.{AreValues, form_at}
+use Rattle.terra_meaning.specs.Laws.{AreAlike, Reaches, itself, value, mentioned}
+use Rattle.terra_meaning.specs.Meaning.{meaning}
+use Rattle.terra_meaning.proofs.Alike.{reached-alone}
+use Rattle.tac_lower.specs.Lowering.{lowered}
+use Rattle.rv_link.specs.declared.function.Function.{Function}
+use Rattle.back_end.specs.Agrees.{Agree, SameEnd}
+use Rattle.back_end.specs.Compiled.{AreExported, AreExports, AreReached, IsCompiled, IsExported, IsReady, IsTypedPart, all_scalar, codes_of, is_result, nodes_in, nodes_of, type_code}
+use Rattle.back_end.specs.Symbols.{symbol_of, symbols_of, parameters_in, result_in, start_among}
+use Rattle.back_end.specs.Working.{AreFunctions, AreWhole, IsFunction, id_of}
+
+-- code depends on nothing of a store but its types
+lowered-same : (a b : Contents) (k : Callable) → a.types ≡ b.types → lowered a [] k ≡ lowered b [] k
+lowered-same a b k types = ap (λ (ts : List TypeForm). lowered (record b { types = ts }) [] k) types
+
+module _ (store : Contents) (exports : List Export) (part : Contents) (is : IsTypedPart store exports part) where
+  -- what exports reach in the one store, they reach in the other
+  abbrev pub IsReached : FnId → Type 0
+  IsReached f = (i : ℕ) × (e : Export) × (slice_get exports i ≡ Some e) × Reaches store [] e.function f
+
+  reaches-back : (i : ℕ) (e : Export) (f : FnId) → slice_get exports i ≡ Some e → Reaches part [] e.function f →
+      Reaches store [] e.function f
+  reaches-back i e f at itself = itself
+  reaches-back i e f at (value j g h) = value j g h
+  reaches-back i e f at (mentioned g h j place k r there m) =
+      let here = reaches-back i e g at r in
+      mentioned g h j place k here (sym (is.same i e g at here) ∙ there) m
+
+  reaches-on : (i : ℕ) (e : Export) (f : FnId) → slice_get exports i ≡ Some e → Reaches store [] e.function f →
+      Reaches part [] e.function f
+  reaches-on i e f at itself = itself
+  reaches-on i e f at (value j g h) = value j g h
+  reaches-on i e f at (mentioned g h j place k r there m) =
+      mentioned g h j place k (reaches-on i e g at r) (is.same i e g at r ∙ there) m
+
+  same : (f : FnId) → IsReached f → callable_of part f ≡ callable_of store f
+  same f r = is.same r.0 r.1 f r.2 r.3
+
+  ready-part : (f : FnId) → IsReached f → IsReady store f → IsReady part f
+  ready-part f r h = record {
+    term = h.term;
+    is = same f r ∙ h.is;
+    passes = is.typed f h.term (same f r ∙ h.is);
+    place = h.place;
+    few = h.few;
+    plain = h.plain;
+  }
+
+  pub outward-part : AreExports store exports → AreExports part exports
+  outward-part all i e at =
+      let h = all i e at in
+      record {
+        term = h.term;
+        is = is.same i e e.function at itself ∙ h.is;
+        eight = h.eight;
+        scalar = subst (λ ts. all_scalar ts h.term.body.parameters ≡ true) (sym is.types) h.scalar;
+        result = subst (λ ts. is_result (form_at ts h.term.body.result) ≡ true) (sym is.types) h.result;
+      }
+
+  -- functions that are compiled from the store are compiled from its part
+  function-part : (x : Function) → IsReached x.id → IsFunction store x → IsFunction part x
+  function-part x r h = record {
+    term = h.term;
+    is = same x.id r ∙ h.is;
+    ready = ready-part x.id r h.ready;
+    tac = h.tac ∙ lowered-same store part h.term (sym is.types);
+    good = h.good;
+    right = h.right;
+    homes_few = h.homes_few;
+    selected = h.selected;
+    within = h.within;
+  }
+
+  functions-part : (xs : List Function) → ((n : ℕ) (f : FnId) → slice_get (map id_of xs) n ≡ Some f → IsReached f) → AreFunctions store xs →
+      AreFunctions part xs
+  functions-part [] r h = tt
+  functions-part (x ∷ xs) r h =
+      (function-part x (r 0 x.id refl) h.0, functions-part xs (λ n f at. r (suc n) f at) h.1)
+
+  reached-part : (fs : List FnId) → AreReached store exports fs → AreReached part exports fs
+  reached-part fs h = record {
+    only = λ n f at.
+        let r = h.only n f at in
+        (r.0, r.1, r.2, reaches-on r.0 r.1 f r.2 r.3);
+    once = h.once;
+  }
+
+  reached-back : (fs : List FnId) → AreReached part exports fs → AreReached store exports fs
+  reached-back fs h = record {
+    only = λ n f at.
+        let r = h.only n f at in
+        (r.0, r.1, r.2, reaches-back r.0 r.1 f r.2 r.3);
+    once = h.once;
+  }
+
+  pub whole-part : (xs : List Function) → AreWhole store exports xs → AreWhole part exports xs
+  whole-part xs h = record {
+    reached = reached-part (map id_of xs) h.reached;
+    exported = h.exported;
+    made = functions-part xs h.reached.only h.made;
+    calls = h.calls;
+  }
+
+  -- symbols depend on the types and on the exported functions alone
+  symbol-same : (at : ℕ) (e : Export) → callable_of part e.function ≡ callable_of store e.function → symbol_of part at e ≡ symbol_of store at e
+  symbol-same at e here = λ i. record {
+    name = e.name;
+    address = at;
+    params = codes_of (is.types i) (parameters_in (here i));
+    result = type_code (form_at (is.types i) (result_in (here i)));
+  }
+
+  pub symbols-part : (ids : List FnId) (starts : List ℕ) (es : List Export) →
+      ((i : ℕ) (e : Export) → slice_get es i ≡ Some e → callable_of part e.function ≡ callable_of store e.function) →
+      symbols_of store ids starts es ≡ symbols_of part ids starts es
+  symbols-part ids starts [] h = refl
+  symbols-part ids starts (e ∷ es) h =
+      λ i. sym (symbol-same (start_among ids starts e.function) e (h 0 e refl)) i ∷ symbols-part ids starts es (λ n x at. h (suc n) x at) i
+
+  pub exported-same : (i : ℕ) (e : Export) → slice_get exports i ≡ Some e → callable_of part e.function ≡ callable_of store e.function
+  exported-same i e at = is.same i e e.function at itself
+
+  -- as many nodes
+  nodes-same : (fs : List FnId) → ((n : ℕ) (f : FnId) → slice_get fs n ≡ Some f → IsReached f) → nodes_in part fs ≡ nodes_in store fs
+  nodes-same [] r = refl
+  nodes-same (f ∷ fs) r = λ i. nodes_of (same f (r 0 f refl) i) + nodes-same fs (λ n g at. r (suc n) g at) i
+
+  alike : (i : ℕ) (e : Export) → slice_get exports i ≡ Some e → AreAlike [] e.function store part
+  alike i e at = record {
+    types = sym is.types;
+    statics = sym is.statics;
+    reached = λ g r. sym (is.same i e g at r);
+  }
+
+  exported-back : (image : Image) (most i : ℕ) (e : Export) (s : Symbol) → slice_get exports i ≡ Some e → IsExported part image most e s →
+      IsExported store image most e s
+  exported-back image most i e s at x = record {
+    name = x.name;
+    function = x.function;
+    is = sym (exported-same i e at) ∙ x.is;
+    params = subst (λ ts. s.params ≡ codes_of ts x.function.body.parameters) is.types x.params;
+    result = subst (λ ts. s.result ≡ type_code (form_at ts x.function.body.result)) is.types x.result;
+    agrees = λ arguments target values runs.
+        subst
+        (λ ts. Agree (SameEnd ts x.function.body.result) (λ n. meaning store [] image.memory n e.function (map word arguments)) target most)
+        is.types
+        (subst (λ (source : ℕ → Run). Agree (SameEnd part.types x.function.body.result) source target most)
+        (λ j n. sym (reached-alone store part [] image.memory n e.function (map word arguments) (alike i e at)) j)
+        (x.agrees arguments target (subst (λ ts. AreValues ts x.function.body.parameters (map word arguments)) (sym is.types) values) runs));
+  }
+
+  all-back : (image : Image) (most : ℕ) (es : List Export) (ss : List Symbol) →
+      ((i : ℕ) (e : Export) → slice_get es i ≡ Some e → (j : ℕ) × (slice_get exports j ≡ Some e)) → AreExported part image most es ss →
+      AreExported store image most es ss
+  all-back image most [] [] h x = tt
+  all-back image most [] (s ∷ ss) h x = x
+  all-back image most (e ∷ es) [] h x = x
+  all-back image most (e ∷ es) (s ∷ ss) h x =
+      let j = h 0 e refl in
+      (exported-back image most j.0 e s j.1 x.0, all-back image most es ss (λ n y at. h (suc n) y at) x.1)
+
+  pub compiled-back : (memory : ℕ) (image : Image) → IsCompiled part memory exports image → IsCompiled store memory exports image
+  compiled-back memory image c =
+      let reached = reached-back c.functions c.reached in
+      let nodes = nodes-same c.functions reached.only in
+      record {
+        lawful = c.lawful;
+        memory_is = c.memory_is;
+        statics = c.statics ∙ is.statics;
+        functions = c.functions;
+        reached = reached;
+        short = subst (λ n. length image.text ≤ 250 * n) nodes c.short;
+        exported = subst (λ n. AreExported store image (250 * n) exports image.exports) nodes
+            (all-back image (250 * nodes_in part c.functions) exports image.exports (λ i e at. (i, at)) c.exported);
+      }
