@@ -11,19 +11,19 @@ use Rattle.terrac_call.specs.declared.status.Status.TheVariants as statuses
 use Rattle.terrac_call.specs.Due.{Due, due_of_no_entry}
 use Rattle.terrac_call.specs.Words.{Call}
 use Rattle.terrac_call.specs.Arguments.{Arguments, arguments_of}
-use Rattle.terrac_call.specs.Exec.{IsCallDue, IsRunDue}
+use Rattle.terrac_call.specs.Exec.{Manner, IsCallDue, IsRunDue}
 
 pub not_fault : (status other : Status) → status ≡ other → other ≢ statuses.WriteFault → status ≢ statuses.WriteFault
 not_fault status other same differs = λ is. differs (sym same ∙ is)
 
-pub call_none : (image : Image) (call : Call) (steps : ℕ) (due : Due) → None ≡ symbol_named call.entry image.exports → due ≡ due_of_no_entry call.entry →
-    IsCallDue image call steps (symbol_named call.entry image.exports) due
-call_none image call steps due none is = subst (λ (o : Option Symbol). IsCallDue image call steps o due) none is
+pub call_none : (image : Image) (call : Call) (manner : Manner) (due : Due) → None ≡ symbol_named call.entry image.exports → due ≡ due_of_no_entry call.entry →
+    IsCallDue image call manner (symbol_named call.entry image.exports) due
+call_none image call manner due none is = subst (λ (o : Option Symbol). IsCallDue image call manner o due) none is
 
-pub call_some : (image : Image) (call : Call) (steps : ℕ) (symbol : Symbol) (given : Arguments) (due : Due) → Some symbol ≡ symbol_named call.entry image.exports →
-    given ≡ arguments_of symbol.params 1 call.arguments → IsRunDue image symbol steps given due → IsCallDue image call steps (symbol_named call.entry image.exports) due
-call_some image call steps symbol given due named same is =
-    subst (λ (o : Option Symbol). IsCallDue image call steps o due) named (subst (λ (a : Arguments). IsRunDue image symbol steps a due) same is)
+pub call_some : (image : Image) (call : Call) (manner : Manner) (symbol : Symbol) (given : Arguments) (due : Due) → Some symbol ≡ symbol_named call.entry image.exports →
+    given ≡ arguments_of symbol.params 1 call.arguments → IsRunDue image symbol manner given due → IsCallDue image call manner (symbol_named call.entry image.exports) due
+call_some image call manner symbol given due named same is =
+    subst (λ (o : Option Symbol). IsCallDue image call manner o due) named (subst (λ (a : Arguments). IsRunDue image symbol manner a due) same is)
 
 both : (a b : Bool) → (a && b) ≡ true → (a ≡ true) × (b ≡ true)
 both true b e = (refl, e)

@@ -12,7 +12,7 @@ use Rattle.terrac_call.specs.Delivery.{StopsShort}
 use Rattle.terrac_call.proofs.Pieces.{with_back-none, with_back-both}
 
 -- a refusal's line goes to `notes` alone
-pub due_with-refusal : (status : Status) (bytes : List ℕ) → status ≢ statuses.Ok → due_with status bytes ≡ record { status = status; out = []; notes = bytes }
+pub due_with-refusal : (status : Status) (bytes : List ℕ) → status ≢ statuses.Ok → due_with status bytes ≡ record { status = status; out = []; noted = []; notes = bytes }
 due_with-refusal statuses.Ok bytes other = absurd (other refl)
 due_with-refusal statuses.Usage bytes other = refl
 due_with-refusal statuses.NoEntry bytes other = refl
@@ -25,7 +25,6 @@ due_with-refusal (statuses.MachineFault kind pc) bytes other = refl
 due_with-refusal statuses.ReadFault bytes other = refl
 due_with-refusal statuses.WriteFault bytes other = refl
 due_with-refusal statuses.NoMemory bytes other = refl
-due_with-refusal statuses.NotBuilt bytes other = refl
 due_with-refusal (statuses.Raised text place) bytes other = refl
 due_with-refusal statuses.BudgetSpent bytes other = refl
 

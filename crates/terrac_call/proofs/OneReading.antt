@@ -12,9 +12,6 @@ use Rattle.tl_tree.specs.Texts as texts
 use Rattle.tl_tree.proofs.Answering.{chunks_one}
 use Rattle.tl_tree.proofs.WellFormedTrees.{well_formed_trees}
 use Rattle.tl_parse.specs.Whole.{ComesOf}
-use Rattle.first_form.specs.Formula.{SourceFunction, IsWithin}
-use Rattle.first_form.specs.Form.{function_of}
-use Rattle.first_form.proofs.Within.{always_within}
 use Rattle.terrac_call.specs.declared.parsing.Parsed.{Parsed}
 use Rattle.terrac_call.specs.declared.parsing.Parsed.TheVariants as parsed
 use Rattle.terrac_call.specs.ParsedView.{Shows}
@@ -84,7 +81,3 @@ text_tree text t comes =
       comes.2,
       well_formed_trees text comes.0 comes.1,
     )
-
--- the function that is found of a tree is within the bounds
-pub found_within : (tree : Tree) (found : Option SourceFunction) (f : SourceFunction) → found ≡ function_of tree → found ≡ Some f → IsWithin f
-found_within tree found f is some = always_within tree f (sym is ∙ some)
