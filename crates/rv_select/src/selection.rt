@@ -11,10 +11,13 @@ ghost use Rattle.tac_form.specs.declared.tac.Instruction.TheVariants as instruct
 
 use crate::calls::{push_call_begun, push_call_ended, push_call_jump, push_given};
 use crate::entries::{push_begun, push_entered, push_left, push_received};
+use crate::compared::push_compared;
 use crate::exits::{push_exit, push_jump};
 use crate::instructions::{held_after, push_instruction};
 use crate::selected::{Call, Code};
-use reg_alloc::{Assignment, Home};
+use reg_alloc::{Assignment, Home, flow_graph};
+use terra_words::BinaryOperator;
+use tac_form::{Edge, Number, Operand};
 use std::alloc::Global;
 use tac_form::{Block, Destination, Exit, Instruction, Part, Tac};
 use tl_base::{FnId, NoMemory, Place};
@@ -162,14 +165,90 @@ fn push_block(
     sizes: &[u64],
     starts: &[u64],
     last: u64,
+    reads: &[u64],
     block: &Block,
 ) -> Result<(), NoMemory>
     requires { IsTrue (block_has_code block.now) }
     ensures code { OnOk result (code.new.items ≡ code.old.items ++ map word_of (block_code (with_homes homes.now) sizes.now (λ f. 0) (start_of starts.now) last (4 * length code.old.items) block.now)) }
     ensures calls { OnOk result (calls.new.items ≡ calls.old.items ++ instructions_calls (with_homes homes.now) sizes.now (length code.old.items) None block.now.instructions) }
 {
-    let held = push_all(code, calls, homes, sizes, block.instructions.as_slice())?;
+    let instructions = block.instructions.as_slice();
+    if let Some(fused) = fused_of(block, reads) {
+        let held = push_all(code, calls, homes, sizes, &instructions[..instructions.len() - 1])?;
+        let at = address(code)?;
+        return push_compared(
+            code, homes, held, at, starts, fused.operator, fused.form, fused.a, fused.b, fused.first, fused.second,
+        );
+    }
+    let held = push_all(code, calls, homes, sizes, instructions)?;
     push_end(code, homes, held, starts, last, &block.exit)
+}
+
+
+/// A comparison and the branch that alone reads its result.
+#[derive(Clone, Copy)]
+struct Fused {
+    operator: BinaryOperator,
+    form: Number,
+    a: Operand,
+    b: Operand,
+    first: Edge,
+    second: Edge,
+}
+
+fn fused_of(block: &Block, reads: &[u64]) -> Option<Fused> {
+    let instructions = block.instructions.as_slice();
+    if instructions.is_empty() {
+        return None;
+    }
+    let Exit::Branch(Operand::Temp(t), first, second) = block.exit else {
+        return None;
+    };
+    let Instruction::Compute(d, operator, form, a, b) = &instructions[instructions.len() - 1] else {
+        return None;
+    };
+    let once = match reads.get(t as usize) {
+        Some(count) => *count == 1,
+        None => false,
+    };
+    if *d != t || !once || !is_comparison(*operator) {
+        return None;
+    }
+    Some(Fused { operator: *operator, form: *form, a: *a, b: *b, first, second })
+}
+
+fn is_comparison(operator: BinaryOperator) -> bool {
+    matches!(
+        operator,
+        BinaryOperator::Equal
+            | BinaryOperator::NotEqual
+            | BinaryOperator::Less
+            | BinaryOperator::LessEqual
+            | BinaryOperator::Greater
+            | BinaryOperator::GreaterEqual
+    )
+}
+
+/// How often each temporary is read.
+fn reads_of(alloc: Global, tac: &Tac) -> Result<Vec<u64>, NoMemory> {
+    let mut reads = Vec::new(alloc);
+    reads.resize(tac.temps as usize, 0)?;
+    let graph = flow_graph(alloc, tac)?;
+    for block in &graph {
+        for step in block.steps.as_slice() {
+            count_all(&mut reads, step.reads.as_slice());
+        }
+        count_all(&mut reads, block.reads.as_slice());
+    }
+    Ok(reads)
+}
+
+fn count_all(reads: &mut Vec<u64>, temps: &[u64]) {
+    for t in temps {
+        if (*t as usize) < reads.len() {
+            reads[*t as usize] += 1;
+        }
+    }
 }
 
 /// The code of blocks, each of whose addresses goes to a list.
@@ -181,6 +260,7 @@ fn push_blocks(
     sizes: &[u64],
     starts: &[u64],
     last: u64,
+    reads: &[u64],
     blocks: &[Block],
 ) -> Result<(), NoMemory>
     requires { IsTrue (list_all block_has_code blocks.now) }
@@ -190,7 +270,7 @@ fn push_blocks(
 {
     for block in blocks {
         begins.push(address(code)?)?;
-        push_block(code, calls, homes, sizes, starts, last, block)?;
+        push_block(code, calls, homes, sizes, starts, last, reads, block)?;
     }
     Ok(())
 }
@@ -271,6 +351,7 @@ fn push_body(
     tac: &Tac,
     starts: &[u64],
     last: u64,
+    reads: &[u64],
 ) -> Result<(), NoMemory>
     requires { IsTrue (all_has_code tac.now) }
     ensures code { OnOk result (code.new.items ≡ code.old.items ++ map word_of (blocks_code (layout_of tac.now homes.now) tac.now.areas (λ f. 0) (start_of starts.now) last (4 * length code.old.items) tac.now.blocks)) }
@@ -285,6 +366,7 @@ fn push_body(
         tac.areas.as_slice(),
         starts,
         last,
+        reads,
         tac.blocks.as_slice(),
     )
 }
@@ -306,7 +388,8 @@ fn find_places(alloc: Global, homes: &[Option<Home>], tac: &Tac) -> Result<Place
     let mut calls = Vec::new(alloc);
     let mut starts = Vec::new(alloc);
     push_head(&mut code, homes, tac)?;
-    push_body(&mut code, &mut calls, &mut starts, homes, tac, &[], 0)?;
+    let reads = reads_of(alloc, tac)?;
+    push_body(&mut code, &mut calls, &mut starts, homes, tac, &[], 0, &reads)?;
     let last = address(&code)?;
     Ok(Places { starts, last })
 }
@@ -321,6 +404,7 @@ pub fn select(alloc: Global, tac: &Tac, assignment: &Assignment) -> Result<Code,
 {
     let homes = assignment.as_slice();
     let places = find_places(alloc, homes, tac)?;
+    let reads = reads_of(alloc, tac)?;
     let mut words = Vec::new(alloc);
     let mut calls = Vec::new(alloc);
     let mut starts = Vec::new(alloc);
@@ -333,6 +417,7 @@ pub fn select(alloc: Global, tac: &Tac, assignment: &Assignment) -> Result<Code,
         tac,
         &places.starts,
         places.last,
+        &reads,
     )?;
     push_left(&mut words, homes, head.frame, tac.frame)?;
     Ok(Code {
