@@ -1,9 +1,8 @@
 -- What each turn keeps of the world, and which answers fit.
-use Rattle.std.specs.Prelude.{◌≡◌, ◌≤◌, Bool, true, false, List, ◌++◌, ◌∷◌, is_some, Some}
+use Rattle.std.specs.Prelude.{◌≡◌, Bool, true, false, List, is_some, Some}
 use Rattle.tl_base.specs.declared.ids.FnId.{FnId}
 use Rattle.tl_base.specs.declared.ids.TermId.{TermId}
 use Rattle.tl_base.specs.declared.ids.TypeId.{TypeId}
-use Rattle.tl_base.specs.Layer.{State, Seen, Ended, SpentAt, Asks}
 use Rattle.terra_types.specs.Keeping.{KeepsTypes}
 use Rattle.terra_types.specs.Sizes.{size_of}
 use Rattle.terra_term.specs.Keeping.{AllStay, AreKept}
@@ -20,13 +19,11 @@ use Rattle.check_model.specs.declared.question.CheckAnswer.{CheckAnswer}
 use Rattle.check_model.specs.declared.question.CheckAnswer.TheVariants as answers
 use Rattle.check_model.specs.declared.question.CheckQuestion.{CheckQuestion}
 use Rattle.check_model.specs.declared.question.CheckQuestion.TheVariants as asked_for
-use Rattle.check_model.specs.declared.end.BodyEnd.{BodyEnd}
-use Rattle.check_model.specs.declared.end.CheckEnd.{CheckEnd}
-use Rattle.check_model.specs.Typing.{TypingState, form_in, is_aggregate_form}
+use Rattle.check_model.specs.Typing.{form_in, is_aggregate_form}
 use Rattle.check_model.specs.declared.known.KnownResult.TheVariants.{Is}
 use Rattle.check_model.specs.Calls.{parameters_of, result_of}
-use Rattle.check_model.specs.Bodies.{BodyGiven, body}
-use Rattle.check_model.specs.Checks.{CheckGiven, check}
+use Rattle.check_model.specs.Bodies.{body}
+use Rattle.check_model.specs.Checks.{check}
 
 -- ---- what each turn keeps
 
@@ -51,12 +48,6 @@ pub record Keeps (before after : StageState) : Type 0 where
 
 -- ---- which answers fit
 
--- what is in progress at a question is so still at its answer
-pub record StaysInProgress (before after : StageState) : Type 0 where
-  pub typing : (f : FnId) (t : TermId) → state_of before.store f ≡ standing.Typing t → state_of after.store f ≡ standing.Typing t
-  pub asked : (p : Property) → known_of before.kept p ≡ known.Asked → known_of after.kept p ≡ known.Asked
-  pub calls : after.heap.calls ≡ before.heap.calls
-
 -- the size of an aggregate is known where its layout is settled
 abbrev pub IsLaidOut : StageState → TypeId → Bool → Type 0
 IsLaidOut w t true = is_some (size_of w.store.types t) ≡ true
@@ -71,25 +62,7 @@ Answers (LayoutOf t at) answers.Done w = IsLaidOut w t (is_aggregate_form (form_
 Answers (LayoutOf t at) (answers.NoLayout kind) w = Unit {0}
 Answers _ _ w = ⊥
 
--- the answers that may follow a question of a body: the bodies that were typed for it meanwhile took their variables away
-pub record Follows (question : BodyQuestion) (s : State TypingState) (next : BodyGiven) : Type 0 where
-  pub answers : Answers question next.answer next.state.world.stage
-  pub keeps : Keeps s.world.stage next.state.world.stage
-  pub progress : StaysInProgress s.world.stage next.state.world.stage
-  pub variables : next.state.world.variables ≡ s.world.variables
-  pub left : next.state.left ≤ s.left
-
-abbrev pub FollowsSeen : Seen TypingState BodyQuestion BodyEnd → BodyGiven → Type 0
-FollowsSeen (Asks question s) next = Follows question s next
-FollowsSeen (Ended end s) next = Unit {0}
-FollowsSeen (SpentAt s) next = Unit {0}
-
--- each answer follows the question at which a body stands with the answers before it
-abbrev pub AllFollow : FnId → BodyGiven → List BodyGiven → Type 0
-AllFollow f first later =
-    (before after : List BodyGiven) (next : BodyGiven) → later ≡ before ++ next ∷ after → FollowsSeen (body f first before) next
-
--- the same of a check: where a body is done, its function is typed
+-- to a check: where a body is done, its function is typed
 abbrev pub HasBody : StageState → CheckQuestion → Type 0
 HasBody w (asked_for.Body f) = (made : TermId) × (typed_in (state_of w.store f) ≡ Some made)
 
@@ -97,18 +70,3 @@ abbrev pub ChecksAnswer : CheckQuestion → CheckAnswer → StageState → Type 
 ChecksAnswer question answers.Done w = HasBody w question
 ChecksAnswer question (answers.Refused why) w = Unit {0}
 ChecksAnswer question _ w = ⊥
-
-pub record FollowsCheck (question : CheckQuestion) (s : State StageState) (next : CheckGiven) : Type 0 where
-  pub answers : ChecksAnswer question next.answer next.state.world
-  pub keeps : Keeps s.world next.state.world
-  pub progress : StaysInProgress s.world next.state.world
-  pub left : next.state.left ≤ s.left
-
-abbrev pub FollowsCheckSeen : Seen StageState CheckQuestion CheckEnd → CheckGiven → Type 0
-FollowsCheckSeen (Asks question s) next = FollowsCheck question s next
-FollowsCheckSeen (Ended end s) next = Unit {0}
-FollowsCheckSeen (SpentAt s) next = Unit {0}
-
-abbrev pub AllFollowCheck : FnId → CheckGiven → List CheckGiven → Type 0
-AllFollowCheck f first later =
-    (before after : List CheckGiven) (next : CheckGiven) → later ≡ before ++ next ∷ after → FollowsCheckSeen (check f first before) next

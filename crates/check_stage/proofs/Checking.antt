@@ -2,8 +2,8 @@
 use Rattle.std.proofs.Common.{◌≡◌, ℕ, zero, suc, ◌+◌, ◌≤◌, Bool, true, false, if◌then◌else◌, refl, ap, ◌∙◌, arith}
 use Rattle.std.proofs.Common.{List, [], ◌∷◌, ◌++◌, length, Option, Some, None}
 use Rattle.std.specs.Prelude.{nat_lt}
-use Rattle.tl_base.specs.Layer.{State, state, at}
-use Rattle.stage_form.specs.Stage.{Stage, Final, Finished, Exhausted, staged}
+use Rattle.tl_base.specs.Layer.{State, at}
+use Rattle.stage_form.specs.Stage.{Final, Finished, Exhausted, staged}
 use Rattle.stage_form.proofs.Reaching.{fed-more}
 use Rattle.tl_tree.specs.Code.{Items}
 use Rattle.spec_model.specs.Making.{is_undefined}

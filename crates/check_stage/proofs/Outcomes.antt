@@ -4,7 +4,7 @@ use Rattle.tl_base.specs.declared.place.Place.{Place}
 use Rattle.tl_base.specs.Layer.{State, state}
 use Rattle.stage_form.specs.declared.staging.Outcome.{Outcome as Staging}
 use Rattle.stage_form.specs.declared.staging.Outcome.TheVariants as stagings
-use Rattle.stage_form.specs.Stage.{Final, Finished, Exhausted, final_of, staged}
+use Rattle.stage_form.specs.Stage.{Final, Finished, final_of, staged}
 use Rattle.tl_tree.specs.Code.{Items}
 use Rattle.check_model.specs.Typing.{TypingState}
 use Rattle.check_stage.specs.declared.jobs.Job.{Job}

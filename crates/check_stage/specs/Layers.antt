@@ -1,6 +1,5 @@
 -- The layers as one stage: how each stands in it, and what each job means.
-use Rattle.std.specs.Prelude.{◌≡◌, false, if◌then◌else◌, [], ◌∷◌, refl}
-use Rattle.tl_base.specs.declared.turn.Turn.{Turn}
+use Rattle.std.specs.Prelude.{◌≡◌, false, if◌then◌else◌, [], refl}
 use Rattle.tl_base.specs.Layer.{Meaning, Given}
 use Rattle.stage_form.specs.Stage.{Stage}
 use Rattle.stage_form.specs.Within.{Fitting, given_part, within}

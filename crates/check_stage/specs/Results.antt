@@ -1,7 +1,6 @@
 -- The result type of a function, found by typing its body.
-use Rattle.std.specs.Prelude.{◌≡◌, true, List, [], ◌∷◌, Option, Some, None, slice_get, unwrap_or}
+use Rattle.std.specs.Prelude.{◌≡◌, Option, Some, None, slice_get, unwrap_or}
 use Rattle.tl_base.specs.declared.ids.FnId.{FnId}
-use Rattle.tl_base.specs.declared.ids.TermId.{TermId}
 use Rattle.tl_base.specs.Layer.{State, Given, Seen, Ended, SpentAt, Asks, Meaning}
 use Rattle.terra_types.specs.Opening.{unit}
 use Rattle.terra_term.specs.declared.refusal.Refusal.{Refusal}

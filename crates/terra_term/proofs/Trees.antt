@@ -26,7 +26,7 @@ get-later make before (x ∷ xs) (suc i) =
     get-later make (before ++ make before x ∷ []) xs i ∙
     ap (λ (l : List _). option_map (make l) (slice_get xs i)) (append_assoc before (make before x ∷ []) (take i (later make (before ++ make before x ∷ []) xs)))
 
-grown-get : {A B : Type 0} (make : List A → B → A) (xs : List B) (i : ℕ) → slice_get (grown make [] xs) i ≡ option_map (make (take i (grown make [] xs))) (slice_get xs i)
+pub grown-get : {A B : Type 0} (make : List A → B → A) (xs : List B) (i : ℕ) → slice_get (grown make [] xs) i ≡ option_map (make (take i (grown make [] xs))) (slice_get xs i)
 grown-get make xs i =
     let same : grown make [] xs ≡ later make [] xs = grown-later make [] xs in
     rw same (get-later make [] xs i)

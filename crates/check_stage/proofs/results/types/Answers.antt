@@ -1,5 +1,5 @@
-use Rattle.std.proofs.Common.{◌≡◌, List, ◌∷◌, sym, ap, ◌∙◌}
-use Rattle.tl_base.specs.Layer.{State, Given, state, given, seen}
+use Rattle.std.proofs.Common.{◌≡◌, List, sym, ap, ◌∙◌}
+use Rattle.tl_base.specs.Layer.{Given, state, given, seen}
 use Rattle.check_model.specs.declared.question.CheckAnswer.{CheckAnswer}
 use Rattle.check_model.specs.Typing.{TypingState}
 use Rattle.check_expr.specs.Rest.{body_rest}
