@@ -15,13 +15,11 @@ use Rattle.lua_table.specs.Heap.{text_at, table_at}
 use Rattle.lua_table.specs.Pairs.{Pairs}
 use Rattle.lua_base.specs.Arguments.{argument, table_in}
 use Rattle.lua_base.specs.Opening.{globals}
-use Rattle.terra_term.specs.declared.refusal.Refusal.{Refusal}
 use Rattle.terra_term.specs.declared.refusal.RefusalKind.TheVariants.{TooLarge}
 use Rattle.terra_term.specs.declared.store.Function.{Function}
 use Rattle.terra_term.specs.Planted.{nowhere}
 use Rattle.exotype.specs.declared.fault.Fault.TheVariants as faults
 use Rattle.exotype.specs.World.{StageState}
-use Rattle.spec_model.specs.Making.{is_undefined}
 use Rattle.terra_lib.specs.Answers.{bad_argument, raised, gives}
 use Rattle.terra_lib.specs.Exports.{is_free, takes_scalars, gives_scalar, parameters_in, result_in, term_of_function, may_be_exported}
 use Rattle.terra_lib.specs.Exports.{with_exported, marked, is_text}
@@ -63,10 +61,10 @@ found_result (Is t) = Some t
 found_result _ = None
 
 -- After its check no one has taken the name meanwhile, and the result type that was found is no aggregate either. A value of Lua names a
--- function that is there, and behind its check it is defined.
+-- function that is there, and behind its check it is defined, so that it has the parameters that were tested before.
 abbrev pub fate_after : StageState → Bool → TextId → FnId → Fate
 fate_after w at_end key f =
-    if is_free w (text_at w.heap key) && not (is_undefined w f)
+    if is_free w (text_at w.heap key) && may_be_exported w (values.TerraFunction f)
     then fate_by at_end (gives_scalar w (found_result (result_of w f))) key f
     else Refused
 

@@ -25,7 +25,6 @@ use terra_lib::exports::{
     Fate, export, gives_scalar, is_free, is_text, is_unit, may_be_exported, takes_scalars,
 };
 use terra_lib::symbols::is_scalar;
-use terra_lib::types::is_undefined;
 use terra_term::RefusalKind;
 use tl_base::{Budget, FnId, NoMemory, Place, TableId, TextId};
 
@@ -89,7 +88,7 @@ fn gives_found(world: &World, f: FnId) -> bool
 fn fate_after(world: &World, at_end: bool, key: TextId, f: FnId) -> Fate
     ensures { result ≡ fate_after world.now at_end key f }
 {
-    if !is_free(world, world.heap.text(key)) || is_undefined(world, f) {
+    if !is_free(world, world.heap.text(key)) || !may_be_exported(world, &Value::TerraFunction(f)) {
         return Fate::Refused;
     }
     fate_by(at_end, gives_found(world, f), key, f)

@@ -1,5 +1,5 @@
 -- Exports, without checks: which entries of a table are exported, and what is exported at the end of the chunk.
-use Rattle.std.specs.Prelude.{ℕ, Bool, true, false, not, ◌==◌, ◌&&◌, ◌||◌, List, [], ◌∷◌, length, nat_le, bytes_eq, Option, Some, None}
+use Rattle.std.specs.Prelude.{ℕ, Bool, true, false, not, ◌==◌, ◌&&◌, ◌||◌, List, [], ◌∷◌, length, nat_le, nat_lt, bytes_eq, Option, Some, None}
 use Rattle.std.specs.Prelude.{if◌then◌else◌, slice_get}
 use Rattle.std.specs.List.{list_all, list_any}
 use Rattle.tl_base.specs.declared.ids.FnId.{FnId}
@@ -79,9 +79,13 @@ is_name name = nat_le 1 (length name) && nat_le (length name) 255 && list_all (�
 abbrev pub is_used : List Export → List ℕ → Bool
 is_used exports name = list_any (λ (e : Export). bytes_eq e.name name) exports
 
--- a name that may be that of a new export
+-- the most exports that there may be; a budget of units buys no more, since each export pays for a check
+abbrev pub most_exports : ℕ
+most_exports = 4000000
+
+-- a name that may be that of a new export; that there are fewer than the most exports is so in each staging
 abbrev pub is_free : StageState → List ℕ → Bool
-is_free w name = is_name name && not (is_used w.exports.list name)
+is_free w name = is_name name && not (is_used w.exports.list name) && nat_lt (length w.exports.list) most_exports
 
 -- ---- entries
 

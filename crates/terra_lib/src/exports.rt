@@ -42,6 +42,9 @@ const MOST_PARAMETERS: usize = 8;
 /// The most bytes of an export's name.
 const MOST_NAME_BYTES: usize = 255;
 
+/// How many exports there may be: as many as the largest budget buys.
+const MOST_EXPORTS: usize = 4_000_000;
+
 /// Exports the entries of a table, in its order, up to the first that can't be exported. Functions of the source can that are defined,
 /// under texts of 1 to 255 bytes without a zero byte that no export has yet, with at most eight parameters, all scalar, and a scalar or
 /// unit result. `saveobj` counts as called whatever comes of it.
@@ -232,7 +235,9 @@ fn fate_of_function(world: &World, at_end: bool, name: TextId, f: FnId) -> Fate
 pub fn is_free(world: &World, name: &[u8]) -> bool
     ensures { result ≡ is_free world.now name.now }
 {
-    is_name(name) && !is_used(world.exports.as_slice(), name)
+    is_name(name)
+        && !is_used(world.exports.as_slice(), name)
+        && world.exports.as_slice().len() < MOST_EXPORTS
 }
 
 /// Whether a text has 1 to 255 bytes, and no zero byte.
