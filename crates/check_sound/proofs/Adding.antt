@@ -41,6 +41,7 @@ use Rattle.check_sound.proofs.Shapes.{size-kept}
 use Rattle.check_sound.proofs.Foreseen.{body-item, count-trees}
 use Rattle.check_sound.proofs.Passing.{Lies}
 use Rattle.check_sound.specs.Growing.{Leads}
+use Rattle.check_sound.proofs.Statics.{fits-same}
 use Rattle.check_sound.proofs.Leading.{leads-by}
 use Rattle.check_sound.proofs.Grows.{Grows, form-itself, trees-kept}
 use Rattle.check_sound.proofs.Worlds.{Fair, fair-of, any-grows, body-grows, sound-from}
@@ -90,6 +91,7 @@ module _ (w : StageState) (old : IsSound w) (ts : List TypeForm) (ns : List Type
     there = body-kept w (listed w ts ns) nodes made h.body h.there;
     parameters = h.parameters;
     result = there-still h.body.result h.result;
+    small = h.small;
   }
 
   pub listed-fair : Fair (listed w ts ns)
@@ -119,6 +121,7 @@ module _ (w : StageState) (old : IsSound w) (ts : List TypeForm) (ns : List Type
     globals = λ i x at. at;
     constants = λ i x at. at;
     statics = λ i x at. inl at;
+    fits = fits-same w (listed w ts ns) refl refl old.fits;
     plain = plain;
     symbols = λ i x at. at;
     kept = λ t x at. inl at;
@@ -139,7 +142,7 @@ added-grows w old n =
     (kept-front w.store.typed (n ∷ []))
 
 pub added-leads : (w : StageState) → IsSound w → (n : Typed) → Leads w (added w n)
-added-leads w sound n = leads-by w (added w n) (added-grows w sound n) refl refl
+added-leads w sound n = leads-by w (added w n) (added-grows w sound n) refl refl refl
 
 new-last : (ns : List Typed) (n m : Typed) (i : ℕ) → is_plain_node n ≡ true → slice_get (ns ++ n ∷ []) i ≡ Some m →
     (slice_get ns i ≡ Some m) ⊎ (is_plain_node m ≡ true)
@@ -304,8 +307,8 @@ pub pointer-points : (w : StageState) → IsSound w → (t : TypeId) → IsThere
 pointer-points w old t there = points-by w old t (is_type w.store.types t) refl there
 
 leads-after : (w : StageState) (t : TypeId) (c : Bool) → Grows w (after_type c w t) → Leads w (after_type c w t)
-leads-after w t true g = leads-by w (after_type true w t) g refl refl
-leads-after w t false g = leads-by w w g refl refl
+leads-after w t true g = leads-by w (after_type true w t) g refl refl refl
+leads-after w t false g = leads-by w w g refl refl refl
 
 pub pointer-leads : (w : StageState) (t : TypeId) → Grows w (with_pointer w t) → Leads w (with_pointer w t)
 pointer-leads w t g = leads-after w t (is_type w.store.types t) g

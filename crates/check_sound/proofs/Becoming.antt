@@ -33,10 +33,11 @@ use Rattle.exotype.specs.World.{StageState, with_store}
 use Rattle.exotype.specs.Types.{is_type}
 use Rattle.exotype.specs.Becoming.{Becoming, Leaf, Text, Spliced, Again, Not, fits_int32, number, library_function, quoted, constant_leaf, type_found, quote_found, constant_found, becoming, after, with_term_of}
 use Rattle.check_model.specs.Calls.{params_of}
-use Rattle.check_sound.specs.Sound.{foreseen, TermIsThere, ExpressionIsSound, TermIsSound, QuoteIsSound, ConstantIsSound, IsTypedSomewhere, IsSound, HasBodyOf}
+use Rattle.check_sound.specs.Sound.{foreseen, TermIsThere, ExpressionIsSound, TermIsSound, QuoteIsSound, ConstantIsSound, IsTypedSomewhere, StaticsFit, IsSound, HasBodyOf}
 use Rattle.check_sound.proofs.Tests.{none-some, same-some}
 use Rattle.check_sound.specs.Growing.{Leads}
 use Rattle.check_sound.proofs.Grows.{Grows, get-same, longer}
+use Rattle.check_sound.proofs.Statics.{fits-same, fits-more}
 use Rattle.check_sound.proofs.Leading.{leads-itself, leads-by}
 use Rattle.check_sound.proofs.Worlds.{Fair, fair-of, term-grows, sound-from}
 use Rattle.check_sound.proofs.SameFunctions.{grows-same}
@@ -64,6 +65,7 @@ module _ (w : StageState) (old : IsSound w) (ss : List Static) (t : Term) where
     parameters = h.parameters ∙ ap params_of (sym (get-same w.store.terms (w.store.terms ++ t ∷ [])
         (kept-front w.store.terms (t ∷ [])) x.0 within));
     result = h.result;
+    small = h.small;
   }
 
   leafed-fair : Fair (leafed w ss t)
@@ -82,8 +84,8 @@ module _ (w : StageState) (old : IsSound w) (ss : List Static) (t : Term) where
 
   leafed-sound : TermIsSound w t →
       ((i : ℕ) (x : Static) → slice_get ss i ≡ Some x →
-      (slice_get w.store.statics i ≡ Some x) ⊎ (x.address < 2 ^ 64)) → IsSound (leafed w ss t)
-  leafed-sound sound statics =
+      (slice_get w.store.statics i ≡ Some x) ⊎ (x.address < 2 ^ 64)) → StaticsFit (leafed w ss t) → IsSound (leafed w ss t)
+  leafed-sound sound statics fits =
       let now = term-grows w (leafed w ss t) (fair-of w old) leafed-fair leafed-grows t sound in
       sound-from w (leafed w ss t) old leafed-fair leafed-grows (record {
         memory = old.memory;
@@ -98,6 +100,7 @@ module _ (w : StageState) (old : IsSound w) (ss : List Static) (t : Term) where
         globals = λ i x at. at;
         constants = λ i x at. at;
         statics = statics;
+        fits = fits;
         plain = λ i n at. inl at;
         symbols = λ i x at. at;
         kept = λ t x at. inl at;
@@ -200,16 +203,16 @@ found-static P (s ∷ ss) a h all = by (P s) h (λ z. found-static P ss a z (λ 
     by false h rest = rest h
 
 room-address : (memory : ℕ) (ss : List Static) (size a : ℕ) → memory ≤ 67108864 → room_for memory ss size ≡ Some a →
-    (a < 2 ^ 64) × (next_static ss ≡ a)
+    (a < 2 ^ 64) × ((next_static ss ≡ a) × (has_room memory ss size ≡ true))
 room-address memory ss size a m h = by (has_room memory ss size) refl h
   where
     by : (c : Bool) → has_room memory ss size ≡ c → (if c then Some (next_static ss) else None) ≡ Some a →
-        (a < 2 ^ 64) × (next_static ss ≡ a)
+        (a < 2 ^ 64) × ((next_static ss ≡ a) × (c ≡ true))
     by true room h =
         let same : next_static ss ≡ a = same-some (next_static ss) a h in
         let below : next_static ss + size ≤ 1073741824 + memory / 2 = leb-true (next_static ss + size)
         (1073741824 + memory / 2) room in
-        (omega (arith, same, below, m), same)
+        (omega (arith, same, below, m), (same, refl))
     by false room h = absurd (none-some a h)
 
 static-term : (w : StageState) (at : Place) (a : ℕ) → is_placed at ≡ true → a < 2 ^ 64 →
@@ -223,11 +226,17 @@ pub record Next (w v : StageState) : Type 0 where
 
 pub leaf-next : (w : StageState) → IsSound w → (ss : List Static) (t : Term) → TermIsSound w t →
     ((i : ℕ) (x : Static) → slice_get ss i ≡ Some x → (slice_get w.store.statics i ≡ Some x) ⊎ (x.address < 2 ^ 64)) →
-    Next w (leafed w ss t)
-leaf-next w sound ss t h statics = record {
-  sound = leafed-sound w sound ss t h statics;
-  leads = leads-by w (leafed w ss t) (leafed-grows w sound ss t) refl refl;
+    StaticsFit (leafed w ss t) → Next w (leafed w ss t)
+leaf-next w sound ss t h statics fits = record {
+  sound = leafed-sound w sound ss t h statics fits;
+  leads = leads-by w (leafed w ss t) (leafed-grows w sound ss t) refl refl refl;
 }
+
+-- with the statics that were there
+pub leaf-beside : (w : StageState) → IsSound w → (t : Term) → TermIsSound w t → Next w (leafed w w.store.statics t)
+leaf-beside w sound t h =
+    leaf-next w sound w.store.statics t h (λ i x there. inl there)
+    (fits-same w (leafed w w.store.statics t) refl refl sound.fits)
 
 new-static : (w : StageState) (s : Static) (i : ℕ) (x : Static) → s.address < 2 ^ 64 → Where w.store.statics s i x →
     (slice_get w.store.statics i ≡ Some x) ⊎ (x.address < 2 ^ 64)
@@ -238,27 +247,27 @@ pub text-next : (w : StageState) → IsSound w → (at : Place) (bytes : List �
     text_address w.store.statics (ended bytes) ≡ o → room_for w.memory w.store.statics (length (ended bytes)) ≡ p →
     Next w (after w at (Text bytes))
 text-next w sound at bytes placed (Some a) p found room =
-    rw found (leaf-next w sound w.store.statics (kinds.Expression at (e.Static a))
-    (static-term w at a placed (found-static _ w.store.statics a found sound.statics)) (λ i x there. inl there))
+    rw found (leaf-beside w sound (kinds.Expression at (e.Static a))
+    (static-term w at a placed (found-static _ w.store.statics a found sound.statics)))
 text-next w sound at bytes placed None (Some a) found room =
     let h = room-address w.memory w.store.statics (length (ended bytes)) a sound.memory room in
     let s : Static = record { address = next_static w.store.statics; is_text = true; bytes = ended bytes } in
-    rw (found, room) (leaf-next w sound (w.store.statics ++ s ∷ []) (kinds.Expression at (e.Static a))
-    (static-term w at a placed h.0)
-    (λ i x there. new-static w s i x (subst (λ n. n < 2 ^ 64) (sym h.1) h.0) (where-push w.store.statics s i x there)))
+    let t = kinds.Expression at (e.Static a) in
+    rw (found, room) (leaf-next w sound (w.store.statics ++ s ∷ []) t (static-term w at a placed h.0)
+    (λ i x there. new-static w s i x (subst (λ n. n < 2 ^ 64) (sym h.1.0) h.0) (where-push w.store.statics s i x there))
+    (fits-more w (leafed w (w.store.statics ++ s ∷ []) t) true (ended bytes) refl refl h.1.1 sound.fits))
 text-next w sound at bytes placed None None found room =
     rw (found, room) (record { sound = sound; leads = leads-itself w })
 
 becomes-next : (w : StageState) → IsSound w → (at : Place) → is_placed at ≡ true → (b : Becoming) → BecomesSound w b →
     Next w (after w at b)
-becomes-next w sound at placed (Leaf leaf) h = leaf-next w sound w.store.statics (kinds.Expression at leaf) (placed, h)
-    (λ i x there. inl there)
+becomes-next w sound at placed (Leaf leaf) h = leaf-beside w sound (kinds.Expression at leaf) (placed, h)
 becomes-next w sound at placed (Text bytes) h =
     text-next w sound at bytes placed (text_address w.store.statics (ended bytes))
     (room_for w.memory w.store.statics (length (ended bytes))) refl refl
 becomes-next w sound at placed (Spliced t) h = record { sound = sound; leads = leads-itself w }
 becomes-next w sound at placed (Again source made) h =
-    leaf-next w sound w.store.statics (kinds.Expression at (e.Typed source made)) (placed, h) (λ i x there. inl there)
+    leaf-beside w sound (kinds.Expression at (e.Typed source made)) (placed, h)
 becomes-next w sound at placed (Not fault) h = record { sound = sound; leads = leads-itself w }
 
 pub becomes : (w : StageState) → IsSound w → (v : Value) (at : Place) → is_placed at ≡ true →

@@ -1,5 +1,5 @@
 -- A staging begins in a sound world.
-use Rattle.std.proofs.Common.{◌≡◌, ℕ, zero, suc, false, List, [], ◌∷◌, Some, refl, sym, slice_get}
+use Rattle.std.proofs.Common.{◌≡◌, ℕ, zero, suc, arith, false, List, [], ◌∷◌, Some, refl, sym, slice_get}
 use Rattle.std.specs.Prelude.{unwrap_or}
 use Rattle.lua_value.specs.declared.value.Value.{Value}
 use Rattle.terra_types.specs.declared.layout.Laid.{Laid}
@@ -66,6 +66,7 @@ begins-sound memory h = record {
   globals = λ i g at. absurd (none-some g at);
   constants = λ i c at. absurd (none-some c at);
   statics = λ i x at. absurd (none-some x at);
+  fits = record { below = omega arith; half = omega arith };
   plain = λ i n at. absurd (none-some n at);
   symbols = λ i x at. absurd (none-some x at);
   settled = λ t v h. absurd (unasked-apart v h);

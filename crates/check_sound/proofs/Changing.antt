@@ -21,6 +21,7 @@ use Rattle.check_model.specs.Calls.{known_result, parameter_types, parameters_of
 use Rattle.check_sound.specs.Sound.{foreseen, IsThereIfAny, TermIsThere, IsSound, HasBodyOf, typed_body}
 use Rattle.check_sound.proofs.Tests.{none-some, same-some}
 use Rattle.check_sound.proofs.Grows.{Grows, keeps-types-of}
+use Rattle.check_sound.proofs.Statics.{fits-same}
 use Rattle.check_sound.proofs.Worlds.{Fair, fair-of, sound-from, body-grows}
 
 -- ---- lists with another element
@@ -148,7 +149,8 @@ module _ (w : StageState) (old : IsSound w) (f : FnId) (g : Function) (at : func
       by (inr apart) = others h x (sym (other h apart) ∙ there)
 
   has-still : (t made : TermId) → HasBodyOf w t made → HasBodyOf v t made
-  has-still t made h = record { body = h.body; there = h.there; parameters = h.parameters; result = h.result }
+  has-still t made h =
+      record { body = h.body; there = h.there; parameters = h.parameters; result = h.result; small = h.small }
 
   there-still : (o : Option TermId) → TermIsThere w o → TermIsThere v o
   there-still None h = tt
@@ -202,6 +204,7 @@ module _ (w : StageState) (old : IsSound w) (f : FnId) (g : Function) (at : func
       globals = λ i x there. there;
       constants = λ i x there. there;
       statics = λ i x there. inl there;
+      fits = fits-same w v refl refl old.fits;
       plain = λ i n there. inl there;
       symbols = λ i x there. there;
       kept = λ t x there. inl there;

@@ -108,7 +108,7 @@ not-yet q e = cc e
 pub being : (q : TypeId) → BeingTyped ≡ Is q → ⊥
 being q e = cc e
 
-same-is : (r q : TypeId) → Is r ≡ Is q → r ≡ q
+pub same-is : (r q : TypeId) → Is r ≡ Is q → r ≡ q
 same-is r q e = cc e
 
 -- ---- what is known is foreseen

@@ -6,6 +6,7 @@ pub mod Naming
 pub mod Passing
 pub mod Growing
 pub mod Grows
+pub mod Statics
 pub mod Leading
 pub mod Worlds
 pub mod SameFunctions
@@ -56,4 +57,5 @@ pub mod Knows
 pub mod Settling
 pub mod OfLayouts
 pub mod Lasting
+pub mod Counted
 mod Examples

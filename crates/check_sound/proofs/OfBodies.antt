@@ -1,7 +1,7 @@
 -- Bodies leave typed terms: what a function has then is a body that passes the test.
 use Rattle.std.proofs.Common.{◌≡◌, ℕ, Bool, true, false, List, [], ◌∷◌, ◌++◌, length, drop, append_assoc, append-nil, Option, Some, None, refl, sym, ap, ◌∙◌, subst, arith, slice_get}
-use Rattle.std.specs.Prelude.{unwrap_or, if◌then◌else◌}
-use Rattle.std.proofs.lemmas.Bool.{and_from}
+use Rattle.std.specs.Prelude.{◌≤◌, ◌||◌, min, nat_lt, option_map, unwrap_or, if◌then◌else◌}
+use Rattle.std.proofs.lemmas.Bool.{and_from, ltb-false}
 use Rattle.tl_base.specs.declared.place.Place.{Place}
 use Rattle.tl_base.specs.declared.ids.TermId.{TermId}
 use Rattle.tl_base.specs.declared.ids.TypeId.{TypeId}
@@ -18,6 +18,7 @@ use Rattle.terra_term.specs.Planted.{typed_trees, typed_block_at}
 use Rattle.terra_term.specs.TypedTerms as typed
 use Rattle.terra_term.specs.WellTyped.{body_typed, names_laid_out, types_of_names, with_names, all_typed}
 use Rattle.exotype.specs.World.{StageState}
+use Rattle.terra_term.specs.Sizes.{most, capped, leaf, body_size, typed_item_size}
 use Rattle.exotype.specs.Terms.{typed_size}
 use Rattle.check_model.specs.declared.site.Site.{Site}
 use Rattle.check_model.specs.declared.job.BodyJob.{BodyJob}
@@ -29,8 +30,10 @@ use Rattle.check_model.specs.Typing.{TypingState, with_variable}
 use Rattle.check_model.specs.Plans.{BodyPlan, then_on, on_made, refuse}
 use Rattle.check_model.specs.Calls.{call_value, params_of, written_in, types_of}
 use Rattle.check_model.specs.Expressions.{statements, expression_job}
-use Rattle.check_model.specs.Bodies.{body, body_job, parameters, names_of, is_too_large, made_function, definition_plan}
+use Rattle.check_model.specs.Bodies.{body, body_job, parameters, names_of, most_nodes, is_too_large, made_function, definition_plan}
 use Rattle.check_sound.specs.Sound.{foreseen, IsThere, IsThereIfAny, ParametersAreThere, IsSound, typed_body, body_in}
+use Rattle.check_sound.proofs.Tests.{no}
+use Rattle.check_sound.proofs.Foreseen.{body-item}
 use Rattle.check_sound.proofs.Grows.{Grows, grows-twice}
 use Rattle.check_sound.proofs.Leading.{leads-itself, leads-twice, Moves, moves-itself, moves-same, moves-twice}
 use Rattle.check_sound.proofs.Worlds.{fair-of, any-grows, there-grows, body-grows, statements-grow}
@@ -120,8 +123,27 @@ pub record Defined (w v : StageState) (t id : TermId) : Type 0 where
   pub result : IsThere v body.result
   pub written : (r : TypeId) → written_in (slice_get v.store.terms t.0) ≡ Some r → body.result ≡ r
 
+-- a body that has no more nodes than it may have
+abbrev pub IsSmall : StageState → TermId → Type 0
+IsSmall w id = (b : typed.Body) → typed_body w id ≡ Some b → (body_size b).nodes ≤ most_nodes
+
+false-left : (a b : Bool) → (a || b) ≡ false → a ≡ false
+false-left true b e = absurd (no (sym e))
+false-left false b e = refl
+
+at-most : (n : ℕ) → min n most ≤ most_nodes → n ≤ most_nodes
+at-most n h = omega (arith, h)
+
+small-enough : (w : StageState) (id : TermId) → is_too_large (typed_size w id) ≡ false → IsSmall w id
+small-enough w id e b there =
+    let size : typed_size w id ≡ capped (body_size b) =
+    ap (λ o. unwrap_or (option_map (λ item. capped (typed_item_size item)) o) leaf) (body-item w id b there) in
+    let few : nat_lt most_nodes (capped (body_size b)).nodes ≡ false =
+    false-left (nat_lt most_nodes (capped (body_size b)).nodes) _ (ap is_too_large (sym size) ∙ e) in
+    at-most (body_size b).nodes (ltb-false most_nodes (capped (body_size b)).nodes few)
+
 abbrev pub Defines : TypingState → TermId → PartEnd → TypingState → Type 0
-Defines w t (ends.Stated id result) v = Defined w.stage v.stage t id × Moves w v
+Defines w t (ends.Stated id result) v = Defined w.stage v.stage t id × (Moves w v × IsSmall v.stage id)
 Defines w t (ends.Refused why) v = IsSound v.stage × Moves w v
 Defines w t _ v = ⊥
 
@@ -269,12 +291,14 @@ module _ (w : TypingState) (sound : IsSound w.stage) (t : TermId) (site : Site) 
       no_loop no_let refl h in
       let added_too = moves-twice w v x g (moves-same v x (added-leads v.stage s n) refl) in
       if-large (is_too_large (typed_size x.stage (next_typed v.stage.store))) x d added_too
+      (λ e. small-enough x.stage (next_typed v.stage.store) e)
     where
       if-large : (c : Bool) (x : TypingState) → Defined w.stage x.stage t (next_typed v.stage.store) → Moves w x →
+          (c ≡ false → IsSmall x.stage (next_typed v.stage.store)) →
           Holds q (if c then refuse refusals.TooLarge at site else Give
           (ends.Stated (next_typed v.stage.store) (Some (unwrap_or found unit)))) x
-      if-large true x d m = (d.sound, m)
-      if-large false x d m = (d, m)
+      if-large true x d m small = (d.sound, m)
+      if-large false x d m small = (d, (m, small refl))
 
   pub holds-definition : (o : Option Term) (at : Place) → slice_get w.stage.store.terms t.0 ≡ o →
       Holds q (definition_plan o at site) w

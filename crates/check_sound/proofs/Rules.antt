@@ -66,8 +66,8 @@ pub pointer-usable : (w : StageState) (t : TypeId) → is_pointer (foreseen w) t
 pointer-usable w t h = scalar-usable (foreseen w) t (pointer-scalar (form_of w.store.types t) h)
 
 -- two operands
-pub two : (s : Scope) (w : StageState) (at : Place) (of : TypeId) (op : Operation) (x y : Made) → is_plain_operation op ≡ true → is_placed at ≡ true →
-    IsThere w of →
+pub two : (s : Scope) (w : StageState) (at : Place) (of : TypeId) (op : Operation) (x y : Made) → is_plain_operation op ≡ true →
+    is_placed at ≡ true → IsThere w of →
     Known s w x → Known s w y → is_usable (foreseen w) x.of ≡ true → is_usable (foreseen w) y.of ≡ true →
     operation_typed (foreseen w) op (x.of ∷ y.of ∷ []) of ≡ true →
     Makes s w at of (te.Operate op (x.id ∷ y.id ∷ [])) (typed.Operate op
@@ -76,8 +76,8 @@ two s w at of op x y plain placed there a b u v h =
     operates s w at of op (x.id ∷ y.id ∷ []) (x.of ∷ y.of ∷ []) plain placed there (part-of s w x a, (part-of s w y b, tt))
     (and_from _ _ u (and_from _ _ v refl)) h
 
-pub one : (s : Scope) (w : StageState) (at : Place) (of : TypeId) (op : Operation) (x : Made) → is_plain_operation op ≡ true → is_placed at ≡ true →
-    IsThere w of → Known s w x →
+pub one : (s : Scope) (w : StageState) (at : Place) (of : TypeId) (op : Operation) (x : Made) → is_plain_operation op ≡ true →
+    is_placed at ≡ true → IsThere w of → Known s w x →
     is_usable (foreseen w) x.of ≡ true → operation_typed (foreseen w) op (x.of ∷ []) of ≡ true →
     Makes s w at of (te.Operate op (x.id ∷ [])) (typed.Operate op
     (typed_list_at (typed_trees w.store.typed) (x.id ∷ [])))

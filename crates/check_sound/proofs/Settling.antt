@@ -30,6 +30,7 @@ use Rattle.check_sound.specs.Growing.{Grows, Leads}
 use Rattle.check_sound.proofs.Tests.{same-some, no, three}
 use Rattle.check_sound.proofs.Shapes.{size-kept}
 use Rattle.check_sound.proofs.Passing.{Lies}
+use Rattle.check_sound.proofs.Statics.{fits-same}
 use Rattle.check_sound.proofs.Leading.{leads-by}
 use Rattle.check_sound.proofs.Worlds.{Fair, fair-of, any-grows, sound-from}
 use Rattle.check_sound.proofs.SameFunctions.{grows-same}
@@ -149,7 +150,7 @@ settles w old t n p at es l is =
     subst (λ z. Settles w (listed w z w.store.typed) t) (sym (set-is ts old.types lies t n p at l ok)) (record {
       sound = listed-sound w old next w.store.typed types all keeps (λ i x h. h) (λ i n at. inl at);
       leads = leads-by w (listed w next w.store.typed)
-          (listed-grows w old next w.store.typed types all keeps (λ i x h. h)) refl refl;
+          (listed-grows w old next w.store.typed types all keeps (λ i x h. h)) refl refl refl;
       size = ap is_some (set-size ts old.types lies t n p at l ok);
     })
 
@@ -165,14 +166,14 @@ module _ (w : StageState) (old : IsSound w) (kept : KeptState) where
       (keeps-types w.store.types)
 
   pub kept-leads : Leads w (kept_else w kept)
-  kept-leads = leads-by w (kept_else w kept) kept-grows refl refl
+  kept-leads = leads-by w (kept_else w kept) kept-grows refl refl refl
 
   kept-fair : Fair (kept_else w kept)
   kept-fair = record {
     types = old.types;
     lies = (fair-of w old).lies;
     bodies = λ f t made g at is. let b = old.typed_bodies f t made g at is in
-        record { body = b.body; there = b.there; parameters = b.parameters; result = b.result };
+        record { body = b.body; there = b.there; parameters = b.parameters; result = b.result; small = b.small };
     defined = (fair-of w old).defined;
   }
 
@@ -194,6 +195,7 @@ module _ (w : StageState) (old : IsSound w) (kept : KeptState) where
     globals = λ i x at. at;
     constants = λ i x at. at;
     statics = λ i x at. inl at;
+    fits = fits-same w (kept_else w kept) refl refl old.fits;
     plain = λ i n at. inl at;
     symbols = λ i x at. at;
     kept = λ t x at. inr (settled t x at);

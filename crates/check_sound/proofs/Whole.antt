@@ -1,5 +1,5 @@
 -- Typing keeps worlds sound.
-use Rattle.std.proofs.Common.{◌≡◌, ℕ, true, List, length, take, Option, Some, None, refl, sym, ap, ◌∙◌, subst, slice_get}
+use Rattle.std.proofs.Common.{◌≡◌, true, List, length, take, Option, Some, None, refl, sym, ap, ◌∙◌, subst, slice_get}
 use Rattle.std.specs.Prelude.{◌⊎◌, unwrap_or}
 use Rattle.std.specs.Option.{option_map_or}
 use Rattle.std.proofs.lemmas.Bool.{cases_eq}
@@ -9,12 +9,13 @@ use Rattle.tl_base.specs.declared.ids.TermId.{TermId}
 use Rattle.tl_base.specs.declared.ids.TypeId.{TypeId}
 use Rattle.tl_base.specs.Layer.{Seen, Ended, SpentAt, Asks}
 use Rattle.tl_base.specs.Plan.{Give, Do, AskFor, Read, Write, Pay}
+use Rattle.lua_table.specs.Keeping.{IsFront}
+use Rattle.lua_table.proofs.Keeping.{front_then}
 use Rattle.terra_types.specs.Opening.{unit}
 use Rattle.terra_term.specs.declared.refusal.Refusal.{Refusal}
 use Rattle.terra_term.specs.declared.refusal.RefusalKind.{RefusalKind}
 use Rattle.terra_term.specs.declared.refusal.RefusalKind.TheVariants as refusals
 use Rattle.terra_term.specs.declared.lists.TypedName.{TypedName}
-use Rattle.terra_term.specs.declared.store.Export.{Export}
 use Rattle.terra_term.specs.declared.store.Function.{Function}
 use Rattle.terra_term.specs.declared.store.FunctionState.{FunctionState}
 use Rattle.terra_term.specs.declared.store.FunctionState.TheVariants as standing
@@ -36,17 +37,17 @@ use Rattle.check_model.specs.Plans.{BodyPlan}
 use Rattle.check_model.specs.Calls.{known_or, known_result, parameter_types, written_in, found_in, result_of, result_in_state}
 use Rattle.check_model.specs.Bodies.{BodyGiven, body, close_body, definition_plan, close_function, site_of, begun_in, function_plan, for_function}
 use Rattle.check_sound.specs.Sound.{foreseen, TermIsThere, IsSound, HasBodyOf, typed_body}
-use Rattle.check_sound.specs.Growing.{Grows, WasReady, StaysDeclared, Leads}
+use Rattle.check_sound.specs.Growing.{Grows, StaysDeclared, AreFine, Leads}
 use Rattle.check_sound.specs.Layers.{IsTypedAs, BodyStaysSound, MayBeTyped, KeepsSound}
 use Rattle.check_sound.proofs.Tests.{same-some}
 use Rattle.check_sound.proofs.Foreseen.{body-result}
 use Rattle.check_sound.proofs.Knowing.{known-some, not-yet, being}
 use Rattle.check_sound.proofs.Grows.{grows-twice}
-use Rattle.check_sound.proofs.Leading.{StayDeclared, declared-twice, leads-itself, was-ready-on, Moves}
+use Rattle.check_sound.proofs.Leading.{StayDeclared, declared-twice, leads-itself, same-front, fine-grows, Moves}
 use Rattle.check_sound.proofs.Scopes.{take-front}
 use Rattle.check_sound.proofs.Running.{Holds, Shows, ends-so}
 use Rattle.check_sound.proofs.Changing.{changed, Restated, Changes, changed-next, set-here, set-other}
-use Rattle.check_sound.proofs.OfBodies.{holds-then, each-holds, Defined, Defines, holds-definition}
+use Rattle.check_sound.proofs.OfBodies.{holds-then, each-holds, Defined, IsSmall, Defines, holds-definition}
 
 -- ---- what a new state keeps
 
@@ -91,12 +92,12 @@ module _ (w : StageState) (old : IsSound w) (f : FnId) (g : Function) (at : func
   begun-changes (standing.Refused t why) is = still-changes (standing.Refused t why) is
 
   -- a typed function
-  finished-changes : (w0 : StageState) (t id : TermId) → Defined w0 w t id → (s : FunctionState) → g.state ≡ s →
+  finished-changes : (w0 : StageState) (t id : TermId) → Defined w0 w t id → IsSmall w id → (s : FunctionState) → g.state ≡ s →
       term_in s ≡ Some t → Changes w f g (finished s id)
-  finished-changes w0 t id d (standing.Typing u) is term =
+  finished-changes w0 t id d few (standing.Typing u) is term =
       let same : u ≡ t = same-some u t term in
       let has : HasBodyOf w u id = subst (λ z. HasBodyOf w z id) (sym same)
-      (record { body = d.body; there = d.is; parameters = d.parameters; result = d.result }) in
+      (record { body = d.body; there = d.is; parameters = d.parameters; result = d.result; small = few d.body d.is }) in
       record {
         stays = subst (λ z. Stays z (standing.Typed u id)) (sym is) (stays-finished (standing.Typing u) id);
         parameters = λ ps p. ap (parameter_types w g) (sym is) ∙ p;
@@ -116,10 +117,10 @@ module _ (w : StageState) (old : IsSound w) (f : FnId) (g : Function) (at : func
             subst (λ z. body_typed (foreseen w) z ≡ true)
             (same-some d.body b (sym d.is ∙ subst (λ z. typed_body w z ≡ Some b) (sym p.1) there)) d.passes;
       }
-  finished-changes w0 t id d standing.Undefined is term = still-changes standing.Undefined is
-  finished-changes w0 t id d (standing.Defined u) is term = still-changes (standing.Defined u) is
-  finished-changes w0 t id d (standing.Typed u made) is term = still-changes (standing.Typed u made) is
-  finished-changes w0 t id d (standing.Refused u why) is term = still-changes (standing.Refused u why) is
+  finished-changes w0 t id d few standing.Undefined is term = still-changes standing.Undefined is
+  finished-changes w0 t id d few (standing.Defined u) is term = still-changes (standing.Defined u) is
+  finished-changes w0 t id d few (standing.Typed u made) is term = still-changes (standing.Typed u made) is
+  finished-changes w0 t id d few (standing.Refused u why) is term = still-changes (standing.Refused u why) is
 
   -- a refused one
   kept-changes : (u : TermId) → g.state ≡ standing.Typing u → (kind : RefusalKind) (why : Refusal) →
@@ -190,6 +191,7 @@ record LeadsBut (f : FnId) (w v : StageState) : Type 0 where
   declared : StayDeclared w v
   typing : (h : FnId) (t : TermId) → (f.0 ≡ h.0 → ⊥) → state_of w.store h ≡ standing.Typing t →
       state_of v.store h ≡ standing.Typing t
+  memory : v.memory ≡ w.memory
   exports : v.exports ≡ w.exports
 
 declared-but : (w : StageState) (f : FnId) (g : Function) (z : FunctionState) → function_at w f ≡ Some g →
@@ -219,6 +221,7 @@ restated-but w f g z at n = record {
   grows = n.grows;
   declared = declared-but w f g z at;
   typing = λ h t apart e. state-other w f h g z at apart ∙ e;
+  memory = refl;
   exports = refl;
 }
 
@@ -235,21 +238,23 @@ module _ (f : FnId) (w b x c : StageState) (free : (t : TermId) → state_of w.s
       by (inl same) = absurd (free t (subst (λ z. state_of w.store z ≡ standing.Typing t) (sym (same-id same)) e))
       by (inr apart) = last.typing h t apart (behind.typing h t (first.typing h t apart e))
 
-  whole-exports : (i : ℕ) (e : Export) → slice_get c.exports.list i ≡ Some e →
-      (slice_get w.exports.list i ≡ Some e) ⊎ WasReady c e.function
-  whole-exports i e h = by (behind.exports i e (ap (λ z. slice_get z.list i) (sym last.exports) ∙ h))
-    where
-      by : (slice_get b.exports.list i ≡ Some e) ⊎ WasReady x e.function →
-          (slice_get w.exports.list i ≡ Some e) ⊎ WasReady c e.function
-      by (inl at) = inl (ap (λ z. slice_get z.list i) (sym first.exports) ∙ at)
-      by (inr r) = inr (was-ready-on x c last.grows e.function r)
+  whole-exports : IsFront w.exports.list c.exports.list
+  whole-exports =
+      front_then w.exports.list x.exports.list c.exports.list
+      (front_then w.exports.list b.exports.list x.exports.list (same-front w b first.exports) behind.exports)
+      (same-front x c last.exports)
+
+  whole-fine : AreFine w → AreFine c
+  whole-fine h = fine-grows x c last.grows last.exports (behind.fine (fine-grows w b first.grows first.exports h))
 
   whole-leads : Leads w c
   whole-leads = record {
     grows = grows-twice w x c (grows-twice w b x first.grows behind.grows) last.grows;
     declared = declared-twice w x c (declared-twice w b x first.declared behind.declared) last.declared;
     typing = whole-typing;
+    memory = last.memory ∙ (behind.memory ∙ first.memory);
     exports = whole-exports;
+    fine = whole-fine;
   }
 
 -- ---- the end of a function
@@ -353,9 +358,9 @@ module _ (w : TypingState) (sound : IsSound w.stage) (f : FnId) (g : Function) (
   closes : (r : PartEnd) (v : TypingState) → Defines b t r v → Holds (Done w f) (close_function f (length w.variables) r) v
   closes (ends.Stated id result) v h =
       let d = h.0 in
-      let m = h.1 in
+      let m = h.1.0 in
       let e = ends-with v m d.sound (λ s. finished s id)
-      (λ g2 there state. finished-changes v.stage d.sound f g2 there b.stage t id d g2.state refl (ap term_in state)) in
+      (λ g2 there state. finished-changes v.stage d.sound f g2 there b.stage t id d h.1.1 g2.state refl (ap term_in state)) in
       let z = finished (state_of v.stage.store f) id in (
         e.1.1.1.0,
         (

@@ -39,7 +39,7 @@ use Rattle.exotype.specs.Properties.{known_of}
 use Rattle.exotype.specs.declared.property.Property.TheVariants.{Entries}
 use Rattle.exotype.specs.declared.property.Known.TheVariants as known
 use Rattle.check_model.specs.Typing.{function_at}
-use Rattle.check_sound.specs.Sound.{foreseen, outermost, IsTypedSomewhere, QuoteIsSound, IsThere, IsThereIfAny, TermIsThere, ParametersAreThere, NamesAreThere, is_statement, AreStatements, AreStatementsIfAny, ExpressionIsSound, StatementIsSound, TermIsSound, ConstantIsSound, IsSound, is_plain_node, typed_body}
+use Rattle.check_sound.specs.Sound.{foreseen, outermost, IsTypedSomewhere, QuoteIsSound, IsThere, IsThereIfAny, TermIsThere, ParametersAreThere, NamesAreThere, is_statement, AreStatements, AreStatementsIfAny, ExpressionIsSound, StatementIsSound, TermIsSound, ConstantIsSound, StaticsFit, IsSound, is_plain_node, typed_body}
 use Rattle.check_sound.proofs.Tests.{got, keep_or, stay, no}
 use Rattle.check_sound.proofs.Knowing.{BodiesThere, knows-to, knows-from}
 use Rattle.check_sound.proofs.Shapes.{size-kept}
@@ -197,6 +197,7 @@ pub record Follows (w v : StageState) : Type 0 where
       slice_get w.store.constants i ≡ Some x
   pub statics : (i : ℕ) (x : Static) → slice_get v.store.statics i ≡ Some x →
       (slice_get w.store.statics i ≡ Some x) ⊎ (x.address < 2 ^ 64)
+  pub fits : StaticsFit v
   pub plain : (i : ℕ) (n : Typed) → slice_get v.store.typed i ≡ Some n →
       (slice_get w.store.typed i ≡ Some n) ⊎ (is_plain_node n ≡ true)
   pub symbols : (i : ℕ) (x : Symbol) → slice_get v.store.symbols i ≡ Some x → slice_get w.store.symbols i ≡ Some x
@@ -243,6 +244,7 @@ module _ (w v : StageState) (old : IsSound w) (h : Fair v) (g : Grows w v) where
     );
     constants = λ i x at. constant-sound w v (fair-of w old) h g x (old.constants i x (c.constants i x at));
     statics = λ i x at. new-static x i (c.statics i x at);
+    fits = c.fits;
     plain = λ i n at. new-node n i (c.plain i n at);
     symbols = λ i x at. any-grows w v (fair-of w old) h g x.of (old.symbols i x (c.symbols i x at));
     settled = λ t x at. new-size t x (c.kept t x at);

@@ -1,10 +1,11 @@
 -- What each layer of a staging keeps, whatever it asks and is answered: where it asks, and where it ends, its world is sound.
-use Rattle.std.specs.Prelude.{◌≡◌, true, List, ◌∷◌, ◌++◌, Some, slice_get, unwrap_or}
+use Rattle.std.specs.Prelude.{◌≡◌, ℕ, true, List, ◌∷◌, ◌++◌, Some, slice_get, unwrap_or}
 use Rattle.tl_base.specs.declared.ids.FnId.{FnId}
 use Rattle.tl_base.specs.declared.ids.TermId.{TermId}
 use Rattle.tl_base.specs.declared.ids.TypeId.{TypeId}
 use Rattle.tl_base.specs.Layer.{State, Given, Seen, Ended, SpentAt, Asks, Meaning}
 use Rattle.terra_types.specs.Opening.{unit}
+use Rattle.terra_term.specs.declared.store.Export.{Export}
 use Rattle.terra_term.specs.declared.store.Function.{Function}
 use Rattle.terra_term.specs.declared.store.FunctionState.{FunctionState}
 use Rattle.terra_term.specs.declared.store.FunctionState.TheVariants as standing
@@ -31,7 +32,8 @@ use Rattle.check_model.specs.Bodies.{BodyGiven, body}
 use Rattle.check_model.specs.Checks.{CheckGiven, check, was_reached}
 use Rattle.check_model.specs.Layouts.{LayoutGiven, layout}
 use Rattle.check_sound.specs.Sound.{IsSound, IsReady}
-use Rattle.check_sound.specs.Growing.{WasReady, Leads}
+use Rattle.check_sound.specs.Exports.{AreCounted}
+use Rattle.check_sound.specs.Growing.{WasReady, WereCounted, Leads}
 
 -- an answer is given in a sound world, to which the layer of the question has led
 abbrev pub IsBack : {A : Type 0} → State StageState → Given StageState A → Type 0
@@ -177,3 +179,9 @@ LayoutsKeepSound =
 -- The law: what was ready once is ready in each sound world that has grown since.
 abbrev pub ReadyStays : Type 0
 ReadyStays = (v : StageState) (f : FnId) → IsSound v → WasReady v f → ReachesReady v f
+
+-- The law: exports that were counted once have as many typed nodes, with all that they reach, in each sound world that has grown since.
+abbrev pub CountedStay : Type 0
+CountedStay =
+    (v : StageState) (exports : List Export) (fs : List ℕ) (nodes : ℕ) → IsSound v → WereCounted v exports fs nodes →
+    AreCounted v exports fs nodes

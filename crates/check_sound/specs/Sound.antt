@@ -1,7 +1,7 @@
 -- That typing leaves typed terms: each body that is typed passes the test of typed terms. A body may call a function that isn't typed
 -- yet, or isn't even defined, where its type is written. So the test is made with the functions as they are foreseen; where all that
 -- a body reaches is typed, as behind a check, these are the functions as they are.
-use Rattle.std.specs.Prelude.{◌≡◌, ℕ, ◌+◌, ◌<◌, ◌≤◌, ◌^◌, ◌||◌, Bool, true, false, List, [], ◌∷◌, ◌++◌, length, nat_eq}
+use Rattle.std.specs.Prelude.{◌≡◌, ℕ, ◌+◌, ◌/◌, ◌<◌, ◌≤◌, ◌^◌, ◌||◌, Bool, true, false, List, [], ◌∷◌, ◌++◌, length, nat_eq}
 use Rattle.std.specs.Prelude.{Option, Some, None, is_some, slice_get, if◌then◌else◌}
 use Rattle.tl_base.specs.declared.place.Place.{Place}
 use Rattle.tl_base.specs.declared.ids.FnId.{FnId}
@@ -38,9 +38,10 @@ use Rattle.terra_term.specs.declared.typed.Typed.{Typed}
 use Rattle.terra_term.specs.declared.typed.Typed.TheVariants as nodes
 use Rattle.terra_term.specs.declared.typed.TypedExpression.{TypedExpression}
 use Rattle.terra_term.specs.declared.typed.TypedExpression.TheVariants as of_typed
-use Rattle.terra_term.specs.Held.{term_in}
+use Rattle.terra_term.specs.Held.{term_in, first_static, statics_end}
+use Rattle.terra_term.specs.Sizes.{body_size}
 use Rattle.terra_term.specs.Planted.{typed_at, typed_trees}
-use Rattle.terra_term.specs.Stores.{Contents, Callable, contents_of, callable_of}
+use Rattle.terra_term.specs.Stores.{Contents, Callable, contents_of, callable_of, static_bytes}
 use Rattle.terra_term.specs.TypedTerms as typed
 use Rattle.terra_term.specs.WellTyped.{Within, Scope, is_typed, body_typed, is_placed, constant_typed, has_layout, types_of_names}
 use Rattle.exotype.specs.World.{StageState, opening}
@@ -52,6 +53,7 @@ use Rattle.check_model.specs.Typing.{function_at, bytes_in}
 use Rattle.check_model.specs.declared.known.KnownResult.{KnownResult}
 use Rattle.check_model.specs.declared.known.KnownResult.TheVariants.{Is}
 use Rattle.check_model.specs.Calls.{known_result, parameter_types, params_of}
+use Rattle.check_model.specs.Bodies.{most_nodes}
 use Rattle.check_model.specs.Checks.{was_reached, mentions_at}
 use Rattle.check_model.specs.declared.job.Reached.{Reached}
 
@@ -196,18 +198,25 @@ abbrev pub is_plain_node : Typed → Bool
 is_plain_node (nodes.Expression at of x) = is_plain_form x
 is_plain_node n = true
 
--- a typed function has its body, whose parameters have the types that its term gives them, and whose result type is there
+-- a typed function has its body, whose parameters have the types that its term gives them, whose result type is there, and which has no
+-- more nodes than a body may have
 pub record HasBodyOf (w : StageState) (t made : TermId) : Type 0 where
   pub body : typed.Body
   pub there : typed_body w made ≡ Some body
   pub parameters : types_of_names body.parameters ≡ params_of (slice_get w.store.terms t.0)
   pub result : IsThere w body.result
+  pub small : (body_size body).nodes ≤ most_nodes
 
 -- an entry of a struct lies within it
 pub record LiesWithin (w : StageState) (struct : TypeId) (l : Laid) : Type 0 where
   pub size : ℕ
   pub is : size_of w.store.types l.of ≡ Some size
   pub within : l.offset + size ≤ bytes_in w struct
+
+-- statics take half of the memory at most, and lie below the end of the last one
+pub record StaticsFit (w : StageState) : Type 0 where
+  pub below : first_static + length (static_bytes (contents_of w.store)) ≤ statics_end w.store.statics
+  pub half : length (static_bytes (contents_of w.store)) ≤ w.memory / 2
 
 -- What is named is there, and typed terms pass their tests. Where the entries of a struct were read, its size is known.
 pub record IsSound (w : StageState) : Type 0 where
@@ -227,6 +236,7 @@ pub record IsSound (w : StageState) : Type 0 where
       (has_layout (foreseen w) g.of ≡ true) × (g.address < 2 ^ 64)
   pub constants : (i : ℕ) (c : TerraConstant) → slice_get w.store.constants i ≡ Some c → ConstantIsSound w c
   pub statics : (i : ℕ) (x : Static) → slice_get w.store.statics i ≡ Some x → x.address < 2 ^ 64
+  pub fits : StaticsFit w
   pub plain : (i : ℕ) (n : Typed) → slice_get w.store.typed i ≡ Some n → is_plain_node n ≡ true
   pub symbols : (i : ℕ) (x : Symbol) → slice_get w.store.symbols i ≡ Some x → IsThereIfAny w x.of
   pub settled : (t : TypeId) (v : Value) → known_of w.kept (Entries t) ≡ known.Value v → is_some (size_of w.store.types t) ≡ true

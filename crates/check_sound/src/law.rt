@@ -1,7 +1,7 @@
 // What typing promises of typed terms. Each function does nothing, and its clause is a law.
 
 ghost use Rattle.check_sound.specs.Sound.{BeginsSound};
-ghost use Rattle.check_sound.specs.Layers.{ChecksKeepSound, KeepsSound, LayoutsKeepSound, ReadyStays};
+ghost use Rattle.check_sound.specs.Layers.{ChecksKeepSound, CountedStay, KeepsSound, LayoutsKeepSound, ReadyStays};
 ghost use Rattle.check_sound.specs.Reached.{ReachedStoresAreTyped};
 
 /// A staging begins in a sound world, whatever memory within the limit its runs have.
@@ -27,6 +27,11 @@ pub fn layouts_keep_sound()
 /// What was ready once is ready in each sound world that has grown since.
 pub fn ready_stays()
     ensures { ReadyStays }
+{}
+
+/// Exports that were counted once are counted so in each sound world that has grown since.
+pub fn counted_stays()
+    ensures { CountedStay }
 {}
 
 /// A store with what a check reached alone is typed: each function that can be called in it passes the test of typed terms there, and

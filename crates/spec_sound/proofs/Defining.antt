@@ -27,7 +27,8 @@ use Rattle.check_sound.specs.Sound.{foreseen, typed_body, IsThereIfAny, TermIsTh
 use Rattle.check_sound.specs.Growing.{Grows, StaysDeclared}
 use Rattle.check_sound.proofs.Tests.{none-some, same-some}
 use Rattle.check_sound.proofs.Grows.{keeps-types-of}
-use Rattle.check_sound.proofs.Leading.{StayDeclared}
+use Rattle.check_sound.proofs.Statics.{fits-same}
+use Rattle.check_sound.proofs.Leading.{StayDeclared, same-front, fine-grows}
 use Rattle.check_sound.proofs.Knowing.{known-some, not-yet}
 use Rattle.check_sound.proofs.Worlds.{Fair, fair-of, sound-from}
 use Rattle.check_sound.proofs.Adding.{still-typed}
@@ -81,7 +82,7 @@ module _ (w : StageState) (old : IsSound w) (fs : List Function)
       g.state ≡ standing.Typed t made → HasBodyOf v t made
   bodies f t made g (inl at) is =
       let h = old.typed_bodies f t made g at is in
-      record { body = h.body; there = h.there; parameters = h.parameters; result = h.result }
+      record { body = h.body; there = h.there; parameters = h.parameters; result = h.result; small = h.small }
   bodies f t made g (inr new) is = absurd (none-some made (sym new.untyped ∙ ap typed_in is))
 
   defined : (f : FnId) (g : Function) → (function_at w f ≡ Some g) ⊎ Untyped w g → TermIsThere v (term_in g.state)
@@ -113,6 +114,7 @@ module _ (w : StageState) (old : IsSound w) (fs : List Function)
     globals = λ i x there. there;
     constants = λ i x there. there;
     statics = λ i x there. inl there;
+    fits = fits-same w v refl refl old.fits;
     plain = λ i n there. inl there;
     symbols = λ i x there. there;
     kept = λ t x there. inl there;
@@ -128,7 +130,14 @@ module _ (w : StageState) (old : IsSound w) (fs : List Function)
       Next w v
   functioned-follows declared typing = record {
     sound = functioned-sound;
-    leads = record { grows = grows; declared = declared; typing = typing; exports = λ i e at. inl at };
+    leads = record {
+      grows = grows;
+      declared = declared;
+      typing = typing;
+      memory = refl;
+      exports = same-front w v refl;
+      fine = fine-grows w v grows refl;
+    };
   }
 
 -- ---- a new function

@@ -27,8 +27,9 @@ use Rattle.check_sound.proofs.Grows.{keeps-types-of}
 use Rattle.check_sound.proofs.Worlds.{Fair, fair-of, layout-grows, term-grows, quote-grows, constant-sound}
 use Rattle.check_sound.proofs.SameFunctions.{grows-same}
 use Rattle.check_sound.proofs.Adding.{still-typed, listed, listed-sound, listed-grows, pointer-points, pointer-leads}
+use Rattle.check_sound.proofs.Statics.{fits-same}
 use Rattle.check_sound.proofs.Leading.{leads-by}
-use Rattle.check_sound.proofs.Becoming.{Next, leaf-next, text-next}
+use Rattle.check_sound.proofs.Becoming.{Next, leaf-beside, text-next}
 use Rattle.check_sound.proofs.NewTypes.{follows-struct}
 use Rattle.spec_model.specs.Making.{with_symbol, with_quote, with_name, with_term}
 use Rattle.spec_sound.proofs.Following.{next-twice}
@@ -58,7 +59,7 @@ module _ (w : StageState) (old : IsSound w) (heap : LuaState) (structs : List St
     lies = (fair-of w old).lies;
     bodies = λ f t made g at is.
         let h = old.typed_bodies f t made g at is in
-        record { body = h.body; there = h.there; parameters = h.parameters; result = h.result };
+        record { body = h.body; there = h.there; parameters = h.parameters; result = h.result; small = h.small };
     defined = λ f g at. still (term_in g.state) (old.functions f g at).1.1;
   }
     where
@@ -105,6 +106,7 @@ module _ (w : StageState) (old : IsSound w) (heap : LuaState) (structs : List St
     );
     constants = λ i c at. constant-sound w v (fair-of w old) beside-fair beside-grows c (old.constants i c at);
     statics = old.statics;
+    fits = fits-same w v refl refl old.fits;
     plain = old.plain;
     symbols = λ i x at. symbol-still i x (symbols i x at);
     settled = old.settled;
@@ -115,7 +117,7 @@ module _ (w : StageState) (old : IsSound w) (heap : LuaState) (structs : List St
       ((i : ℕ) (q : Quote) → slice_get qs i ≡ Some q → (slice_get w.store.quotes i ≡ Some q) ⊎ QuoteIsSound w q) →
       Next w v
   beside-follows symbols quotes =
-      record { sound = beside-sound symbols quotes; leads = leads-by w v beside-grows refl refl }
+      record { sound = beside-sound symbols quotes; leads = leads-by w v beside-grows refl refl refl }
 
 pub heap-follows : (w : StageState) → IsSound w → (heap : LuaState) → Next w (with_heap w heap)
 heap-follows w old heap =
@@ -156,7 +158,7 @@ struct-follows w old place =
     let x = listed w ts w.store.typed in
     let sound = listed-sound w old ts w.store.typed f.types f.lies f.keeps (λ i n h. h) (λ i n at. inl at) in
     let grows = listed-grows w old ts w.store.typed f.types f.lies f.keeps (λ i n h. h) in
-    next-twice w x (with_struct w place) (record { sound = sound; leads = leads-by w x grows refl refl })
+    next-twice w x (with_struct w place) (record { sound = sound; leads = leads-by w x grows refl refl refl })
     (beside-follows x sound (with_struct w place).heap (with_struct w place).kept.structs w.store.symbols w.store.quotes
     w.store.names (λ i y at. inl at) (λ i q at. inl at))
 
@@ -176,7 +178,7 @@ pointer-follows w old t there =
 -- ---- terms
 
 pub term-follows : (w : StageState) → IsSound w → (t : Term) → TermIsSound w t → Next w (with_term w t)
-term-follows w old t h = leaf-next w old w.store.statics t h (λ i x there. inl there)
+term-follows w old t h = leaf-beside w old t h
 
 pub text-follows : (w : StageState) → IsSound w → (at : Place) (bytes : List ℕ) → is_placed at ≡ true →
     Next w (after w at (Text bytes))
