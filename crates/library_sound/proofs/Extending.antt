@@ -25,7 +25,7 @@ use Rattle.exotype.specs.Types.{is_type}
 use Rattle.exotype.specs.declared.property.Property.TheVariants.{Entries}
 use Rattle.check_model.specs.Typing.{function_at}
 use Rattle.check_model.specs.Calls.{params_of}
-use Rattle.check_sound.specs.Sound.{foreseen, IsThereIfAny, TermIsThere, ConstantIsSound, IsSound, HasBodyOf, typed_body, body_in}
+use Rattle.check_sound.specs.Sound.{foreseen, IsThereIfAny, TermIsThere, ConstantIsSound, StaticsFit, IsSound, HasBodyOf, typed_body, body_in}
 use Rattle.check_sound.proofs.Tests.{got}
 use Rattle.check_sound.proofs.Passing.{Lies}
 use Rattle.check_sound.specs.Growing.{Grows}
@@ -65,6 +65,7 @@ pub record Extends (w v : StageState) : Type 0 where
       (slice_get w.store.globals i ≡ Some x) ⊎ ((has_layout (foreseen v) x.of ≡ true) × (x.address < 2 ^ 64))
   pub constants : (i : ℕ) (x : TerraConstant) → slice_get v.store.constants i ≡ Some x →
       (slice_get w.store.constants i ≡ Some x) ⊎ ConstantIsSound v x
+  pub fits : StaticsFit v
   pub symbols : (i : ℕ) (x : Symbol) → slice_get v.store.symbols i ≡ Some x →
       (slice_get w.store.symbols i ≡ Some x) ⊎ IsThereIfAny v x.of
 
@@ -93,6 +94,7 @@ module _ (w v : StageState) (old : IsSound w) (x : Extends w v) where
     there = body-same made ∙ h.there;
     parameters = h.parameters ∙ ap (λ ts. params_of (slice_get ts t.0)) (sym x.terms);
     result = there-kept w.store.types v.store.types x.keeps h.body.result h.result;
+    small = h.small;
   }
 
   extended-fair : Fair v
@@ -153,6 +155,7 @@ module _ (w v : StageState) (old : IsSound w) (x : Extends w v) where
     globals = λ i g at. global-still i g (x.globals i g at);
     constants = λ i c at. constant-still i c (x.constants i c at);
     statics = λ i s at. static-still i s (x.statics i s at);
+    fits = x.fits;
     plain = λ i n at. old.plain i n (ap (λ ns. slice_get ns i) (sym x.typed_nodes) ∙ at);
     symbols = λ i s at. symbol-still i s (x.symbols i s at);
     settled = λ t value at.
@@ -161,4 +164,4 @@ module _ (w v : StageState) (old : IsSound w) (x : Extends w v) where
   }
 
   pub extended : v.exports ≡ w.exports → Leaves w v
-  extended same = (extended-sound, leads-by w v extended-grows x.functions same)
+  extended same = (extended-sound, leads-by w v extended-grows x.functions x.memory same)

@@ -1,4 +1,5 @@
 pub mod Extending
+pub mod Exporting
 pub mod Writes
 pub mod Words
 pub mod OfTypes

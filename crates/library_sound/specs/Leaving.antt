@@ -1,5 +1,5 @@
 -- What calls of the library leave of sound worlds, and what they ask there.
-use Rattle.std.specs.Prelude.{◌≡◌, false, Option, Some, None}
+use Rattle.std.specs.Prelude.{◌≡◌, ◌≤◌, false, take, length, Option, Some, None}
 use Rattle.tl_base.specs.declared.place.Place.{Place}
 use Rattle.tl_base.specs.Layer.{State}
 use Rattle.lua_table.specs.declared.call.Back.{Back}
@@ -19,8 +19,10 @@ use Rattle.check_library.specs.declared.ask.AskTurn.{AskTurn}
 use Rattle.check_library.specs.declared.ask.AskTurn.TheVariants as asked
 use Rattle.check_library.specs.Answers.{Asked}
 use Rattle.check_library.specs.Calls as asking
+use Rattle.check_library.specs.Counting.{CountedState}
 use Rattle.check_library.specs.Exports.{chunk_ended}
-use Rattle.check_sound.specs.Growing.{WasReady, Leads}
+use Rattle.check_sound.specs.Exports.{AreCounted}
+use Rattle.check_sound.specs.Growing.{WasReady, AreFine, Leads}
 
 -- a sound world, to which another one leads
 abbrev pub Leaves : StageState → StageState → Type 0
@@ -42,17 +44,23 @@ AnswersLeaveSound =
 
 -- ---- functions that ask for a check or a layout
 
--- how one waits: an export for the check of its function, and a global for the layout of its type, which is there
-abbrev pub AskIsFine : StageState → AskTurn → Type 0
-AskIsFine w (asked.Check f (nexts.Export next)) = next.function ≡ f
-AskIsFine w (asked.Check f (nexts.Global t bits)) = ⊥
-AskIsFine w (asked.Layout t (nexts.Global of bits)) = (of ≡ t) × IsThere w t
-AskIsFine w (asked.Layout t (nexts.Export next)) = ⊥
-AskIsFine w _ = Unit {0}
+-- what was counted of the first exports of a world is right
+pub record IsCounted (w : StageState) (c : CountedState) : Type 0 where
+  pub front : c.exports ≤ length w.exports.list
+  pub counted : AreCounted w (take c.exports w.exports.list) c.functions c.nodes
 
--- what it leaves with its question, or its answer
+-- How one waits: an export for the check of its function, and a global for the layout of its type, which is there. What was counted of
+-- the exports before is right, where they were fine when the call began.
+abbrev pub AskIsFine : (begin w : StageState) → AskTurn → Type 0
+AskIsFine begin w (asked.Check f (nexts.Export next)) = (next.function ≡ f) × (AreFine begin → IsCounted w next.counted)
+AskIsFine begin w (asked.Check f (nexts.Global t bits)) = ⊥
+AskIsFine begin w (asked.Layout t (nexts.Global of bits)) = (of ≡ t) × IsThere w t
+AskIsFine begin w (asked.Layout t (nexts.Export next)) = ⊥
+AskIsFine begin w _ = Unit {0}
+
+-- what it leaves with its question, or its answer, seen from where its call began
 abbrev pub AsksSound : StageState → Asked → Type 0
-AsksSound before it = IsSound it.left.world × (Leads before it.left.world × AskIsFine it.left.world it.turn)
+AsksSound begin it = IsSound it.left.world × (Leads begin it.left.world × AskIsFine begin it.left.world it.turn)
 
 -- the answers that fit: where a check is done, the function was checked, and where a layout is done, the size of an aggregate is known
 abbrev pub FitsAsk : AskTurn → CheckAnswer → StageState → Type 0
@@ -76,9 +84,10 @@ CallsAskSound = (s : State StageState) (call : LibCall) → IsSound s.world → 
 abbrev pub EndsAskSound : Type 0
 EndsAskSound = (s : State StageState) (place : Place) → IsSound s.world → AsksSound s.world (chunk_ended s place)
 
+-- The call began in one world, its question was asked in another one, and it is answered in a third one.
 abbrev pub AnswersAskSound : Type 0
 AnswersAskSound =
-    (w : StageState) (question : AskTurn) (next : AskNext) (answer : CheckAnswer) (s : State StageState) (place : Place) →
-    goes_on_with question ≡ Some next → AskIsFine w question →
+    (begin w : StageState) (question : AskTurn) (next : AskNext) (answer : CheckAnswer) (s : State StageState) (place : Place) →
+    goes_on_with question ≡ Some next → IsSound w → Leads begin w → AskIsFine begin w question →
     IsSound s.world → Leads w s.world → FitsAsk question answer s.world →
-    AsksSound s.world (asking.backed s next answer place)
+    AsksSound begin (asking.backed s next answer place)

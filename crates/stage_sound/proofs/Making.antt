@@ -1,5 +1,5 @@
 -- The store of what exports reach.
-use Rattle.std.proofs.Common.{◌≡◌, ℕ, zero, suc, true, List, [], ◌∷◌, ◌++◌, Option, Some, None, refl, sym, ap, ◌∙◌, subst, slice_get}
+use Rattle.std.proofs.Common.{◌≡◌, ℕ, ◌≤◌, zero, suc, true, List, [], ◌∷◌, ◌++◌, Option, Some, None, refl, sym, ap, ◌∙◌, subst, slice_get}
 use Rattle.std.specs.Prelude.{◌⊎◌, ◌||◌, ◌==◌}
 use mathlib.Core.Logic.{inl, inr}
 use Rattle.std.proofs.lemmas.Bool.{or_cases, or_right, or_left}
@@ -9,6 +9,7 @@ use Rattle.terra_term.specs.declared.store.Export.{Export}
 use Rattle.terra_term.specs.declared.store.Function.{Function}
 use Rattle.terra_term.specs.declared.store.FunctionState.{FunctionState}
 use Rattle.terra_term.specs.declared.store.FunctionState.TheVariants as standing
+use Rattle.terra_term.specs.Sizes.{body_size}
 use Rattle.terra_term.specs.TypedTerms as typed
 use Rattle.terra_term.specs.Planted.{typed_trees}
 use Rattle.terra_term.specs.Stores.{Callable, callable_of, contents_of}
@@ -18,7 +19,8 @@ use Rattle.exotype.specs.World.{StageState}
 use Rattle.check_model.specs.declared.job.Reached.{Reached}
 use Rattle.check_model.specs.Checks.{was_reached}
 use Rattle.check_model.specs.Typing.{function_at}
-use Rattle.check_sound.specs.Sound.{IsSound, IsReady}
+use Rattle.check_model.specs.Bodies.{most_nodes}
+use Rattle.check_sound.specs.Sound.{IsSound, IsReady, body_in}
 use Rattle.check_sound.specs.Layers.{ReachesReady}
 use Rattle.check_sound.specs.Reached.{only_reached}
 use Rattle.check_sound.proofs.Tests.{none-some, same-some, no}
@@ -26,6 +28,9 @@ use Rattle.check_sound.proofs.Reaching.{reached-more}
 use Rattle.check_sound.proofs.Restricting.{mentions-called, reached-typed}
 use Rattle.stage_sound.specs.Parts.{IsCalled}
 use Rattle.stage_sound.proofs.Outcomes.{HaveParts}
+
+abbrev Facts : Callable → Type 0
+Facts k = (is_placed k.at ≡ true) × ((body_size k.body).nodes ≤ most_nodes)
 
 -- ---- queues behind one another
 
@@ -114,27 +119,30 @@ module _ (w : StageState) where
         (all h (reaches-in h r)).reached i (at, g)
         (ap (λ l. slice_get l i) (mentions-called w queue h k called (function_at w h) refl) ∙ m)
 
-  -- a function that can be called has the place of the function
-  called-place : (sound : IsSound w) (f : FnId) (k : Callable) → callable_of (contents_of w.store) f ≡ Some k →
-      (o : Option Function) → function_at w f ≡ o → is_placed k.at ≡ true
-  called-place sound f k called None at =
+  -- a function that can be called has the place of the function, and its body no more nodes than it may have
+  called-facts : (sound : IsSound w) (f : FnId) (k : Callable) → callable_of (contents_of w.store) f ≡ Some k →
+      (o : Option Function) → function_at w f ≡ o → Facts k
+  called-facts sound f k called None at =
       let none : callable_of (contents_of w.store) f ≡ None = rw at refl in absurd (none-some k (sym none ∙ called))
-  called-place sound f k called (Some g) at = by g.state refl
+  called-facts sound f k called (Some g) at = by g.state refl
     where
-      uncalled : callable_of (contents_of w.store) f ≡ None → is_placed k.at ≡ true
+      uncalled : callable_of (contents_of w.store) f ≡ None → Facts k
       uncalled none = absurd (none-some k (sym none ∙ called))
 
       of-item : (t made : TermId) → g.state ≡ standing.Typed t made → (i : Option typed.Item) →
-          slice_get (typed_trees w.store.typed) made.0 ≡ i → is_placed k.at ≡ true
+          slice_get (typed_trees w.store.typed) made.0 ≡ i → Facts k
       of-item t made is (Some (typed.body b)) item =
           let c : Callable = record { at = g.place; body = b } in
           let same : callable_of (contents_of w.store) f ≡ Some c = rw (at, is, item) refl in
-          subst (λ (z : Callable). is_placed z.at ≡ true) (same-some c k (sym same ∙ called)) (sound.functions f g at).0
+          let has = sound.typed_bodies f t made g at is in
+          let own : has.body ≡ b = same-some has.body b (sym has.there ∙ ap body_in item) in
+          subst Facts (same-some c k (sym same ∙ called))
+          ((sound.functions f g at).0, subst (λ (z : typed.Body). (body_size z).nodes ≤ most_nodes) own has.small)
       of-item t made is (Some (typed.expression x)) item = uncalled (rw (at, is, item) refl)
       of-item t made is (Some (typed.doing x)) item = uncalled (rw (at, is, item) refl)
       of-item t made is None item = uncalled (rw (at, is, item) refl)
 
-      by : (s : FunctionState) → g.state ≡ s → is_placed k.at ≡ true
+      by : (s : FunctionState) → g.state ≡ s → Facts k
       by (standing.Typed t made) is = of-item t made is (slice_get (typed_trees w.store.typed) made.0) refl
       by standing.Undefined is = uncalled (rw (at, is) refl)
       by (standing.Defined t) is = uncalled (rw (at, is) refl)
@@ -146,7 +154,8 @@ module _ (w : StageState) where
     term = r.callable.0;
     is = r.callable.1;
     passes = r.callable.2;
-    place = called-place sound f r.callable.0 r.callable.1 (function_at w f) refl;
+    place = (called-facts sound f r.callable.0 r.callable.1 (function_at w f) refl).0;
+    few = (called-facts sound f r.callable.0 r.callable.1 (function_at w f) refl).1;
   }
 
 pub have-parts : HaveParts

@@ -20,7 +20,6 @@ use Rattle.check_library.specs.Calls as calls
 use Rattle.check_sound.specs.Growing.{WasReady}
 use Rattle.check_sound.specs.Layers.{ReachesReady}
 use Rattle.check_sound.proofs.Grows.{grows-itself}
-use Rattle.check_sound.proofs.Leading.{leads-twice}
 use Rattle.library_sound.specs.Leaving.{AskIsFine, AsksSound, FitsAsk}
 use Rattle.check_stage.specs.declared.jobs.Job.{Job}
 use Rattle.check_stage.specs.declared.jobs.Job.TheVariants as jobs
@@ -111,17 +110,8 @@ module _ (items : Items) (k : LayersKeep items) where
       (before behind : List (Given StageState CheckAnswer)) (next : Given StageState CheckAnswer) →
       later ≡ before ++ next ∷ behind → IsBackFor AskedBack (asking_seen place before turn s) next
 
-  -- what it comes to with an answer that fits
-  goes-on : (w : StageState) (place : Place) (question : AskTurn) (n : AskNext) (s : State StageState)
-      (g : Given StageState CheckAnswer) → Led w s.world → AskIsFine s.world question → Led s.world g.state.world →
-      AsksSound g.state.world (calls.backed g.state n g.answer place) →
-      Led w (calls.backed g.state n g.answer place).left.world
-  goes-on w place question n s g led fine b x =
-      let left = calls.backed g.state n g.answer place in
-      (x.0, leads-twice w g.state.world left.left.world (leads-twice w s.world g.state.world led.1 b.1) x.1.0)
-
   seen-shows : (w : StageState) (place : Place) (later : List (Given StageState CheckAnswer)) (turn : AskTurn)
-      (s : State StageState) → Led w s.world → AskIsFine s.world turn → SeenBack place turn s later →
+      (s : State StageState) → Led w s.world → AskIsFine w s.world turn → SeenBack place turn s later →
       Shows IsAsked (Ends w) (asking_seen place later turn s)
   seen-shows w place [] turn s led fine back = turn-shows w place turn s led
   seen-shows w place (g ∷ later) (asks.Turn turn) s led fine back = end-shows w turn s led
@@ -131,8 +121,8 @@ module _ (items : Items) (k : LayersKeep items) where
       let fits : FitsAsk (asks.Check f n) g.answer g.state.world =
       subst (λ a. FitsAsk (asks.Check f n) a g.state.world) (sym b.1.1.0)
       (fits-check f n b.1.0 g.state.world b.0.0 b.1.1.1) in
-      let x = k.asking_answers s.world (asks.Check f n) n g.answer g.state place refl fine b.0.0 b.0.1 fits in
-      seen-shows w place later left.turn left.left (goes-on w place (asks.Check f n) n s g led fine b.0 x) x.1.1
+      let x = k.asking_answers w s.world (asks.Check f n) n g.answer g.state place refl led.0 led.1 fine b.0.0 b.0.1 fits in
+      seen-shows w place later left.turn left.left (x.0, x.1.0) x.1.1
       (λ before behind y split. back (g ∷ before) behind y (ap (λ l. g ∷ l) split))
   seen-shows w place (g ∷ later) (asks.Layout t n) s led fine back =
       let b : AskedBack (jobs.Layout t place) s g = back [] later g refl in
@@ -140,8 +130,8 @@ module _ (items : Items) (k : LayersKeep items) where
       let fits : FitsAsk (asks.Layout t n) g.answer g.state.world =
       subst (λ a. FitsAsk (asks.Layout t n) a g.state.world) (sym b.1.1.0)
       (fits-layout t place n b.1.0 g.state.world b.1.1.1) in
-      let x = k.asking_answers s.world (asks.Layout t n) n g.answer g.state place refl fine b.0.0 b.0.1 fits in
-      seen-shows w place later left.turn left.left (goes-on w place (asks.Layout t n) n s g led fine b.0 x) x.1.1
+      let x = k.asking_answers w s.world (asks.Layout t n) n g.answer g.state place refl led.0 led.1 fine b.0.0 b.0.1 fits in
+      seen-shows w place later left.turn left.left (x.0, x.1.0) x.1.1
       (λ before behind y split. back (g ∷ before) behind y (ap (λ l. g ∷ l) split))
 
   begun-sound : (what : Asked) (s : State StageState) → IsSound s.world → AsksSound s.world (begun what s)

@@ -1,7 +1,6 @@
--- A source's staging ends in a sound world, with exports that are ready.
-use Rattle.std.proofs.Common.{◌≡◌, ℕ, zero, suc, ◌+◌, Bool, true, false, if◌then◌else◌, List, [], ◌∷◌, ◌++◌, length, Option, Some, None, refl, sym, ap, ◌∙◌, subst, slice_get}
-use Rattle.std.specs.Prelude.{◌⊎◌, nat_lt}
-use mathlib.Core.Logic.{inl, inr}
+-- A source's staging ends in a sound world, with exports that are fine.
+use Rattle.std.proofs.Common.{◌≡◌, ℕ, zero, suc, ◌+◌, ◌≤◌, Bool, true, false, if◌then◌else◌, List, [], ◌∷◌, ◌++◌, length, Option, Some, None, refl, sym, ap, ◌∙◌, subst, arith, slice_get}
+use Rattle.std.specs.Prelude.{nat_lt}
 use Rattle.tl_base.specs.declared.place.Place.{Place}
 use Rattle.tl_base.specs.declared.ids.FnId.{FnId}
 use Rattle.tl_base.specs.Layer.{State, state}
@@ -14,8 +13,10 @@ use Rattle.exotype.specs.World.{StageState}
 use Rattle.spec_model.specs.Making.{is_undefined}
 use Rattle.check_model.specs.Typing.{TypingState}
 use Rattle.check_sound.specs.Sound.{IsSound}
-use Rattle.check_sound.specs.Growing.{WasReady, Leads}
+use Rattle.check_sound.specs.Growing.{AreFine, Leads}
 use Rattle.check_sound.specs.Layers.{ReachesReady, ReadyStays}
+use Rattle.check_sound.proofs.Tests.{none-some}
+use Rattle.check_sound.proofs.Grows.{grows-itself}
 use Rattle.check_sound.proofs.Leading.{leads-itself, leads-twice}
 use Rattle.stage_library.specs.declared.tasks.Task.TheVariants.{Evaluate}
 use Rattle.check_stage.specs.declared.jobs.Job.{Job}
@@ -119,33 +120,54 @@ module _ (items : Items) (k : LayersKeep items) (w0 : StageState) where
   -- ---- the outcome
 
   -- nothing is exported at the begin
-  ends-sound : ReadyStays → w0.exports.list ≡ [] → (w : TypingState) → Reached w → (i : ℕ) (e : Export) →
-      slice_get w.stage.exports.list i ≡ Some e → ReachesReady w.stage e.function
-  ends-sound stays none w r i e at = by (r.1.exports i e at)
+  none-fine : IsSound w0 → w0.exports.list ≡ [] → AreFine w0
+  none-fine sound none = record {
+    names = λ i e at. absurd (nothing i e at);
+    differ = λ i j d e at there same. absurd (nothing i d at);
+    ready = λ i e at. absurd (nothing i e at);
+    outward = λ i e at. absurd (nothing i e at);
+    many = subst (λ (l : List Export). length l ≤ 4000000) (sym none) (omega arith);
+    functions = [];
+    nodes = 0;
+    counted = record {
+      then = w0;
+      sound = sound;
+      grows = grows-itself w0;
+      counted = record {
+        exported = λ i e at. absurd (nothing i e at);
+        once = λ i j f at there. absurd (none-some f at);
+        closed = λ k f at. absurd (none-some f at);
+        sum = refl;
+        most = omega arith;
+      };
+    };
+  }
     where
-      nothing : ◌≡◌ {A = Option Export} None (Some e) → ⊥
-      nothing h = cc h
+      nothing : (i : ℕ) (e : Export) → slice_get w0.exports.list i ≡ Some e → ⊥
+      nothing i e at = none-some e (ap (λ (l : List Export). slice_get l i) (sym none) ∙ at)
 
-      by : (slice_get w0.exports.list i ≡ Some e) ⊎ WasReady w.stage e.function → ReachesReady w.stage e.function
-      by (inl h) = absurd (nothing (ap (λ l. slice_get l i) (sym none) ∙ h))
-      by (inr ready) = stays w.stage e.function r.0 ready
+  ends-sound : ReadyStays → (w : TypingState) → Reached w → AreFine w.stage → (i : ℕ) (e : Export) →
+      slice_get w.stage.exports.list i ≡ Some e → ReachesReady w.stage e.function
+  ends-sound stays w r fine i e at = stays w.stage e.function r.0 (fine.ready i e at)
 
   same-ending : (a b : Ending) → ◌≡◌ {A = Option Ending} (Some a) (Some b) → a ≡ b
   same-ending a b e = cc e
 
-  final-sound : ReadyStays → HaveParts → w0.exports.list ≡ [] → (o : Option (Final TypingState Checked)) → Fine o →
-      (out : Ending) →
-      ending_if_any o ≡ Some out → IsWhole out.end → EndsSound out
+  final-sound : ReadyStays → HaveParts → AreFine w0 → (o : Option (Final TypingState Checked)) → Fine o → (out : Ending) →
+      ending_if_any o ≡ Some out → IsWhole out.end → EndsSound w0.memory out
   final-sound stays parts none None h out is whole = absurd (apart out is)
     where
       apart : (out : Ending) → ◌≡◌ {A = Option Ending} None (Some out) → ⊥
       apart out e = cc e
   final-sound stays parts none (Some (Finished c s)) h out is whole =
-      subst EndsSound (same-ending (ending_of (Finished c s)) out is)
+      let fine = h.1.fine none in
+      subst (EndsSound w0.memory) (same-ending (ending_of (Finished c s)) out is)
       (record {
         sound = h.0;
-        exports = ends-sound stays none s.world h;
-        part = parts s.world.stage s.world.stage.exports.list h.0 (ends-sound stays none s.world h);
+        memory = h.1.memory;
+        fine = fine;
+        exports = ends-sound stays s.world h fine;
+        part = parts s.world.stage s.world.stage.exports.list h.0 (ends-sound stays s.world h fine);
       })
   final-sound stays parts none (Some (Exhausted s)) h out is whole =
       absurd (subst (λ (x : Ending). IsWhole x.end) (sym (same-ending (ending_of (Exhausted s)) out is)) whole)
@@ -153,11 +175,11 @@ module _ (items : Items) (k : LayersKeep items) (w0 : StageState) where
   pub outcome-sound : ReadyStays → HaveParts → w0.exports.list ≡ [] → (place : Place) (mode : Mode) (n units memory : ℕ)
       (out : Ending) →
       IsSound w0 → (begun memory).stage ≡ w0 → outcome items place mode n units memory ≡ Some out → IsWhole out.end →
-      EndsSound out
+      EndsSound w0.memory out
   outcome-sound stays parts none place mode n units memory out sound same is whole =
       let s = state (begun memory) units in
       let r : Reached s.world = subst (λ w. IsSound w × Leads w0 w) (sym same) (sound, leads-itself w0) in
-      final-sound stays parts none
+      final-sound stays parts (none-fine sound none)
       (after_check (staged (check_stage items) n (jobs.Stage (Evaluate Chunk)) s) (by_mode mode items n place))
       (fine-after (staged (check_stage items) n (jobs.Stage (Evaluate Chunk)) s) (by_mode mode items n place)
       (fine-job n (jobs.Stage (Evaluate Chunk)) s r tt) (λ e t x. fine-mode mode n place e t x)) out is whole

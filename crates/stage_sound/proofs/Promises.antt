@@ -29,8 +29,8 @@ layers-keep items placed = record {
   texts = texts-sound;
   asking_calls = λ s call sound. called-fine s sound call;
   asking_ends = λ s place sound. chunk-fine s sound place;
-  asking_answers = λ w question next answer s place is fine sound leads fits.
-      answer-fine w s sound leads question next answer place is fine fits;
+  asking_answers = λ begin w question next answer s place is before led fine sound leads fits.
+      answer-fine begin w s before led sound leads question next answer place is fine fits;
   bodies = keeps-sound;
   checks = checks-keep-sound;
   layouts = layouts-keep-sound;

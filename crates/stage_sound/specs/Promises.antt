@@ -8,6 +8,7 @@ use Rattle.terra_term.specs.declared.store.Export.{Export}
 use Rattle.terra_term.specs.Stores.{contents_of}
 use Rattle.check_model.specs.Typing.{TypingState}
 use Rattle.check_sound.specs.Sound.{IsSound}
+use Rattle.check_sound.specs.Growing.{AreFine}
 use Rattle.check_sound.specs.Layers.{ReachesReady}
 use Rattle.spec_sound.specs.Sound.{ArePlaced}
 use Rattle.check_stage.specs.declared.jobs.Job.{Job}
@@ -31,10 +32,13 @@ abbrev pub IsWhole : End → Type 0
 IsWhole Spent = ⊥
 IsWhole end = Unit {0}
 
--- The law of stagings: a source's staging for which there were units ends in a sound world, and each export, and all that it reaches, can
--- be called there, and passes the test of typed terms; so does all that can be called in a store with these functions alone.
-pub record EndsSound (out : Ending) : Type 0 where
+-- The law of stagings: a source's staging for which there were units ends in a sound world, which has the memory that the program was
+-- given, and whose exports are fine; and each export, and all that it reaches, can be called there, and passes the test of typed terms; so
+-- does all that can be called in a store with these functions alone.
+pub record EndsSound (bytes : ℕ) (out : Ending) : Type 0 where
   pub sound : IsSound out.left.world.stage
+  pub memory : out.left.world.stage.memory ≡ bytes
+  pub fine : AreFine out.left.world.stage
   pub exports : (i : ℕ) (e : Export) → slice_get out.left.world.stage.exports.list i ≡ Some e →
       ReachesReady out.left.world.stage e.function
   pub part : HasPart (contents_of out.left.world.stage.store) out.left.world.stage.exports.list
@@ -42,4 +46,4 @@ pub record EndsSound (out : Ending) : Type 0 where
 abbrev pub StagingsEndSound : Type 0
 StagingsEndSound =
     (items : Items) → ArePlaced items → (place : Place) (mode : Mode) (n units memory : ℕ) (out : Ending) →
-    memory ≤ 67108864 → outcome items place mode n units memory ≡ Some out → IsWhole out.end → EndsSound out
+    memory ≤ 67108864 → outcome items place mode n units memory ≡ Some out → IsWhole out.end → EndsSound memory out

@@ -1,0 +1,4 @@
+pub mod Lists
+pub mod Reaching
+pub mod Nodes
+pub mod Counting

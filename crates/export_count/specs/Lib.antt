@@ -1,0 +1,2 @@
+-- What the count of exports promises.
+pub mod Counted
