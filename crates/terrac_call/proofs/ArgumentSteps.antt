@@ -1,9 +1,10 @@
 -- Arguments, word by word.
-use Rattle.std.proofs.Common.{◌≡◌, ℕ, ◌+◌, ◌<◌, List, [], ◌∷◌, ◌++◌, length, drop, get_or, Some, None, ap, sym, ◌∙◌, arith, add-one, length-append}
+use Rattle.std.proofs.Common.{◌≡◌, ℕ, ◌+◌, ◌<◌, List, [], ◌∷◌, ◌++◌, length, drop, get_or, Some, None, ap, sym, ◌∙◌, arith, add-one}
+use Rattle.std.proofs.Common.{length-append}
 use Rattle.std.specs.Borrow.{Bor}
 use Rattle.std.proofs.Math.Seq.{drop-cons, drop-length}
 use Rattle.terrac_call.specs.JobView.{texts_of}
-use Rattle.terrac_call.specs.Arguments.{Arguments, Good, Bad, with_argument, then_arguments, argument_of, arguments_of}
+use Rattle.terrac_call.specs.Arguments.{Arguments, Good, Bad, then_arguments, argument_of, arguments_of}
 use Rattle.terrac_call.proofs.Numbers.{with_arguments, with_arguments-good, with_arguments-bad, with_arguments-more}
 
 -- the word at an index comes first behind those before it
@@ -33,8 +34,10 @@ module _ (values codes : List ℕ) (texts : List (List ℕ)) (whole : Arguments)
       ∙ sym (ap (λ ts. with_arguments values (arguments_of codes (length values + 1) ts)) parts)
       ∙ begun.same
 
-  module _ (code : ℕ) (more : List ℕ) (word : List ℕ) (words : List (List ℕ)) (coded : codes ≡ code ∷ more) (parts : texts ≡ word ∷ words) where
-    first : with_arguments values (then_arguments (argument_of code word) (length values + 1) (arguments_of more (length values + 1 + 1) words)) ≡ whole
+  module _ (code : ℕ) (more : List ℕ) (word : List ℕ) (words : List (List ℕ)) (coded : codes ≡ code ∷ more)
+      (parts : texts ≡ word ∷ words) where
+    first : with_arguments values (then_arguments (argument_of code word) (length values + 1)
+        (arguments_of more (length values + 1 + 1) words)) ≡ whole
     first =
         sym (ap (λ cs. with_arguments values (arguments_of cs (length values + 1) (word ∷ words))) coded)
         ∙ sym (ap (λ ts. with_arguments values (arguments_of codes (length values + 1) ts)) parts)
@@ -53,7 +56,8 @@ module _ (values codes : List ℕ) (texts : List (List ℕ)) (whole : Arguments)
           same =
               ap (λ n. with_arguments (values ++ value ∷ []) (arguments_of more n words)) (sym longer)
               ∙ sym (with_arguments-more values value (arguments_of more (length values + 1 + 1) words))
-              ∙ sym (ap (λ o. with_arguments values (then_arguments o (length values + 1) (arguments_of more (length values + 1 + 1) words))) good)
+              ∙ sym (ap (λ o. with_arguments values (then_arguments o (length values + 1)
+              (arguments_of more (length values + 1 + 1) words))) good)
               ∙ first;
         }
 
@@ -75,15 +79,19 @@ module _ (values codes : List ℕ) (texts : List (List ℕ)) (whole : Arguments)
 module _ (codes : List ℕ) (words : List (Bor (List ℕ))) (values : List ℕ) (index position : ℕ) (blank : Bor (List ℕ)) (whole : Arguments)
     (begun : Begun values (drop index codes) (texts_of (drop index words)) whole) (within : index < length words) where
   pub too_many_at : index ≡ length codes → Bad (length values + 1) ≡ whole
-  too_many_at over = too_many values (drop index codes) (texts_of (drop index words)) whole begun _ _ (word_at words index blank within) (no_code codes index over)
+  too_many_at over = too_many values (drop index codes) (texts_of (drop index words)) whole begun _ _ (word_at words index blank within)
+      (no_code codes index over)
 
   module _ (coded : index < length codes) (same : position ≡ index) where
-    argument_at : (o : _) → argument_of (get_or codes position 0) (get_or words index blank).now ≡ o → argument_of (get_or codes index 0) (get_or words index blank).now ≡ o
+    argument_at : (o : _) → argument_of (get_or codes position 0) (get_or words index blank).now ≡ o
+        → argument_of (get_or codes index 0) (get_or words index blank).now ≡ o
     argument_at o is = sym (ap (λ n. argument_of (get_or codes n 0) (get_or words index blank).now) same) ∙ is
 
     pub bad_at : argument_of (get_or codes position 0) (get_or words index blank).now ≡ None → Bad (length values + 1) ≡ whole
-    bad_at bad = bad_word values (drop index codes) (texts_of (drop index words)) whole begun _ _ _ _ (code_at codes index coded) (word_at words index blank within) (argument_at None bad)
+    bad_at bad = bad_word values (drop index codes) (texts_of (drop index words)) whole begun _ _ _ _ (code_at codes index coded)
+        (word_at words index blank within) (argument_at None bad)
 
     pub good_at : (value : ℕ) → argument_of (get_or codes position 0) (get_or words index blank).now ≡ Some value →
         Begun (values ++ value ∷ []) (drop (index + 1) codes) (texts_of (drop (index + 1) words)) whole
-    good_at value good = good_word values (drop index codes) (texts_of (drop index words)) whole begun _ _ _ _ (code_at codes index coded) (word_at words index blank within) value (argument_at (Some value) good)
+    good_at value good = good_word values (drop index codes) (texts_of (drop index words)) whole begun _ _ _ _
+        (code_at codes index coded) (word_at words index blank within) value (argument_at (Some value) good)

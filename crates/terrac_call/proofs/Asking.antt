@@ -1,5 +1,6 @@
 -- What `clap` found, and the job that it names.
-use Rattle.std.proofs.Common.{◌≡◌, ◌≢◌, ◌⊎◌, inl, inr, ℕ, ◌^◌, Bool, true, false, cond, ◌&&◌, List, [], ◌∷◌, length, Option, Some, None, refl, sym, ap, ap₂, subst, ◌∙◌, ◌<◌, nat_lt, lt-ltb, ltb-true, arith}
+use Rattle.std.proofs.Common.{◌≡◌, ◌≢◌, ◌⊎◌, inl, inr, ℕ, ◌^◌, Bool, true, false, cond, ◌&&◌, List, [], ◌∷◌, length, Option, Some, None}
+use Rattle.std.proofs.Common.{refl, sym, ap, subst, ◌∙◌, ◌<◌, nat_lt, lt-ltb, ltb-true, arith}
 use Rattle.std.proofs.lemmas.Bool.{ne_eqb}
 use Rattle.std.specs.List.{list_all}
 use Rattle.std.specs.Char.{digit_value}
@@ -32,20 +33,25 @@ pub named : (built : App) (words : List Text) (found : Option (Text × List Row)
     job ≡ job_of_command found → Some job ≡ job_of words
 unfolding job_of
 named built words found job line free simple is =
-    let none : fault_of command_line words ≡ [] = sym (ap (λ (a : App). fault_of a words) line) ∙ free (ap is_simple_and_free line ∙ is_free_line) in
-    let rows : found ≡ subcommand_of command_line words = simple (ap is_simple line ∙ is_simple_line) ∙ ap (λ (a : App). subcommand_of a words) line in
+    let none : fault_of command_line words ≡ [] = sym (ap (λ (a : App). fault_of a words) line)
+    ∙ free (ap is_simple_and_free line ∙ is_free_line) in
+    let rows : found ≡ subcommand_of command_line words = simple (ap is_simple line ∙ is_simple_line)
+    ∙ ap (λ (a : App). subcommand_of a words) line in
     ap Some (is ∙ ap job_of_command rows)
-    ∙ sym (ap (λ (b : Bool). cond b (Some (job_of_command (subcommand_of command_line words))) None) (empty_fault (fault_of command_line words) none))
+    ∙ sym (ap (λ (b : Bool). cond b (Some (job_of_command (subcommand_of command_line words))) None)
+    (empty_fault (fault_of command_line words) none))
 
 -- words that are refused name none
 pub refuses : (built : App) (words : List Text) (kind : ErrorKind) → built ≡ command_line →
-    (is_simple_and_free built ≡ true → (kind ≡ OutOfMemory) ⊎ IsAmong kind (fault_of built words)) → kind ≢ OutOfMemory → None ≡ job_of words
+    (is_simple_and_free built ≡ true → (kind ≡ OutOfMemory) ⊎ IsAmong kind (fault_of built words)) → kind ≢ OutOfMemory
+    → None ≡ job_of words
 unfolding job_of
 refuses built words kind line free other =
     elim (free (ap is_simple_and_free line ∙ is_free_line)) [
       | inl memory ↦ absurd (other memory)
       | inr among ↦
-          let some : is_empty (fault_of command_line words) ≡ false = some_fault kind (fault_of command_line words) (subst (λ (a : App). IsAmong kind (fault_of a words)) line among) in
+          let some : is_empty (fault_of command_line words) ≡ false =
+          some_fault kind (fault_of command_line words) (subst (λ (a : App). IsAmong kind (fault_of a words)) line among) in
           sym (ap (λ (b : Bool). cond b (Some (job_of_command (subcommand_of command_line words))) None) some)
     ]
 
@@ -69,13 +75,15 @@ digits_from (d ∷ ds) e =
     let parts = both _ _ e in
     (ltb-true _ _ parts.0, digits_from ds parts.1)
 
-pub number_read : (text : Text) (number : ℕ) → IsNumeral 10 (without_leading_plus text) × (digits_value 10 (without_leading_plus text) < 2 ^ 64) →
+pub number_read : (text : Text) (number : ℕ) → IsNumeral 10 (without_leading_plus text)
+    × (digits_value 10 (without_leading_plus text) < 2 ^ 64) →
     number ≡ digits_value 10 (without_leading_plus text) → number ≡ number_or_zero text
 number_read text number h is =
     let ds = without_leading_plus text in
     rw (lt-ltb 0 (length ds) h.0.0, digits_pass ds h.0.1, lt-ltb (digits_value 10 ds) (2 ^ 64) h.1) is
 
-pub number_unread : (text : Text) → (IsNumeral 10 (without_leading_plus text) × (digits_value 10 (without_leading_plus text) < 2 ^ 64) → ⊥) → 0 ≡ number_or_zero text
+pub number_unread : (text : Text) → (IsNumeral 10 (without_leading_plus text) × (digits_value 10 (without_leading_plus text) < 2 ^ 64)
+    → ⊥) → 0 ≡ number_or_zero text
 number_unread text h = go (is_numeral (without_leading_plus text)) refl
   where
     go : (b : Bool) → is_numeral (without_leading_plus text) ≡ b → 0 ≡ number_or_zero text

@@ -15,8 +15,7 @@ use Rattle.terrac_call.specs.declared.due.Ended.{Ended}
 use Rattle.terrac_call.specs.declared.due.Ended.TheVariants as ends
 use Rattle.terrac_call.specs.Due.{Due, after, line, refused}
 use Rattle.terrac_call.specs.DueView.{shown_due}
-use Rattle.terrac_call.specs.Arguments.{Good}
-use Rattle.terrac_call.specs.Exec.{due_of_stop, IsRunDue}
+use Rattle.terrac_call.specs.Exec.{due_of_stop, plain, IsGoodDue}
 use Rattle.terrac_call.specs.Answer.{IsDueOrCut, IsWhole, IsCut}
 use Rattle.terrac_call.specs.Delivery.{StopsShort}
 use Rattle.terrac_call.specs.Ending.{Remains, Stopped, Ends}
@@ -31,7 +30,8 @@ back_none [] b e = e
 back_none (x ∷ a) b e = absurd cc
 
 -- where nothing is written on the way, all that is due remains
-pub nothing_written : (Is : Due → Type 0) (rest : DueValue) (due : Due) (out : Option (List ℕ)) (faults : ℕ) (Same : Type 0) → shown_due rest ≡ due → Is due → Same →
+pub nothing_written : (Is : Due → Type 0) (rest : DueValue) (due : Due) (out : Option (List ℕ)) (faults : ℕ) (Same : Type 0)
+    → shown_due rest ≡ due → Is due → Same →
     rest.status ≢ statuses.WriteFault → Remains (IsDueOrCut Is) rest out out faults faults Same
 nothing_written Is rest due out faults Same shown is same other = record {
   printed = [];
@@ -43,7 +43,8 @@ nothing_written Is rest due out faults Same shown is same other = record {
 }
 
 -- the same of a predicate that knows no want of memory
-pub alone : (Is : Due → Type 0) (rest : DueValue) (due : Due) (out : Option (List ℕ)) (faults : ℕ) (Same : Type 0) → shown_due rest ≡ due → Is due → Same →
+pub alone : (Is : Due → Type 0) (rest : DueValue) (due : Due) (out : Option (List ℕ)) (faults : ℕ) (Same : Type 0)
+    → shown_due rest ≡ due → Is due → Same →
     rest.status ≢ statuses.WriteFault → Remains Is rest out out faults faults Same
 alone Is rest due out faults Same shown is same other = record {
   printed = [];
@@ -55,7 +56,8 @@ alone Is rest due out faults Same shown is same other = record {
 }
 
 -- what was printed before the rest: up to a write that failed
-pub printed_stopped : (printed : List ℕ) (rest : DueValue) (old new : Option (List ℕ)) (f0 f1 : ℕ) → printed ≢ [] → StopsShort printed old new f0 f1 →
+pub printed_stopped : (printed : List ℕ) (rest : DueValue) (old new : Option (List ℕ)) (f0 f1 : ℕ) → printed ≢ []
+    → StopsShort printed old new f0 f1 →
     Stopped (λ (due : Due). due ≡ after printed (shown_due rest)) old new f0 f1
 printed_stopped printed rest old new f0 f1 some short =
     let more = (shown_due rest).out in
@@ -70,8 +72,9 @@ printed_stopped printed rest old new f0 f1 some short =
     }
 
 -- and all of it
-pub printed_whole : (printed : List ℕ) (rest : DueValue) (old new : Option (List ℕ)) (f0 f1 : ℕ) (Same : Type 0) → new ≡ with_back old printed → f1 ≡ f0 →
-    (printed ≡ [] → Same) → rest.status ≢ statuses.WriteFault → Remains (λ (due : Due). due ≡ after printed (shown_due rest)) rest old new f0 f1 Same
+pub printed_whole : (printed : List ℕ) (rest : DueValue) (old new : Option (List ℕ)) (f0 f1 : ℕ) (Same : Type 0)
+    → new ≡ with_back old printed → f1 ≡ f0 → (printed ≡ [] → Same) → rest.status ≢ statuses.WriteFault
+    → Remains (λ (due : Due). due ≡ after printed (shown_due rest)) rest old new f0 f1 Same
 printed_whole printed rest old new f0 f1 Same took quiet same other = record {
   printed = printed;
   is_due = refl;
@@ -82,8 +85,8 @@ printed_whole printed rest old new f0 f1 Same took quiet same other = record {
 }
 
 -- what one predicate says, the other does
-pub ends_into : (P Q : Due → Type 0) → ((due : Due) → P due → Q due) → (ended : Ended) (out_old out_new : Option (List ℕ)) (f0 f1 : ℕ) (Same : Type 0) →
-    Ends P ended out_old out_new f0 f1 Same → Ends Q ended out_old out_new f0 f1 Same
+pub ends_into : (P Q : Due → Type 0) → ((due : Due) → P due → Q due) → (ended : Ended) (out_old out_new : Option (List ℕ))
+    (f0 f1 : ℕ) (Same : Type 0) → Ends P ended out_old out_new f0 f1 Same → Ends Q ended out_old out_new f0 f1 Same
 ends_into P Q into (ends.Due rest) out_old out_new f0 f1 Same h = record {
   printed = h.printed;
   is_due = into _ h.is_due;
@@ -104,7 +107,7 @@ ends_into P Q into ends.WriteFault out_old out_new f0 f1 Same h = record {
 
 pub cut_into : (P Q : Due → Type 0) → ((due : Due) → P due → Q due) → (due : Due) → IsDueOrCut P due → IsDueOrCut Q due
 cut_into P Q into due (IsWhole is) = IsWhole (into due is)
-cut_into P Q into due (IsCut whole is front status notes) = IsCut whole (into whole is) front status notes
+cut_into P Q into due (IsCut whole is front noted status notes) = IsCut whole (into whole is) front noted status notes
 
 -- ---- runs
 
@@ -118,14 +121,16 @@ counted_quiet stops.Unfinished f0 f1 h other = h
 pub counted_rose : (stop : Stop) (f0 f1 : ℕ) → Counted stop f0 f1 → stop ≡ stops.WriteFault → IsRisen f0 f1
 counted_rose stop f0 f1 h is = subst (λ (s : Stop). Counted s f0 f1) is h
 
-module _ (image : Image) (symbol : Symbol) (values : List ℕ) (steps : ℕ) (before now : Option (List ℕ)) (f0 f1 : ℕ) where
+module _ (image : Image) (symbol : Symbol) (values : List ℕ) (steps : ℕ) (front : List ℕ) (before now : Option (List ℕ)) (f0 f1 : ℕ) where
   -- a run that a sink stopped
-  pub run_stopped : RanImageToWrite image symbol.address values steps before now → IsRisen f0 f1 → Stopped (IsDueOrCut (IsRunDue image symbol steps (Good values))) before now f0 f1
+  pub run_stopped : RanImageToWrite image symbol.address values steps before now → IsRisen f0 f1
+      → Stopped (IsDueOrCut (IsGoodDue image symbol (plain steps front) values)) before now f0 f1
   run_stopped h rose =
-      let w : TookFrontOfRun image symbol.address values steps before now = writes_are_fronts image symbol.address values steps before now h in
-      let more = (due_of_stop symbol.result w.ran.stop).out in
+      let w : TookFrontOfRun image symbol.address values steps before now =
+      writes_are_fronts image symbol.address values steps before now h in
+      let more = (due_of_stop front symbol.result w.ran.stop).out in
       record {
-        due = after w.ran.output (due_of_stop symbol.result w.ran.stop);
+        due = after w.ran.output (due_of_stop front symbol.result w.ran.stop);
         is_due = IsWhole (w.ran, w.runs, refl);
         part = w.part;
         front = (w.rest ++ more, ap (λ (o : List ℕ). o ++ more) w.front ∙ append_assoc w.part w.rest more);
@@ -136,8 +141,9 @@ module _ (image : Image) (symbol : Symbol) (values : List ℕ) (steps : ℕ) (be
 
   -- a run that stopped by itself
   pub run_remains : (stop : Stop) (rest : DueValue) (Same : Type 0) → RanImage image symbol.address values steps stop before now Same →
-      (shown_due rest ≡ due_of_stop symbol.result stop) ⊎ (shown_due rest ≡ refused statuses.NoMemory) → f1 ≡ f0 → rest.status ≢ statuses.WriteFault →
-      Remains (IsDueOrCut (IsRunDue image symbol steps (Good values))) rest before now f0 f1 Same
+      (shown_due rest ≡ due_of_stop front symbol.result stop) ⊎ (shown_due rest ≡ refused statuses.NoMemory) → f1 ≡ f0
+      → rest.status ≢ statuses.WriteFault
+      → Remains (IsDueOrCut (IsGoodDue image symbol (plain steps front) values)) rest before now f0 f1 Same
   run_remains stop rest Same h shown quiet other = record {
     printed = h.ran.output;
     is_due = is_due shown;
@@ -147,13 +153,16 @@ module _ (image : Image) (symbol : Symbol) (values : List ℕ) (steps : ℕ) (be
     other = other;
   }
     where
-      is_due : (shown_due rest ≡ due_of_stop symbol.result stop) ⊎ (shown_due rest ≡ refused statuses.NoMemory) →
-          IsDueOrCut (IsRunDue image symbol steps (Good values)) (after h.ran.output (shown_due rest))
-      is_due (inl e) = IsWhole (h.ran, h.runs, ap (after h.ran.output) (e ∙ ap (due_of_stop symbol.result) (sym h.stops)))
+      is_due : (shown_due rest ≡ due_of_stop front symbol.result stop) ⊎ (shown_due rest ≡ refused statuses.NoMemory) →
+          IsDueOrCut (IsGoodDue image symbol (plain steps front) values) (after h.ran.output (shown_due rest))
+      is_due (inl e) = IsWhole (h.ran, h.runs, ap (after h.ran.output) (e ∙ ap (due_of_stop front symbol.result) (sym h.stops)))
       is_due (inr e) =
+          let whole : Due = due_of_stop front symbol.result h.ran.stop in
           let nothing : (shown_due rest).out ≡ [] = ap (λ (d : Due). d.out) e in
-          IsCut (after h.ran.output (due_of_stop symbol.result h.ran.stop)) (h.ran, h.runs, refl) (
-            (due_of_stop symbol.result h.ran.stop).out,
-            ap (λ (o : List ℕ). o ++ (due_of_stop symbol.result h.ran.stop).out) (sym (append-nil h.ran.output) ∙ ap (λ (o : List ℕ). h.ran.output ++ o) (sym nothing)),
+          let unnoted : (shown_due rest).noted ≡ [] = ap (λ (d : Due). d.noted) e in
+          IsCut (after h.ran.output whole) (h.ran, h.runs, refl) (
+            whole.out,
+            ap (λ (o : List ℕ). o ++ whole.out) (sym (append-nil h.ran.output) ∙ ap (λ (o : List ℕ). h.ran.output ++ o) (sym nothing)),
           )
+          (whole.noted, ap (λ (o : List ℕ). o ++ whole.noted) (sym unnoted))
           (ap (λ (d : Due). d.status) e) (ap (λ (d : Due). d.notes) e)

@@ -7,7 +7,8 @@ use Rattle.terrac_call.specs.Arguments.{digits_onto, below_64_bits, Arguments, G
 pub digits_onto-least : (digits : List ℕ) (number : ℕ) → number ≤ digits_onto number digits
 digits_onto-least [] number = omega arith
 digits_onto-least (digit ∷ digits) number =
-    let more : 10 * number + (digit - 48) ≤ digits_onto (10 * number + (digit - 48)) digits = digits_onto-least digits (10 * number + (digit - 48)) in omega arith
+    let more : 10 * number + (digit - 48) ≤ digits_onto (10 * number + (digit - 48)) digits =
+    digits_onto-least digits (10 * number + (digit - 48)) in omega arith
 
 -- arguments that stand before others
 abbrev pub with_arguments : List ℕ → Arguments → Arguments
@@ -31,7 +32,8 @@ with_arguments-more (first ∷ values) value others = ap (with_argument first) (
 pub number_too_large : (number digit whole : ℕ) (rest others : List ℕ) → rest ≡ digit ∷ others → digits_onto number rest ≡ whole →
     None ≡ below_64_bits (10 * number + (digit - 48)) → None ≡ below_64_bits whole
 number_too_large number digit whole rest others parts same large =
-    let more : 10 * number + (digit - 48) ≤ digits_onto (10 * number + (digit - 48)) others = digits_onto-least others (10 * number + (digit - 48)) in
+    let more : 10 * number + (digit - 48) ≤ digits_onto (10 * number + (digit - 48)) others =
+    digits_onto-least others (10 * number + (digit - 48)) in
     let is_whole : digits_onto (10 * number + (digit - 48)) others ≡ whole = sym (ap (digits_onto number) parts) ∙ same in
     larger (10 * number + (digit - 48)) whole large (omega (arith, more, is_whole))
   where
@@ -43,6 +45,7 @@ pub number_fits : (number : ℕ) → number < 2 ^ 64 → Some number ≡ below_6
 number_fits number fits = grind (arith, nat_tests)
 
 -- a number whose digits are over
-pub number_done : (number : ℕ) (rest : List ℕ) (whole : ℕ) → length rest ≡ 0 → digits_onto number rest ≡ whole → number < 2 ^ 64 → Some number ≡ below_64_bits whole
+pub number_done : (number : ℕ) (rest : List ℕ) (whole : ℕ) → length rest ≡ 0 → digits_onto number rest ≡ whole → number < 2 ^ 64
+    → Some number ≡ below_64_bits whole
 number_done number [] whole over same fits = number_fits number fits ∙ ap below_64_bits same
 number_done number (digit ∷ rest) whole over same fits = absurd (omega arith)

@@ -1,5 +1,5 @@
 -- A source reads in one way.
-use Rattle.std.proofs.Common.{◌≡◌, ℕ, List, [], Option, Some, None, Ok, refl, sym, ap, subst, ◌∙◌, arith}
+use Rattle.std.proofs.Common.{◌≡◌, ℕ, List, Ok, refl, sym, ap, subst, ◌∙◌, arith}
 use Rattle.tl_base.specs.declared.place.Place.{Place}
 use Rattle.tl_lex.specs.declared.SyntaxKind.{SyntaxKind}
 use Rattle.tl_tree.specs.Tokens.{Token, tokens_of, finish_of, place_of}
@@ -12,9 +12,6 @@ use Rattle.tl_tree.specs.Texts as texts
 use Rattle.tl_tree.proofs.Answering.{chunks_one}
 use Rattle.tl_tree.proofs.WellFormedTrees.{well_formed_trees}
 use Rattle.tl_parse.specs.Whole.{ComesOf}
-use Rattle.first_form.specs.Formula.{SourceFunction, IsWithin}
-use Rattle.first_form.specs.Form.{function_of}
-use Rattle.first_form.proofs.Within.{always_within}
 use Rattle.terrac_call.specs.declared.parsing.Parsed.{Parsed}
 use Rattle.terrac_call.specs.declared.parsing.Parsed.TheVariants as parsed
 use Rattle.terrac_call.specs.ParsedView.{Shows}
@@ -42,7 +39,8 @@ no_both text a kind place p q =
 abbrev answer_of : SyntaxKind → List Token → Answer Tree
 answer_of kind rest = Refused kind rest
 
-one_refusal : (text : List ℕ) (kind other : SyntaxKind) (place there : Place) → texts.Refuses text kind place → texts.Refuses text other there → IsRefused kind place ≡ IsRefused other there
+one_refusal : (text : List ℕ) (kind other : SyntaxKind) (place there : Place) → texts.Refuses text kind place
+    → texts.Refuses text other there → IsRefused kind place ≡ IsRefused other there
 one_refusal text kind other place there p q =
     same (one IsChunk chunks_one (tokens_of text) (Refused kind p.rest) (Refused other q.rest) p.refuses q.refuses)
   where
@@ -84,7 +82,3 @@ text_tree text t comes =
       comes.2,
       well_formed_trees text comes.0 comes.1,
     )
-
--- the function that is found of a tree is within the bounds
-pub found_within : (tree : Tree) (found : Option SourceFunction) (f : SourceFunction) → found ≡ function_of tree → found ≡ Some f → IsWithin f
-found_within tree found f is some = always_within tree f (sym is ∙ some)

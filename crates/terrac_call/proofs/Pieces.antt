@@ -1,5 +1,6 @@
 -- A piece that goes out, front by front.
-use Rattle.std.proofs.Common.{◌≡◌, ◌<◌, length, length-append, arith, ℕ, List, [], ◌++◌, take, drop, Option, Some, None, refl, sym, ap, ◌∙◌, append_assoc, append-nil, subst}
+use Rattle.std.proofs.Common.{◌≡◌, ◌<◌, length, length-append, arith, ℕ, List, [], ◌++◌, take, drop, Option, Some, None, refl, sym, ap}
+use Rattle.std.proofs.Common.{◌∙◌, append_assoc, append-nil, subst}
 use Rattle.std.proofs.lemmas.List.{take-append-drop}
 use Rattle.tl_base.specs.Outside.{with_back, IsRisen}
 use Rattle.terrac_call.specs.Delivery.{StopsShort}
@@ -28,7 +29,8 @@ pub sent_more : (piece rest : List ℕ) (old mid new : Option (List ℕ)) (f0 f1
     Sent piece rest old mid f0 f1 → new ≡ with_back mid (take n rest) → f2 ≡ f1 → Sent piece (drop n rest) old new f0 f2
 sent_more piece rest old mid new f0 f1 f2 n sent took same = record {
   front = sent.front ++ take n rest;
-  parts = sent.parts ∙ ap (λ back. sent.front ++ back) (sym (take-append-drop n rest)) ∙ sym (append_assoc sent.front (take n rest) (drop n rest));
+  parts = sent.parts ∙ ap (λ back. sent.front ++ back) (sym (take-append-drop n rest))
+      ∙ sym (append_assoc sent.front (take n rest) (drop n rest));
   took = took ∙ ap (λ before. with_back before (take n rest)) sent.took ∙ with_back-both old sent.front (take n rest);
   same = same ∙ sent.same;
 }
@@ -46,6 +48,7 @@ sent_short piece rest old mid new f0 f1 f2 sent kept rose = record {
 }
 
 -- a piece of which something is left is not empty
-pub sent_some : (piece rest : List ℕ) (old new : Option (List ℕ)) (f0 f1 : ℕ) → Sent piece rest old new f0 f1 → 0 < length rest → piece ≡ [] → ⊥
+pub sent_some : (piece rest : List ℕ) (old new : Option (List ℕ)) (f0 f1 : ℕ) → Sent piece rest old new f0 f1 → 0 < length rest
+    → piece ≡ [] → ⊥
 sent_some piece rest old new f0 f1 sent some none =
     let long : length piece ≡ 0 = ap length none in omega (arith, long, ap length sent.parts, length-append sent.front rest)

@@ -2,7 +2,7 @@
 use Rattle.std.specs.Prelude.{ℕ, ◌≡◌, ◌≢◌, List, Option, Some, None}
 use Rattle.terrac_call.specs.declared.status.Status.{Status}
 use Rattle.terrac_call.specs.declared.status.Status.TheVariants as statuses
-use Rattle.terrac_call.specs.Words.{job_of}
+use Rattle.terrac_call.specs.Words.{Job, Run, Emit, Exec, Check, Terms, Gen, job_of}
 use Rattle.terrac_call.specs.Due.{Due}
 use Rattle.terrac_call.specs.Answer.{IsDue, GivesDue}
 
@@ -23,8 +23,18 @@ AnswersExactly words left RoseSource RoseOut RoseNotes status out_old out_new no
     (RoseSource → ⊥) → (RoseOut → ⊥) → (RoseNotes → ⊥) → status ≢ statuses.NoMemory →
     AnswersDue words bytes status out_old out_new notes_old notes_new
 
--- A job on some bytes has one thing due; only the text of `clap` for words that name none is open.
+-- the jobs that run no compiled code: of those that do, images may differ, and so how far a run comes within its steps
+abbrev pub CompilesNothing : Option Job → Type 0
+CompilesNothing None = ⊥
+CompilesNothing (Some (Run call running)) = ⊥
+CompilesNothing (Some (Emit limits)) = ⊥
+CompilesNothing (Some (Exec call steps)) = Unit {0}
+CompilesNothing (Some (Check limits)) = Unit {0}
+CompilesNothing (Some (Terms limits)) = Unit {0}
+CompilesNothing (Some (Gen count running)) = ⊥
+
+-- Such a job on some bytes has one thing due. Of words that name none the text of `clap` is open.
 abbrev pub OneDue : Type 0
 OneDue =
-    (words : List (List ℕ)) (bytes : List ℕ) (one other : Due) → job_of words ≢ None →
+    (words : List (List ℕ)) (bytes : List ℕ) (one other : Due) → CompilesNothing (job_of words) →
     IsDue (job_of words) bytes one → IsDue (job_of words) bytes other → one ≡ other

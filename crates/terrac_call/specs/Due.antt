@@ -1,7 +1,5 @@
 -- What is due to the caller: the status, and what `out` and `notes` take.
-use Rattle.std.specs.Prelude.{ℕ, ◌≡◌, ◌<◌, ◌≤◌, List, [], ◌∷◌, ◌++◌, length, replicate, Option, Some, None}
-use Rattle.std.specs.Prelude.{if◌then◌else◌, codes}
-use Rattle.std.specs.Str.{bytes_eq}
+use Rattle.std.specs.Prelude.{ℕ, ◌<◌, ◌≤◌, List, [], ◌∷◌, ◌++◌, length, codes}
 use Rattle.std.specs.declared.io.ErrorKind.{ErrorKind}
 use Rattle.std.specs.declared.io.ErrorKind.TheVariants.{OutOfMemory}
 use Rattle.std.specs.Str.{IsUtf8}
@@ -12,19 +10,21 @@ use Rattle.tl_tree.specs.Tree.{Tree}
 use Rattle.tl_tree.specs.Texts.{Reads, Refuses}
 use Rattle.tl_tree.specs.Tokens.{finish_of}
 use Rattle.elf_image.specs.Calls.{result_text}
-use Rattle.first_form.specs.Formula.{SourceFunction}
-use Rattle.first_form.specs.Form.{function_of}
-use Rattle.first_meaning.specs.Meaning.{meaning}
 use Rattle.terrac_call.specs.declared.status.Status.{Status}
 use Rattle.terrac_call.specs.declared.status.Status.TheVariants as statuses
 use Rattle.terrac_call.specs.Statuses.{text_of}
-use Rattle.terrac_call.specs.Words.{Call}
-use Rattle.terrac_call.specs.Arguments.{Arguments, Good, Bad, arguments_of}
 
 pub record Due : Type 0 where
   pub status : Status
   pub out : List ℕ
+  -- what `notes` takes before the line of the status: an image that runs, or what was printed where `out` takes an image
+  pub noted : List ℕ
+  -- the line of the status, if it has one
   pub notes : List ℕ
+
+-- all that `notes` takes
+abbrev pub all_notes : Due → List ℕ
+all_notes due = due.noted ++ due.notes
 
 -- a text with its line end, LF
 abbrev pub line : List ℕ → List ℕ
@@ -32,35 +32,35 @@ line text = text ++ 10 ∷ []
 
 -- a refusal: nothing on `out`, and the status's line on `notes`
 abbrev pub refused : Status → Due
-refused status = record { status = status; out = []; notes = line (text_of status) }
+refused status = record { status = status; out = []; noted = []; notes = line (text_of status) }
+
+-- a result: these bytes on `out`
+abbrev pub given : List ℕ → Due
+given bytes = record { status = statuses.Ok; out = bytes; noted = []; notes = [] }
 
 -- what is due behind bytes that were written to `out`
 abbrev pub after : List ℕ → Due → Due
-after printed due = record { status = due.status; out = printed ++ due.out; notes = due.notes }
+after printed due = record { status = due.status; out = printed ++ due.out; noted = due.noted; notes = due.notes }
 
--- the line of a result, whose type has this code
-abbrev pub due_of_result : ℕ → ℕ → Due
-due_of_result code word = record { status = statuses.Ok; out = line (codes "result " ++ result_text code word); notes = [] }
+-- what is due behind bytes that were written to `notes`
+abbrev pub noting : List ℕ → Due → Due
+noting bytes due = record { status = due.status; out = due.out; noted = bytes ++ due.noted; notes = due.notes }
+
+-- the line of a result, whose type has this code, with a text before it
+abbrev pub due_of_result : (front : List ℕ) → (code word : ℕ) → Due
+due_of_result front code word = given (line (front ++ codes "result " ++ result_text code word))
 
 abbrev pub due_of_bad_argument : ℕ → Due
 due_of_bad_argument position = refused (statuses.BadArgument position)
 
 -- the line of an entry that isn't there ends with its name
 abbrev pub due_of_no_entry : List ℕ → Due
-due_of_no_entry entry = record { status = statuses.NoEntry; out = []; notes = line (text_of statuses.NoEntry ++ entry) }
+due_of_no_entry entry =
+    record { status = statuses.NoEntry; out = []; noted = []; notes = line (text_of statuses.NoEntry ++ entry) }
 
 -- words that `clap` refuses: a line, and then its own text
 abbrev pub due_of_usage : List ℕ → Due
-due_of_usage text = record { status = statuses.Usage; out = []; notes = line (text_of statuses.Usage) ++ text }
-
--- the type code of int64
-abbrev pub int64 : ℕ
-int64 = 4
-
--- for a function that is called with these arguments
-abbrev pub due_of_arguments : SourceFunction → Arguments → Due
-due_of_arguments function (Bad position) = due_of_bad_argument position
-due_of_arguments function (Good values) = due_of_result int64 (meaning function.body values)
+due_of_usage text = record { status = statuses.Usage; out = []; noted = []; notes = line (text_of statuses.Usage) ++ text }
 
 -- ---- how a source reads
 
@@ -93,26 +93,6 @@ pub data IsReadAs (source : List ℕ) : Reading → Type 0 where
 -- for a source that is refused
 abbrev pub due_of_syntax : SyntaxKind → Place → Due
 due_of_syntax kind place = refused (statuses.Syntax kind place)
-
--- for a source of which no part that is built takes care
-abbrev pub due_of_not_built : Due
-due_of_not_built = refused statuses.NotBuilt
-
--- for a call on a source that is this function, or none
-abbrev pub due_of_function : Call → Option SourceFunction → Due
-due_of_function call None = due_of_not_built
-due_of_function call (Some function) =
-    if bytes_eq call.entry function.name then due_of_arguments function (arguments_of (replicate function.arity int64) 1 call.arguments)
-    else due_of_no_entry call.entry
-
--- for a call on a source that reads so
-abbrev pub due_of_call : Call → Reading → Due
-due_of_call call (IsRefused kind place) = due_of_syntax kind place
-due_of_call call (IsTree tree finish) = due_of_function call (function_of tree)
-
--- for a call on the bytes of a source
-abbrev pub IsSourceDue : Call → List ℕ → Due → Type 0
-IsSourceDue call bytes due = (reading : Reading) × IsReadAs bytes reading × (due ≡ due_of_call call reading)
 
 -- for words that could not be collected: memory ran out, or a word is no UTF-8, which names nothing
 abbrev pub due_of_unread : ErrorKind → Due

@@ -14,8 +14,8 @@ line_bytes (lines.Bytes text) = text
 
 -- the result goes to `out`, and any other line to `notes`
 abbrev pub due_with : Status → List ℕ → Due
-due_with statuses.Ok bytes = record { status = statuses.Ok; out = bytes; notes = [] }
-due_with status bytes = record { status = status; out = []; notes = bytes }
+due_with statuses.Ok bytes = record { status = statuses.Ok; out = bytes; noted = []; notes = [] }
+due_with status bytes = record { status = status; out = []; noted = []; notes = bytes }
 
 abbrev pub shown_due : DueValue → Due
 shown_due due = due_with due.status (line_bytes due.line)

@@ -1,11 +1,12 @@
 -- What is due for `exec`: an image is read, a function of it is called, and the run of the image says how that ends.
-use Rattle.std.specs.Prelude.{ℕ, ◌≡◌, ◌/◌, ◌%◌, ◌^◌, ◌<◌, ◌≤◌, ◌==◌, if◌then◌else◌, List, length, Option, Some, None}
+use Rattle.std.specs.Prelude.{ℕ, ◌≡◌, ◌/◌, ◌%◌, ◌^◌, ◌<◌, ◌≤◌, ◌==◌, if◌then◌else◌, Bool, false, List, [], length, Option, Some, None}
 use Rattle.tl_base.specs.declared.place.Place.{Place}
 use Rattle.elf_image.specs.declared.error.ImageError.{ImageError}
 use Rattle.elf_image.specs.declared.image.Image.{Image}
 use Rattle.elf_image.specs.declared.image.Symbol.{Symbol}
 use Rattle.elf_image.specs.Calls.{symbol_named}
 use Rattle.elf_image.specs.Loads.{Loads, BadBytes}
+use Rattle.elf_image.specs.Written.{bytes_of}
 use Rattle.rv_machine.specs.declared.stops.MachineKind.{MachineKind}
 use Rattle.rv_machine.specs.declared.stops.Stop.{Stop}
 use Rattle.rv_machine.specs.declared.stops.Stop.TheVariants as stops
@@ -18,7 +19,7 @@ use Rattle.terrac_call.specs.declared.status.ImageFault.{ImageFault}
 use Rattle.terrac_call.specs.declared.status.ImageFault.TheVariants.{TooLong, Refused}
 use Rattle.terrac_call.specs.Words.{Call}
 use Rattle.terrac_call.specs.Arguments.{Arguments, Good, Bad, arguments_of}
-use Rattle.terrac_call.specs.Due.{Due, refused, after, due_of_result, due_of_bad_argument, due_of_no_entry}
+use Rattle.terrac_call.specs.Due.{Due, refused, after, noting, due_of_result, due_of_bad_argument, due_of_no_entry}
 
 -- ---- bytes that are no image
 
@@ -51,25 +52,48 @@ abbrev pub due_of_machine_fault : MachineKind → ℕ → Due
 due_of_machine_fault kind pc = refused (statuses.MachineFault kind pc)
 
 -- what is due where a run stops so, behind its output. A defined run has no write that fails
-abbrev pub due_of_stop : ℕ → Stop → Due
-due_of_stop code (stops.Returned word) = due_of_result code word
-due_of_stop code (stops.TerraFault kind place) = due_of_fault (fault_kind kind) (place_of place)
-due_of_stop code (stops.MachineFault kind pc) = due_of_machine_fault kind pc
-due_of_stop code stops.Unfinished = refused statuses.Unfinished
-due_of_stop code stops.WriteFault = refused statuses.WriteFault
+abbrev pub due_of_stop : (front : List ℕ) → (code : ℕ) → Stop → Due
+due_of_stop front code (stops.Returned word) = due_of_result front code word
+due_of_stop front code (stops.TerraFault kind place) = due_of_fault (fault_kind kind) (place_of place)
+due_of_stop front code (stops.MachineFault kind pc) = due_of_machine_fault kind pc
+due_of_stop front code stops.Unfinished = refused statuses.Unfinished
+due_of_stop front code stops.WriteFault = refused statuses.WriteFault
 
 -- ---- the whole
 
--- for a function of an image that is called with these arguments
-abbrev pub IsRunDue : Image → Symbol → ℕ → Arguments → Due → Type 0
-IsRunDue image symbol steps (Bad position) due = due ≡ due_of_bad_argument position
-IsRunDue image symbol steps (Good values) due =
-    (ran : Ran) × RvRun image symbol.address values steps ran × (due ≡ after ran.output (due_of_stop symbol.result ran.stop))
+-- How a call on an image is carried out: for at most how many steps, with which text before the line of its result, and whether the image
+-- goes to `notes` before it runs.
+pub record Manner : Type 0 where
+  pub steps : ℕ
+  pub front : List ℕ
+  pub shows : Bool
+
+-- where no image goes to `notes`
+abbrev pub plain : (steps : ℕ) → (front : List ℕ) → Manner
+plain steps front = record { steps = steps; front = front; shows = false }
+
+-- the file of an image, where it is to be shown
+abbrev pub file_shown : Bool → Image → List ℕ
+file_shown shows image = if shows then bytes_of image else []
+
+abbrev pub shown_file : Manner → Image → List ℕ
+shown_file manner image = file_shown manner.shows image
+
+-- for a function of an image that is called with these values
+abbrev pub IsGoodDue : Image → Symbol → Manner → List ℕ → Due → Type 0
+IsGoodDue image symbol manner values due =
+    (ran : Ran) × RvRun image symbol.address values manner.steps ran
+    × (due ≡ noting (shown_file manner image) (after ran.output (due_of_stop manner.front symbol.result ran.stop)))
+
+-- for these arguments
+abbrev pub IsRunDue : Image → Symbol → Manner → Arguments → Due → Type 0
+IsRunDue image symbol manner (Bad position) due = due ≡ due_of_bad_argument position
+IsRunDue image symbol manner (Good values) due = IsGoodDue image symbol manner values due
 
 -- for the function that a call names
-abbrev pub IsCallDue : Image → Call → ℕ → Option Symbol → Due → Type 0
-IsCallDue image call steps None due = due ≡ due_of_no_entry call.entry
-IsCallDue image call steps (Some symbol) due = IsRunDue image symbol steps (arguments_of symbol.params 1 call.arguments) due
+abbrev pub IsCallDue : Image → Call → Manner → Option Symbol → Due → Type 0
+IsCallDue image call manner None due = due ≡ due_of_no_entry call.entry
+IsCallDue image call manner (Some symbol) due = IsRunDue image symbol manner (arguments_of symbol.params 1 call.arguments) due
 
 -- for bytes: too many of them; none that are an image; or the image that they are
 pub data IsExecDue (call : Call) (steps : ℕ) (bytes : List ℕ) (due : Due) : Type 0 where
@@ -77,4 +101,4 @@ pub data IsExecDue (call : Call) (steps : ℕ) (bytes : List ℕ) (due : Due) : 
   IsBad : (error : ImageError) → length bytes ≤ longest_image → BadBytes bytes error
       → due ≡ due_of_bad_image (Refused error) → IsExecDue call steps bytes due
   IsImage : (image : Image) → length bytes ≤ longest_image → Loads bytes image
-      → IsCallDue image call steps (symbol_named call.entry image.exports) due → IsExecDue call steps bytes due
+      → IsCallDue image call (plain steps []) (symbol_named call.entry image.exports) due → IsExecDue call steps bytes due

@@ -5,15 +5,20 @@ use Rattle.terrac_call.specs.declared.status.Status.TheVariants as statuses
 use Rattle.terrac_call.specs.Statuses.{text_of}
 use Rattle.terrac_call.specs.declared.words.Call.{Call as CallValue}
 use Rattle.terrac_call.specs.declared.words.Limits.{Limits as LimitsValue}
+use Rattle.terrac_call.specs.declared.words.Running.{Running as RunningValue}
+use Rattle.terrac_call.specs.declared.run.Asking.{Asking as AskingValue}
+use Rattle.terrac_call.specs.declared.exec.Manner.{Manner as MannerValue}
 use Rattle.terrac_call.specs.declared.words.Job.{Job as JobValue}
 use Rattle.terrac_call.specs.declared.words.Job.TheVariants as jobs
 use Rattle.terrac_call.specs.declared.words.Asked.{Asked}
 use Rattle.terrac_call.specs.declared.words.Asked.TheVariants as asked
 use Rattle.terrac_call.specs.declared.arguments.Arguments.{Arguments as ArgumentsValue}
 use Rattle.terrac_call.specs.declared.arguments.Arguments.TheVariants as values
-use Rattle.terrac_call.specs.Words.{Call, Limits, Job, Run, Exec, Check, Terms}
+use Rattle.terrac_call.specs.Words.{Call, Limits, Running, Job, Run, Emit, Exec, Check, Terms, Gen}
 use Rattle.terrac_call.specs.Arguments.{Arguments, Good, Bad}
 use Rattle.terrac_call.specs.Due.{line}
+use Rattle.terrac_call.specs.Exec.{Manner}
+use Rattle.terrac_call.specs.Run.{Asking}
 
 -- the bytes of texts
 abbrev pub texts_of : List (Bor (List ℕ)) → List (List ℕ)
@@ -25,11 +30,22 @@ shown_call call = record { entry = call.entry.now; arguments = texts_of call.arg
 abbrev pub shown_limits : LimitsValue → Limits
 shown_limits limits = record { budget = limits.budget; memory = limits.memory }
 
+abbrev pub shown_running : RunningValue → Running
+shown_running running = record { limits = shown_limits running.limits; steps = running.steps; shows = running.shows }
+
+abbrev pub shown_asking : AskingValue → Asking
+shown_asking it = record { call = shown_call it.call; running = shown_running it.running; generated = it.generated }
+
+abbrev pub shown_manner : MannerValue → Manner
+shown_manner manner = record { steps = manner.steps; front = manner.front.now; shows = manner.shows }
+
 abbrev pub shown_job : JobValue → Job
-shown_job (jobs.Run call) = Run (shown_call call)
+shown_job (jobs.Run call running) = Run (shown_call call) (shown_running running)
+shown_job (jobs.Emit limits) = Emit (shown_limits limits)
 shown_job (jobs.Exec call steps) = Exec (shown_call call) steps
 shown_job (jobs.Check limits) = Check (shown_limits limits)
 shown_job (jobs.Terms limits) = Terms (shown_limits limits)
+shown_job (jobs.Gen count running) = Gen count (shown_running running)
 
 -- the job that was asked for, if the words name one
 abbrev pub shown_asked : Asked → Option Job

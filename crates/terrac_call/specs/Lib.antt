@@ -5,12 +5,20 @@ pub mod Statuses
 pub mod Words
 -- the words of arguments
 pub mod Arguments
--- what is due for `run`
+-- what is due to the caller, and how a source reads
 pub mod Due
 -- what is due for `exec`
 pub mod Exec
 -- what is due for a source that is staged
 pub mod Staged
+-- what is due for `run`
+pub mod Run
+-- what is due for `emit`
+pub mod Emit
+-- what is due for `gen`
+pub mod Gen
+-- what a run tells of Terra's meaning
+pub mod Headline
 -- what is due for `check`
 pub mod Check
 -- what is due for `terms`
@@ -23,6 +31,6 @@ pub mod Call
 pub mod JobView
 pub mod DueView
 pub mod ParsedView
+pub mod MadeView
 pub mod Delivery
 pub mod Ending
-pub mod Code

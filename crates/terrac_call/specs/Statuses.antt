@@ -15,7 +15,7 @@ use Rattle.terrac_call.specs.declared.status.ImageFault.TheVariants as images
 use Rattle.terrac_call.specs.declared.status.Status.{Status}
 use Rattle.terrac_call.specs.declared.status.Status.TheVariants.{Ok, Usage, Syntax, Raised, BudgetSpent, NoEntry}
 use Rattle.terrac_call.specs.declared.status.Status.TheVariants.{BadArgument, Fault, Unfinished, BadImage, ReadFault}
-use Rattle.terrac_call.specs.declared.status.Status.TheVariants.{WriteFault, NoMemory, MachineFault, NotBuilt}
+use Rattle.terrac_call.specs.declared.status.Status.TheVariants.{WriteFault, NoMemory, MachineFault}
 
 abbrev pub code_of : Status → ℕ
 code_of Ok = 0
@@ -32,7 +32,6 @@ code_of ReadFault = 11
 code_of WriteFault = 12
 code_of NoMemory = 13
 code_of (MachineFault kind pc) = 14
-code_of NotBuilt = 15
 
 -- a place, as line and number of the token on it
 abbrev place_text : Place → List ℕ
@@ -93,4 +92,3 @@ text_of ReadFault = codes "read fault"
 text_of WriteFault = codes "write fault"
 text_of NoMemory = codes "no memory"
 text_of (MachineFault kind pc) = codes "machine fault " ++ machine_fault_text kind ++ codes " at " ++ decimal pc
-text_of NotBuilt = codes "not built"

@@ -1,5 +1,5 @@
 -- What the words of a command line ask for, by what `clap` says of a simple command: which words it takes, and what it makes of them.
-use Rattle.std.specs.Prelude.{ℕ, ◌≡◌, ◌^◌, Bool, ◌&&◌, nat_lt, List, [], ◌∷◌, length, Option, Some, None, unwrap_or}
+use Rattle.std.specs.Prelude.{ℕ, ◌≡◌, ◌^◌, Bool, ◌&&◌, ◌==◌, nat_lt, List, [], ◌∷◌, length, Option, Some, None, unwrap_or}
 use Rattle.std.specs.Prelude.{if◌then◌else◌, true, codes}
 use Rattle.std.specs.List.{list_all}
 use Rattle.std.specs.Char.{digit_value}
@@ -49,9 +49,32 @@ memory_rule = record (new_rule (codes "memory")) {
   defaults = codes "1024" ∷ [];
 }
 
--- run ENTRY ARG..
+-- --image: 0 or 1, at most once, and 0 where it isn't given
+abbrev pub image_rule : Rule
+image_rule = record (new_rule (codes "image")) {
+  long = Some (codes "image");
+  value_names = 1;
+  parser = Some (parsers.Unsigned 0 1);
+  defaults = codes "0" ∷ [];
+}
+
+-- N: a number from 1 to 2,000, required
+abbrev pub count_rule : Rule
+count_rule = record (new_rule (codes "N")) { required = true; parser = Some (parsers.Unsigned 1 2000) }
+
+-- a command with the limits of a staging
+abbrev pub staging_command : App → App
+staging_command app = with_rule (with_rule app budget_rule) memory_rule
+
+-- run ENTRY ARG.., with its options
 abbrev pub run_command : App
-run_command = with_rule (with_rule (new_app (codes "run")) entry_rule) arguments_rule
+run_command =
+    with_rule (with_rule (with_rule (with_rule (staging_command (new_app (codes "run"))) steps_rule) image_rule) entry_rule)
+    arguments_rule
+
+-- emit, with its options
+abbrev pub emit_command : App
+emit_command = staging_command (new_app (codes "emit"))
 
 -- exec ENTRY ARG.., with its option
 abbrev pub exec_command : App
@@ -59,11 +82,15 @@ exec_command = with_rule (with_rule (with_rule (new_app (codes "exec")) steps_ru
 
 -- check, with its options
 abbrev pub check_command : App
-check_command = with_rule (with_rule (new_app (codes "check")) budget_rule) memory_rule
+check_command = staging_command (new_app (codes "check"))
 
 -- terms, with its options
 abbrev pub terms_command : App
-terms_command = with_rule (with_rule (new_app (codes "terms")) budget_rule) memory_rule
+terms_command = staging_command (new_app (codes "terms"))
+
+-- gen N, with its options
+abbrev pub gen_command : App
+gen_command = with_rule (with_rule (staging_command (new_app (codes "gen"))) steps_rule) count_rule
 
 -- the program without a command
 abbrev pub program : App
@@ -72,8 +99,13 @@ program = record { top = record (new_shape (codes "terrac")) { subcommand_requir
 -- the program requires one of its commands
 abbrev pub command_line : App
 command_line =
-    with_subcommand (with_subcommand (with_subcommand (with_subcommand program run_command.top) exec_command.top) check_command.top)
-    terms_command.top
+    with_subcommand
+    (with_subcommand
+    (with_subcommand
+    (with_subcommand (with_subcommand (with_subcommand program run_command.top) emit_command.top) exec_command.top)
+    check_command.top)
+    terms_command.top)
+    gen_command.top
 
 -- ---- the job
 
@@ -87,13 +119,22 @@ pub record Limits : Type 0 where
   pub budget : ℕ
   pub memory : ℕ
 
--- to run an entry of a source; to run an entry of an image for at most so many steps; to check a source within limits; to write
--- the terms of what it exports, within limits
+-- how a source is run: within which limits, for at most how many steps, and whether its image goes to `notes` first
+pub record Running : Type 0 where
+  pub limits : Limits
+  pub steps : ℕ
+  pub shows : Bool
+
+-- to run an entry of a source; to write the image of what it exports, within limits; to run an entry of an image for at most so many
+-- steps; to check a source within limits; to write the terms of what it exports, within limits; to generate a source of so many functions
+-- and run it
 pub data Job : Type 0 where
-  Run : (call : Call) → Job
+  Run : (call : Call) (running : Running) → Job
+  Emit : (limits : Limits) → Job
   Exec : (call : Call) (steps : ℕ) → Job
   Check : (limits : Limits) → Job
   Terms : (limits : Limits) → Job
+  Gen : (count : ℕ) (running : Running) → Job
 
 -- What is required or has a default is always there, and a number is one in its range; these definitions say something of other
 -- rows as well.
@@ -115,7 +156,7 @@ call_of rows = record {
   arguments = unwrap_or (all_of (codes "ARG") rows) [];
 }
 
--- the number that was found for an option
+-- the number that was found for an option or for N
 abbrev pub number_found : Text → List Row → ℕ
 number_found id rows = number_or_zero (text_or_none (first_of id rows))
 
@@ -125,13 +166,29 @@ exec_of rows = Exec (call_of rows) (number_found (codes "steps") rows)
 abbrev pub limits_of : List Row → Limits
 limits_of rows = record { budget = number_found (codes "budget") rows; memory = number_found (codes "memory") rows }
 
--- the job of a command with what was found for its arguments
+-- a command without `--image` shows no image
+abbrev pub running_of : List Row → Running
+running_of rows = record {
+  limits = limits_of rows;
+  steps = number_found (codes "steps") rows;
+  shows = number_found (codes "image") rows == 1;
+}
+
+abbrev pub run_of : List Row → Job
+run_of rows = Run (call_of rows) (running_of rows)
+
+abbrev pub gen_of : List Row → Job
+gen_of rows = Gen (number_found (codes "N") rows) (running_of rows)
+
+-- the job of a command with what was found for its arguments; there is one of six
 abbrev pub job_of_command : Option (Text × List Row) → Job
-job_of_command None = Run (call_of [])
+job_of_command None = Emit (record { budget = 0; memory = 0 })
 job_of_command (Some found) =
-    if bytes_eq found.0 (codes "exec") then exec_of found.1
+    if bytes_eq found.0 (codes "run") then run_of found.1
+    else (if bytes_eq found.0 (codes "exec") then exec_of found.1
     else (if bytes_eq found.0 (codes "check") then Check (limits_of found.1)
-    else (if bytes_eq found.0 (codes "terms") then Terms (limits_of found.1) else Run (call_of found.1)))
+    else (if bytes_eq found.0 (codes "terms") then Terms (limits_of found.1)
+    else (if bytes_eq found.0 (codes "gen") then gen_of found.1 else Emit (limits_of found.1)))))
 
 -- the job that the words name, the program's own name first: none exactly where `clap` refuses them
 unfoldable pub job_of : List Text → Option Job

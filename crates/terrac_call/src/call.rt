@@ -13,15 +13,15 @@ ghost use Rattle.terrac_call.specs.declared.status.Status.TheVariants as statuse
 use crate::delivery::{deliver, write_fault};
 use crate::due::{Due, Ended};
 use crate::lines::{bare_usage_due, no_memory_due};
-use crate::run::run;
 use crate::status::Status;
+use crate::work::work;
 use check_stage::staging::larger_changes_nothing;
 use std::alloc::Global;
 use std::io::ErrorKind;
 use tl_base::{Sink, Source};
 
-/// Does what the words ask for: reads `source`, writes results to `out` and the line of a refusal to `notes`, and answers how it
-/// ended. `words` are the program's words, its own name first.
+/// Does what the words ask for: reads `source`, writes results to `out` and the line of a refusal to `notes`, with the image that runs or
+/// what a staging prints before it where that is due there, and answers how it ended. `words` are the program's words, its own name first.
 pub fn terrac<S: Source, K: Sink, N: Sink>(
     alloc: Global,
     words: &[String],
@@ -36,9 +36,10 @@ pub fn terrac<S: Source, K: Sink, N: Sink>(
         result (K.taken out.old) (K.taken out.new) (N.taken notes.old) (N.taken notes.new) }
 
     // Whatever the source and the sinks do, the sinks took what was owed, or fronts of it and of the line of a write fault; `out`
-    // isn't called where nothing is due to it.
+    // isn't called where nothing is due to it, and `notes` isn't where a result is due and nothing to it.
     ensures answers { Answers (map string_bytes words.now) (S.left source.old) (IsRisen (S.faults source.old) (S.faults source.new))
-        result (K.taken out.old) (K.taken out.new) (N.taken notes.old) (N.taken notes.new) (out.new ≡ out.old) }
+        result (K.taken out.old) (K.taken out.new) (N.taken notes.old) (N.taken notes.new)
+        (out.new ≡ out.old) (notes.new ≡ notes.old) }
 
     // A fault comes only where that object's count rose.
     ensures read_fault { result ≡ statuses.ReadFault → IsRisen (S.faults source.old) (S.faults source.new) }
@@ -51,15 +52,14 @@ pub fn terrac<S: Source, K: Sink, N: Sink>(
     ensures out_rose { K.faults out.old < K.faults out.new → result ≡ statuses.WriteFault }
     ensures notes_rose { N.faults notes.old < N.faults notes.new → result ≡ statuses.WriteFault }
 
-    // Words that `clap` takes are no bad usage; words that name no job leave the source as it is; a result leaves `notes` as it is.
+    // Words that `clap` takes are no bad usage; words that name no job leave the source as it is.
     ensures taken { AreTaken (map string_bytes words.now) → result ≢ statuses.Usage }
     ensures untouched { job_of (map string_bytes words.now) ≡ None → source.new ≡ source.old }
-    ensures quiet_notes { result ≡ statuses.Ok → notes.new ≡ notes.old }
 
     // No more than one byte past the limit of a source or an image is read.
     ensures bound { TookAtMost (most_read (job_of (map string_bytes words.now))) (S.left source.old) (S.left source.new) }
 {
-    match run(alloc, words, source, out) {
+    match work(alloc, words, source, out, notes) {
         Ended::Due(due) => deliver(due, out, notes),
         Ended::WriteFault => write_fault(notes),
     }
@@ -85,7 +85,7 @@ fn unread_words_due(kind: ErrorKind) -> Due
     }
 }
 
-/// A job on some bytes has one thing due, so that [`terrac`]'s answer is the only one.
+/// A job that compiles nothing has one thing due on some bytes, so that [`terrac`]'s answer is the only one.
 pub fn one_due()
     ensures { OneDue }
 {

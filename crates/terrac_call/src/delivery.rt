@@ -18,7 +18,8 @@ use tl_base::{Failed, Sink};
 pub(crate) fn deliver<K: Sink, N: Sink>(due: Due, out: &mut K, notes: &mut N) -> Status
     requires { due.status ≢ statuses.WriteFault }
     ensures delivers { Delivers (shown_due due) result (K.taken out.old) (K.taken out.new) (N.taken notes.old) (N.taken notes.new) }
-    ensures fault { result ≡ statuses.WriteFault → IsRisen (K.faults out.old) (K.faults out.new) ⊎ IsRisen (N.faults notes.old) (N.faults notes.new) }
+    ensures fault { result ≡ statuses.WriteFault →
+        IsRisen (K.faults out.old) (K.faults out.new) ⊎ IsRisen (N.faults notes.old) (N.faults notes.new) }
     ensures out_rose { K.faults out.old < K.faults out.new → result ≡ statuses.WriteFault }
     ensures notes_rose { N.faults notes.old < N.faults notes.new → result ≡ statuses.WriteFault }
     ensures quiet_out { (shown_due due).out ≡ [] → out.new ≡ out.old }
@@ -34,7 +35,8 @@ pub(crate) fn deliver<K: Sink, N: Sink>(due: Due, out: &mut K, notes: &mut N) ->
 
 /// Writes the result line to `out`, if there is one.
 fn deliver_result<K: Sink, N: Sink>(line: &[u8], out: &mut K, notes: &mut N) -> Status
-    ensures delivers { Delivers (due_with statuses.Ok line.now) result (K.taken out.old) (K.taken out.new) (N.taken notes.old) (N.taken notes.new) }
+    ensures delivers { Delivers (due_with statuses.Ok line.now) result
+        (K.taken out.old) (K.taken out.new) (N.taken notes.old) (N.taken notes.new) }
     ensures fault { result ≡ statuses.WriteFault → IsRisen (K.faults out.old) (K.faults out.new) }
     ensures out_rose { K.faults out.old < K.faults out.new → result ≡ statuses.WriteFault }
     ensures notes_rose { N.faults notes.old < N.faults notes.new → result ≡ statuses.WriteFault }
@@ -52,7 +54,8 @@ fn deliver_result<K: Sink, N: Sink>(line: &[u8], out: &mut K, notes: &mut N) -> 
 fn deliver_refusal<N: Sink>(status: Status, line: &[u8], notes: &mut N) -> Status
     requires refusal { status ≢ statuses.Ok }
     requires other { status ≢ statuses.WriteFault }
-    ensures delivers { (out : Option (List ℕ)) → Delivers (due_with status line.now) result out out (N.taken notes.old) (N.taken notes.new) }
+    ensures delivers { (out : Option (List ℕ)) →
+        Delivers (due_with status line.now) result out out (N.taken notes.old) (N.taken notes.new) }
     ensures fault { result ≡ statuses.WriteFault → IsRisen (N.faults notes.old) (N.faults notes.new) }
     ensures no_result { result ≢ statuses.Ok }
     ensures kept { (result ≡ status) ⊎ (result ≡ statuses.WriteFault) }

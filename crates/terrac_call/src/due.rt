@@ -6,7 +6,7 @@ ghost use Rattle.terrac_call.specs.DueView.{line_bytes};
 use crate::status::Status;
 use tl_base::Text2;
 
-/// A line, with its line end.
+/// A line, with its line end; or the file of an image.
 #[derive(Drop)]
 pub(crate) enum Line {
     Fixed(&'static str),
@@ -37,8 +37,8 @@ pub(crate) struct Due {
 /// How a command ends.
 #[derive(Drop)]
 pub(crate) enum Ended {
-    /// What `out` took is a front of what is due, and this is the rest.
+    /// What the sinks took is a front of what is due, and this is the rest.
     Due(Due),
-    /// `out` failed.
+    /// A sink failed.
     WriteFault,
 }

@@ -1,6 +1,6 @@
 // The command `exec`: from the bytes of an image to what is due.
 
-ghost use Rattle.std.specs.Prelude.{◌≡◌, ◌≢◌, ◌<◌, ◌/◌, ◌%◌, ◌^◌, ◌≤◌, ◌⊎◌, length, IfOk, OnErr};
+ghost use Rattle.std.specs.Prelude.{◌≡◌, ◌≢◌, ◌<◌, ◌/◌, ◌%◌, ◌^◌, ◌≤◌, ◌⊎◌, true, false, length, IfOk, OnErr};
 ghost use Rattle.elf_image.specs.Lawful.{IsLawful};
 ghost use Rattle.elf_image.specs.Calls.{symbol_named};
 ghost use Rattle.rv_machine.specs.declared.stops.Stop.TheVariants as stops;
@@ -10,10 +10,11 @@ ghost use Rattle.terrac_call.specs.Due.{refused};
 ghost use Rattle.elf_image.specs.declared.error.ImageError.TheVariants as errors;
 ghost use Rattle.terrac_call.specs.declared.status.ImageFault.TheVariants.{Refused};
 ghost use Rattle.terrac_call.specs.Exec.{fault_kind, place_of, due_of_bad_image, due_of_stop, IsRunDue, IsCallDue};
-ghost use Rattle.terrac_call.specs.Exec.{IsExecDue};
-ghost use Rattle.terrac_call.specs.Ending.{Ends};
+ghost use Rattle.terrac_call.specs.Exec.{IsExecDue, file_shown};
+ghost use Rattle.terrac_call.specs.Delivery.{StopsShort, Took};
+ghost use Rattle.terrac_call.specs.Ending.{EndsBoth, IsNoMemory};
 ghost use Rattle.terrac_call.specs.DueView.{shown_due};
-ghost use Rattle.terrac_call.specs.JobView.{shown_call};
+ghost use Rattle.terrac_call.specs.JobView.{shown_call, shown_manner};
 ghost use Rattle.terrac_call.specs.declared.status.Status.TheVariants as statuses;
 
 use crate::arguments::{Arguments, arguments_of};
@@ -24,32 +25,52 @@ use crate::lines::{
 };
 use crate::status::{FaultKind, ImageFault};
 use crate::words::Call;
-use elf_image::{Image, ImageError, Symbol, read};
-use rv_machine::{Stop, run_image};
+use crate::writing::write_piece;
+use elf_image::{Image, ImageError, Symbol, read, write};
+use rv_machine::{Machine, Stop};
 use std::alloc::Global;
-use tl_base::{NoMemory, Place, Sink};
+use tl_base::{Failed, NoMemory, Place, Sink};
 
 /// How many bytes an image may have.
 pub(crate) const LONGEST_IMAGE: usize = 268_435_456;
 
+/// How a call on an image is carried out.
+#[derive(Clone, Copy, Drop)]
+pub(crate) struct Manner<'a> {
+    /// How many instructions are executed at most.
+    pub steps: u64,
+    /// What stands before the line of the result, on that line.
+    pub front: &'a str,
+    /// Whether the image goes to `notes` before it runs.
+    pub shows: bool,
+}
+
 /// What is due for a call on the bytes of an image. The output of the run is written on the way.
-pub(crate) fn exec<K: Sink>(
+pub(crate) fn exec<K: Sink, N: Sink>(
     alloc: Global,
     call: &Call<'_>,
     steps: u64,
     bytes: &[u8],
     out: &mut K,
+    notes: &mut N,
 ) -> Result<Ended, NoMemory>
     ensures ends { IfOk result (λ ended.
-        Ends (IsDueOrCut (IsExecDue (shown_call call.now) steps bytes.now)) ended
-        (K.taken out.old) (K.taken out.new) (K.faults out.old) (K.faults out.new) (out.new ≡ out.old)) }
-    ensures err { OnErr result (out.new ≡ out.old) }
+        EndsBoth (IsDueOrCut (IsExecDue (shown_call call.now) steps bytes.now)) ended
+        (K.taken out.old) (K.taken out.new) (N.taken notes.old) (N.taken notes.new)
+        (K.faults out.old) (K.faults out.new) (N.faults notes.old) (N.faults notes.new)
+        (out.new ≡ out.old) (notes.new ≡ notes.old)) }
+    ensures err { OnErr result ((out.new ≡ out.old) × (notes.new ≡ notes.old)) }
 {
     if bytes.len() > LONGEST_IMAGE {
         return Ok(Ended::Due(bad_image_due(alloc, ImageFault::TooLong)?));
     }
+    let manner = Manner {
+        steps,
+        front: "",
+        shows: false,
+    };
     match read(alloc, bytes) {
-        Ok(image) => exec_image(alloc, call, steps, &image, out),
+        Ok(image) => exec_image(alloc, call, &manner, &image, out, notes),
         Err(error) => Ok(Ended::Due(refused_due(alloc, error)?)),
     }
 }
@@ -67,71 +88,114 @@ fn refused_due(alloc: Global, error: ImageError) -> Result<Due, NoMemory>
 }
 
 /// What is due for a call on an image.
-fn exec_image<K: Sink>(
+pub(crate) fn exec_image<K: Sink, N: Sink>(
     alloc: Global,
     call: &Call<'_>,
-    steps: u64,
+    manner: &Manner<'_>,
     image: &Image,
     out: &mut K,
+    notes: &mut N,
 ) -> Result<Ended, NoMemory>
     requires { IsLawful image.now }
     ensures ends { IfOk result (λ ended.
-        Ends (IsDueOrCut (IsCallDue image.now (shown_call call.now) steps (symbol_named (shown_call call.now).entry image.now.exports))) ended
-        (K.taken out.old) (K.taken out.new) (K.faults out.old) (K.faults out.new) (out.new ≡ out.old)) }
-    ensures err { OnErr result (out.new ≡ out.old) }
+        EndsBoth (IsDueOrCut (IsCallDue image.now (shown_call call.now) (shown_manner manner.now)
+        (symbol_named (shown_call call.now).entry image.now.exports))) ended
+        (K.taken out.old) (K.taken out.new) (N.taken notes.old) (N.taken notes.new)
+        (K.faults out.old) (K.faults out.new) (N.faults notes.old) (N.faults notes.new)
+        (out.new ≡ out.old) (notes.new ≡ notes.old)) }
+    ensures err { OnErr result ((out.new ≡ out.old) × (notes.new ≡ notes.old)) }
 {
     let Some(symbol) = image.find(call.entry.as_bytes()) else {
         return Ok(Ended::Due(no_entry_due(alloc, call.entry)?));
     };
     match arguments_of(alloc, symbol.params.as_slice(), &call.arguments)? {
-        Arguments::Good(values) => exec_symbol(alloc, image, symbol, &values, steps, out),
+        Arguments::Good(values) => exec_good(alloc, image, symbol, &values, manner, out, notes),
         Arguments::Bad(number) => Ok(Ended::Due(bad_argument_due(alloc, number)?)),
     }
 }
 
-/// What is due for a run of a function of an image.
-fn exec_symbol<K: Sink>(
+/// What is due for a run of a function of an image, which goes to `notes` before where that is asked for. All memory of the run is taken
+/// before anything is written.
+fn exec_good<K: Sink, N: Sink>(
     alloc: Global,
     image: &Image,
     symbol: &Symbol,
     values: &[u64],
-    steps: u64,
+    manner: &Manner<'_>,
     out: &mut K,
+    notes: &mut N,
 ) -> Result<Ended, NoMemory>
     requires lawful { IsLawful image.now }
     requires few { length values.now ≤ 8 }
     ensures ends { IfOk result (λ ended.
-        Ends (IsDueOrCut (IsRunDue image.now symbol.now steps (Good values.now))) ended
-        (K.taken out.old) (K.taken out.new) (K.faults out.old) (K.faults out.new) (out.new ≡ out.old)) }
-    ensures err { OnErr result (out.new ≡ out.old) }
+        EndsBoth (IsDueOrCut (IsRunDue image.now symbol.now (shown_manner manner.now) (Good values.now))) ended
+        (K.taken out.old) (K.taken out.new) (N.taken notes.old) (N.taken notes.new)
+        (K.faults out.old) (K.faults out.new) (N.faults notes.old) (N.faults notes.new)
+        (out.new ≡ out.old) (notes.new ≡ notes.old)) }
+    ensures err { OnErr result ((out.new ≡ out.old) × (notes.new ≡ notes.old)) }
 {
-    let stop = run_image(alloc, image, symbol.address, values, steps, out)?;
+    let mut machine = Machine::load(alloc, image)?;
+    machine.start(symbol.address, values);
+    if !show(alloc, manner.shows, image, notes)? {
+        return Ok(Ended::WriteFault);
+    }
+    let stop = machine.run(manner.steps, out);
     match stop {
         Stop::WriteFault => Ok(Ended::WriteFault),
-        _ => Ok(Ended::Due(stop_due_or_no_memory(alloc, symbol.result, stop))),
+        _ => Ok(Ended::Due(stop_due_or_no_memory(alloc, manner.front, symbol.result, stop))),
+    }
+}
+
+/// Writes the file of an image to `notes` where that is asked for, as one piece, and says whether all of it went out.
+fn show<N: Sink>(alloc: Global, shows: bool, image: &Image, notes: &mut N) -> Result<bool, NoMemory>
+    requires { IsLawful image.now }
+    ensures went { IfOk result (λ went. went ≡ true → Took (file_shown shows image.now) (N.taken notes.old) (N.taken notes.new)
+        (N.faults notes.old) (N.faults notes.new) (notes.new ≡ notes.old)) }
+    ensures short { IfOk result (λ went. went ≡ false → StopsShort (file_shown shows image.now) (N.taken notes.old) (N.taken notes.new)
+        (N.faults notes.old) (N.faults notes.new)) }
+    ensures err { OnErr result (notes.new ≡ notes.old) }
+{
+    if !shows {
+        return Ok(true);
+    }
+    let file = write(alloc, image)?;
+    match write_piece(notes, &file) {
+        Ok(()) => Ok(true),
+        Err(Failed) => Ok(false),
+    }
+}
+
+/// How a command ends, or that memory ran out, which the line that is due then says.
+pub(crate) fn or_no_memory(ended: Result<Ended, NoMemory>) -> Ended
+    ensures ok { IfOk ended (λ it. result ≡ it) }
+    ensures err { OnErr ended (IsNoMemory result) }
+{
+    match ended {
+        Ok(ended) => ended,
+        Err(NoMemory) => Ended::Due(no_memory_due()),
     }
 }
 
 /// What remains due where a run stops so, or the line that says that memory ran out.
-fn stop_due_or_no_memory(alloc: Global, code: u8, stop: Stop) -> Due
+fn stop_due_or_no_memory(alloc: Global, front: &str, code: u8, stop: Stop) -> Due
     requires { stop ≢ stops.WriteFault }
-    ensures due { (shown_due result ≡ due_of_stop code stop) ⊎ (shown_due result ≡ refused statuses.NoMemory) }
+    ensures due { (shown_due result ≡ due_of_stop front.now code stop) ⊎ (shown_due result ≡ refused statuses.NoMemory) }
     ensures status { result.status ≢ statuses.WriteFault }
 {
-    match stop_due(alloc, code, stop) {
+    match stop_due(alloc, front, code, stop) {
         Ok(due) => due,
         Err(NoMemory) => no_memory_due(),
     }
 }
 
 /// What is due where a run stops so, behind its output.
-fn stop_due(alloc: Global, code: u8, stop: Stop) -> Result<Due, NoMemory>
+fn stop_due(alloc: Global, front: &str, code: u8, stop: Stop) -> Result<Due, NoMemory>
     requires { stop ≢ stops.WriteFault }
-    ensures due { IfOk result (λ due. shown_due due ≡ due_of_stop code stop) }
+    ensures due { IfOk result (λ due. shown_due due ≡ due_of_stop front.now code stop) }
     ensures status { IfOk result (λ due. due.status ≢ statuses.WriteFault) }
 {
     match stop {
-        Stop::Returned(word) => result_due(alloc, code, word),
+        Stop::Returned(word) => result_due(alloc, front, code, word),
         Stop::TerraFault { kind, place } => fault_due(alloc, fault_kind(kind), place_of(place)),
         Stop::MachineFault { kind, pc } => machine_fault_due(alloc, kind, pc),
         Stop::Unfinished => Ok(unfinished_due()),

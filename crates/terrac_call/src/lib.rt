@@ -7,10 +7,12 @@
 mod arguments;
 pub mod call;
 mod check;
-mod code;
 mod delivery;
 mod due;
+mod emit;
 mod exec;
+mod generating;
+mod laws;
 mod lines;
 mod parsing;
 mod reading;
@@ -19,7 +21,9 @@ mod staged;
 pub mod status;
 mod terms;
 mod words;
+mod work;
 mod writing;
 
 pub use call::{one_due, refuse_unread, terrac};
+pub use laws::runs_tell_meaning;
 pub use status::{FaultKind, ImageFault, Status};

@@ -1,7 +1,7 @@
 // The lines that a call may owe.
 
 ghost use Rattle.std.specs.Prelude.{◌≡◌, ◌≢◌, [], ◌++◌, IfOk, string_bytes};
-ghost use Rattle.terrac_call.specs.Due.{due_of_not_built, refused, due_of_result, due_of_syntax, due_of_no_entry};
+ghost use Rattle.terrac_call.specs.Due.{refused, due_of_result, due_of_syntax, due_of_no_entry};
 ghost use Rattle.terrac_call.specs.Due.{due_of_bad_argument, due_of_usage};
 ghost use Rattle.terrac_call.specs.Statuses.{kind_name, fault_text, image_fault_text, machine_fault_text};
 ghost use Rattle.terrac_call.specs.Exec.{due_of_bad_image, due_of_fault, due_of_machine_fault};
@@ -16,15 +16,15 @@ use std::alloc::Global;
 use tl_base::{NoMemory, Place, Text2};
 use tl_lex::SyntaxKind;
 
-/// The result line of a word, whose type has this code.
-pub(crate) fn result_due(alloc: Global, code: u8, word: u64) -> Result<Due, NoMemory>
-    ensures due { IfOk result (λ due. shown_due due ≡ due_of_result code word) }
+/// The result line of a word, whose type has this code, with a text before it on that line.
+pub(crate) fn result_due(alloc: Global, front: &str, code: u8, word: u64) -> Result<Due, NoMemory>
+    ensures due { IfOk result (λ due. shown_due due ≡ due_of_result front.now code word) }
     ensures status { IfOk result (λ due. due.status ≡ statuses.Ok) }
 {
     let text = result_text(alloc, code, word)?;
     Ok(Due {
         status: Status::Ok,
-        line: Line::Made(format!(in alloc; "result {text}\n")?),
+        line: Line::Made(format!(in alloc; "{front}result {text}\n")?),
     })
 }
 
@@ -85,7 +85,7 @@ pub(crate) fn bad_argument_due(alloc: Global, number: u64) -> Result<Due, NoMemo
 
 /// The refusal of words that name no job, with this text.
 pub(crate) fn usage_due(text: String) -> Due
-    ensures due { shown_due result ≡ record { status = statuses.Usage; out = []; notes = string_bytes text } }
+    ensures due { shown_due result ≡ record { status = statuses.Usage; out = []; noted = []; notes = string_bytes text } }
     ensures status { result.status ≡ statuses.Usage }
 {
     Due {
@@ -102,17 +102,6 @@ pub(crate) fn bare_usage_due() -> Due
     Due {
         status: Status::Usage,
         line: Line::Fixed("usage\n"),
-    }
-}
-
-/// The refusal of a source that is not built yet.
-pub(crate) fn not_built_due() -> Due
-    ensures due { shown_due result ≡ due_of_not_built }
-    ensures status { result.status ≡ statuses.NotBuilt }
-{
-    Due {
-        status: Status::NotBuilt,
-        line: Line::Fixed("not built\n"),
     }
 }
 

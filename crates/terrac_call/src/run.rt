@@ -1,212 +1,174 @@
-// From the words and the source to what is due.
+// The command `run`: from the bytes of a source to what is due for a call of what it exports.
 
-ghost use Rattle.std.specs.Prelude.{◌≡◌, ◌≢◌, ◌⊎◌, ◌<◌, Some, None, Err, IfOk, OnErr, IsSome, length, map};
-ghost use Rattle.std.specs.Prelude.{string_bytes};
-ghost use Rattle.tl_base.specs.Outside.{IsRisen};
-ghost use Rattle.first_form.specs.Formula.{shown, IsWithin};
-ghost use Rattle.terrac_call.specs.Words.{Run, Exec, Check, Terms, job_of, AreTaken};
-ghost use Rattle.terrac_call.specs.Due.{due_of_function, IsSourceDue};
-ghost use Rattle.terrac_call.specs.JobView.{shown_call, shown_limits};
-ghost use Rattle.terrac_call.specs.DueView.{shown_due};
-ghost use Rattle.terrac_call.specs.Answer.{Owed, TookAtMost, most_read};
-ghost use Rattle.terrac_call.specs.Ending.{Ends, IsStatus};
-ghost use Rattle.terrac_call.specs.declared.status.Status.TheVariants as statuses;
-ghost use Rattle.terrac_call.specs.declared.reading.ReadError.TheVariants as errors;
+ghost use Rattle.std.specs.Prelude.{◌≡◌, IfOk, OnErr, string_bytes};
+ghost use Rattle.tl_tree.specs.Arena.{items_of, end_of as finish_of};
+ghost use Rattle.exotype.specs.World.{StageState};
+ghost use Rattle.check_stage.specs.declared.staging.End.{End};
+ghost use Rattle.elf_image.specs.Calls.{symbol_named};
+ghost use Rattle.elf_image.specs.Lawful.{IsLawful};
+ghost use Rattle.stage_image.specs.Emitted.{IsMade, defined_count};
+ghost use Rattle.terrac_call.specs.Due.{after};
+ghost use Rattle.terrac_call.specs.Answer.{IsDueOrCut, IsMadeOrUnmade, IsRunOwed};
+ghost use Rattle.terrac_call.specs.Exec.{IsCallDue};
+ghost use Rattle.terrac_call.specs.Run.{IsEndDue, IsPrintedDue, IsTreeDue, front_of, manner_of};
+ghost use Rattle.terrac_call.specs.MadeView.{IsLawfulMade};
+ghost use Rattle.terrac_call.specs.Staged.{bytes_of, IsTreePrinted};
+ghost use Rattle.terrac_call.specs.Ending.{EndsBoth};
+ghost use Rattle.terrac_call.specs.JobView.{shown_asking, shown_call, shown_limits};
 
-use crate::arguments::{Arguments, arguments_of};
-use crate::check::check;
-use crate::code::execute;
-use crate::due::{Due, Ended};
-use crate::exec::{LONGEST_IMAGE, exec};
-use crate::lines::{
-    bad_argument_due, no_entry_due, no_memory_due, not_built_due, read_fault_due, result_due,
-    syntax_due, usage_due,
-};
+use crate::due::Ended;
+use crate::exec::{Manner, exec_image, or_no_memory};
+use crate::lines::{raised_due, spent_due, syntax_due};
 use crate::parsing::{Parsed, parse_source};
-use crate::reading::{ReadError, read_source};
-use crate::terms::terms;
-use crate::words::{Asked, Call, Job, Limits, job_of};
-use first_form::{Function, function_of};
+use crate::staged::staging_limits;
+use crate::words::{Call, Running};
+use crate::writing::write_piece;
+use elf_image::Image;
+use stage_image::{Emitted, Made, stage_exports};
 use std::alloc::Global;
-use tl_base::{NoMemory, Sink, Source};
-use tl_lex::LONGEST_TEXT;
+use tl_base::{Failed, NoMemory, Sink};
+use tl_tree::Tree;
 
-/// The type code of int64.
-const INT64: u8 = 4;
-
-/// What is due for a function whose text was read.
-fn entry_due<K: Sink>(
-    alloc: Global,
-    call: &Call<'_>,
-    function: &Function,
-    out: &mut K,
-) -> Result<Due, NoMemory>
-    requires { IsWithin (shown function.now) }
-    ensures due { IfOk result (λ due.
-        shown_due due ≡ due_of_function (shown_call call.now) (Some (shown function.now))) }
-    ensures no_fault { IfOk result (λ due. due.status ≢ statuses.WriteFault) }
-    ensures quiet { out.new ≡ out.old }
-{
-    if call.entry.as_bytes() != function.name.as_slice() {
-        return no_entry_due(alloc, call.entry);
-    }
-    let codes = vec![in alloc; INT64; function.arity]?;
-    match arguments_of(alloc, &codes, &call.arguments)? {
-        Arguments::Good(values) => {
-            let value = execute(alloc, &function.body, &values, out)?;
-            result_due(alloc, INT64, value)
-        }
-        Arguments::Bad(number) => bad_argument_due(alloc, number),
-    }
+/// Which function of a source is called, and how the source is run.
+#[derive(Drop)]
+pub(crate) struct Asking<'a> {
+    pub call: Call<'a>,
+    pub running: Running,
+    /// Of a generated source, how many functions were asked for.
+    pub generated: Option<u64>,
 }
 
-/// What is due for a call on the bytes of a source. No source that is built writes before its end.
-fn run_source<K: Sink>(
+/// What is due for a call of what the bytes of a source export. What its staging and the run print is written on the way, and before the
+/// run the image to `notes` where that is asked for.
+pub(crate) fn run<K: Sink, N: Sink>(
     alloc: Global,
-    call: &Call<'_>,
+    asking: &Asking<'_>,
     bytes: &[u8],
     out: &mut K,
-) -> Result<Due, NoMemory>
-    ensures due { IfOk result (λ due. IsSourceDue (shown_call call.now) bytes.now (shown_due due)) }
-    ensures no_fault { IfOk result (λ due. due.status ≢ statuses.WriteFault) }
-    ensures quiet { out.new ≡ out.old }
+    notes: &mut N,
+) -> Result<Ended, NoMemory>
+    ensures ends { IfOk result (λ ended.
+        EndsBoth (IsRunOwed (shown_asking asking.now) bytes.now) ended
+        (K.taken out.old) (K.taken out.new) (N.taken notes.old) (N.taken notes.new)
+        (K.faults out.old) (K.faults out.new) (N.faults notes.old) (N.faults notes.new)
+        (out.new ≡ out.old) (notes.new ≡ notes.old)) }
+    ensures err { OnErr result ((out.new ≡ out.old) × (notes.new ≡ notes.old)) }
 {
     let parsed = parse_source(alloc, bytes)?;
     match parsed {
-        Parsed::Refused(kind, place) => syntax_due(alloc, kind, place),
-        Parsed::Tree(tree) => match function_of(alloc, &tree)? {
-            Some(function) => entry_due(alloc, call, &function, out),
-            None => Ok(not_built_due()),
-        },
+        Parsed::Refused(kind, place) => Ok(Ended::Due(syntax_due(alloc, kind, place)?)),
+        Parsed::Tree(tree) => run_tree(alloc, asking, &tree, out, notes),
     }
 }
 
-/// How `run` ends, with the read and the want of memory that may cut it off.
-fn run_call<S: Source, K: Sink>(
+/// What is due for a call of what the tree of a source exports.
+fn run_tree<K: Sink, N: Sink>(
     alloc: Global,
-    call: &Call<'_>,
-    source: &mut S,
+    asking: &Asking<'_>,
+    tree: &Tree<'_>,
     out: &mut K,
-) -> Result<Ended, ReadError>
-    ensures owed { IfOk result (λ ended.
-        Ends (Owed (Some (Run (shown_call call.now))) (S.left source.old) (IsRisen (S.faults source.old) (S.faults source.new))) ended
-        (K.taken out.old) (K.taken out.new) (K.faults out.old) (K.faults out.new) (out.new ≡ out.old)) }
-    ensures bound { TookAtMost 1048577 (S.left source.old) (S.left source.new) }
-    ensures unread { result ≡ Err errors.Unread → IsRisen (S.faults source.old) (S.faults source.new) }
-    ensures quiet { result ≢ Err errors.Unread → S.faults source.new ≡ S.faults source.old }
-    ensures unwritten { out.new ≡ out.old }
+    notes: &mut N,
+) -> Result<Ended, NoMemory>
+    ensures ends { IfOk result (λ ended.
+        EndsBoth (IsMadeOrUnmade (IsDueOrCut (IsTreeDue (shown_asking asking.now) (items_of tree.now) (finish_of tree.now)))
+        (IsTreePrinted (shown_limits asking.now.running.limits) (items_of tree.now) (finish_of tree.now)) after) ended
+        (K.taken out.old) (K.taken out.new) (N.taken notes.old) (N.taken notes.new)
+        (K.faults out.old) (K.faults out.new) (N.faults notes.old) (N.faults notes.new)
+        (out.new ≡ out.old) (notes.new ≡ notes.old)) }
+    ensures err { OnErr result ((out.new ≡ out.old) × (notes.new ≡ notes.old)) }
 {
-    let bytes = read_source(alloc, source, LONGEST_TEXT + 1)?;
-    let due = run_source(alloc, call, &bytes, out)?;
-    Ok(Ended::Due(due))
+    let emitted = stage_exports(alloc, tree, staging_limits(asking.running.limits))?;
+    Ok(run_emitted(alloc, asking, emitted, out, notes))
 }
 
-/// How `exec` ends, likewise.
-fn exec_call<S: Source, K: Sink>(
+/// Writes what a staging printed, as one piece, and goes on with the call.
+fn run_emitted<K: Sink, N: Sink>(
     alloc: Global,
-    call: &Call<'_>,
-    steps: u64,
-    source: &mut S,
+    asking: &Asking<'_>,
+    emitted: Emitted,
     out: &mut K,
-) -> Result<Ended, ReadError>
-    ensures owed { IfOk result (λ ended.
-        Ends (Owed (Some (Exec (shown_call call.now) steps)) (S.left source.old) (IsRisen (S.faults source.old) (S.faults source.new))) ended
-        (K.taken out.old) (K.taken out.new) (K.faults out.old) (K.faults out.new) (out.new ≡ out.old)) }
-    ensures bound { TookAtMost 268435457 (S.left source.old) (S.left source.new) }
-    ensures unread { result ≡ Err errors.Unread → IsRisen (S.faults source.old) (S.faults source.new) }
-    ensures quiet { result ≢ Err errors.Unread → S.faults source.new ≡ S.faults source.old }
-    ensures err { OnErr result (out.new ≡ out.old) }
-{
-    let bytes = read_source(alloc, source, LONGEST_IMAGE + 1)?;
-    let ended = exec(alloc, call, steps, &bytes, out)?;
-    Ok(ended)
-}
-
-/// How `check` ends, likewise.
-fn check_call<S: Source, K: Sink>(
-    alloc: Global,
-    limits: Limits,
-    source: &mut S,
-    out: &mut K,
-) -> Result<Ended, ReadError>
-    ensures owed { IfOk result (λ ended.
-        Ends (Owed (Some (Check (shown_limits limits))) (S.left source.old) (IsRisen (S.faults source.old) (S.faults source.new))) ended
-        (K.taken out.old) (K.taken out.new) (K.faults out.old) (K.faults out.new) (out.new ≡ out.old)) }
-    ensures bound { TookAtMost 1048577 (S.left source.old) (S.left source.new) }
-    ensures unread { result ≡ Err errors.Unread → IsRisen (S.faults source.old) (S.faults source.new) }
-    ensures quiet { result ≢ Err errors.Unread → S.faults source.new ≡ S.faults source.old }
-    ensures err { OnErr result (out.new ≡ out.old) }
-{
-    let bytes = read_source(alloc, source, LONGEST_TEXT + 1)?;
-    let ended = check(alloc, limits, &bytes, out)?;
-    Ok(ended)
-}
-
-/// How `terms` ends, likewise.
-fn terms_call<S: Source, K: Sink>(
-    alloc: Global,
-    limits: Limits,
-    source: &mut S,
-    out: &mut K,
-) -> Result<Ended, ReadError>
-    ensures owed { IfOk result (λ ended.
-        Ends (Owed (Some (Terms (shown_limits limits))) (S.left source.old) (IsRisen (S.faults source.old) (S.faults source.new))) ended
-        (K.taken out.old) (K.taken out.new) (K.faults out.old) (K.faults out.new) (out.new ≡ out.old)) }
-    ensures bound { TookAtMost 1048577 (S.left source.old) (S.left source.new) }
-    ensures unread { result ≡ Err errors.Unread → IsRisen (S.faults source.old) (S.faults source.new) }
-    ensures quiet { result ≢ Err errors.Unread → S.faults source.new ≡ S.faults source.old }
-    ensures err { OnErr result (out.new ≡ out.old) }
-{
-    let bytes = read_source(alloc, source, LONGEST_TEXT + 1)?;
-    let ended = terms(alloc, limits, &bytes, out)?;
-    Ok(ended)
-}
-
-/// How the work for the words ends, with what may cut it off.
-fn try_run<S: Source, K: Sink>(
-    alloc: Global,
-    words: &[String],
-    source: &mut S,
-    out: &mut K,
-) -> Result<Ended, ReadError>
-    ensures owed { IfOk result (λ ended.
-        Ends (Owed (job_of (map string_bytes words.now)) (S.left source.old) (IsRisen (S.faults source.old) (S.faults source.new))) ended
-        (K.taken out.old) (K.taken out.new) (K.faults out.old) (K.faults out.new) (out.new ≡ out.old)) }
-    ensures bound { TookAtMost (most_read (job_of (map string_bytes words.now))) (S.left source.old) (S.left source.new) }
-    ensures unread { result ≡ Err errors.Unread → IsRisen (S.faults source.old) (S.faults source.new) }
-    ensures named { result ≡ Err errors.Unread → IsSome (job_of (map string_bytes words.now)) }
-    ensures untouched { job_of (map string_bytes words.now) ≡ None → source.new ≡ source.old }
-    ensures quiet { result ≢ Err errors.Unread → S.faults source.new ≡ S.faults source.old }
-    ensures taken { AreTaken (map string_bytes words.now) → IfOk result (λ ended. IsSome (job_of (map string_bytes words.now))) }
-    ensures err { OnErr result (out.new ≡ out.old) }
-{
-    match job_of(alloc, words)? {
-        Asked::Refused(text) => Ok(Ended::Due(usage_due(text))),
-        Asked::Job(Job::Run(call)) => run_call(alloc, &call, source, out),
-        Asked::Job(Job::Exec(call, steps)) => exec_call(alloc, &call, steps, source, out),
-        Asked::Job(Job::Check(limits)) => check_call(alloc, limits, source, out),
-        Asked::Job(Job::Terms(limits)) => terms_call(alloc, limits, source, out),
-    }
-}
-
-/// How the work for the words and the source ends.
-pub(crate) fn run<S: Source, K: Sink>(
-    alloc: Global,
-    words: &[String],
-    source: &mut S,
-    out: &mut K,
+    notes: &mut N,
 ) -> Ended
-    ensures owed { Ends (Owed (job_of (map string_bytes words.now)) (S.left source.old) (IsRisen (S.faults source.old) (S.faults source.new))) result
-        (K.taken out.old) (K.taken out.new) (K.faults out.old) (K.faults out.new) (out.new ≡ out.old) }
-    ensures bound { TookAtMost (most_read (job_of (map string_bytes words.now))) (S.left source.old) (S.left source.new) }
-    ensures rose { S.faults source.old < S.faults source.new → IsStatus result (λ status. status ≡ statuses.ReadFault) }
-    ensures untouched { job_of (map string_bytes words.now) ≡ None → source.new ≡ source.old }
-    ensures taken { AreTaken (map string_bytes words.now) →
-        IsSome (job_of (map string_bytes words.now)) ⊎ IsStatus result (λ status. status ≡ statuses.NoMemory) }
+    requires { IsLawfulMade emitted.end }
+    ensures { (w : StageState) (end : End) → emitted.functions ≡ defined_count w.store
+        → IsMade w (bytes_of asking.now.running.limits.memory) end emitted.end
+        → EndsBoth (IsMadeOrUnmade (IsDueOrCut (IsPrintedDue (shown_asking asking.now) w end emitted.printed))
+        (λ printed. printed ≡ emitted.printed) after) result
+        (K.taken out.old) (K.taken out.new) (N.taken notes.old) (N.taken notes.new)
+        (K.faults out.old) (K.faults out.new) (N.faults notes.old) (N.faults notes.new)
+        (out.new ≡ out.old) (notes.new ≡ notes.old) }
 {
-    match try_run(alloc, words, source, out) {
-        Ok(ended) => ended,
-        Err(ReadError::Unread) => Ended::Due(read_fault_due()),
-        Err(ReadError::NoMemory) => Ended::Due(no_memory_due()),
+    let Emitted {
+        printed,
+        functions,
+        end,
+    } = emitted;
+    match write_piece(out, printed.bytes()) {
+        Ok(()) => or_no_memory(run_made(alloc, asking, functions, end, out, notes)),
+        Err(Failed) => Ended::WriteFault,
+    }
+}
+
+/// What is due behind what was printed, for a staging that ended so.
+fn run_made<K: Sink, N: Sink>(
+    alloc: Global,
+    asking: &Asking<'_>,
+    functions: u64,
+    end: Made,
+    out: &mut K,
+    notes: &mut N,
+) -> Result<Ended, NoMemory>
+    requires { IsLawfulMade end }
+    ensures ends { IfOk result (λ ended. (w : StageState) (it : End) → functions ≡ defined_count w.store
+        → IsMade w (bytes_of asking.now.running.limits.memory) it end
+        → EndsBoth (IsDueOrCut (IsEndDue (shown_asking asking.now) w it)) ended
+        (K.taken out.old) (K.taken out.new) (N.taken notes.old) (N.taken notes.new)
+        (K.faults out.old) (K.faults out.new) (N.faults notes.old) (N.faults notes.new)
+        (out.new ≡ out.old) (notes.new ≡ notes.old)) }
+    ensures err { OnErr result ((out.new ≡ out.old) × (notes.new ≡ notes.old)) }
+{
+    match end {
+        Made::Image(image) => call_image(alloc, asking, functions, &image, out, notes),
+        Made::Raised { text, place } => Ok(Ended::Due(raised_due(alloc, text, place)?)),
+        Made::Spent => Ok(Ended::Due(spent_due())),
+        Made::Unmade => Err(NoMemory),
+    }
+}
+
+/// What is due for a call of an image.
+fn call_image<K: Sink, N: Sink>(
+    alloc: Global,
+    asking: &Asking<'_>,
+    functions: u64,
+    image: &Image,
+    out: &mut K,
+    notes: &mut N,
+) -> Result<Ended, NoMemory>
+    requires { IsLawful image.now }
+    ensures ends { IfOk result (λ ended.
+        EndsBoth (IsDueOrCut (IsCallDue image.now (shown_call asking.now.call) (manner_of (shown_asking asking.now) functions)
+        (symbol_named (shown_call asking.now.call).entry image.now.exports))) ended
+        (K.taken out.old) (K.taken out.new) (N.taken notes.old) (N.taken notes.new)
+        (K.faults out.old) (K.faults out.new) (N.faults notes.old) (N.faults notes.new)
+        (out.new ≡ out.old) (notes.new ≡ notes.old)) }
+    ensures err { OnErr result ((out.new ≡ out.old) × (notes.new ≡ notes.old)) }
+{
+    let front = front_of(alloc, asking.generated, functions)?;
+    let manner = Manner {
+        steps: asking.running.steps,
+        front: front.as_str(),
+        shows: asking.running.shows,
+    };
+    let ended = exec_image(alloc, &asking.call, &manner, image, out, notes)?;
+    Ok(ended)
+}
+
+/// What stands before the line of a result.
+fn front_of(alloc: Global, generated: Option<u64>, functions: u64) -> Result<String, NoMemory>
+    ensures { IfOk result (λ text. string_bytes text ≡ front_of generated functions) }
+{
+    match generated {
+        None => Ok(String::new(alloc)),
+        Some(count) => Ok(format!(in alloc; "gen {count} functions {functions} ")?),
     }
 }

@@ -2,7 +2,8 @@
 
 ghost use Rattle.std.specs.Prelude.{◌≡◌, ◌≢◌, ◌≤◌, IfOk, OnErr};
 ghost use Rattle.terrac_call.specs.Due.{after};
-ghost use Rattle.terrac_call.specs.Staged.{bytes_of, due_of_end, due_of_staging};
+ghost use Rattle.tl_base.specs.Limits.{IsLimits};
+ghost use Rattle.terrac_call.specs.Staged.{within, bytes_of, units_of, due_of_end, due_of_staging};
 ghost use Rattle.terrac_call.specs.DueView.{shown_due};
 ghost use Rattle.terrac_call.specs.Ending.{Ends};
 ghost use Rattle.terrac_call.specs.declared.status.Status.TheVariants as statuses;
@@ -10,23 +11,45 @@ ghost use Rattle.terrac_call.specs.declared.status.Status.TheVariants as statuse
 use crate::due::{Due, Ended, Line};
 use crate::lines::{raised_due, spent_due};
 use crate::status::Status;
+use crate::words::Limits;
 use crate::writing::write_piece;
 use check_stage::End;
 use std::alloc::Global;
-use tl_base::{Failed, NoMemory, Sink, Text2};
+use tl_base::{Failed, Limits as StagingLimits, NoMemory, Sink, Text2};
 
-/// How many KiB of memory a program may have at most.
-const LARGEST_MEMORY: u64 = 65_536;
+/// The number, or the end of the range that it lies beyond.
+fn within(least: u64, most: u64, number: u64) -> u64
+    requires { least ≤ most }
+    ensures is { result ≡ within least most number }
+    ensures least { least ≤ result }
+    ensures most { result ≤ most }
+{
+    if number < least {
+        least
+    } else if number < most {
+        number
+    } else {
+        most
+    }
+}
 
 /// The bytes of a memory of so many KiB.
 pub(crate) fn bytes_of(memory: u64) -> u64
     ensures is { result ≡ bytes_of memory }
     ensures within { result ≤ 67108864 }
 {
-    if memory < LARGEST_MEMORY {
-        memory * 1024
-    } else {
-        LARGEST_MEMORY * 1024
+    within(64, 65_536, memory) * 1024
+}
+
+/// The limits of a staging whose exports are compiled.
+pub(crate) fn staging_limits(limits: Limits) -> StagingLimits
+    ensures limits { IsLimits result }
+    ensures budget { result.budget ≡ units_of limits.budget }
+    ensures memory { result.memory ≡ bytes_of limits.memory }
+{
+    StagingLimits {
+        budget: within(1, 4_000_000, limits.budget),
+        memory: within(64, 65_536, limits.memory) * 1024,
     }
 }
 

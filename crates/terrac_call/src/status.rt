@@ -39,8 +39,6 @@ pub enum Status {
     NoMemory,
     /// The machine refused the instruction at this address.
     MachineFault { kind: MachineKind, pc: u64 },
-    /// The source reads, and is none that is built yet.
-    NotBuilt,
 }
 
 /// With which fault a program ends.
@@ -87,7 +85,6 @@ impl Status {
             Status::WriteFault => 12,
             Status::NoMemory => 13,
             Status::MachineFault { kind: _, pc: _ } => 14,
-            Status::NotBuilt => 15,
         }
     }
 }

@@ -1,11 +1,14 @@
 // The words of a command line, which `clap` reads.
 
-ghost use Rattle.std.specs.Prelude.{◌≡◌, [], IfOk, IsSome, false, map, unwrap_or, string_bytes};
+ghost use Rattle.std.specs.Prelude.{◌≡◌, [], IfOk, IsSome, ◌==◌, false, map, unwrap_or, string_bytes};
 ghost use Rattle.clap.specs.Words.{app_of, found_of, rows_of, rule_of, subcommand_rows_of, all_of, first_of};
-ghost use Rattle.terrac_call.specs.Words.{entry_rule, arguments_rule, steps_rule, budget_rule, memory_rule};
-ghost use Rattle.terrac_call.specs.Words.{command_line, call_of, limits_of, number_found, number_or_zero};
+ghost use Rattle.terrac_call.specs.Words.{entry_rule, arguments_rule, count_rule, steps_rule, budget_rule, memory_rule};
+ghost use Rattle.clap.specs.declared.builder.command.Command.{out-Command};
+ghost use Rattle.terrac_call.specs.Words.{image_rule, run_command, emit_command, exec_command, check_command};
+ghost use Rattle.terrac_call.specs.Words.{terms_command, gen_command};
+ghost use Rattle.terrac_call.specs.Words.{command_line, call_of, limits_of, running_of, number_found, number_or_zero};
 ghost use Rattle.terrac_call.specs.Words.{text_or_none, job_of, job_of_command, AreTaken};
-ghost use Rattle.terrac_call.specs.JobView.{texts_of, shown_call, shown_limits, shown_job, shown_asked, HasUsageLine};
+ghost use Rattle.terrac_call.specs.JobView.{texts_of, shown_call, shown_limits, shown_running, shown_job, shown_asked, HasUsageLine};
 ghost use Rattle.terrac_call.specs.JobView.{IsUsageText};
 
 use clap::builder::ValueParser;
@@ -30,17 +33,31 @@ pub(crate) struct Limits {
     pub memory: u64,
 }
 
+/// How a source is run.
+#[derive(Clone, Copy, Drop)]
+pub(crate) struct Running {
+    pub limits: Limits,
+    /// How many instructions are executed at most.
+    pub steps: u64,
+    /// Whether the image goes to `notes` before it runs.
+    pub shows: bool,
+}
+
 /// What the words ask for.
 #[derive(Drop)]
 pub(crate) enum Job<'a> {
     /// To run an entry of a source.
-    Run(Call<'a>),
+    Run(Call<'a>, Running),
+    /// To write the image of what a source exports, within these limits.
+    Emit(Limits),
     /// To run an entry of an image for at most so many steps.
     Exec(Call<'a>, u64),
     /// To check a source within these limits.
     Check(Limits),
     /// To write the terms of what a source exports, within these limits.
     Terms(Limits),
+    /// To generate a source of so many functions, and to run it.
+    Gen(u64, Running),
 }
 
 /// The job that words name, or the line `usage` and `clap`'s own text where they name none.
@@ -80,21 +97,33 @@ fn usage_text(alloc: Global, error: &Error) -> Result<String, NoMemory>
 fn job_of_matches<'a>(alloc: Global, matches: &ArgMatches<'a>) -> Result<Job<'a>, NoMemory>
     ensures { IfOk result (λ job. shown_job job ≡ job_of_command (subcommand_rows_of matches.now)) }
 {
-    let Some((name, found)) = matches.subcommand() else {
-        return Ok(Job::Run(Call {
-            entry: "",
-            arguments: Vec::new(alloc),
-        }));
-    };
-    if name == "exec" {
+    match matches.subcommand() {
+        Some((name, found)) => job_named(alloc, name, found),
+        None => Ok(Job::Emit(Limits {
+            budget: 0,
+            memory: 0,
+        })),
+    }
+}
+
+// The job of the command with this name, by what was found for it.
+fn job_named<'a>(alloc: Global, name: &str, found: &ArgMatches<'a>) -> Result<Job<'a>, NoMemory>
+    ensures { IfOk result (λ job. shown_job job ≡ job_of_command (Some (name.now, rows_of (found_of found.now)))) }
+{
+    if name == "run" {
+        let call = call_of(alloc, found)?;
+        Ok(Job::Run(call, running_of(found)))
+    } else if name == "exec" {
         let call = call_of(alloc, found)?;
         Ok(Job::Exec(call, number_found(found, "steps")))
     } else if name == "check" {
         Ok(Job::Check(limits_of(found)))
     } else if name == "terms" {
         Ok(Job::Terms(limits_of(found)))
+    } else if name == "gen" {
+        Ok(Job::Gen(number_found(found, "N"), running_of(found)))
     } else {
-        Ok(Job::Run(call_of(alloc, found)?))
+        Ok(Job::Emit(limits_of(found)))
     }
 }
 
@@ -139,7 +168,18 @@ fn limits_of(found: &ArgMatches<'_>) -> Limits
     }
 }
 
-// The number that was found for an option.
+// How a source is run, by what was found for a command. One without the option `--image` shows none.
+fn running_of(found: &ArgMatches<'_>) -> Running
+    ensures { shown_running result ≡ running_of (rows_of (found_of found.now)) }
+{
+    Running {
+        limits: limits_of(found),
+        steps: number_found(found, "steps"),
+        shows: number_found(found, "image") == 1,
+    }
+}
+
+// The number that was found for an option or for N.
 fn number_found(found: &ArgMatches<'_>, id: &str) -> u64
     ensures { result ≡ number_found id.now (rows_of (found_of found.now)) }
 {
@@ -156,18 +196,70 @@ fn number_or_zero(text: &str) -> u64
     }
 }
 
-// The whole command line: run ENTRY ARG.., exec ENTRY ARG.. with its option, and check and terms with their options.
+// The whole command line.
 fn command_line<'a>(alloc: Global) -> Result<Command<'a>, AllocError>
     ensures { IfOk result (λ command. app_of command ≡ command_line) }
 {
-    let run = Command::new(alloc, "run")
+    let run = run_command(alloc)?;
+    let emit = emit_command(alloc)?;
+    let exec = exec_command(alloc)?;
+    let check = check_command(alloc)?;
+    let terms = terms_command(alloc)?;
+    let generator = gen_command(alloc)?;
+    let command = Command::new(alloc, "terrac")
+        .about("A compiler of Terra for RISC-V RV64IM.")
+        .subcommand_required(true)
+        .subcommand(run)?
+        .subcommand(emit)?
+        .subcommand(exec)?
+        .subcommand(check)?
+        .subcommand(terms)?
+        .subcommand(generator)?;
+    Ok(command)
+}
+
+// run ENTRY ARG.., with its options.
+fn run_command<'a>(alloc: Global) -> Result<Command<'a>, AllocError>
+    ensures shape { IfOk result (λ command. app_of command ≡ run_command) }
+    ensures local { IfOk result (λ command. (out-Command command).has_globals ≡ false) }
+{
+    let command = Command::new(alloc, "run")
         .about(
-            "Runs a function of a source, read on standard input; writes `result` and its value.",
+            "Runs a function of a source, read on standard input; \
+            writes what its staging and the function print, then `result` and its value.",
         )
         .after_help("Example: terrac run add 2 3 < add.t")
+        .arg(budget_argument(alloc))?
+        .arg(memory_argument(alloc))?
+        .arg(steps_argument(alloc))?
+        .arg(image_argument(alloc))?
         .arg(entry_argument(alloc))?
         .arg(call_arguments(alloc))?;
-    let exec = Command::new(alloc, "exec")
+    Ok(command)
+}
+
+// emit, with its options.
+fn emit_command<'a>(alloc: Global) -> Result<Command<'a>, AllocError>
+    ensures shape { IfOk result (λ command. app_of command ≡ emit_command) }
+    ensures local { IfOk result (λ command. (out-Command command).has_globals ≡ false) }
+{
+    let command = Command::new(alloc, "emit")
+        .about(
+            "Stages a source, read on standard input: \
+            writes the image of the functions that it exports, and what it prints on standard error.",
+        )
+        .after_help("Example: terrac emit < add.t > add.elf")
+        .arg(budget_argument(alloc))?
+        .arg(memory_argument(alloc))?;
+    Ok(command)
+}
+
+// exec ENTRY ARG.., with its option.
+fn exec_command<'a>(alloc: Global) -> Result<Command<'a>, AllocError>
+    ensures shape { IfOk result (λ command. app_of command ≡ exec_command) }
+    ensures local { IfOk result (λ command. (out-Command command).has_globals ≡ false) }
+{
+    let command = Command::new(alloc, "exec")
         .about(
             "Runs a function of an image, read on standard input; writes its output, then `result` and its value.",
         )
@@ -175,27 +267,53 @@ fn command_line<'a>(alloc: Global) -> Result<Command<'a>, AllocError>
         .arg(steps_argument(alloc))?
         .arg(entry_argument(alloc))?
         .arg(call_arguments(alloc))?;
-    let check = Command::new(alloc, "check")
+    Ok(command)
+}
+
+// check, with its options.
+fn check_command<'a>(alloc: Global) -> Result<Command<'a>, AllocError>
+    ensures shape { IfOk result (λ command. app_of command ≡ check_command) }
+    ensures local { IfOk result (λ command. (out-Command command).has_globals ≡ false) }
+{
+    let command = Command::new(alloc, "check")
         .about(
             "Stages a source, read on standard input: writes what it prints, and a line for each function that it defines.",
         )
         .after_help("Example: terrac check --budget 1000 < counters.t")
         .arg(budget_argument(alloc))?
         .arg(memory_argument(alloc))?;
-    let terms = Command::new(alloc, "terms")
+    Ok(command)
+}
+
+// terms, with its options.
+fn terms_command<'a>(alloc: Global) -> Result<Command<'a>, AllocError>
+    ensures shape { IfOk result (λ command. app_of command ≡ terms_command) }
+    ensures local { IfOk result (λ command. (out-Command command).has_globals ≡ false) }
+{
+    let command = Command::new(alloc, "terms")
         .about(
             "Stages a source, read on standard input: writes what it prints, and the terms of the functions that it exports.",
         )
         .after_help("Example: terrac terms < dot.t")
         .arg(budget_argument(alloc))?
         .arg(memory_argument(alloc))?;
-    let command = Command::new(alloc, "terrac")
-        .about("A compiler of Terra for RISC-V RV64IM.")
-        .subcommand_required(true)
-        .subcommand(run)?
-        .subcommand(exec)?
-        .subcommand(check)?
-        .subcommand(terms)?;
+    Ok(command)
+}
+
+// gen N, with its options.
+fn gen_command<'a>(alloc: Global) -> Result<Command<'a>, AllocError>
+    ensures shape { IfOk result (λ command. app_of command ≡ gen_command) }
+    ensures local { IfOk result (λ command. (out-Command command).has_globals ≡ false) }
+{
+    let command = Command::new(alloc, "gen")
+        .about(
+            "Generates a source of so many functions and runs its `main`; writes how many it defines, and the value.",
+        )
+        .after_help("Example: terrac gen 100")
+        .arg(budget_argument(alloc))?
+        .arg(memory_argument(alloc))?
+        .arg(steps_argument(alloc))?
+        .arg(count_argument(alloc))?;
     Ok(command)
 }
 
@@ -236,6 +354,30 @@ fn steps_argument<'a>(alloc: Global) -> Arg<'a>
         .help("How many instructions are executed at most, from 1 to 1000000000000")
         .value_parser(ValueParser::unsigned(1, 1_000_000_000_000))
         .default_value("100000000")
+}
+
+// --image.
+fn image_argument<'a>(alloc: Global) -> Arg<'a>
+    ensures rule { rule_of result ≡ image_rule }
+    ensures local { result.global ≡ false }
+{
+    Arg::new(alloc, "image")
+        .long("image")
+        .value_name("NUMBER")
+        .help("1 to write the image to standard error before it runs, 0 not to")
+        .value_parser(ValueParser::unsigned(0, 1))
+        .default_value("0")
+}
+
+// N.
+fn count_argument<'a>(alloc: Global) -> Arg<'a>
+    ensures rule { rule_of result ≡ count_rule }
+    ensures local { result.global ≡ false }
+{
+    Arg::new(alloc, "N")
+        .required(true)
+        .help("How many functions, from 1 to 2000")
+        .value_parser(ValueParser::unsigned(1, 2_000))
 }
 
 // ENTRY.

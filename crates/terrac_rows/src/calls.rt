@@ -47,18 +47,69 @@ pub fn answer(
     bytes: &[u8],
     words: &[&str],
 ) -> Result<String, NoMemory> {
+    let took = call(alloc, faults, bytes, words)?;
+    took.text(alloc)
+}
+
+/// What came of a call: its status, and what the sinks took.
+#[derive(Drop)]
+pub struct Took {
+    code: u8,
+    pub out: Vec<u8>,
+    notes: Vec<u8>,
+}
+
+impl Took {
+    /// How a row shows it.
+    pub fn text(&self, alloc: Global) -> Result<String, NoMemory> {
+        let code = self.code;
+        let out = shown(alloc, &self.out)?;
+        let notes = match code {
+            2 => shown(alloc, &first_line(alloc, &self.notes)?)?,
+            _ => shown(alloc, &self.notes)?,
+        };
+        Ok(format!(in alloc; "{code} '{out}' '{notes}'")?)
+    }
+
+    /// How a row shows a call that gave a file on `out`.
+    pub fn file_text(&self, alloc: Global) -> Result<String, NoMemory> {
+        let code = self.code;
+        let size = self.out.len();
+        let notes = shown(alloc, &self.notes)?;
+        Ok(format!(in alloc; "{code} {size} '{notes}'")?)
+    }
+
+    /// How a row shows a call whose notes begin with a file.
+    pub fn text_behind(&self, alloc: Global, file: &[u8]) -> Result<String, NoMemory> {
+        let code = self.code;
+        let out = shown(alloc, &self.out)?;
+        if !self.notes.starts_with(file) {
+            return Ok(format!(in alloc; "{code} '{out}' another file")?);
+        }
+        let (_file, line) = self.notes.split_at(file.len().min(self.notes.len()));
+        let rest = shown(alloc, line)?;
+        Ok(format!(in alloc; "{code} '{out}' the file and '{rest}'")?)
+    }
+}
+
+/// Makes a call on a source.
+pub fn call(
+    alloc: Global,
+    faults: &Faults,
+    bytes: &[u8],
+    words: &[&str],
+) -> Result<Took, NoMemory> {
     let words = program_words(alloc, words)?;
     let step = faults.step.max(1);
     let mut source = MemSource::new(bytes.to_vec(alloc)?, step, faults.reads.clone()?);
     let mut out = MemSink::new(alloc, faults.room, faults.outs.clone()?)?;
-    let mut notes = MemSink::new(alloc, 4_096, faults.notes.clone()?)?;
+    let mut notes = MemSink::new(alloc, 65_536, faults.notes.clone()?)?;
     let code = terrac(alloc, &words, &mut source, &mut out, &mut notes).code();
-    let took = shown(alloc, out.bytes())?;
-    let noted = match code {
-        2 => shown(alloc, &first_line(alloc, notes.bytes())?)?,
-        _ => shown(alloc, notes.bytes())?,
-    };
-    Ok(format!(in alloc; "{code} '{took}' '{noted}'")?)
+    Ok(Took {
+        code,
+        out: out.bytes().to_vec(alloc)?,
+        notes: notes.bytes().to_vec(alloc)?,
+    })
 }
 
 /// The program's words, its own name first.

@@ -38,6 +38,8 @@ struct Bench {
     sources: SourceRows,
     images: ImageRows,
     faults: Faults,
+    /// The file that a call gave.
+    kept: Vec<u8>,
 }
 
 impl Bench {
@@ -47,6 +49,7 @@ impl Bench {
             sources: SourceRows::new(alloc),
             images: ImageRows::new(alloc),
             faults: Faults::none(alloc),
+            kept: Vec::new(alloc),
         }
     }
 
@@ -71,10 +74,31 @@ impl Bench {
                 self.faults = Faults::of(alloc, &words)?;
                 Ok(String::from_str(alloc, "set")?)
             }
+            "front" => self.sources.front(&words),
+            "set" => self.sources.set(&words),
+            "keep" => self.keep(&words),
+            "kept" => {
+                let kept = self.kept.clone()?;
+                self.sources.replace(kept)
+            }
+            "shows" => self.shows(&words),
             "call" => calls::answer(alloc, &self.faults, self.sources.bytes(), &words),
             "fronts" => self.fronts(&words),
             _ => Ok(String::from_str(alloc, "no such row")?),
         }
+    }
+
+    /// `keep WORD..`: a call whose `out` is kept as a file. It answers its status, its size, and the notes.
+    fn keep(&mut self, words: &[&str]) -> Result<String, NoMemory> {
+        let took = calls::call(self.alloc, &self.faults, self.sources.bytes(), words)?;
+        self.kept = took.out.clone()?;
+        took.file_text(self.alloc)
+    }
+
+    /// `shows WORD..`: a call whose notes begin with the file that is kept.
+    fn shows(&self, words: &[&str]) -> Result<String, NoMemory> {
+        let took = calls::call(self.alloc, &self.faults, self.sources.bytes(), words)?;
+        took.text_behind(self.alloc, &self.kept)
     }
 
     /// `fronts FROM TO WORD..`: what comes of the fronts of these lengths, each answer once where it comes again at once.

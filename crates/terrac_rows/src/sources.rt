@@ -40,6 +40,26 @@ impl SourceRows {
         self.size()
     }
 
+    /// `front COUNT`: the first bytes alone.
+    pub fn front(&mut self, words: &[&str]) -> Result<String, NoMemory> {
+        let count = count_at(words, 0);
+        let (front, _rest) = self.bytes.split_at(count.min(self.bytes.len()));
+        let front = front.to_vec(self.alloc)?;
+        self.replace(front)
+    }
+
+    /// `set PLACE COUNT BYTE`: so many bytes from a place on become this one.
+    pub fn set(&mut self, words: &[&str]) -> Result<String, NoMemory> {
+        let from = count_at(words, 0);
+        let byte = (count_at(words, 2) & 0xff) as u8;
+        for place in from..from.saturating_add(count_at(words, 1)) {
+            if let Some(found) = self.bytes.get_mut(place) {
+                *found = byte;
+            }
+        }
+        self.size()
+    }
+
     fn size(&self) -> Result<String, NoMemory> {
         let size = self.bytes.len();
         Ok(format!(in self.alloc; "{size}")?)

@@ -1,5 +1,4 @@
-use Rattle.std.proofs.Common.{◌≡◌, ◌+◌, ◌≤◌, length, arith, subst, rules}
-use Rattle.terrac_call.specs.Answer.{TookAtMost}
+use Rattle.std.proofs.Common.{rules}
 use Rattle.terrac_call.proofs.Buffers.{grown_bound}
 use Rattle.terrac_call.proofs.reading.read_source.Goals as goal
 

@@ -1,4 +1,4 @@
-use Rattle.std.proofs.Common.{◌≡◌, List, ℕ, ap₂}
+use Rattle.std.proofs.Common.{List, ℕ, ap₂}
 use Rattle.terrac_call.specs.Words.{Call}
 use Rattle.terrac_call.proofs.words.call_of.Goals as goal
 

@@ -1,4 +1,0 @@
-pub mod Formula
-pub mod Form
-pub mod Laws
-pub mod Reading
