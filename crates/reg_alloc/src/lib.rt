@@ -14,3 +14,4 @@ mod uses;
 pub use all_slots::assign;
 pub use assignment::{Assignment, Home};
 pub use check::check_assignment;
+pub use uses::flow_graph;

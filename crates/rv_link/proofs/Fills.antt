@@ -1,6 +1,6 @@
 -- A function's words, with its calls filled in, are those of its code where it stands.
-use Rattle.std.proofs.Common.{◌≡◌, ℕ, zero, suc, ◌+◌, ◌-◌, ◌*◌, ◌%◌, ◌^◌, ◌<◌, ◌≤◌, true, List, [], ◌∷◌, ◌++◌, length, take, drop, append_assoc, Option, None, refl, sym, ap, ◌∙◌, subst, arith}
-use Rattle.std.specs.Prelude.{map}
+use Rattle.std.proofs.Common.{◌≡◌, ℕ, zero, suc, ◌+◌, ◌-◌, ◌*◌, ◌%◌, ◌^◌, ◌<◌, ◌≤◌, true, List, [], ◌∷◌, ◌++◌, length, take, drop, append_assoc, Option, Some, None, refl, sym, ap, ◌∙◌, subst, arith}
+use Rattle.std.specs.Prelude.{map, slice_get}
 use Rattle.std.specs.List.{list_all}
 use Rattle.std.proofs.lemmas.Bool.{ltb-true}
 use Rattle.std.proofs.lemmas.List.{append-nil, length-append, length-map, map-append}
@@ -23,12 +23,16 @@ use Rattle.tac_form.specs.declared.tac.Tac.{Tac}
 use Rattle.rv_operators.specs.Codes.{x0, x5}
 use Rattle.rv_select.specs.declared.selected.Call.{Call as Site}
 use Rattle.rv_select.specs.Numbers.{lower_of, upper_of}
+use Rattle.rv_select.specs.declared.pairs.Pair.{Pair}
+use Rattle.rv_select.specs.Compared.{compared, condition_of, left_of, operands_taken, right_of}
+use Rattle.rv_select.specs.Pairs.{pair_of, plain_of}
 use Rattle.rv_select.specs.Places.{Layout, frame_bytes}
 use Rattle.rv_select.specs.Shapes.{distance, first_taken, held_after, jump, offset_of, shape_of, start_of, two_jumps, x10}
 use Rattle.rv_select.specs.Entering.{left}
-use Rattle.rv_select.specs.Calls.{block_code, block_starts, blocks_calls, blocks_code, body_code, call_begun, call_ended, call_jump, exit_code, function_calls, function_code, head_code, held_behind, instruction_calls, instruction_code, instructions_calls, instructions_code, last_address, part_taken, starts_from}
+use Rattle.rv_select.specs.Calls.{block_code, block_starts, blocks_calls, blocks_code, body_code, call_begun, call_ended, call_jump, end_code, exit_code, function_calls, function_code, head_code, held_behind, instruction_calls, instruction_code, instructions_calls, instructions_code, last_address, pair_code, part_taken, starts_from}
 use Rattle.rv_select.proofs.Homes.{first-few}
 use Rattle.rv_select.proofs.Lengths.{block-length, instruction-length, instructions-length}
+use Rattle.rv_select.proofs.Pairing.{pair-parts}
 use Rattle.rv_select.proofs.Passes.{part-count}
 use Rattle.rv_select.proofs.Stands.{both-true}
 use Rattle.rv_link.specs.Filling.{AreIn, filled}
@@ -311,33 +315,79 @@ exit-moved code y held b at last starts moved (Return v) same fits near =
     ap (λ z. P ++ z) (jump-from b (at + 4 * length P) last (b + at + 4 * length P) (b + last) sum refl (omega (arith, near, few)))
 exit-moved code y held b at last starts moved (Fail kind place) same fits near = refl
 
+-- and so is that of a comparison and its branch
+jumps-moved : (head : Instr) (b at n first second to other : ℕ) → b + at + n + 76 ≤ 2 ^ 32 → to ≡ b + first → other ≡ b + second →
+    head ∷ (jump (b + at + n + 4) other ++ jump (b + at + n + 12) to) ≡ head ∷ (jump (at + n + 4) second ++ jump (at + n + 12) first)
+jumps-moved head b at n first second to other near g h =
+    let one : b + at + n + 4 ≡ b + (at + n + 4) = omega arith in
+    let next : b + at + n + 12 ≡ b + (at + n + 12) = omega arith in
+    ap (λ z. head ∷ (z ++ jump (b + at + n + 12) to)) (jump-from b (at + n + 4) second (b + at + n + 4) other one h (omega (arith, near)))
+    ∙ ap (λ z. head ∷ (jump (at + n + 4) second ++ z)) (jump-from b (at + n + 12) first (b + at + n + 12) to next g (omega (arith, near)))
+
+end-moved : (code : Tac) (y : Layout) (held : Option ℕ) (b at last : ℕ) (starts moved : ℕ → ℕ) (k : Block) (o : Option Pair) →
+    pair_of y.reads k ≡ o →
+    ((j : ℕ) → j < length code.blocks → moved j ≡ b + starts j) → block_there code k ≡ true →
+    b + at + 4 * length (end_code y held at starts last o k.exit) + 64 ≤ 2 ^ 32 →
+    end_code y held (b + at) moved (b + last) o k.exit ≡ end_code y held at starts last o k.exit
+unfolding pair_code
+end-moved code y held b at last starts moved k None q same fits near =
+    exit-moved code y held b at last starts moved k.exit same fits (omega (arith, near))
+end-moved code y held b at last starts moved k (Some pair) q same fits near =
+    ap (λ z. T ++ z)
+    (jumps-moved (instrs.Branch (condition_of pair.form.signed pair.operator) (left_of pair.operator) (right_of pair.operator)
+    (offset_of 12)) b at
+    (4 * length T) (starts pair.first.block) (starts pair.second.block) (moved pair.first.block) (moved pair.second.block) room
+    (same pair.first.block (ltb-true pair.first.block (length code.blocks) parts.0))
+    (same pair.second.block (ltb-true pair.second.block (length code.blocks) parts.1)))
+  where
+    T : List Instr
+    T = operands_taken y held pair.a pair.b
+
+    room : b + at + 4 * length (operands_taken y held pair.a pair.b) + 76 ≤ 2 ^ 32
+    room =
+        let count : length (operands_taken y held pair.a pair.b
+        ++ compared pair.form.signed pair.operator (at + 4 * length (operands_taken y held pair.a pair.b)) (starts pair.first.block)
+        (starts pair.second.block))
+        ≡ length (operands_taken y held pair.a pair.b) + 5 =
+        length-append (operands_taken y held pair.a pair.b)
+        (compared pair.form.signed pair.operator (at + 4 * length (operands_taken y held pair.a pair.b)) (starts pair.first.block)
+        (starts pair.second.block)) in
+        omega (arith, near, count)
+
+    parts : (edge_there code pair.first ≡ true) × (edge_there code pair.second ≡ true)
+    parts =
+        let i = pair-parts y.reads (slice_get k.instructions (length k.instructions - 1)) k.exit pair q in
+        both-true (edge_there code pair.first) (edge_there code pair.second) (ap (exit_there code) (sym i.exit_is) ∙ fits)
+
 -- A block.
 fill-block : (code : Tac) (places others : FnId → ℕ) (agree : (f : FnId) → places f ≡ others f) (base : ℕ) (y : Layout) (sizes : List ℕ) (from end last : ℕ) (starts moved : ℕ → ℕ)
     (cs : List Site) (k : Block) → ((j : ℕ) → j < length code.blocks → moved j ≡ base + starts j) → block_there code k ≡ true →
     base + 4 * (from + length (block_code y sizes (λ f. 0) starts last (4 * from) k)) + 64 ≤ 2 ^ 32 →
     AreIn (from + length (block_code y sizes (λ f. 0) starts last (4 * from) k)) end cs →
     Filled places base y sizes from end cs (block_code y sizes (λ f. 0) starts last (4 * from) k)
-    (block_code y sizes others moved (base + last) (base + 4 * from) k) (instructions_calls y sizes from None k.instructions)
+    (block_code y sizes others moved (base + last) (base + 4 * from) k) (instructions_calls y sizes from None (plain_of y.reads k))
 fill-block code places others agree base y sizes from end last starts moved cs k same fits near h =
-    let A : List Instr = instructions_code y sizes (λ f. 0) (4 * from) None k.instructions in
-    let P : List Instr = instructions_code y sizes others (base + 4 * from) None k.instructions in
-    let held : Option ℕ = held_behind None k.instructions in
-    let E : List Instr = exit_code y held (4 * from + 4 * length A) starts last k.exit in
-    let long : length P ≡ length A = instructions-length y sizes others (λ f. 0) (base + 4 * from) (4 * from) None k.instructions in
+    let is : List Instruction = plain_of y.reads k in
+    let o : Option Pair = pair_of y.reads k in
+    let A : List Instr = instructions_code y sizes (λ f. 0) (4 * from) None is in
+    let P : List Instr = instructions_code y sizes others (base + 4 * from) None is in
+    let held : Option ℕ = held_behind None is in
+    let E : List Instr = end_code y held (4 * from + 4 * length A) starts last o k.exit in
+    let long : length P ≡ length A = instructions-length y sizes others (λ f. 0) (base + 4 * from) (4 * from) None is in
     let count : length (A ++ E) ≡ length A + length E = length-append A E in
     let index : from + length A + length (words E) ≡ from + length (A ++ E) = omega (arith, count, words-length E) in
     let later : AreIn (from + length A + length (words E)) end cs = subst (λ z. AreIn z end cs) (sym index) h in
-    let one = fill-instructions places others agree base y sizes from end cs None k.instructions
+    let one = fill-instructions places others agree base y sizes from end cs None is
     (in-less (from + length (A ++ E)) (from + length A) end cs (omega (arith, count)) h) in
     let address : base + 4 * from + 4 * length P ≡ base + (4 * from + 4 * length A) = omega (arith, long) in
-    let exit : exit_code y held (base + 4 * from + 4 * length P) moved (base + last) k.exit ≡ E =
-    ap (λ z. exit_code y held z moved (base + last) k.exit) address
-    ∙ exit-moved code y held base (4 * from + 4 * length A) last starts moved k.exit same
-    fits (omega (arith, near, count)) in
-    subst (λ z. Filled places base y sizes from end cs (A ++ E) (P ++ z) (instructions_calls y sizes from None k.instructions)) (sym exit)
+    let exit : end_code y held (base + 4 * from + 4 * length P) moved (base + last) o k.exit ≡ E =
+    ap (λ z. end_code y held z moved (base + last) o k.exit) address
+    ∙ end-moved code y held base (4 * from + 4 * length A) last starts moved k o refl same fits (omega (arith, near, count)) in
+    subst (λ z. Filled places base y sizes from end cs (A ++ E) (P ++ z) (instructions_calls y sizes from None (plain_of y.reads k)))
+    (sym exit)
     (record {
       fills = λ ws.
-          ap (filled places base from (instructions_calls y sizes from None k.instructions ++ cs)) (words-both A E ws)
+          ap (filled places base from (instructions_calls y sizes from None is ++ cs)) (words-both A E ws)
           ∙ (one.fills (words E ++ ws)
           ∙ (ap (λ z. words P ++ z) (filled-none places base (from + length A) end cs (words E) ws later)
           ∙ (sym (words-both P E (filled places base (from + length A + length (words E)) cs ws))
@@ -376,7 +426,7 @@ fill-blocks code places others agree base y sizes from end last starts moved cs 
     subst (λ z. AreIn z end cs) (sym sum) (subst (λ z. AreIn (from + length z) end cs) whole h) in
     let rest = fill-blocks code places others agree base y sizes n end last starts moved cs ks same both.1
     (subst (λ z. base + 4 * z + 64 ≤ 2 ^ 32) (sym sum) near2) h2 in
-    let mine : List Site = instructions_calls y sizes from None k.instructions in
+    let mine : List Site = instructions_calls y sizes from None (plain_of y.reads k) in
     let behind : List Site = blocks_calls y sizes n ks in
     let all : blocks_calls y sizes from (k ∷ ks) ≡ mine ++ behind = ap (λ z. mine ++ blocks_calls y sizes (from + z) ks) less in
     let one = fill-block code places others agree base y sizes from end last starts moved (behind ++ cs) k same both.0

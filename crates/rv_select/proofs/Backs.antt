@@ -31,22 +31,24 @@ use Rattle.rv_machine.specs.Machine.{Ran, State, after_step, run_of, stands, unl
 use Rattle.rv_machine.specs.Machine as machine
 use Rattle.rv_machine.specs.declared.stops.Stop.TheVariants as stops
 use Rattle.rv_operators.specs.Runs.{Stands}
+use Rattle.rv_select.specs.Pairs.{pair_of, plain_of, reads_of}
 use Rattle.rv_select.specs.Places.{AreBytes, Holds, Housed, IsHeld, Layout, World, area_offset, frame_bytes, home_of, layout_of, private_word}
 use Rattle.rv_select.specs.Shapes.{put_to}
 use Rattle.rv_select.specs.Steps.{Comes, world_of}
 use Rattle.rv_select.specs.Calls.{blocks_length, call_begun, call_ended, call_jump, head_code, last_address}
 use Rattle.rv_select.specs.Entering.{result_put, result_words, size_in}
-use Rattle.rv_select.specs.Waiting.{Arrives, HasRoom, Image, IsLinked, IsPlaced, StandsIn, Stepped, Waiting, Waits, entries_of, held_at, held_in, instructions_in, place_in, restored}
+use Rattle.rv_select.specs.Waiting.{Arrives, HasRoom, Image, IsLinked, IsPlaced, StandsIn, Stepped, Waiting, Waits, entries_of, held_at, held_in, place_in, plain_in, restored}
 use Rattle.rv_select.proofs.Carries.{by-test, nothing-written, operand-read}
 use Rattle.rv_select.proofs.Copies.{copies-there, size-small}
 use Rattle.rv_select.proofs.Finds.{FoundFunction, held-next, stands-next}
+use Rattle.rv_select.proofs.Pairing.{before-next, plain-get}
 use Rattle.rv_select.proofs.Leaves.{exit-in-graph, exit-reads-live}
 use Rattle.rv_select.proofs.Lives.{housed, step-in-graph, write-used}
 use Rattle.rv_select.proofs.Moves.{then-put, value-small}
 use Rattle.rv_select.proofs.Passes.{IsPartRead, part_value}
 use Rattle.rv_select.proofs.Receives.{housed-fewer}
 use Rattle.rv_select.proofs.Returns.{BackIn, HeldIn, Resumes, UsedBut, back-holds, goes-back, resumes}
-use Rattle.rv_select.proofs.Stands.{AtExit, AtPlace, at-exit, at-instruction, both-true, exit-within, instruction-within, the-function, within-parts}
+use Rattle.rv_select.proofs.Stands.{AtExit, AtPlace, at-plain-exit, at-instruction, both-true, exit-within, instruction-within, the-function, within-parts}
 use Rattle.rv_select.proofs.Waits.{SameAbove, restored-same, waits-keeps, waits-same, waits-within}
 use Rattle.rv_select.proofs.Ways.{Way, near-same, way-both, way-none}
 
@@ -86,12 +88,13 @@ record BehindCall (p : Program) (image : Image) (program : List (Option Instr)) 
   next : place_in p image code (image f) b (suc before) ≡
       behind + 4 * (2 + length (result_put (layout_of code (image f).homes) code.areas to))
   held : held_in code b (suc before) ≡ destination_write to
+  before_end : suc before ≤ length (plain_in (reads_of code) (slice_get code.blocks b))
   near : behind + 4 * (2 + length (result_put (layout_of code (image f).homes) code.areas to)) + 256 ≤ 2 ^ 30
 
 behind-call : (p : Program) (image : Image) (program : List (Option Instr)) (most : ℕ) (code : Tac) (f : FnId) (b before : ℕ)
     (to : Destination) (block : Block) (place : Place) (callee : FnId) (arguments : List Part) →
     IsPlaced p image program most code (image f) → slice_get code.blocks b ≡ Some block →
-    slice_get block.instructions before ≡ Some (Call to place callee arguments) →
+    slice_get (plain_of (reads_of code) block) before ≡ Some (Call to place callee arguments) →
     BehindCall p image program code f b before to (place_in p image code (image f) b before)
     (place_in p image code (image f) b before + 4 * length (call_begun (layout_of code (image f).homes) place arguments) + 8)
 behind-call p image program most code f b before to block place callee arguments pl e g =
@@ -117,8 +120,9 @@ behind-call p image program most code f b before to block place callee arguments
           even = omega (arith, found.aligned);
           small = omega (arith, found.near, count);
           next = found.next ∙ omega (arith, count);
-          held = ap (λ o. held_at None (instructions_in o) (suc before)) e
-              ∙ held-next None block.instructions before (Call to place callee arguments) g;
+          held = ap (λ o. held_at None (plain_in (reads_of code) o) (suc before)) e
+              ∙ held-next None (plain_of (reads_of code) block) before (Call to place callee arguments) g;
+          before_end = before-next code b before block (Call to place callee arguments) e g;
           near = omega (arith, found.near, count);
         }
 
@@ -137,11 +141,13 @@ put-result : (p : Program) (image : Image) (program : List (Option Instr)) (most
     (record { temps = temps; areas = areas; region = s.region; placed = a.base; depth = length cs }) up more target [] n) →
     IsHeld held temps c.after →
     target ≡ place_in p image code (image a.function) a.block a.at → held_in code a.block a.at ≡ held →
+    a.at ≤ length (plain_in (reads_of code) (slice_get code.blocks a.block)) →
     a.base + code.frame ≤ end_address s.region → length s.region.bytes ≡ size → HasRoom most (length cs) up →
     Waits p image most size cs (private_word n up) (up + frame_bytes (layout_of code (image a.function).homes)) (a.base + code.frame)
     (restored (layout_of code (image a.function).homes) up n) →
     Arrives p image program most size (36 + more) [] (record s { here = record a { temps = temps; areas = areas }; callers = cs }) m
-put-result p image program most size linked s a temps areas cs code up k more target held m n function way some few c five to-is held-is frame
+put-result p image program most size linked s a temps areas cs code up k more target held m n function way some few c five to-is held-is
+    inside frame
     region room
     waits = record {
       steps = k + c.steps;
@@ -155,6 +161,7 @@ put-result p image program most size linked s a temps areas cs code up k more ta
       stands = record {
         code = code;
         function = function;
+        before_end = inside;
         pc = c.at ∙ to-is;
         holds = c.holds;
         five = subst (λ o. IsHeld o temps c.after) (sym held-is) five;
@@ -304,6 +311,7 @@ to-caller p image program most size linked s a to v temps areas cs up over link 
         (destination_write to) m r.after W.function
         (way-both program k 2 m n r.after way r.way) (omega (arith, some)) (omega (arith, few)) both.0 both.1 target
         (ap (λ z. held_in W.code a.block z) W.at ∙ bc.held)
+        (subst (λ z. z ≤ length (plain_in (reads_of W.code) (slice_get W.code.blocks a.block))) (sym W.at) bc.before_end)
         (frame-within s.region.bytes over W.code.frame W.placed_is sized two) sized W.room
         (subst (λ z. Waits p image most size cs (private_word r.after up) (up + frame_bytes yc) (z + W.code.frame)
         (restored yc up r.after)) (sym W.placed_is) waits)
@@ -327,7 +335,9 @@ puts-word p image program most linked s a d v depth up over link M n W small t s
   where
     next-used : InUse (graph_of W.code) a.block a.at d
     next-used =
-        let g = step-in-graph W.code W.block (Call (Temp d) W.place W.callee W.arguments) a.block W.before W.in_function W.in_block in
+        let g = step-in-graph W.code W.block (Call (Temp d) W.place W.callee W.arguments) a.block W.before W.in_function
+        (plain-get (pair_of (reads_of W.code) W.block) W.block.instructions W.before (Call (Temp d) W.place W.callee W.arguments)
+        W.in_block) in
         subst (λ z. InUse (graph_of W.code) a.block z d) (sym W.at)
         (write-used (graph_of W.code) a.block W.before d (block_of W.block) (step_of (Call (Temp d) W.place W.callee W.arguments)) g.0 g.1
         (eq-eqb d d refl))
@@ -366,7 +376,8 @@ puts-bytes p image program most linked s a j from bs depth up over link M n W co
     fits =
         let wi = within-parts p image program most W.code (image a.function) (linked a.function W.code W.function) in
         let i = instruction-within W.code a.block W.before W.block (Call (Area j) W.place W.callee W.arguments) wi.blocks W.in_function
-        W.in_block in
+        (plain-get (pair_of (reads_of W.code) W.block) W.block.instructions W.before (Call (Area j) W.place W.callee W.arguments)
+        W.in_block) in
         let one = both-true (destination_fits W.code (Area j) && place_fits W.place) (list_all (part_fits W.code) W.arguments) i in
         let two = both-true (destination_fits W.code (Area j)) (place_fits W.place) one.0 in
         (ltb-true j (length W.code.areas) two.0, wi.areas)
@@ -483,9 +494,9 @@ return_most (c ∷ cs) = 36 + result_words c.to
 pub return-steps : (p : Program) (image : Image) (program : List (Option Instr)) (most size : ℕ) → IsLinked p image program most →
     (s : tac.State) (base : ℕ) (m : State)
     (x : StandsIn p image program most size s base m) (block : Block) (v : Part) → slice_get x.code.blocks s.here.block ≡ Some block →
-    slice_get block.instructions s.here.at ≡ None → block.exit ≡ Return v →
+    slice_get block.instructions s.here.at ≡ None → pair_of (reads_of x.code) block ≡ None → block.exit ≡ Return v →
     Stepped p image program most size (return_most s.callers) s m (step p s)
-return-steps p image program most size linked s base m x block v in-f in-b is =
+return-steps p image program most size linked s base m x block v in-f in-b alone is =
     let e1 = x.function in
     rw (e1, in-f, in-b) (rw is (go s.callers refl x.waits))
   where
@@ -515,13 +526,13 @@ return-steps p image program most size linked s base m x block v in-f in-b is =
         let f : FoundFunction program y x.code (entries_of p image) (image s.here.function).at = the-function p image program most x.code
         (image s.here.function) pl in
         let held : Option ℕ = held_in x.code s.here.block s.here.at in
-        let at : AtExit p image program x.code (image s.here.function) held (Return v)
+        let at : AtExit p image program x.code (image s.here.function) held None (Return v)
         (place_in p image x.code (image s.here.function) s.here.block s.here.at) =
-        subst (λ z. AtExit p image program x.code (image s.here.function) held z
+        subst (λ z. AtExit p image program x.code (image s.here.function) held None z
         (place_in p image x.code (image s.here.function) s.here.block s.here.at)) is
-        (at-exit p image program most x.code (image s.here.function) s.here.block s.here.at block pl in-f in-b) in
-        let here : AtExit p image program x.code (image s.here.function) held (Return v) m.pc =
-        subst (λ q. AtExit p image program x.code (image s.here.function) held (Return v) q) (sym x.pc) at in
+        (at-plain-exit p image program most x.code (image s.here.function) s.here.block s.here.at block pl in-f in-b alone) in
+        let here : AtExit p image program x.code (image s.here.function) held None (Return v) m.pc =
+        subst (λ q. AtExit p image program x.code (image s.here.function) held None (Return v) q) (sym x.pc) at in
         goes-back program y (InUse (graph_of x.code) s.here.block s.here.at) (world_of s) base x.code.frame
         (last_address y x.code (image s.here.function).at) link 0 v m x.holds
         (housed x.code (image s.here.function).homes s.here.block s.here.at pl.right) reads here.near

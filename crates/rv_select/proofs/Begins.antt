@@ -20,12 +20,13 @@ use Rattle.rv_machine.specs.Word.{low}
 use Rattle.rv_machine.specs.Machine.{State, GoesOn, act, at_with}
 use Rattle.rv_operators.specs.Runs.{Stands}
 use Rattle.rv_select.specs.Numbers.{constant, register_of}
+use Rattle.rv_select.specs.Pairs.{reads_of}
 use Rattle.rv_select.specs.Places.{AreBytes, frame_bytes, layout_of, private_word, uses}
 use Rattle.rv_select.specs.Shapes.{moved, place_number, x4, x8, x11}
 use Rattle.rv_select.specs.Calls.{blocks_length, head_code, last_address}
 use Rattle.rv_select.specs.Entering.{arguments_stored, begun, entered, kept_offset, received, stored_below, words_offset, receiving}
 use Rattle.rv_select.specs.Frames.{BeforeEntering, Enters, HasWords, Received, seen, without_words}
-use Rattle.rv_select.specs.Waiting.{Arrives, Image, IsLinked, IsPlaced, Stepped, entries_of, place_in}
+use Rattle.rv_select.specs.Waiting.{Arrives, Image, IsLinked, IsPlaced, Stepped, entries_of, place_in, plain_in}
 use Rattle.rv_select.specs.Whole.{EntriesAreCarried, Starts, before_entry}
 use Rattle.rv_select.proofs.Arrivals.{InFunction, begin-holds, link-after}
 use Rattle.rv_select.proofs.Bytes.{stored-word}
@@ -249,6 +250,9 @@ zero-first k = omega arith
 higher : (base b a : ℕ) → 88 ≤ b → b ≤ base → base ≤ a → base - b + 88 ≤ a
 higher base b a h k o = omega (arith, h, k, o)
 
+from-zero : (n : ℕ) → 0 ≤ n
+from-zero n = omega arith
+
 back-up : (a b : ℕ) → b ≤ a → a - b + b ≡ a
 back-up a b h = omega (arith, h)
 
@@ -442,6 +446,7 @@ module _ (p : Program) (image : Image) (program : List (Option Instr)) (most n :
             stands = record {
               code = code;
               function = e;
+              before_end = from-zero (length (plain_in (reads_of code) (slice_get code.blocks 0)));
               pc = r.at ∙ to-is;
               five = tt;
               holds = widen (layout_of code (image f).homes) (InUse (graph_of code) 0 0)

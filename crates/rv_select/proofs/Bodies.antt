@@ -1,6 +1,7 @@
 -- The code of a function from its parts.
-use Rattle.std.proofs.Common.{◌≡◌, ℕ, ◌+◌, ◌*◌, List, [], ◌++◌, length, append_assoc, Option, None, refl, sym, ap, subst, ◌∙◌, arith}
+use Rattle.std.proofs.Common.{◌≡◌, ℕ, ◌+◌, ◌*◌, true, List, [], ◌++◌, length, append_assoc, Option, None, refl, sym, ap, subst, ◌∙◌, arith}
 use Rattle.std.specs.Prelude.{map, Result, OnOk}
+use Rattle.std.specs.List.{list_all}
 use Rattle.std.proofs.lemmas.List.{map-append}
 use Rattle.tl_base.specs.declared.place.Place.{Place}
 use Rattle.tl_base.specs.declared.ids.FnId.{FnId}
@@ -14,14 +15,19 @@ use Rattle.tac_form.specs.declared.tac.Instruction.TheVariants.{Call}
 use Rattle.tac_form.specs.declared.tac.Block.{Block}
 use Rattle.tac_form.specs.declared.tac.Tac.{Tac}
 use Rattle.rv_select.specs.declared.selected.Call.{Call as Site}
-use Rattle.rv_select.specs.Places.{Layout, frame_bytes, layout_of, with_homes}
+use Rattle.rv_select.specs.declared.pairs.Pair.{Pair}
+use Rattle.rv_select.specs.declared.pairs.Reads.{Reads}
+use Rattle.rv_select.specs.Pairs.{but_pair, pair_of, plain_of, reads_of}
+use Rattle.rv_select.specs.Places.{Layout, frame_bytes, layout_of, with_homes, with_reads}
 use Rattle.rv_select.specs.Shapes.{start_of}
 use Rattle.rv_select.specs.Entering.{begun, entered, left, received, words_offset}
-use Rattle.rv_select.specs.Calls.{block_code, block_starts, blocks_calls, blocks_code, body_code, call_begun, call_ended, call_jump, called, exit_code, function_code, head_code, held_behind, instruction_code, instructions_code, last_address, starts_from}
-use Rattle.rv_select.proofs.Layouts.{blocks-calls-same, blocks-same, received-same, starts-same}
+use Rattle.rv_select.specs.Calls.{block_code, block_has_code, block_starts, blocks_calls, blocks_code, body_code, call_begun, call_ended, call_jump, called, end_code, function_code, has_code, has_exit_code, head_code, held_behind, instruction_code, instructions_code, last_address, starts_from}
+use Rattle.rv_select.proofs.Layouts.{blocks-calls-same, blocks-same, end-same, instructions-same, received-same, starts-same}
 use Rattle.rv_select.proofs.Lengths.{blocks-length}
 use Rattle.rv_select.proofs.Numbers.{pushed_words}
+use Rattle.rv_select.proofs.Pairing.{plain-all}
 use Rattle.rv_select.proofs.Pushed.{behind, placed-turn, turn}
+use Rattle.rv_select.proofs.Stands.{both-true}
 
 pub called-turn : {A E : Type 0} (r : Result A E) (y : Layout) (sizes : List ℕ) (to : Destination) (at : Place) (f : FnId) (arguments : List Part) (old first mid new : List ℕ) →
     first ≡ old ++ map word_of (call_begun y at arguments) → mid ≡ first ++ map word_of (call_jump (4 * length first) 0) →
@@ -39,16 +45,43 @@ one-called r y sizes to at f arguments given i n held old new e g h =
     subst (λ z. OnOk r (new ≡ old ++ map word_of (instruction_code y sizes (λ g. 0) n held z))) (sym e)
     (subst (λ z. OnOk r (new ≡ old ++ map word_of (called y sizes (λ g. 0) n to at f z))) g h)
 
-pub block-turn : {A E : Type 0} (r : Result A E) (y : Layout) (sizes : List ℕ) (starts : ℕ → ℕ) (last : ℕ) (b : Block) (is : List Instruction)
-    (held : Option ℕ) (old mid new : List ℕ) → is ≡ b.instructions →
-    mid ≡ old ++ map word_of (instructions_code y sizes (λ f. 0) (4 * length old) None is) → held ≡ held_behind None is →
-    OnOk r (new ≡ mid ++ map word_of (exit_code y held (4 * length mid) starts last b.exit)) →
-    OnOk r (new ≡ old ++ map word_of (block_code y sizes (λ f. 0) starts last (4 * length old) b))
-block-turn r y sizes starts last b is held old mid new w e h g =
-    placed-turn r old mid new (instructions_code y sizes (λ f. 0) (4 * length old) None b.instructions)
-    (λ at. exit_code y (held_behind None b.instructions) at starts last b.exit)
-    (e ∙ ap (λ z. old ++ map word_of (instructions_code y sizes (λ f. 0) (4 * length old) None z)) w)
-    (subst (λ o. OnOk r (new ≡ mid ++ map word_of (exit_code y o (4 * length mid) starts last b.exit))) (h ∙ ap (held_behind None) w) g)
+-- the code of blocks depends on how often temporaries are read, and that of their instructions doesn't
+pub plain-code : (h : List (Option Home)) (reads : List Reads) (sizes : List ℕ) (at : ℕ) (is : List Instruction) →
+    instructions_code (with_homes h) sizes (λ f. 0) at None is ≡ instructions_code (with_reads h reads) sizes (λ f. 0) at None is
+plain-code h reads sizes at is = instructions-same h 0 0 0 0 [] reads sizes (λ f. 0) at None is
+
+pub plain-is : (reads : List Reads) (b : Block) (is plain : List Instruction) (pair : Option Pair) → is ≡ b.instructions →
+    pair ≡ pair_of reads b →
+    plain ≡ but_pair pair is → plain ≡ plain_of reads b
+plain-is reads b is plain pair w o e = e ∙ (ap (λ z. but_pair pair z) w ∙ ap (λ z. but_pair z b.instructions) o)
+
+-- instructions with code of their own are among those that have code
+pub plain-has : (b : Block) (is plain : List Instruction) (pair : Option Pair) → is ≡ b.instructions → plain ≡ but_pair pair is →
+    block_has_code b ≡ true → list_all has_code plain ≡ true
+plain-has b is plain pair w p h =
+    let all : list_all has_code is ≡ true = ap (list_all has_code) w
+    ∙ (both-true (list_all has_code b.instructions) (has_exit_code b.exit) h).0 in
+    ap (list_all has_code) p ∙ plain-all has_code pair is all
+
+pub block-turn : {A E : Type 0} (r : Result A E) (h : List (Option Home)) (reads : List Reads) (sizes : List ℕ) (starts : ℕ → ℕ) (last : ℕ)
+    (b : Block)
+    (is plain : List Instruction) (pair : Option Pair) (held : Option ℕ) (old mid new : List ℕ) → is ≡ b.instructions →
+    pair ≡ pair_of reads b →
+    plain ≡ but_pair pair is → mid ≡ old ++ map word_of (instructions_code (with_homes h) sizes (λ f. 0) (4 * length old) None plain) →
+    held ≡ held_behind None plain →
+    OnOk r (new ≡ mid ++ map word_of (end_code (with_homes h) held (4 * length mid) starts last pair b.exit)) →
+    OnOk r (new ≡ old ++ map word_of (block_code (with_reads h reads) sizes (λ f. 0) starts last (4 * length old) b))
+block-turn r h reads sizes starts last b is plain pair held old mid new w o p e k g =
+    let y : Layout = with_reads h reads in
+    let same : plain ≡ plain_of reads b = plain-is reads b is plain pair w o p in
+    placed-turn r old mid new (instructions_code y sizes (λ f. 0) (4 * length old) None (plain_of reads b))
+    (λ at. end_code y (held_behind None (plain_of reads b)) at starts last (pair_of reads b) b.exit)
+    (e ∙ (ap (λ z. old ++ map word_of (instructions_code (with_homes h) sizes (λ f. 0) (4 * length old) None z)) same
+    ∙ ap (λ z. old ++ map word_of z) (plain-code h reads sizes (4 * length old) (plain_of reads b))))
+    (subst (λ z. OnOk r (new ≡ mid ++ map word_of z))
+    (end-same h 0 0 0 0 [] reads held (4 * length mid) starts last pair b.exit
+    ∙ (ap (λ q. end_code y q (4 * length mid) starts last pair b.exit) (k ∙ ap (held_behind None) same)
+    ∙ ap (λ q. end_code y (held_behind None (plain_of reads b)) (4 * length mid) starts last q b.exit) o)) g)
 
 pub call-head : {A E : Type 0} (r : Result A E) (code : Tac) (h : List (Option Home)) (words bytes : ℕ) (sizes : List ℕ) (ds : List Destination) (old mid new : List ℕ) →
     sizes ≡ code.areas → ds ≡ code.parameters →
@@ -58,37 +91,47 @@ pub call-head : {A E : Type 0} (r : Result A E) (code : Tac) (h : List (Option H
 call-head r code h words bytes sizes ds old mid new w v e g =
     let same : received (with_homes h) sizes words ds ≡ received (layout_of code h) code.areas words code.parameters =
     ap (λ z. received (with_homes h) z words ds) w ∙ (ap (λ z. received (with_homes h) code.areas words z) v
-    ∙ received-same h 0 0 (length code.areas) (length code.parameters) code.areas words code.parameters) in
+    ∙ received-same h 0 0 (length code.areas) (length code.parameters) [] (reads_of code) code.areas words code.parameters) in
     turn r old mid new (entered (layout_of code h) bytes code.frame) (received (layout_of code h) code.areas words code.parameters)
     (entered (layout_of code h) bytes code.frame ++ received (layout_of code h) code.areas words code.parameters) refl e
     (subst (λ z. OnOk r (new ≡ mid ++ map word_of z)) same g)
 
-pub body-code : {A E : Type 0} (r : Result A E) (code : Tac) (h : List (Option Home)) (sizes : List ℕ) (bs : List Block) (starts : ℕ → ℕ) (last at : ℕ) (old new : List ℕ) →
-    sizes ≡ code.areas → bs ≡ code.blocks →
-    OnOk r (new ≡ old ++ map word_of (blocks_code (with_homes h) sizes (λ f. 0) starts last at bs)) →
+pub body-code : {A E : Type 0} (r : Result A E) (code : Tac) (h : List (Option Home)) (reads : List Reads) (sizes : List ℕ)
+    (bs : List Block) (starts : ℕ → ℕ) (last at : ℕ) (old new : List ℕ) →
+    sizes ≡ code.areas → bs ≡ code.blocks → reads ≡ reads_of code →
+    OnOk r (new ≡ old ++ map word_of (blocks_code (with_reads h reads) sizes (λ f. 0) starts last at bs)) →
     OnOk r (new ≡ old ++ map word_of (blocks_code (layout_of code h) code.areas (λ f. 0) starts last at code.blocks))
-body-code r code h sizes bs starts last at old new w v g =
-    let same : blocks_code (with_homes h) sizes (λ f. 0) starts last at bs ≡ blocks_code (layout_of code h) code.areas (λ f. 0) starts last at code.blocks =
-    ap (λ z. blocks_code (with_homes h) z (λ f. 0) starts last at bs) w ∙ (ap (λ z. blocks_code (with_homes h) code.areas (λ f. 0) starts last at z) v
-    ∙ blocks-same h 0 0 (length code.areas) (length code.parameters) code.areas (λ f. 0) starts last at code.blocks) in
+body-code r code h reads sizes bs starts last at old new w v u g =
+    let same : blocks_code (with_reads h reads) sizes (λ f. 0) starts last at bs ≡ blocks_code (layout_of code h) code.areas
+    (λ f. 0) starts last at code.blocks =
+    ap (λ z. blocks_code (with_reads h reads) z (λ f. 0) starts last at bs) w
+    ∙ (ap (λ z. blocks_code (with_reads h reads) code.areas (λ f. 0) starts last at z) v
+    ∙ (ap (λ z. blocks_code (with_reads h z) code.areas (λ f. 0) starts last at code.blocks) u ∙ blocks-same h 0 0 (length code.areas)
+    (length code.parameters) (reads_of code) code.areas (λ f. 0) starts last at code.blocks)) in
     subst (λ z. OnOk r (new ≡ old ++ map word_of z)) same g
 
-pub body-calls : {A E : Type 0} (r : Result A E) (code : Tac) (h : List (Option Home)) (sizes : List ℕ) (bs : List Block) (at : ℕ) (old new : List Site) →
-    sizes ≡ code.areas → bs ≡ code.blocks →
-    OnOk r (new ≡ old ++ blocks_calls (with_homes h) sizes at bs) → OnOk r (new ≡ old ++ blocks_calls (layout_of code h) code.areas at code.blocks)
-body-calls r code h sizes bs at old new w v g =
-    let same : blocks_calls (with_homes h) sizes at bs ≡ blocks_calls (layout_of code h) code.areas at code.blocks =
-    ap (λ z. blocks_calls (with_homes h) z at bs) w ∙ (ap (λ z. blocks_calls (with_homes h) code.areas at z) v
-    ∙ blocks-calls-same h 0 0 (length code.areas) (length code.parameters) code.areas at code.blocks) in
+pub body-calls : {A E : Type 0} (r : Result A E) (code : Tac) (h : List (Option Home)) (reads : List Reads) (sizes : List ℕ)
+    (bs : List Block) (at : ℕ) (old new : List Site) →
+    sizes ≡ code.areas → bs ≡ code.blocks → reads ≡ reads_of code →
+    OnOk r (new ≡ old ++ blocks_calls (with_reads h reads) sizes at bs) →
+    OnOk r (new ≡ old ++ blocks_calls (layout_of code h) code.areas at code.blocks)
+body-calls r code h reads sizes bs at old new w v u g =
+    let same : blocks_calls (with_reads h reads) sizes at bs ≡ blocks_calls (layout_of code h) code.areas at code.blocks =
+    ap (λ z. blocks_calls (with_reads h reads) z at bs) w ∙ (ap (λ z. blocks_calls (with_reads h reads) code.areas at z) v
+    ∙ (ap (λ z. blocks_calls (with_reads h z) code.areas at code.blocks) u ∙ blocks-calls-same h 0 0 (length code.areas)
+    (length code.parameters) (reads_of code) code.areas at code.blocks)) in
     subst (λ z. OnOk r (new ≡ old ++ z)) same g
 
-pub body-begins : {A E : Type 0} (r : Result A E) (code : Tac) (h : List (Option Home)) (sizes : List ℕ) (bs : List Block) (at : ℕ) (old new : List ℕ) →
-    sizes ≡ code.areas → bs ≡ code.blocks →
-    OnOk r (new ≡ old ++ starts_from (with_homes h) sizes at bs) → OnOk r (new ≡ old ++ starts_from (layout_of code h) code.areas at code.blocks)
-body-begins r code h sizes bs at old new w v g =
-    let same : starts_from (with_homes h) sizes at bs ≡ starts_from (layout_of code h) code.areas at code.blocks =
-    ap (λ z. starts_from (with_homes h) z at bs) w ∙ (ap (λ z. starts_from (with_homes h) code.areas at z) v
-    ∙ starts-same h 0 0 (length code.areas) (length code.parameters) code.areas at code.blocks) in
+pub body-begins : {A E : Type 0} (r : Result A E) (code : Tac) (h : List (Option Home)) (reads : List Reads) (sizes : List ℕ)
+    (bs : List Block) (at : ℕ) (old new : List ℕ) →
+    sizes ≡ code.areas → bs ≡ code.blocks → reads ≡ reads_of code →
+    OnOk r (new ≡ old ++ starts_from (with_reads h reads) sizes at bs) →
+    OnOk r (new ≡ old ++ starts_from (layout_of code h) code.areas at code.blocks)
+body-begins r code h reads sizes bs at old new w v u g =
+    let same : starts_from (with_reads h reads) sizes at bs ≡ starts_from (layout_of code h) code.areas at code.blocks =
+    ap (λ z. starts_from (with_reads h reads) z at bs) w ∙ (ap (λ z. starts_from (with_reads h reads) code.areas at z) v
+    ∙ (ap (λ z. starts_from (with_reads h z) code.areas at code.blocks) u ∙ starts-same h 0 0 (length code.areas) (length code.parameters)
+    (reads_of code) code.areas at code.blocks)) in
     subst (λ z. OnOk r (new ≡ old ++ z)) same g
 
 -- how many words there are behind a function's first ones

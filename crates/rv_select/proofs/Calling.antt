@@ -28,19 +28,21 @@ use Rattle.tac_form.specs.Live.{InUse, has, is_written}
 use Rattle.rv_machine.specs.Word.{low}
 use Rattle.rv_machine.specs.Machine.{State, run_of}
 use Rattle.rv_operators.specs.Runs.{Stands}
+use Rattle.rv_select.specs.Pairs.{pair_of, plain_of, reads_of}
 use Rattle.rv_select.specs.Places.{Holds, Housed, Layout, World, area_offset, frame_bytes, home_of, layout_of, private_word}
 use Rattle.rv_select.specs.Shapes.{place_number, start_of}
 use Rattle.rv_select.specs.Steps.{Ends, world_of}
 use Rattle.rv_select.specs.Calls.{block_starts, blocks_length, call_begun, call_ended, call_jump, head_code, instruction_code, last_address, starts_from}
 use Rattle.rv_select.specs.Entering.{begun, entered, received, receiving, words_offset}
 use Rattle.rv_select.specs.Frames.{BeforeEntering, Enters, IsPartRead, Received, part_value, seen, without_words}
-use Rattle.rv_select.specs.Waiting.{Arrives, HasRoom, Image, IsLinked, IsPlaced, StandsIn, Stepped, Waiting, Waits, entries_of, entry_of, held_in, place_in, restored}
+use Rattle.rv_select.specs.Waiting.{Arrives, HasRoom, Image, IsLinked, IsPlaced, StandsIn, Stepped, Waiting, Waits, entries_of, entry_of, held_in, place_in, plain_in, restored}
 use Rattle.rv_select.proofs.Arrivals.{InFunction, areas-lie, begin-holds, enters-call, has-words, link-after, room-next, same-after}
 use Rattle.rv_select.proofs.Callings.{Begun, JumpedTo, begins, jumps-to, too-deep}
 use Rattle.rv_select.proofs.Carries.{by-test, has-left, has-right, nothing-written, operand-read, place-small}
 use Rattle.rv_select.proofs.Entrances.{functions-entered, more-ends}
 use Rattle.rv_select.proofs.Faults.{later-ends}
 use Rattle.rv_select.proofs.Finds.{FoundFunction}
+use Rattle.rv_select.proofs.Pairing.{plain-get}
 use Rattle.rv_select.proofs.Lives.{housed, read-live, step-in-graph, use-follows}
 use Rattle.rv_select.proofs.Moves.{value-small}
 use Rattle.rv_select.proofs.Receives.{parameters-received}
@@ -76,7 +78,8 @@ made-waiting : (p : Program) (image : Image) (program : List (Option Instr)) (mo
     (s : tac.State) (base : ℕ) (m M : State)
     (x : StandsIn p image program most size s base m) (block : Block) (to : Destination) (place : Place) (f : FnId) (arguments : List Part)
     (link : ℕ) →
-    slice_get x.code.blocks s.here.block ≡ Some block → slice_get block.instructions s.here.at ≡ Some (Call to place f arguments) →
+    slice_get x.code.blocks s.here.block ≡ Some block → slice_get (plain_of (reads_of x.code) block) s.here.at ≡ Some
+    (Call to place f arguments) →
     link ≡ place_in p image x.code (image s.here.function) s.here.block s.here.at + 4 * length
     (call_begun (layout_of x.code (image s.here.function).homes) place arguments) + 8 →
     SameAbove base m M → Waiting p image most (record { waits = record s.here { at = suc s.here.at }; to = to }) (length s.callers) link
@@ -113,7 +116,8 @@ made-waiting p image program most size linked s base m M x block to place f argu
     before : (t : ℕ) → InUse (graph_of x.code) s.here.block (suc s.here.at) t → destination_write to ≢ Some t →
         InUse (graph_of x.code) s.here.block s.here.at t
     before t u o =
-        let g = step-in-graph x.code block (Call to place f arguments) s.here.block s.here.at in-f in-b in
+        let g = step-in-graph x.code block (Call to place f arguments) s.here.block s.here.at in-f
+        (plain-get (pair_of (reads_of x.code) block) block.instructions s.here.at (Call to place f arguments) in-b) in
         ⊎_elim (λ w. absurd (o (written (destination_write to) t w))) (λ z. z)
         (use-follows (graph_of x.code) s.here.block s.here.at t (block_of block) (step_of (Call to place f arguments)) g.0 g.1 u)
 
@@ -180,7 +184,8 @@ pub lands : (p : Program) (image : Image) (program : List (Option Instr)) (most 
     (s : tac.State) (base : ℕ) (m : State)
     (x : StandsIn p image program most size s base m) (block : Block) (to : Destination) (place : Place) (f : FnId) (arguments : List Part)
     →
-    slice_get x.code.blocks s.here.block ≡ Some block → slice_get block.instructions s.here.at ≡ Some (Call to place f arguments) →
+    slice_get x.code.blocks s.here.block ≡ Some block → slice_get (plain_of (reads_of x.code) block) s.here.at ≡ Some
+    (Call to place f arguments) →
     (callee : Tac) → p.code f ≡ Some callee →
     (l k target : ℕ) (a : Activation) (n : State) → a ≡ record (fresh_call f callee s) { temps = a.temps; areas = a.areas } →
     Way program k m n → 1 ≤ k → k + receiving callee.parameters ≤ bound →
@@ -206,6 +211,9 @@ lands p image program most size bound linked s base m x block to place f argumen
     Arrives p image program most size bound [] (entered_state s to l b) m)
     (sym a-is) (made a.temps a.areas) rc
   where
+    from-zero : (n : ℕ) → 0 ≤ n
+    from-zero n = omega arith
+
     back-up : (a b : ℕ) → b ≤ a → a - b + b ≡ a
     back-up a b h = omega (arith, h)
 
@@ -281,6 +289,7 @@ lands p image program most size bound linked s base m x block to place f argumen
           stands = record {
             code = callee;
             function = e;
+            before_end = from-zero (length (plain_in (reads_of callee) (slice_get callee.blocks 0)));
             pc = r.at ∙ to-is;
             five = tt;
             holds = widen (layout_of callee (image f).homes) (InUse (graph_of callee) 0 0)
@@ -418,7 +427,8 @@ pub at-call : (p : Program) (image : Image) (program : List (Option Instr)) (mos
     (s : tac.State) (base : ℕ) (m : State)
     (x : StandsIn p image program most size s base m) (block : Block) (to : Destination) (place : Place) (f : FnId) (arguments : List Part)
     →
-    slice_get x.code.blocks s.here.block ≡ Some block → slice_get block.instructions s.here.at ≡ Some (Call to place f arguments) →
+    slice_get x.code.blocks s.here.block ≡ Some block → slice_get (plain_of (reads_of x.code) block) s.here.at ≡ Some
+    (Call to place f arguments) →
     AtCall p image program most size s base m x to place f arguments
 at-call p image program most size linked s base m x block to place f arguments in-f in-b =
     record {
@@ -458,7 +468,8 @@ at-call p image program most size linked s base m x block to place f arguments i
 
     fits : instruction_fits x.code (Call to place f arguments) ≡ true
     fits = instruction-within x.code s.here.block s.here.at block (Call to place f arguments)
-        (within-parts p image program most x.code (image s.here.function) pl).blocks in-f in-b
+        (within-parts p image program most x.code (image s.here.function) pl).blocks in-f
+        (plain-get (pair_of (reads_of x.code) block) block.instructions s.here.at (Call to place f arguments) in-b)
 
     rest-some : 2 ≤ length (call_jump
         (place_in p image x.code (image s.here.function) s.here.block s.here.at + 4 * length
@@ -469,7 +480,8 @@ at-call p image program most size linked s base m x block to place f arguments i
     reads : (k : ℕ) (q : Part) → slice_get arguments k ≡ Some q →
         IsPartRead (layout_of x.code (image s.here.function).homes) (InUse (graph_of x.code) s.here.block s.here.at) q
     reads k q e =
-        let g = step-in-graph x.code block (Call to place f arguments) s.here.block s.here.at in-f in-b in
+        let g = step-in-graph x.code block (Call to place f arguments) s.here.block s.here.at in-f
+        (plain-get (pair_of (reads_of x.code) block) block.instructions s.here.at (Call to place f arguments) in-b) in
         part-is-read x.code (image s.here.function).homes (InUse (graph_of x.code) s.here.block s.here.at) q
         (list-all-get (part_fits x.code) arguments k q
         (both-true (destination_fits x.code to && place_fits place) (list_all (part_fits x.code) arguments) fits).1 e)
@@ -481,7 +493,8 @@ callee-step : (p : Program) (image : Image) (program : List (Option Instr)) (mos
     (s : tac.State) (base : ℕ) (m : State)
     (x : StandsIn p image program most size s base m) (block : Block) (to : Destination) (place : Place) (f : FnId) (arguments : List Part)
     →
-    slice_get x.code.blocks s.here.block ≡ Some block → slice_get block.instructions s.here.at ≡ Some (Call to place f arguments) →
+    slice_get x.code.blocks s.here.block ≡ Some block → slice_get (plain_of (reads_of x.code) block) s.here.at ≡ Some
+    (Call to place f arguments) →
     (callee : Tac) → p.code f ≡ Some callee →
     AtCall p image program most size s base m x to place f arguments → length arguments ≡ length callee.parameters →
     length s.callers < 511 →
@@ -737,17 +750,22 @@ pub call-step : (p : Program) (image : Image) (program : List (Option Instr)) (m
     (s : tac.State) (base : ℕ) (m : State)
     (x : StandsIn p image program most size s base m) (block : Block) (to : Destination) (place : Place) (f : FnId) (arguments : List Part)
     →
-    slice_get x.code.blocks s.here.block ≡ Some block → slice_get block.instructions s.here.at ≡ Some (Call to place f arguments) →
+    slice_get x.code.blocks s.here.block ≡ Some block → slice_get (plain_of (reads_of x.code) block) s.here.at ≡ Some
+    (Call to place f arguments) →
     Stepped p image program most size (49 + 11 * length arguments + taking (p.code f)) s m (step p s)
 call-step p image program most size linked s base m x block to place f arguments in-f in-b =
     let e1 = x.function in
-    rw (e1, in-f, in-b) (counts s.left refl)
+    let e2 = here in
+    rw (e1, in-f, e2) (counts s.left refl)
   where
+    here : slice_get block.instructions s.here.at ≡ Some (Call to place f arguments)
+    here = plain-get (pair_of (reads_of x.code) block) block.instructions s.here.at (Call to place f arguments) in-b
+
     c : AtCall p image program most size s base m x to place f arguments
     c = at-call p image program most size linked s base m x block to place f arguments in-f in-b
 
     count : (callee : Tac) → p.code f ≡ Some callee → length arguments ≡ length callee.parameters
-    count callee e = (linked s.here.function x.code x.function).passes s.here.block s.here.at block to place f arguments callee in-f in-b e
+    count callee e = (linked s.here.function x.code x.function).passes s.here.block s.here.at block to place f arguments callee in-f here e
 
     room : (callee : Tac) → p.code f ≡ Some callee → length s.callers < 511 → 8 * length arguments ≤ base
     room callee e less =

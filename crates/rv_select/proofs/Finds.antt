@@ -1,22 +1,20 @@
 -- Where the parts of a function's code stand.
-use Rattle.std.proofs.Common.{◌≡◌, ℕ, zero, suc, ◌+◌, ◌*◌, ◌%◌, ◌^◌, ◌≤◌, List, [], ◌∷◌, ◌++◌, length, append_assoc, Option, Some, None, refl, sym, ap, ◌∙◌, subst, arith}
+use Rattle.std.proofs.Common.{◌≡◌, ℕ, zero, suc, ◌+◌, ◌*◌, ◌%◌, ◌^◌, ◌≤◌, List, [], ◌∷◌, ◌++◌, length, append_assoc, Option, Some, None, refl, ap, ◌∙◌, subst, arith}
 use Rattle.std.specs.Prelude.{slice_get}
 use Rattle.std.proofs.lemmas.List.{length-append}
 use Rattle.tl_base.specs.declared.ids.FnId.{FnId}
 use Rattle.rv_isa.specs.declared.instr.Instr.{Instr}
 use Rattle.tac_form.specs.declared.tac.Instruction.{Instruction}
-use Rattle.tac_form.specs.declared.tac.Instruction.TheVariants.{Alloc, Call, CallValue, Clear, Compute, Copy, Load, Locate, Move, PutByte, Store, TestDivisor, Write}
-use Rattle.tac_form.specs.declared.tac.Exit.{Exit}
-use Rattle.tac_form.specs.declared.tac.Exit.TheVariants.{Branch, Fail, Jump, Return}
 use Rattle.tac_form.specs.declared.tac.Block.{Block}
 use Rattle.tac_form.specs.declared.tac.Tac.{Tac}
 use Rattle.rv_machine.specs.Word.{low}
 use Rattle.rv_operators.specs.Runs.{Stands}
 use Rattle.rv_select.specs.Places.{Layout, frame_bytes}
-use Rattle.rv_select.specs.Shapes.{first_taken, held_after, start_of, x10}
-use Rattle.rv_select.specs.Calls.{block_code, block_starts, blocks_code, blocks_length, body_code, call_begun, call_ended, call_jump, exit_code, function_code, head_code, held_behind, instruction_code, instructions_code, last_address, part_taken, starts_from}
+use Rattle.rv_select.specs.Shapes.{held_after, start_of}
+use Rattle.rv_select.specs.Calls.{block_code, block_starts, blocks_code, blocks_length, body_code, function_code, head_code, held_behind, instruction_code, instructions_code, last_address, starts_from}
 use Rattle.rv_select.specs.Entering.{begun, entered, left, received, words_offset}
 use Rattle.rv_select.specs.Waiting.{held_at, instruction_at}
+use Rattle.rv_select.proofs.Lengths.{block-length, blocks-length}
 use Rattle.rv_select.proofs.Ways.{stands-back, stands-front}
 
 near-low : (n : ℕ) → n ≤ 2 ^ 30 → low n ≡ n
@@ -31,81 +29,6 @@ pub stands-next : (program : List (Option Instr)) (at : ℕ) (a b : List Instr) 
     Stands program (at + 4 * length a) b
 stands-next program at a b h there =
     subst (λ q. Stands program q b) (near-low (at + 4 * length a) h) (stands-back program at a b (omega (arith, h)) there)
-
--- the code of an instruction is as long wherever it and functions stand
-pub instruction-length : (y : Layout) (sizes : List ℕ) (places others : FnId → ℕ) (at other : ℕ) (held : Option ℕ) (i : Instruction) →
-    length (instruction_code y sizes places at held i) ≡ length (instruction_code y sizes others other held i)
-instruction-length y sizes places others at other held (Call to place f arguments) =
-    let A = call_begun y place arguments in
-    let C = call_ended y sizes to in
-    length-append A (call_jump (at + 4 * length A) (places f) ++ C) ∙ sym
-    (length-append A (call_jump (other + 4 * length A) (others f) ++ C))
-instruction-length y sizes places others at other held (Compute d op form a b) = refl
-instruction-length y sizes places others at other held (TestDivisor place a) = refl
-instruction-length y sizes places others at other held (Copy d a) = refl
-instruction-length y sizes places others at other held (Locate d offset) = refl
-instruction-length y sizes places others at other held (Load d form spot) = refl
-instruction-length y sizes places others at other held (Store spot size a) = refl
-instruction-length y sizes places others at other held (Move to from size) = refl
-instruction-length y sizes places others at other held (Clear n size) = refl
-instruction-length y sizes places others at other held (CallValue to place sig a arguments) = refl
-instruction-length y sizes places others at other held (PutByte a) = refl
-instruction-length y sizes places others at other held (Write place a b) = refl
-instruction-length y sizes places others at other held (Alloc d a) = refl
-
-pub exit-length : (y : Layout) (held : Option ℕ) (at other last final : ℕ) (starts others : ℕ → ℕ) (e : Exit) →
-    length (exit_code y held at starts last e) ≡ length (exit_code y held other others final e)
-exit-length y held at other last final starts others (Return v) =
-    let A = part_taken y x10 v in length-append A _ ∙ sym (length-append A _)
-exit-length y held at other last final starts others (Jump e) = refl
-exit-length y held at other last final starts others (Branch a e f) = length-append (first_taken y held a) _ ∙ sym (length-append (first_taken y held a) _)
-exit-length y held at other last final starts others (Fail kind place) = refl
-
-pub instructions-length : (y : Layout) (sizes : List ℕ) (places others : FnId → ℕ) (at other : ℕ) (held : Option ℕ) (is : List Instruction) →
-    length (instructions_code y sizes places at held is) ≡ length (instructions_code y sizes others other held is)
-instructions-length y sizes places others at other held [] = refl
-instructions-length y sizes places others at other held (i ∷ is) =
-    let A = instruction_code y sizes places at held i in
-    let B = instruction_code y sizes others other held i in
-    let C = instructions_code y sizes places (at + 4 * length A) (held_after i) is in
-    let D = instructions_code y sizes others (other + 4 * length B) (held_after i) is in
-    let a : length A ≡ length B = instruction-length y sizes places others at other held i in
-    let c : length C ≡ length D = instructions-length y sizes places others (at + 4 * length A) (other + 4 * length B) (held_after i) is in
-    length-append A C ∙ (sums (length A) (length B) (length C) (length D) a c ∙ sym (length-append B D))
-  where
-    sums : (a b c d : ℕ) → a ≡ b → c ≡ d → a + c ≡ b + d
-    sums a b c d e f = omega arith
-
-pub block-length : (y : Layout) (sizes : List ℕ) (places others : FnId → ℕ) (starts ends : ℕ → ℕ) (last final at other : ℕ) (b : Block) →
-    length (block_code y sizes places starts last at b) ≡ length (block_code y sizes others ends final other b)
-block-length y sizes places others starts ends last final at other b =
-    let A = instructions_code y sizes places at None b.instructions in
-    let B = instructions_code y sizes others other None b.instructions in
-    let C = exit_code y (held_behind None b.instructions) (at + 4 * length A) starts last b.exit in
-    let D = exit_code y (held_behind None b.instructions) (other + 4 * length B) ends final b.exit in
-    let a : length A ≡ length B = instructions-length y sizes places others at other None b.instructions in
-    let c : length C ≡ length D = exit-length y (held_behind None b.instructions) (at + 4 * length A) (other + 4 * length B) last final starts ends b.exit in
-    length-append A C ∙ (sums (length A) (length B) (length C) (length D) a c ∙ sym (length-append B D))
-  where
-    sums : (a b c d : ℕ) → a ≡ b → c ≡ d → a + c ≡ b + d
-    sums a b c d e f = omega arith
-
-pub blocks-length : (y : Layout) (sizes : List ℕ) (places others : FnId → ℕ) (starts ends : ℕ → ℕ) (last final at other : ℕ)
-    (bs : List Block) →
-    length (blocks_code y sizes places starts last at bs) ≡ length (blocks_code y sizes others ends final other bs)
-blocks-length y sizes places others starts ends last final at other [] = refl
-blocks-length y sizes places others starts ends last final at other (b ∷ bs) =
-    let A = block_code y sizes places starts last at b in
-    let B = block_code y sizes others ends final other b in
-    let C = blocks_code y sizes places starts last (at + 4 * length A) bs in
-    let D = blocks_code y sizes others ends final (other + 4 * length B) bs in
-    let a : length A ≡ length B = block-length y sizes places others starts ends last final at other b in
-    let c : length C ≡ length D = blocks-length y sizes places others starts ends last final (at + 4 * length A) (other + 4 * length B) bs
-    in
-    length-append A C ∙ (sums (length A) (length B) (length C) (length D) a c ∙ sym (length-append B D))
-  where
-    sums : (a b c d : ℕ) → a ≡ b → c ≡ d → a + c ≡ b + d
-    sums a b c d e f = omega arith
 
 -- An instruction's code stands at its place, and what follows behind it.
 pub record Found (program : List (Option Instr)) (y : Layout) (sizes : List ℕ) (places : FnId → ℕ) (held : Option ℕ) (i : Instruction)

@@ -1,5 +1,5 @@
 -- Code is as long wherever it, functions and blocks stand.
-use Rattle.std.proofs.Common.{◌≡◌, ℕ, ◌+◌, ◌*◌, List, [], ◌∷◌, ◌++◌, length, Option, None, refl, sym, ◌∙◌, arith}
+use Rattle.std.proofs.Common.{◌≡◌, ℕ, ◌+◌, ◌*◌, List, [], ◌∷◌, ◌++◌, length, Option, Some, None, refl, sym, ◌∙◌, arith}
 use Rattle.std.proofs.lemmas.List.{length-append}
 use Rattle.tl_base.specs.declared.ids.FnId.{FnId}
 use Rattle.tac_form.specs.declared.tac.Instruction.{Instruction}
@@ -7,9 +7,12 @@ use Rattle.tac_form.specs.declared.tac.Instruction.TheVariants.{Alloc, Call, Cal
 use Rattle.tac_form.specs.declared.tac.Exit.{Exit}
 use Rattle.tac_form.specs.declared.tac.Exit.TheVariants.{Branch, Fail, Jump, Return}
 use Rattle.tac_form.specs.declared.tac.Block.{Block}
+use Rattle.rv_select.specs.declared.pairs.Pair.{Pair}
+use Rattle.rv_select.specs.Compared.{operands_taken}
+use Rattle.rv_select.specs.Pairs.{pair_of, plain_of}
 use Rattle.rv_select.specs.Places.{Layout}
 use Rattle.rv_select.specs.Shapes.{first_taken, held_after, x10}
-use Rattle.rv_select.specs.Calls.{block_code, blocks_code, call_begun, call_ended, call_jump, exit_code, held_behind, instruction_code, instructions_code, part_taken}
+use Rattle.rv_select.specs.Calls.{block_code, blocks_code, call_begun, call_ended, call_jump, end_code, exit_code, held_behind, instruction_code, instructions_code, pair_code, part_taken}
 
 -- the code of an instruction is as long wherever it and functions stand
 pub instruction-length : (y : Layout) (sizes : List ℕ) (places others : FnId → ℕ) (at other : ℕ) (held : Option ℕ) (i : Instruction) →
@@ -38,6 +41,13 @@ exit-length y held at other last final starts others (Jump e) = refl
 exit-length y held at other last final starts others (Branch a e f) = length-append (first_taken y held a) _ ∙ sym (length-append (first_taken y held a) _)
 exit-length y held at other last final starts others (Fail kind place) = refl
 
+pub end-length : (y : Layout) (held : Option ℕ) (at other last final : ℕ) (starts others : ℕ → ℕ) (o : Option Pair) (e : Exit) →
+    length (end_code y held at starts last o e) ≡ length (end_code y held other others final o e)
+unfolding pair_code
+end-length y held at other last final starts others None e = exit-length y held at other last final starts others e
+end-length y held at other last final starts others (Some pair) e =
+    length-append (operands_taken y held pair.a pair.b) _ ∙ sym (length-append (operands_taken y held pair.a pair.b) _)
+
 pub instructions-length : (y : Layout) (sizes : List ℕ) (places others : FnId → ℕ) (at other : ℕ) (held : Option ℕ) (is : List Instruction) →
     length (instructions_code y sizes places at held is) ≡ length (instructions_code y sizes others other held is)
 instructions-length y sizes places others at other held [] = refl
@@ -56,12 +66,15 @@ instructions-length y sizes places others at other held (i ∷ is) =
 pub block-length : (y : Layout) (sizes : List ℕ) (places others : FnId → ℕ) (starts ends : ℕ → ℕ) (last final at other : ℕ) (b : Block) →
     length (block_code y sizes places starts last at b) ≡ length (block_code y sizes others ends final other b)
 block-length y sizes places others starts ends last final at other b =
-    let A = instructions_code y sizes places at None b.instructions in
-    let B = instructions_code y sizes others other None b.instructions in
-    let C = exit_code y (held_behind None b.instructions) (at + 4 * length A) starts last b.exit in
-    let D = exit_code y (held_behind None b.instructions) (other + 4 * length B) ends final b.exit in
-    let a : length A ≡ length B = instructions-length y sizes places others at other None b.instructions in
-    let c : length C ≡ length D = exit-length y (held_behind None b.instructions) (at + 4 * length A) (other + 4 * length B) last final starts ends b.exit in
+    let is : List Instruction = plain_of y.reads b in
+    let o : Option Pair = pair_of y.reads b in
+    let A = instructions_code y sizes places at None is in
+    let B = instructions_code y sizes others other None is in
+    let C = end_code y (held_behind None is) (at + 4 * length A) starts last o b.exit in
+    let D = end_code y (held_behind None is) (other + 4 * length B) ends final o b.exit in
+    let a : length A ≡ length B = instructions-length y sizes places others at other None is in
+    let c : length C ≡ length D = end-length y (held_behind None is) (at + 4 * length A) (other + 4 * length B) last final starts ends o
+    b.exit in
     length-append A C ∙ (sums (length A) (length B) (length C) (length D) a c ∙ sym (length-append B D))
   where
     sums : (a b c d : ℕ) → a ≡ b → c ≡ d → a + c ≡ b + d

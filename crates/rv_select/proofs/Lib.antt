@@ -24,6 +24,9 @@ pub mod Allocs
 pub mod Transfers
 pub mod Transports
 pub mod Lives
+pub mod Pairing
+pub mod Unread
+pub mod Counting
 pub mod Carries
 pub mod Weights
 pub mod Jumps
@@ -53,6 +56,7 @@ pub mod Through
 pub mod Arrivals
 pub mod Calling
 pub mod Falls
+pub mod Coupled
 pub mod Runs
 pub mod Begins
 pub mod Entire

@@ -8,6 +8,7 @@ use Rattle.rv_isa.specs.Table.{word_of}
 use Rattle.tac_form.specs.declared.tac.Instruction.{Instruction}
 use Rattle.tac_form.specs.declared.tac.Block.{Block}
 use Rattle.rv_select.specs.declared.selected.Call.{Call as Site}
+use Rattle.rv_select.specs.Pairs.{plain_of}
 use Rattle.rv_select.specs.Places.{Layout}
 use Rattle.rv_select.specs.Shapes.{held_after}
 use Rattle.rv_select.specs.Calls.{block_code, block_has_code, blocks_calls, blocks_code, has_code, held_behind, instruction_calls, instruction_code, instructions_calls, instructions_code, starts_from}
@@ -119,11 +120,12 @@ blocks-end y sizes starts last at i xs h = ap (λ z. map word_of (blocks_code y 
 pub blocks-calls-turn : (y : Layout) (sizes : List ℕ) (starts : ℕ → ℕ) (last i : ℕ) (xs : List Block) (x : Block) (old new : List ℕ)
     (before between total : List Site) → x ≡ get_or xs i x → i < length xs →
     new ≡ old ++ map word_of (block_code y sizes (λ f. 0) starts last (4 * length old) x) →
-    between ≡ before ++ instructions_calls y sizes (length old) None x.instructions →
+    between ≡ before ++ instructions_calls y sizes (length old) None (plain_of y.reads x) →
     before ++ blocks_calls y sizes (length old) (drop i xs) ≡ total →
     between ++ blocks_calls y sizes (length new) (drop (i + 1) xs) ≡ total
 blocks-calls-turn y sizes starts last i xs x old new before between total e h put calls b =
-    items-turn before between (instructions_calls y sizes (length old) None x.instructions) (λ k. blocks_calls y sizes k (drop (i + 1) xs)) (length new)
+    items-turn before between (instructions_calls y sizes (length old) None (plain_of y.reads x))
+    (λ k. blocks_calls y sizes k (drop (i + 1) xs)) (length new)
     (length old + length (block_code y sizes (λ f. 0) (λ c. 0) 0 0 x)) (blocks_calls y sizes (length old) (drop i xs)) total
     (block-end y sizes starts last x old new put) calls b (ap (blocks_calls y sizes (length old)) (drop-item xs i x e h))
 

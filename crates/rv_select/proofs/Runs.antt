@@ -1,7 +1,8 @@
 -- Steps and runs of a program of several functions.
-use Rattle.std.proofs.Common.{◌≡◌, ◌≢◌, ℕ, zero, suc, ◌+◌, ◌*◌, ◌≤◌, true, List, [], ◌∷◌, ◌++◌, length, append_assoc, Option, Some, None, refl, sym, ap, ◌∙◌, subst, arith}
+use Rattle.std.proofs.Common.{◌≡◌, ◌≢◌, ℕ, zero, suc, ◌+◌, ◌-◌, ◌*◌, ◌<◌, ◌≤◌, true, List, [], ◌∷◌, ◌++◌, length, append_assoc, Option, Some, None, refl, sym, ap, ◌∙◌, subst, ⊎_elim, arith}
 use Rattle.std.specs.Prelude.{slice_get}
 use Rattle.std.specs.List.{list_all}
+use Rattle.std.proofs.lemmas.Bool.{cases_lt}
 use Rattle.std.proofs.lemmas.List.{append-nil}
 use Rattle.tl_base.specs.declared.ids.FnId.{FnId}
 use Rattle.tl_base.specs.declared.place.Place.{Place}
@@ -19,15 +20,19 @@ use Rattle.tac_form.specs.declared.tac.Tac.{Tac}
 use Rattle.tac_form.specs.Flow as tac
 use Rattle.tac_form.specs.Flow.{Goes, Program, Stops, step, steps}
 use Rattle.tac_form.specs.Weights.{exit_words, words_of}
+use Rattle.rv_select.specs.declared.pairs.Pair.{Pair}
+use Rattle.rv_select.specs.Pairs.{but_pair, pair_of, plain_of, reads_of}
 use Rattle.rv_select.specs.Places.{Layout, layout_of}
 use Rattle.rv_select.specs.Shapes.{has_exit_shape, has_shape, held_after, start_of}
 use Rattle.rv_select.specs.Calls.{block_code, block_has_code, block_starts, has_code, has_exit_code, head_code, instruction_code, starts_from}
-use Rattle.rv_select.specs.Waiting.{Arrives, Image, IsLinked, IsPlaced, Placed, StandsIn, Stepped, entries_of, instruction_at, instructions_in, place_in}
+use Rattle.rv_select.specs.Waiting.{Arrives, Image, IsLinked, IsPlaced, Placed, StandsIn, Stepped, entries_of, instruction_at, place_in, plain_in}
 use Rattle.rv_select.specs.Whole.{AreShort, Ended, RunsAreCarried, StepsAreCarried, steps_left}
 use Rattle.rv_select.proofs.Backs.{return-steps, return_most}
 use Rattle.rv_select.proofs.Calling.{call-step, taking}
+use Rattle.rv_select.proofs.Coupled.{falls-pair, pair-steps}
 use Rattle.rv_select.proofs.Falls.{FallsIf, falls-call, falls-exit, falls-inner, falls-return}
 use Rattle.rv_select.proofs.Inner.{act-stays, leave-to}
+use Rattle.rv_select.proofs.Pairing.{IsPair, compare_of, pair-parts, plain-get}
 use Rattle.rv_select.proofs.Stands.{both-true, list-all-get}
 use Rattle.rv_select.proofs.Through.{exit-step, inner-step}
 
@@ -61,7 +66,7 @@ place-high p image code x b k block e z =
     let S : ℕ = start_of (block_starts y code x.at) b in
     let first : x.at + 4 * length (head_code y code) ≤ S = start-least y code.areas (x.at + 4 * length (head_code y code)) code.blocks b block e in
     let more : S ≤ place_in p image code x b k =
-    at-least y code.areas (entries_of p image) S None (instructions_in (slice_get code.blocks b)) k in
+    at-least y code.areas (entries_of p image) S None (plain_in (reads_of code) (slice_get code.blocks b)) k in
     let some : 1 ≤ length (head_code y code) = omega arith in
     never (length (head_code y code)) S (place_in p image code x b k) first more some z
   where
@@ -72,87 +77,124 @@ place-high p image code x b k block e z =
 not-more : (e : End) (a b : List ℕ) → Stops (Over e a) ≡ Stops (More b) → ⊥
 not-more e a b q = cc
 
--- A step is carried out, and takes no more than is taken off what is left.
-pub record Done (p : Program) (image : Image) (program : List (Option Instr)) (most size words : ℕ) (s : tac.State) (m : State)
-    (moved : tac.Moved) : Type 0 where
+-- A step, or two at once, is carried out, and takes no more than is taken off what is left.
+pub record Done (p : Program) (image : Image) (program : List (Option Instr)) (most size words : ℕ) (s : tac.State)
+    (m : State) : Type 0 where
+  pub count : ℕ
+  pub some : 1 ≤ count
+  pub few : count ≤ 2
   pub bound : ℕ
-  pub stepped : Stepped p image program most size bound s m moved
-  pub falls : AreShort p words → FallsIf p words bound s moved
-  pub there : (out : List ℕ) → moved ≡ Stops (More out) → m.pc ≢ 0
+  pub stepped : Stepped p image program most size bound s m (steps p count (Goes s))
+  pub falls : AreShort p words → FallsIf p words bound s (steps p count (Goes s))
+  pub there : (out : List ℕ) → steps p count (Goes s) ≡ Stops (More out) → m.pc ≢ 0
 
 pub a-step : (p : Program) (image : Image) (program : List (Option Instr)) (most size words : ℕ) → IsLinked p image program most →
     (s : tac.State) (base : ℕ) (m : State) →
-    StandsIn p image program most size s base m → Done p image program most size words s m (step p s)
+    StandsIn p image program most size s base m → Done p image program most size words s m
 a-step p image program most size words linked s base m x = in-block (slice_get x.code.blocks s.here.block) refl
   where
     pl : IsPlaced p image program most x.code (image s.here.function)
     pl = linked s.here.function x.code x.function
 
-    stuck : slice_get x.code.blocks s.here.block ≡ None → Done p image program most size words s m (step p s)
-    stuck e = let e1 = x.function in rw (e1, e) (record { bound = 0; stepped = tt; falls = λ short. tt; there = λ out q. absurd (not-more _ _ _ q) })
+    stuck-is : slice_get x.code.blocks s.here.block ≡ None → step p s ≡ Stops (Over Stuck s.out)
+    stuck-is e = let e1 = x.function in rw (e1, e) refl
+
+    stuck : slice_get x.code.blocks s.here.block ≡ None → Done p image program most size words s m
+    stuck e = record {
+      count = 1;
+      some = omega arith;
+      few = omega arith;
+      bound = 0;
+      stepped = subst (λ moved. Stepped p image program most size 0 s m moved) (sym (stuck-is e)) tt;
+      falls = λ short. subst (λ moved. FallsIf p words 0 s moved) (sym (stuck-is e)) tt;
+      there = λ out q. absurd (not-more Stuck s.out out (sym (stuck-is e) ∙ q));
+    }
 
     parts : (block : Block) → slice_get x.code.blocks s.here.block ≡ Some block → (list_all has_code block.instructions ≡ true) ×
         (has_exit_code block.exit ≡ true)
     parts block e = both-true (list_all has_code block.instructions) (has_exit_code block.exit)
         (list-all-get block_has_code x.code.blocks s.here.block block pl.has_code e)
 
+    -- instructions with code of their own are the block's, and so is its end where no comparison has one code with it
+    whole : (block : Block) (i : Instruction) → slice_get (plain_of (reads_of x.code) block) s.here.at ≡ Some i →
+        slice_get block.instructions s.here.at ≡ Some i
+    whole block i g = plain-get (pair_of (reads_of x.code) block) block.instructions s.here.at i g
+
+    over : (block : Block) → slice_get (plain_of (reads_of x.code) block) s.here.at ≡ None → pair_of (reads_of x.code) block ≡ None →
+        slice_get block.instructions s.here.at ≡ None
+    over block g alone = ap (λ o. slice_get (but_pair o block.instructions) s.here.at) (sym alone) ∙ g
+
     -- code begins above address 0
     high : (block : Block) → slice_get x.code.blocks s.here.block ≡ Some block → m.pc ≢ 0
     high block e z = place-high p image x.code (image s.here.function) s.here.block s.here.at block e (sym x.pc ∙ z)
 
     inside : (block : Block) (i : Instruction) → slice_get x.code.blocks s.here.block ≡ Some block →
-        slice_get block.instructions s.here.at ≡ Some i → has_shape i ≡ true →
-        Done p image program most size words s m (step p s)
+        slice_get (plain_of (reads_of x.code) block) s.here.at ≡ Some i → has_shape i ≡ true →
+        Done p image program most size words s m
     inside block i e g h = record {
+      count = 1;
+      some = omega arith;
+      few = omega arith;
       bound = words_of i;
       stepped = inner-step p image program most size linked s base m x block i e g h;
-      falls = λ short. falls-inner p words x.code block i s (step p s) x.function e g
-          (let e1 = x.function in rw (e1, e, g) (act-stays p i s h));
+      falls = λ short. let here = whole block i g in
+          falls-inner p words x.code block i s (step p s) x.function e here (let e1 = x.function in rw (e1, e, here) (act-stays p i s h));
       there = λ out q. high block e;
     }
 
-    leaving : (block : Block) → slice_get x.code.blocks s.here.block ≡ Some block → slice_get block.instructions s.here.at ≡ None →
-        has_exit_shape block.exit ≡ true →
-        Done p image program most size words s m (step p s)
-    leaving block e g h = record {
+    leaving : (block : Block) → slice_get x.code.blocks s.here.block ≡ Some block →
+        slice_get block.instructions s.here.at ≡ None → pair_of (reads_of x.code) block ≡ None → has_exit_shape block.exit ≡ true →
+        Done p image program most size words s m
+    leaving block e g alone h = record {
+      count = 1;
+      some = omega arith;
+      few = omega arith;
       bound = exit_words block.exit;
-      stepped = exit-step p image program most size linked s base m x block e g h;
+      stepped = exit-step p image program most size linked s base m x block e g alone h;
       falls = λ short. falls-exit p words x.code block s (step p s) x.function e pl.counted (short s.here.function x.code x.function)
           (let e1 = x.function in rw (e1, e, g) (leave-to p block.exit s h));
       there = λ out q. high block e;
     }
 
     returns : (block : Block) (v : Part) → slice_get x.code.blocks s.here.block ≡ Some block →
-        slice_get block.instructions s.here.at ≡ None → block.exit ≡ Return v →
-        Done p image program most size words s m (step p s)
-    returns block v e g is = record {
+        slice_get block.instructions s.here.at ≡ None → pair_of (reads_of x.code) block ≡ None → block.exit ≡ Return v →
+        Done p image program most size words s m
+    returns block v e g alone is = record {
+      count = 1;
+      some = omega arith;
+      few = omega arith;
       bound = return_most s.callers;
-      stepped = return-steps p image program most size linked s base m x block v e g is;
+      stepped = return-steps p image program most size linked s base m x block v e g alone is;
       falls = λ short. falls-return p words x.code block v s x.function e g is;
       there = λ out q. high block e;
     }
 
     calls : (block : Block) (to : Destination) (place : Place) (f : FnId) (arguments : List Part) →
         slice_get x.code.blocks s.here.block ≡ Some block →
-        slice_get block.instructions s.here.at ≡ Some (Call to place f arguments) → Done p image program most size words s m (step p s)
+        slice_get (plain_of (reads_of x.code) block) s.here.at ≡ Some (Call to place f arguments) → Done p image program most size words s m
     calls block to place f arguments e g = record {
+      count = 1;
+      some = omega arith;
+      few = omega arith;
       bound = 49 + 11 * length arguments + taking (p.code f);
       stepped = call-step p image program most size linked s base m x block to place f arguments e g;
-      falls = λ short. falls-call p words short x.code block to place f arguments s x.function e g;
+      falls = λ short. falls-call p words short x.code block to place f arguments s x.function e
+          (whole block (Call to place f arguments) g);
       there = λ out q. high block e;
     }
 
-    an-exit : (block : Block) → slice_get x.code.blocks s.here.block ≡ Some block → slice_get block.instructions s.here.at ≡ None →
-        (exit : Exit) → block.exit ≡ exit → has_exit_code exit ≡ true →
-        Done p image program most size words s m (step p s)
-    an-exit block e g (Return v) is h = returns block v e g is
-    an-exit block e g (Jump d) is h = leaving block e g (ap has_exit_shape is ∙ h)
-    an-exit block e g (Branch a d f) is h = leaving block e g (ap has_exit_shape is ∙ h)
-    an-exit block e g (Fail kind at) is h = leaving block e g (ap has_exit_shape is ∙ h)
+    an-exit : (block : Block) → slice_get x.code.blocks s.here.block ≡ Some block →
+        slice_get block.instructions s.here.at ≡ None → pair_of (reads_of x.code) block ≡ None → (exit : Exit) → block.exit ≡ exit →
+        has_exit_code exit ≡ true →
+        Done p image program most size words s m
+    an-exit block e g alone (Return v) is h = returns block v e g alone is
+    an-exit block e g alone (Jump d) is h = leaving block e g alone (ap has_exit_shape is ∙ h)
+    an-exit block e g alone (Branch a d f) is h = leaving block e g alone (ap has_exit_shape is ∙ h)
+    an-exit block e g alone (Fail kind at) is h = leaving block e g alone (ap has_exit_shape is ∙ h)
 
     an-instruction : (block : Block) → slice_get x.code.blocks s.here.block ≡ Some block → (i : Instruction) →
-        slice_get block.instructions s.here.at ≡ Some i → has_code i ≡ true →
-        Done p image program most size words s m (step p s)
+        slice_get (plain_of (reads_of x.code) block) s.here.at ≡ Some i → has_code i ≡ true →
+        Done p image program most size words s m
     an-instruction block e (Call to place f arguments) g h = calls block to place f arguments e g
     an-instruction block e (CallValue to place sig a arguments) g h = cc
     an-instruction block e (Compute d op form a b) g h = inside block (Compute d op form a b) e g h
@@ -167,18 +209,36 @@ a-step p image program most size words linked s base m x = in-block (slice_get x
     an-instruction block e (Write place a b) g h = inside block (Write place a b) e g h
     an-instruction block e (Alloc d a) g h = inside block (Alloc d a) e g h
 
-    at-it : (block : Block) → slice_get x.code.blocks s.here.block ≡ Some block → (o : Option Instruction) →
-        slice_get block.instructions s.here.at ≡ o → Done p image program most size words s m (step p s)
-    at-it block e None g = an-exit block e g block.exit refl (parts block e).1
-    at-it block e (Some i) g = an-instruction block e i g (list-all-get has_code block.instructions s.here.at i (parts block e).0 g)
+    an-end : (block : Block) → slice_get x.code.blocks s.here.block ≡ Some block →
+        slice_get (plain_of (reads_of x.code) block) s.here.at ≡ None →
+        (o : Option Pair) → pair_of (reads_of x.code) block ≡ o → Done p image program most size words s m
+    an-end block e g None q = an-exit block e (over block g q) q block.exit refl (parts block e).1
+    an-end block e g (Some pair) q =
+        let k : IsPair (reads_of x.code) (slice_get block.instructions (length block.instructions - 1)) block.exit pair =
+        pair-parts (reads_of x.code) (slice_get block.instructions (length block.instructions - 1)) block.exit pair q in
+        record {
+          count = 2;
+          some = omega arith;
+          few = omega arith;
+          bound = words_of (compare_of pair k.result) + exit_words block.exit;
+          stepped = pair-steps p image program most size linked s base m x block pair e g q k;
+          falls = λ short. falls-pair p image program most size words linked short s base m x block pair e g q k;
+          there = λ out q. high block e;
+        }
 
-    in-block : (o : Option Block) → slice_get x.code.blocks s.here.block ≡ o → Done p image program most size words s m (step p s)
+    at-it : (block : Block) → slice_get x.code.blocks s.here.block ≡ Some block → (o : Option Instruction) →
+        slice_get (plain_of (reads_of x.code) block) s.here.at ≡ o → Done p image program most size words s m
+    at-it block e None g = an-end block e g (pair_of (reads_of x.code) block) refl
+    at-it block e (Some i) g = an-instruction block e i g
+        (list-all-get has_code block.instructions s.here.at i (parts block e).0 (whole block i g))
+
+    in-block : (o : Option Block) → slice_get x.code.blocks s.here.block ≡ o → Done p image program most size words s m
     in-block None e = stuck e
-    in-block (Some block) e = at-it block e (slice_get block.instructions s.here.at) refl
+    in-block (Some block) e = at-it block e (slice_get (plain_of (reads_of x.code) block) s.here.at) refl
 
 pub steps-carried : StepsAreCarried
 steps-carried p image program most size s base m linked x = let d = a-step p image program most size 0 linked s base m x in
-    (d.bound, d.stepped)
+    (d.count, d.some, d.few, d.bound, d.stepped)
 
 -- a run that is over stays so
 steps-stopped : (p : Program) (k : ℕ) (r : Run) → steps p k (Stops r) ≡ Stops r
@@ -329,10 +389,59 @@ behind-step p image program most size words k bound top r s m more (Stops q) liv
     let same : q ≡ r = same-run q r (sym (steps-stopped p k q) ∙ ends) in
     subst (λ z. Ended program top s m z) same (at-end p image program most size words bound top s m q live d falls)
 
-pub runs-carried : RunsAreCarried
-runs-carried p image program most size words zero r s base m linked short x e = cc
-runs-carried p image program most size words (suc k) r s base m linked short x e =
+-- steps one after the other
+steps-both : (p : Program) (a b : ℕ) (moved : tac.Moved) → steps p (a + b) moved ≡ steps p b (steps p a moved)
+steps-both p zero b moved = ap (λ n. steps p n moved) (none b)
+  where
+    none : (n : ℕ) → 0 + n ≡ n
+    none n = omega arith
+steps-both p (suc a) b (Goes s) = ap (λ n. steps p n (Goes s)) (next a b) ∙ steps-both p a b (step p s)
+  where
+    next : (n k : ℕ) → suc n + k ≡ suc (n + k)
+    next n k = omega arith
+steps-both p (suc a) b (Stops r) = steps-stopped p (suc a + b) r ∙ sym (steps-stopped p b r)
+
+-- what is left of a run behind its first steps, of which it may have fewer
+steps-behind : (p : Program) (count k : ℕ) (r : Run) (moved : tac.Moved) → steps p k moved ≡ Stops r →
+    steps p (k - count) (steps p count moved) ≡ Stops r
+steps-behind p count k r moved e = ⊎_elim
+    (λ l.
+    let sum : k + (count - k) ≡ count = rest k count l in
+    let over : steps p count moved ≡ Stops r =
+    ap (λ n. steps p n moved) (sym sum)
+    ∙ (steps-both p k (count - k) moved ∙ (ap (steps p (count - k)) e ∙ steps-stopped p (count - k) r)) in
+    ap (steps p (k - count)) over ∙ steps-stopped p (k - count) r)
+    (λ l. sym (steps-both p count (k - count) moved) ∙ (ap (λ n. steps p n moved) (more count k l) ∙ e))
+    (cases_lt k count)
+  where
+    rest : (a b : ℕ) → a < b → a + (b - a) ≡ b
+    rest a b h = omega (arith, h)
+
+    more : (a b : ℕ) → a ≤ b → a + (b - a) ≡ b
+    more a b h = omega (arith, h)
+
+-- a run of at most so many steps
+runs-within : (p : Program) (image : Image) (program : List (Option Instr)) (most size words : ℕ) → IsLinked p image program most →
+    AreShort p words →
+    (fuel k : ℕ) → k ≤ fuel → (r : Run) (s : tac.State) (base : ℕ) (m : State) → StandsIn p image program most size s base m →
+    steps p k (Goes s) ≡ Stops r → Ended program (steps_left p words s) s m r
+runs-within p image program most size words linked short zero k h r s base m x e =
+    let none : k ≡ 0 = omega (arith, h) in
+    let no : Goes s ≡ Stops r = ap (λ n. steps p n (Goes s)) (sym none) ∙ e in
+    cc
+runs-within p image program most size words linked short (suc fuel) k h r s base m x e =
     let d = a-step p image program most size words linked s base m x in
-    behind-step p image program most size words k d.bound (steps_left p words s) r s m
-    (λ t b n y g. runs-carried p image program most size words k r t b n linked short y g) (step p s) d.there d.stepped
-    (falls-to p words d.bound s (step p s) (d.falls short)) e
+    behind-step p image program most size words (k - d.count) d.bound (steps_left p words s) r s m
+    (λ t b n y g. runs-within p image program most size words linked short fuel (k - d.count) (less k d.count h d.some) r t b n y g)
+    (steps p d.count (Goes s)) d.there d.stepped
+    (falls-to p words d.bound s (steps p d.count (Goes s)) (d.falls short)) (steps-behind p d.count k r (Goes s) e)
+  where
+    less : (k c : ℕ) → k ≤ suc fuel → 1 ≤ c → k - c ≤ fuel
+    less k c h g = omega (arith, h, g)
+
+pub runs-carried : RunsAreCarried
+runs-carried p image program most size words k r s base m linked short x e =
+    runs-within p image program most size words linked short k k (at-most k) r s base m x e
+  where
+    at-most : (n : ℕ) → n ≤ n
+    at-most n = omega arith

@@ -12,11 +12,13 @@ use Rattle.tac_form.specs.declared.tac.Tac.{Tac}
 use Rattle.tac_form.specs.Flow.{Program}
 use Rattle.tac_form.specs.Fits.{area_fits, block_fits, destination_fits, exit_fits, instruction_fits, place_fits}
 use Rattle.rv_operators.specs.Runs.{Stands}
+use Rattle.rv_select.specs.declared.pairs.Pair.{Pair}
+use Rattle.rv_select.specs.Pairs.{but_pair, pair_of, plain_of, reads_of}
 use Rattle.rv_select.specs.Places.{Layout, frame_bytes, layout_of}
 use Rattle.rv_select.specs.Shapes.{start_of}
 use Rattle.rv_select.specs.Entering.{left}
-use Rattle.rv_select.specs.Calls.{block_starts, exit_code, head_code, held_behind, instruction_code, instructions_code, last_address}
-use Rattle.rv_select.specs.Waiting.{Image, IsPlaced, Placed, entries_of, held_at, held_in, instruction_at, instructions_in, place_in}
+use Rattle.rv_select.specs.Calls.{block_starts, end_code, head_code, held_behind, instruction_code, instructions_code, last_address}
+use Rattle.rv_select.specs.Waiting.{Image, IsPlaced, Placed, entries_of, held_at, held_in, instruction_at, place_in, plain_in}
 use Rattle.rv_select.proofs.Finds.{Found, FoundBlock, FoundFunction, find-block, find-exit, find-function, find-instruction, held-last, instruction-aligned}
 
 pub both-true : (a b : Bool) → (a && b) ≡ true → (a ≡ true) × (b ≡ true)
@@ -76,12 +78,12 @@ pub record AtPlace (p : Program) (image : Image) (program : List (Option Instr))
   pub near : at + 4 * length (instruction_code (layout_of code x.homes) code.areas (entries_of p image) at (held_in code b k) i) + 256 ≤ 2 ^ 30
   pub aligned : at % 4 ≡ 0
 
--- and so does an exit's
-pub record AtExit (p : Program) (image : Image) (program : List (Option Instr)) (code : Tac) (x : Placed) (held : Option ℕ) (e : Exit)
-    (at : ℕ) : Type 0 where
+-- and so does that of an exit, or of a comparison and an exit
+pub record AtExit (p : Program) (image : Image) (program : List (Option Instr)) (code : Tac) (x : Placed) (held : Option ℕ)
+    (o : Option Pair) (e : Exit) (at : ℕ) : Type 0 where
   pub stands : Stands program at
-      (exit_code (layout_of code x.homes) held at (start_of (block_starts (layout_of code x.homes) code x.at))
-      (last_address (layout_of code x.homes) code x.at) e)
+      (end_code (layout_of code x.homes) held at (start_of (block_starts (layout_of code x.homes) code x.at))
+      (last_address (layout_of code x.homes) code x.at) o e)
   pub near : at + 256 ≤ 2 ^ 30
   pub aligned : at % 4 ≡ 0
 
@@ -104,55 +106,70 @@ the-block p image program most code x b block h e =
 
 pub at-instruction : (p : Program) (image : Image) (program : List (Option Instr)) (most : ℕ) (code : Tac) (x : Placed) (b k : ℕ)
     (block : Block) (i : Instruction) → IsPlaced p image program most code x →
-    slice_get code.blocks b ≡ Some block → slice_get block.instructions k ≡ Some i →
+    slice_get code.blocks b ≡ Some block → slice_get (plain_of (reads_of code) block) k ≡ Some i →
     AtPlace p image program code x b k i (place_in p image code x b k)
 at-instruction p image program most code x b k block i h e g =
     let y : Layout = layout_of code x.homes in
+    let is : List Instruction = plain_of (reads_of code) block in
     let places = entries_of p image in
     let S : ℕ = start_of (block_starts y code x.at) b in
     let f : FoundFunction program y code places x.at = the-function p image program most code x h in
     let fb = the-block p image program most code x b block h e in
-    let A = instructions_code y code.areas places S None block.instructions in
-    let E = exit_code y (held_behind None block.instructions) (S + 4 * length A) (start_of (block_starts y code x.at)) (last_address y code x.at) block.exit in
+    let A = instructions_code y code.areas places S None is in
+    let E = end_code y (held_behind None is) (S + 4 * length A) (start_of (block_starts y code x.at)) (last_address y code x.at)
+    (pair_of (reads_of code) block) block.exit in
     let count : length (A ++ E) ≡ length A + length E = length-append A E in
-    let fi : Found program y code.areas places (held_at None block.instructions k) i (S + 4 * length A)
-    (instruction_at y code.areas places S None block.instructions k) (instruction_at y code.areas places S None block.instructions (suc k)) =
-    find-instruction program y code.areas places None block.instructions k i (S + 4 * length A) S E g (omega (arith, fb.near, f.near, count))
+    let fi : Found program y code.areas places (held_at None is k) i (S + 4 * length A)
+    (instruction_at y code.areas places S None is k) (instruction_at y code.areas places S None is (suc k)) =
+    find-instruction program y code.areas places None is k i (S + 4 * length A) S E g (omega (arith, fb.near, f.near, count))
     (omega arith) fb.stands in
-    let here : (j : ℕ) → place_in p image code x b j ≡ instruction_at y code.areas places S None block.instructions j = λ j. ap
-    (λ o. instruction_at y code.areas places S None (instructions_in o) j) e in
-    let at : ℕ = instruction_at y code.areas places S None block.instructions k in
+    let here : (j : ℕ) → place_in p image code x b j ≡ instruction_at y code.areas places S None is j = λ j. ap
+    (λ o. instruction_at y code.areas places S None (plain_in (reads_of code) o) j) e in
+    let at : ℕ = instruction_at y code.areas places S None is k in
     let found : Found program y code.areas places (held_in code b k) i (S + 4 * length A) at
-    (instruction_at y code.areas places S None block.instructions (suc k)) =
+    (instruction_at y code.areas places S None is (suc k)) =
     subst (λ o. Found program y code.areas places o i (S + 4 * length A) at
-    (instruction_at y code.areas places S None block.instructions (suc k)))
-    (sym (ap (λ o. held_at None (instructions_in o) k) e)) fi in
+    (instruction_at y code.areas places S None is (suc k)))
+    (sym (ap (λ o. held_at None (plain_in (reads_of code) o) k) e)) fi in
     subst (λ at. AtPlace p image program code x b k i at) (sym (here k))
     (record {
       stands = found.stands;
       next = here (suc k) ∙ found.next;
       near = omega (arith, found.near, fb.near, f.near, count);
-      aligned = instruction-aligned y code.areas places None block.instructions k S fb.aligned;
+      aligned = instruction-aligned y code.areas places None is k S fb.aligned;
     })
 
 pub at-exit : (p : Program) (image : Image) (program : List (Option Instr)) (most : ℕ) (code : Tac) (x : Placed) (b k : ℕ) (block : Block)
     → IsPlaced p image program most code x →
-    slice_get code.blocks b ≡ Some block → slice_get block.instructions k ≡ None →
-    AtExit p image program code x (held_in code b k) block.exit (place_in p image code x b k)
+    slice_get code.blocks b ≡ Some block → slice_get (plain_of (reads_of code) block) k ≡ None →
+    AtExit p image program code x (held_in code b k) (pair_of (reads_of code) block) block.exit (place_in p image code x b k)
 at-exit p image program most code x b k block h e g =
     let y : Layout = layout_of code x.homes in
+    let is : List Instruction = plain_of (reads_of code) block in
     let places = entries_of p image in
     let S : ℕ = start_of (block_starts y code x.at) b in
     let f : FoundFunction program y code places x.at = the-function p image program most code x h in
     let fb = the-block p image program most code x b block h e in
-    let A = instructions_code y code.areas places S None block.instructions in
-    let E = exit_code y (held_behind None block.instructions) (S + 4 * length A) (start_of (block_starts y code x.at)) (last_address y code x.at) block.exit in
+    let A = instructions_code y code.areas places S None is in
+    let E = end_code y (held_behind None is) (S + 4 * length A) (start_of (block_starts y code x.at)) (last_address y code x.at)
+    (pair_of (reads_of code) block) block.exit in
     let count : length (A ++ E) ≡ length A + length E = length-append A E in
-    let fe = find-exit program y code.areas places None block.instructions k S E g (omega (arith, fb.near, f.near, count)) fb.stands in
-    let here : place_in p image code x b k ≡ S + 4 * length A = ap (λ o. instruction_at y code.areas places S None (instructions_in o) k) e ∙
+    let fe = find-exit program y code.areas places None is k S E g (omega (arith, fb.near, f.near, count)) fb.stands in
+    let here : place_in p image code x b k ≡ S + 4 * length A = ap
+    (λ o. instruction_at y code.areas places S None (plain_in (reads_of code) o) k) e ∙
     fe.0 in
-    let held : held_in code b k ≡ held_behind None block.instructions =
-    ap (λ o. held_at None (instructions_in o) k) e ∙ held-last None block.instructions k g in
-    subst (λ at. AtExit p image program code x (held_in code b k) block.exit at) (sym here)
-    (subst (λ o. AtExit p image program code x o block.exit (S + 4 * length A)) (sym held)
+    let held : held_in code b k ≡ held_behind None is =
+    ap (λ o. held_at None (plain_in (reads_of code) o) k) e ∙ held-last None is k g in
+    subst (λ at. AtExit p image program code x (held_in code b k) (pair_of (reads_of code) block) block.exit at) (sym here)
+    (subst (λ o. AtExit p image program code x o (pair_of (reads_of code) block) block.exit (S + 4 * length A)) (sym held)
     (record { stands = fe.1; near = omega (arith, fb.near, f.near, count); aligned = omega (arith, fb.aligned) }))
+
+-- the end of a block whose exit has code of its own
+pub at-plain-exit : (p : Program) (image : Image) (program : List (Option Instr)) (most : ℕ) (code : Tac) (x : Placed) (b k : ℕ)
+    (block : Block)
+    → IsPlaced p image program most code x →
+    slice_get code.blocks b ≡ Some block → slice_get block.instructions k ≡ None → pair_of (reads_of code) block ≡ None →
+    AtExit p image program code x (held_in code b k) None block.exit (place_in p image code x b k)
+at-plain-exit p image program most code x b k block h e g alone =
+    subst (λ o. AtExit p image program code x (held_in code b k) o block.exit (place_in p image code x b k)) alone
+    (at-exit p image program most code x b k block h e (ap (λ o. slice_get (but_pair o block.instructions) k) alone ∙ g))

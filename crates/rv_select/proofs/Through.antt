@@ -9,24 +9,27 @@ use Rattle.tac_form.specs.declared.tac.Exit.TheVariants.{Branch, Fail, Jump, Ret
 use Rattle.tac_form.specs.declared.tac.Instruction.{Instruction}
 use Rattle.tac_form.specs.declared.tac.Instruction.TheVariants.{Alloc, Call, CallValue, Clear, Compute, Copy, Load, Locate, Move, PutByte, Store, TestDivisor, Write}
 use Rattle.tac_form.specs.declared.tac.Block.{Block}
+use Rattle.tac_form.specs.declared.tac.Tac.{Tac}
 use Rattle.tac_form.specs.Flow as tac
-use Rattle.tac_form.specs.Flow.{Goes, Program, Stops, act, leave, step}
+use Rattle.tac_form.specs.Flow.{Goes, Program, Stops, Temps, act, leave, step}
 use Rattle.tac_form.specs.Graph.{graph_of}
 use Rattle.tac_form.specs.Live.{InUse}
 use Rattle.tac_form.specs.Weights.{exit_words, words_of}
 use Rattle.rv_machine.specs.Word.{low}
 use Rattle.rv_machine.specs.Machine.{State}
 use Rattle.rv_operators.specs.Runs.{Stands}
+use Rattle.rv_select.specs.Pairs.{pair_of, plain_of, reads_of}
 use Rattle.rv_select.specs.Places.{IsHeld, Layout, layout_of}
 use Rattle.rv_select.specs.Shapes.{exit_shape, has_exit_shape, has_shape, held_after, shape_of, start_of}
 use Rattle.rv_select.specs.Steps.{Carried, Comes, Left, StandsAtExit, StandsBefore, behind, world_of}
 use Rattle.rv_select.specs.Calls.{block_starts, exit_code, head_code, instruction_code, last_address}
-use Rattle.rv_select.specs.Waiting.{Arrives, Image, IsLinked, IsPlaced, StandsIn, Stepped, entries_of, held_at, held_in, instructions_in, place_in}
+use Rattle.rv_select.specs.Waiting.{Arrives, Image, IsLinked, IsPlaced, StandsIn, Stepped, entries_of, held_at, held_in, place_in, plain_in}
 use Rattle.rv_select.proofs.Carries.{instructions, nothing-written}
 use Rattle.rv_select.proofs.Finds.{FoundFunction, held-next, starts-near}
 use Rattle.rv_select.proofs.Inner.{LeavesIf, LeavesTo, Stays, StaysIf, act-stays, leave-to}
 use Rattle.rv_select.proofs.Leaves.{exits}
-use Rattle.rv_select.proofs.Stands.{AtExit, AtPlace, at-exit, at-instruction, exit-within, instruction-within, the-function, within-parts}
+use Rattle.rv_select.proofs.Pairing.{before-next, plain-get}
+use Rattle.rv_select.proofs.Stands.{AtExit, AtPlace, at-plain-exit, at-instruction, exit-within, instruction-within, the-function, within-parts}
 use Rattle.rv_select.proofs.Waits.{waits-keeps}
 
 pub code-is : (y : Layout) (sizes : List ℕ) (places : FnId → ℕ) (at : ℕ) (held : Option ℕ) (i : Instruction) → has_shape i ≡ true →
@@ -62,10 +65,11 @@ arrives : (p : Program) (image : Image) (program : List (Option Instr)) (most si
     (x : StandsIn p image program most size s base m) (out : List ℕ) (target : ℕ) (held : Option ℕ) → Stays s t →
     target ≡ place_in p image x.code (image s.here.function) s.here.block (suc s.here.at) →
     held_in x.code s.here.block (suc s.here.at) ≡ held →
+    suc s.here.at ≤ length (plain_in (reads_of x.code) (slice_get x.code.blocks s.here.block)) →
     (c : Comes (layout_of x.code (image s.here.function).homes) program (InUse (graph_of x.code) t.here.block t.here.at) (world_of t) base
     weight target out m) → IsHeld held t.here.temps c.after →
     Arrives p image program most size weight out t m
-arrives p image program most size weight linked s t base m x out target held st to behind-it c five =
+arrives p image program most size weight linked s t base m x out target held st to behind-it inside c five =
     subst
     (λ z. (d : Comes (layout_of x.code (image s.here.function).homes) program (InUse (graph_of x.code) z.here.block z.here.at) (world_of z)
     base weight target out m) → IsHeld held z.here.temps d.after → Arrives p image program most size weight out z m)
@@ -94,6 +98,7 @@ arrives p image program most size weight linked s t base m x out target held st 
       stands = record {
         code = x.code;
         function = x.function;
+        before_end = inside;
         pc = d.at ∙ to;
         holds = d.holds;
         five = subst (λ o. IsHeld o st.temps d.after) (sym behind-it) h;
@@ -109,39 +114,46 @@ joined : (p : Program) (image : Image) (program : List (Option Instr)) (most siz
     (s : tac.State) (base : ℕ) (m : State)
     (x : StandsIn p image program most size s base m) (held : Option ℕ) (code : List Instr) (moved : tac.Moved) →
     behind m code ≡ place_in p image x.code (image s.here.function) s.here.block (suc s.here.at) →
-    held_in x.code s.here.block (suc s.here.at) ≡ held → StaysIf s moved →
+    held_in x.code s.here.block (suc s.here.at) ≡ held →
+    suc s.here.at ≤ length (plain_in (reads_of x.code) (slice_get x.code.blocks s.here.block)) → StaysIf s moved →
     Carried (layout_of x.code (image s.here.function).homes) (graph_of x.code) program base weight held code s m moved →
     Stepped p image program most size weight s m moved
-joined p image program most size weight linked s base m x held code (Goes t) to behind-it st c =
-    (c.0, c.1, arrives p image program most size weight linked s t base m x c.0 (behind m code) held st to behind-it c.2 c.3)
-joined p image program most size weight linked s base m x held code (Stops (Over (Fault kind at) out)) to behind-it st c = c
-joined p image program most size weight linked s base m x held code (Stops (Over (Returned v) out)) to behind-it st c = absurd c
-joined p image program most size weight linked s base m x held code (Stops (Over Stuck out)) to behind-it st c = tt
-joined p image program most size weight linked s base m x held code (Stops (More out)) to behind-it st c = absurd c
+joined p image program most size weight linked s base m x held code (Goes t) to behind-it inside st c =
+    (c.0, c.1, arrives p image program most size weight linked s t base m x c.0 (behind m code) held st to behind-it inside c.2 c.3)
+joined p image program most size weight linked s base m x held code (Stops (Over (Fault kind at) out)) to behind-it inside st c = c
+joined p image program most size weight linked s base m x held code (Stops (Over (Returned v) out)) to behind-it inside st c = absurd c
+joined p image program most size weight linked s base m x held code (Stops (Over Stuck out)) to behind-it inside st c = tt
+joined p image program most size weight linked s base m x held code (Stops (More out)) to behind-it inside st c = absurd c
 
 -- an instruction that stays within its function
 pub inner-step : (p : Program) (image : Image) (program : List (Option Instr)) (most size : ℕ) → IsLinked p image program most →
     (s : tac.State) (base : ℕ) (m : State)
     (x : StandsIn p image program most size s base m) (block : Block) (i : Instruction) →
-    slice_get x.code.blocks s.here.block ≡ Some block → slice_get block.instructions s.here.at ≡ Some i → has_shape i ≡ true →
+    slice_get x.code.blocks s.here.block ≡ Some block → slice_get (plain_of (reads_of x.code) block) s.here.at ≡ Some i →
+    has_shape i ≡ true →
     Stepped p image program most size (words_of i) s m (step p s)
-inner-step p image program most size linked s base m x block i in-f in-b h =
+inner-step p image program most size linked s base m x block i in-f in-p h =
     joined p image program most size (words_of i) linked s base m x (held_after i)
-    (shape_of (layout_of x.code (image s.here.function).homes) held i) (step p s) to behind-it stays
+    (shape_of (layout_of x.code (image s.here.function).homes) held i) (step p s) to behind-it
+    (before-next x.code s.here.block s.here.at block i in-f in-p) stays
     (instructions p x.code (image s.here.function).homes held i s program base m h before)
   where
     held : Option ℕ
     held = held_in x.code s.here.block s.here.at
 
+    in-b : slice_get block.instructions s.here.at ≡ Some i
+    in-b = plain-get (pair_of (reads_of x.code) block) block.instructions s.here.at i in-p
+
     behind-it : held_in x.code s.here.block (suc s.here.at) ≡ held_after i
-    behind-it = ap (λ o. held_at None (instructions_in o) (suc s.here.at)) in-f ∙ held-next None block.instructions s.here.at i in-b
+    behind-it = ap (λ o. held_at None (plain_in (reads_of x.code) o) (suc s.here.at)) in-f
+        ∙ held-next None (plain_of (reads_of x.code) block) s.here.at i in-p
 
     pl : IsPlaced p image program most x.code (image s.here.function)
     pl = linked s.here.function x.code x.function
 
     found : AtPlace p image program x.code (image s.here.function) s.here.block s.here.at i
         (place_in p image x.code (image s.here.function) s.here.block s.here.at)
-    found = at-instruction p image program most x.code (image s.here.function) s.here.block s.here.at block i pl in-f in-b
+    found = at-instruction p image program most x.code (image s.here.function) s.here.block s.here.at block i pl in-f in-p
 
     same : instruction_code (layout_of x.code (image s.here.function).homes) x.code.areas (entries_of p image)
         (place_in p image x.code (image s.here.function) s.here.block s.here.at) held i
@@ -158,7 +170,7 @@ inner-step p image program most size linked s base m x block i in-f in-b h =
         ∙ (near-low _ found.near ∙ sym found.next))
 
     stays : StaysIf s (step p s)
-    stays = let e1 = x.function in rw (e1, in-f, in-b) (act-stays p i s h)
+    stays = let e1 = x.function in let e2 = in-b in rw (e1, in-f, e2) (act-stays p i s h)
 
     before : StandsBefore p x.code (image s.here.function).homes held i s program base m
     before = record {
@@ -177,14 +189,16 @@ inner-step p image program most size linked s base m x block i in-f in-b h =
       five = x.five;
     }
 
--- the machine stands where a block begins
+-- The machine stands where a block begins. Three-address code may have gone on from the state in which the machine stood before, by
+-- instructions that have no code of their own.
 comes-to : (p : Program) (image : Image) (program : List (Option Instr)) (most size weight : ℕ) → IsLinked p image program most →
-    (s t : tac.State) (base : ℕ) (m : State)
-    (x : StandsIn p image program most size s base m) (exit : Exit) → LeavesTo exit s t →
+    (s : tac.State) (at : ℕ) (temps : Temps) (t : tac.State) (base : ℕ) (m : State)
+    (x : StandsIn p image program most size s base m) (exit : Exit) →
+    LeavesTo exit (record s { here = record s.here { at = at; temps = temps } }) t →
     Comes (layout_of x.code (image s.here.function).homes) program (InUse (graph_of x.code) t.here.block t.here.at) (world_of t) base weight
     (start_of (block_starts (layout_of x.code (image s.here.function).homes) x.code (image s.here.function).at) t.here.block) [] m →
     Arrives p image program most size weight [] t m
-comes-to p image program most size weight linked s t base m x exit l c =
+comes-to p image program most size weight linked s at temps t base m x exit l c =
     subst
     (λ z. Comes (layout_of x.code (image s.here.function).homes) program (InUse (graph_of x.code) z.here.block z.here.at) (world_of z) base
     weight
@@ -192,9 +206,14 @@ comes-to p image program most size weight linked s t base m x exit l c =
     Arrives p image program most size weight [] z m)
     (sym l.is) made c
   where
-    made : Comes (layout_of x.code (image s.here.function).homes) program (InUse (graph_of x.code) l.edge.block 0) (world_of s) base weight
+    from-zero : (n : ℕ) → 0 ≤ n
+    from-zero n = omega arith
+
+    made : Comes (layout_of x.code (image s.here.function).homes) program (InUse (graph_of x.code) l.edge.block 0)
+        (world_of (record s { here = record s.here { at = at; temps = temps } })) base weight
         (start_of (block_starts (layout_of x.code (image s.here.function).homes) x.code (image s.here.function).at) l.edge.block) [] m →
-        Arrives p image program most size weight [] (record s { here = record s.here { block = l.edge.block; at = 0 }; left = l.left }) m
+        Arrives p image program most size weight []
+        (record s { here = record s.here { block = l.edge.block; at = 0; temps = temps }; left = l.left }) m
     made d = record {
       steps = d.steps;
       after = d.after;
@@ -205,6 +224,7 @@ comes-to p image program most size weight linked s t base m x exit l c =
       stands = record {
         code = x.code;
         function = x.function;
+        before_end = from-zero (length (plain_in (reads_of x.code) (slice_get x.code.blocks l.edge.block)));
         pc = d.at;
         holds = d.holds;
         five = tt;
@@ -216,30 +236,57 @@ comes-to p image program most size weight linked s t base m x exit l c =
       };
     }
 
-left-joined : (p : Program) (image : Image) (program : List (Option Instr)) (most size weight : ℕ) → IsLinked p image program most →
-    (s : tac.State) (base : ℕ) (m : State)
-    (x : StandsIn p image program most size s base m) (exit : Exit) (moved : tac.Moved) → LeavesIf exit s moved →
+pub left-joined : (p : Program) (image : Image) (program : List (Option Instr)) (most size weight : ℕ) → IsLinked p image program most →
+    (s : tac.State) (at : ℕ) (temps : Temps) (base : ℕ) (m : State)
+    (x : StandsIn p image program most size s base m) (exit : Exit) (moved : tac.Moved) →
+    LeavesIf exit (record s { here = record s.here { at = at; temps = temps } }) moved →
     Left (layout_of x.code (image s.here.function).homes) (graph_of x.code) program base weight
     (start_of (block_starts (layout_of x.code (image s.here.function).homes) x.code (image s.here.function).at)) s m moved →
     Stepped p image program most size weight s m moved
-left-joined p image program most size weight linked s base m x exit (Goes t) l c =
-    ([], outs s t c.0, comes-to p image program most size weight linked s t base m x exit l c.1)
+left-joined p image program most size weight linked s at temps base m x exit (Goes t) l c =
+    ([], outs s t c.0, comes-to p image program most size weight linked s at temps t base m x exit l c.1)
   where
     outs : (s t : tac.State) → t.out ≡ s.out → t.out ≡ s.out ++ []
     outs s t e = e ∙ nothing-written s.out
-left-joined p image program most size weight linked s base m x exit (Stops (Over (Fault kind at) out)) l c = c
-left-joined p image program most size weight linked s base m x exit (Stops (Over (Returned v) out)) l c = absurd c
-left-joined p image program most size weight linked s base m x exit (Stops (Over Stuck out)) l c = tt
-left-joined p image program most size weight linked s base m x exit (Stops (More out)) l c = l
+left-joined p image program most size weight linked s at temps base m x exit (Stops (Over (Fault kind place) out)) l c = c
+left-joined p image program most size weight linked s at temps base m x exit (Stops (Over (Returned v) out)) l c = absurd c
+left-joined p image program most size weight linked s at temps base m x exit (Stops (Over Stuck out)) l c = tt
+left-joined p image program most size weight linked s at temps base m x exit (Stops (More out)) l c = l
+
+small : (n top : ℕ) → n ≤ top → top + 256 ≤ 2 ^ 30 → n < 2 ^ 30
+small n top a b = omega (arith, a, b)
+
+even : (n : ℕ) → n % 4 ≡ 0 → n % 2 ≡ 0
+even n a = omega (arith, a)
+
+aligned-first : (at n : ℕ) → at % 4 ≡ 0 → (at + 4 * n) % 4 ≡ 0
+aligned-first at n a = omega (arith, a)
+
+most-is : (a b : ℕ) → a ≡ b → a ≤ b
+most-is a b e = omega (arith, e)
+
+-- where blocks begin
+pub starts-small : (p : Program) (image : Image) (program : List (Option Instr)) (most : ℕ) (code : Tac) (f : FnId) →
+    IsPlaced p image program most code (image f) → (b : ℕ) →
+    (start_of (block_starts (layout_of code (image f).homes) code (image f).at) b < 2 ^ 30)
+    × (start_of (block_starts (layout_of code (image f).homes) code (image f).at) b % 2 ≡ 0)
+starts-small p image program most code f pl b =
+    let y : Layout = layout_of code (image f).homes in
+    let at : ℕ = (image f).at in
+    let found : FoundFunction program y code (entries_of p image) at = the-function p image program most code (image f) pl in
+    let n = starts-near y code.areas (entries_of p image) (start_of (block_starts y code at)) (last_address y code at)
+    (last_address y code at) code.blocks b (at + 4 * length (head_code y code))
+    (aligned-first at (length (head_code y code)) pl.aligned) (most-is _ _ found.whole) in
+    (small (start_of (block_starts y code at) b) (last_address y code at) n.0 found.near, even (start_of (block_starts y code at) b) n.1)
 
 -- an exit that stays within its function, or ends the run
 pub exit-step : (p : Program) (image : Image) (program : List (Option Instr)) (most size : ℕ) → IsLinked p image program most →
     (s : tac.State) (base : ℕ) (m : State)
     (x : StandsIn p image program most size s base m) (block : Block) → slice_get x.code.blocks s.here.block ≡ Some block →
-    slice_get block.instructions s.here.at ≡ None → has_exit_shape block.exit ≡ true →
+    slice_get block.instructions s.here.at ≡ None → pair_of (reads_of x.code) block ≡ None → has_exit_shape block.exit ≡ true →
     Stepped p image program most size (exit_words block.exit) s m (step p s)
-exit-step p image program most size linked s base m x block in-f in-b h =
-    left-joined p image program most size (exit_words block.exit) linked s base m x block.exit (step p s) leaves
+exit-step p image program most size linked s base m x block in-f in-b alone h =
+    left-joined p image program most size (exit_words block.exit) linked s s.here.at s.here.temps base m x block.exit (step p s) leaves
     (exits p x.code (image s.here.function).homes held block.exit
     (start_of (block_starts (layout_of x.code (image s.here.function).homes) x.code (image s.here.function).at)) s program base m h
     before)
@@ -250,40 +297,12 @@ exit-step p image program most size linked s base m x block in-f in-b h =
     held : Option ℕ
     held = held_in x.code s.here.block s.here.at
 
-    found : AtExit p image program x.code (image s.here.function) held block.exit
+    found : AtExit p image program x.code (image s.here.function) held None block.exit
         (place_in p image x.code (image s.here.function) s.here.block s.here.at)
-    found = at-exit p image program most x.code (image s.here.function) s.here.block s.here.at block pl in-f in-b
+    found = at-plain-exit p image program most x.code (image s.here.function) s.here.block s.here.at block pl in-f in-b alone
 
     leaves : LeavesIf block.exit s (step p s)
     leaves = let e1 = x.function in rw (e1, in-f, in-b) (leave-to p block.exit s h)
-
-    small : (n top : ℕ) → n ≤ top → top + 256 ≤ 2 ^ 30 → n < 2 ^ 30
-    small n top a b = omega (arith, a, b)
-
-    even : (n : ℕ) → n % 4 ≡ 0 → n % 2 ≡ 0
-    even n a = omega (arith, a)
-
-    first : (at n : ℕ) → at % 4 ≡ 0 → (at + 4 * n) % 4 ≡ 0
-    first at n a = omega (arith, a)
-
-    most-is : (a b : ℕ) → a ≡ b → a ≤ b
-    most-is a b e = omega (arith, e)
-
-    starts : (b : ℕ) → (start_of (block_starts (layout_of x.code (image s.here.function).homes) x.code (image s.here.function).at) b < 2 ^
-        30)
-        × (start_of (block_starts (layout_of x.code (image s.here.function).homes) x.code (image s.here.function).at) b % 2 ≡ 0)
-    starts b =
-        let y : Layout = layout_of x.code (image s.here.function).homes in
-        let at : ℕ = (image s.here.function).at in
-        let f : FoundFunction program y x.code (entries_of p image) at = the-function p image program most x.code (image s.here.function)
-        pl in
-        let n = starts-near y x.code.areas (entries_of p image) (start_of (block_starts y x.code at)) (last_address y x.code at)
-        (last_address y x.code at) x.code.blocks b (at + 4 * length (head_code y x.code))
-        (first at (length (head_code y x.code)) pl.aligned) (most-is _ _ f.whole) in (
-          small (start_of (block_starts y x.code at) b) (last_address y x.code at) n.0 f.near,
-          even (start_of (block_starts y x.code at) b)
-              n.1,
-        )
 
     before : StandsAtExit p x.code (image s.here.function).homes held block.exit
         (start_of (block_starts (layout_of x.code (image s.here.function).homes) x.code (image s.here.function).at)) s program base m
@@ -296,7 +315,7 @@ exit-step p image program most size linked s base m x block in-f in-b h =
       fits = exit-within x.code s.here.block block (within-parts p image program most x.code (image s.here.function) pl).blocks in-f;
       right = pl.right;
       near = subst (λ q. q + 256 ≤ 2 ^ 30) (sym x.pc) found.near;
-      blocks = starts;
+      blocks = starts-small p image program most x.code s.here.function pl;
       stands = subst (λ q. Stands program q (exit_shape (layout_of x.code (image s.here.function).homes) held q
           (start_of (block_starts (layout_of x.code (image s.here.function).homes) x.code (image s.here.function).at)) block.exit))
           (sym x.pc)

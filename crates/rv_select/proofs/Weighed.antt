@@ -1,6 +1,6 @@
 -- A function's code and its frame keep within their weights.
-use Rattle.std.proofs.Common.{◌≡◌, ℕ, suc, ◌+◌, ◌*◌, ◌≤◌, true, List, [], ◌∷◌, ◌++◌, length, sum_by, Option, None, refl, sym, ap, ◌∙◌, subst, arith}
-use Rattle.std.specs.Prelude.{fold}
+use Rattle.std.proofs.Common.{◌≡◌, ℕ, suc, ◌+◌, ◌*◌, ◌-◌, ◌<◌, ◌≤◌, true, List, [], ◌∷◌, ◌++◌, length, sum_by, Option, Some, None, refl, sym, ap, ◌∙◌, subst, arith}
+use Rattle.std.specs.Prelude.{fold, slice_get}
 use Rattle.std.specs.List.{list_all}
 use Rattle.std.proofs.lemmas.List.{length-append, length-map}
 use Rattle.std.proofs.lemmas.List.Sums.{sum_by-cons}
@@ -8,7 +8,7 @@ use Rattle.tl_base.specs.declared.ids.FnId.{FnId}
 use Rattle.rv_isa.specs.declared.instr.Instr.{Instr}
 use Rattle.rv_isa.specs.Table.{word_of}
 use Rattle.reg_alloc.specs.declared.assignment.Home.{Home}
-use Rattle.tac_form.specs.declared.tac.Operand.TheVariants.{Constant}
+use Rattle.tac_form.specs.declared.tac.Operand.TheVariants.{Constant, Temp}
 use Rattle.tac_form.specs.declared.tac.Part.TheVariants.{Word}
 use Rattle.tac_form.specs.declared.tac.Exit.{Exit}
 use Rattle.tac_form.specs.declared.tac.Exit.TheVariants.{Branch, Fail, Jump, Return}
@@ -19,11 +19,15 @@ use Rattle.tac_form.specs.declared.tac.Tac.{Tac}
 use Rattle.tac_form.specs.Fits.{area_fits}
 use Rattle.tac_form.specs.Weights.{block_words, code_words, exit_words, private_bytes, words_of}
 use Rattle.rv_select.specs.declared.selected.Code.{Code}
+use Rattle.rv_select.specs.declared.pairs.Pair.{Pair}
+use Rattle.rv_select.specs.Pairs.{but_pair, pair_of}
 use Rattle.rv_select.specs.Places.{Layout, frame_bytes, layout_of}
 use Rattle.rv_select.specs.Shapes.{held_after, start_of}
 use Rattle.rv_select.specs.Entering.{begun, entered, left, received, receiving, words_offset}
-use Rattle.rv_select.specs.Calls.{IsSelected, KeepsWithin, all_has_code, block_code, block_has_code, block_starts, blocks_code, body_code, exit_code, function_code, has_code, has_exit_code, head_code, held_behind, instruction_code, instructions_code, last_address}
+use Rattle.rv_select.specs.Calls.{IsSelected, KeepsWithin, all_has_code, block_code, block_has_code, block_starts, blocks_code, body_code, end_code, exit_code, function_code, has_code, has_exit_code, head_code, held_behind, instruction_code, instructions_code, last_address, pair_code}
+use Rattle.rv_select.proofs.Compares.{compares-within}
 use Rattle.rv_select.proofs.Falls.{params-least}
+use Rattle.rv_select.proofs.Pairing.{IsPair, compare_of, pair-parts, pair-sum, plain-all}
 use Rattle.rv_select.proofs.Stands.{both-true}
 use Rattle.rv_select.proofs.Weights.{exits-within, within}
 use Rattle.rv_select.proofs.Within.{calls-within, frames-within, parameters-within}
@@ -66,14 +70,48 @@ exit-weight code y held at starts last (Jump e) h = (exits-within y held (Jump e
 exit-weight code y held at starts last (Branch a e f) h = (exits-within y held (Branch a e f) at at starts starts h).0
 exit-weight code y held at starts last (Fail kind place) h = (exits-within y held (Fail kind place) at at starts starts h).0
 
+pair-weight : (y : Layout) (starts : ℕ → ℕ) (held : Option ℕ) (at d : ℕ) (pair : Pair) →
+    length (pair_code y held at starts pair) < words_of (compare_of pair d) + exit_words (Branch (Temp d) pair.first pair.second)
+unfolding pair_code
+pair-weight y starts held at d pair =
+    (compares-within y held d pair.operator pair.form pair.a pair.b pair.first pair.second at 0 starts starts).1
+
 block-weight : (code : Tac) (y : Layout) (sizes : List ℕ) (places : FnId → ℕ) (starts : ℕ → ℕ) (last at : ℕ) (b : Block) →
     list_all area_fits sizes ≡ true → block_has_code b ≡ true → length (block_code y sizes places starts last at b) ≤ block_words b
-block-weight code y sizes places starts last at b small h =
-    let e = both-true (list_all has_code b.instructions) (has_exit_code b.exit) h in
-    let A = instructions_code y sizes places at None b.instructions in
-    let held : Option ℕ = held_behind None b.instructions in
-    both A (exit_code y held (at + 4 * length A) starts last b.exit) (sum_by words_of b.instructions) (exit_words b.exit)
-    (instructions-weight y sizes places at None b.instructions small e.0) (exit-weight code y held (at + 4 * length A) starts last b.exit e.1)
+block-weight code y sizes places starts last at b small h = go (pair_of y.reads b) refl
+  where
+    parts : (list_all has_code b.instructions ≡ true) × (has_exit_code b.exit ≡ true)
+    parts = both-true (list_all has_code b.instructions) (has_exit_code b.exit) h
+
+    less : (a c i p w x : ℕ) → a ≤ p → c < i + x → p + i ≡ w → a + c ≤ w + x
+    less a c i p w x h g e = omega (arith, h, g, e)
+
+    go : (o : Option Pair) → pair_of y.reads b ≡ o →
+        length (instructions_code y sizes places at None (but_pair o b.instructions)
+        ++ end_code y (held_behind None (but_pair o b.instructions))
+        (at + 4 * length (instructions_code y sizes places at None (but_pair o b.instructions))) starts last o b.exit)
+        ≤ block_words b
+    go None q =
+        let A = instructions_code y sizes places at None b.instructions in
+        let held : Option ℕ = held_behind None b.instructions in
+        both A (exit_code y held (at + 4 * length A) starts last b.exit) (sum_by words_of b.instructions) (exit_words b.exit)
+        (instructions-weight y sizes places at None b.instructions small parts.0)
+        (exit-weight code y held (at + 4 * length A) starts last b.exit parts.1)
+    go (Some pair) q =
+        let k : IsPair y.reads (slice_get b.instructions (length b.instructions - 1)) b.exit pair =
+        pair-parts y.reads (slice_get b.instructions (length b.instructions - 1)) b.exit pair q in
+        let is : List Instruction = but_pair (Some pair) b.instructions in
+        let A = instructions_code y sizes places at None is in
+        let held : Option ℕ = held_behind None is in
+        let C = pair_code y held (at + 4 * length A) starts pair in
+        let i : Instruction = compare_of pair k.result in
+        let first : length C < words_of i + exit_words b.exit =
+        subst (λ z. length C < words_of i + exit_words z) (sym k.exit_is) (pair-weight y starts held (at + 4 * length A) k.result pair) in
+        let count : length (A ++ C) ≡ length A + length C = length-append A C in
+        subst (λ n. n ≤ sum_by words_of b.instructions + exit_words b.exit) (sym count)
+        (less (length A) (length C) (words_of i) (sum_by words_of is) (sum_by words_of b.instructions) (exit_words b.exit)
+        (instructions-weight y sizes places at None is small (plain-all has_code (Some pair) b.instructions parts.0)) first
+        (pair-sum words_of b.instructions i k.last_is))
 
 blocks-weight : (code : Tac) (y : Layout) (sizes : List ℕ) (places : FnId → ℕ) (starts : ℕ → ℕ) (last at : ℕ) (bs : List Block) →
     list_all area_fits sizes ≡ true → list_all block_has_code bs ≡ true →

@@ -1,5 +1,5 @@
 -- Calls and returns, and the code of a whole function.
-use Rattle.std.specs.Prelude.{◌≡◌, ℕ, ◌+◌, ◌*◌, ◌≤◌, IsTrue, Bool, ◌&&◌, true, List, [], ◌∷◌, ◌++◌, length, map, Option, None}
+use Rattle.std.specs.Prelude.{◌≡◌, ℕ, ◌+◌, ◌*◌, ◌≤◌, IsTrue, Bool, ◌&&◌, true, List, [], ◌∷◌, ◌++◌, length, map, Option, Some, None}
 use Rattle.std.specs.List.{list_all}
 use Rattle.tl_base.specs.declared.place.Place.{Place}
 use Rattle.tl_base.specs.declared.ids.FnId.{FnId}
@@ -25,6 +25,9 @@ use Rattle.tac_form.specs.Weights.{code_words, private_bytes}
 use Rattle.rv_operators.specs.Codes.{x5}
 use Rattle.rv_select.specs.declared.selected.Code.{Code}
 use Rattle.rv_select.specs.declared.selected.Call.{Call as Site}
+use Rattle.rv_select.specs.declared.pairs.Pair.{Pair}
+use Rattle.rv_select.specs.Compared.{compared_shape}
+use Rattle.rv_select.specs.Pairs.{pair_of, plain_of}
 use Rattle.rv_select.specs.Numbers.{below_zero, constant, immediate_of, lower_of, upper_of}
 use Rattle.rv_select.specs.Places.{Layout, frame_bytes, layout_of}
 use Rattle.rv_select.specs.Shapes.{area_reached, distance, exit_shape, fault_call, has_exit_shape, has_shape, held_after, jump, moved, over, place_number, shape_of, small, start_of, taken, x10, x11}
@@ -92,10 +95,19 @@ abbrev pub held_behind : (held : Option ℕ) → List Instruction → Option ℕ
 held_behind held [] = held
 held_behind held (i ∷ is) = held_behind (held_after i) is
 
+-- what follows the instructions with code of their own: the code of a comparison and the exit, or that of the exit
+unfoldable pub pair_code : Layout → (held : Option ℕ) → (at : ℕ) → (starts : ℕ → ℕ) → Pair → List Instr
+pair_code y held at starts pair = compared_shape y held at starts pair.operator pair.form pair.a pair.b pair.first pair.second
+
+abbrev pub end_code : Layout → (held : Option ℕ) → (at : ℕ) → (starts : ℕ → ℕ) → (last : ℕ) → Option Pair → Exit → List Instr
+end_code y held at starts last None e = exit_code y held at starts last e
+end_code y held at starts last (Some pair) e = pair_code y held at starts pair
+
 abbrev pub block_code : Layout → (sizes : List ℕ) → (places : FnId → ℕ) (starts : ℕ → ℕ) → (last at : ℕ) → Block → List Instr
 block_code y sizes places starts last at b =
-    instructions_code y sizes places at None b.instructions
-    ++ exit_code y (held_behind None b.instructions) (at + 4 * length (instructions_code y sizes places at None b.instructions)) starts last b.exit
+    instructions_code y sizes places at None (plain_of y.reads b)
+    ++ end_code y (held_behind None (plain_of y.reads b)) (at + 4 * length (instructions_code y sizes places at None (plain_of y.reads b)))
+    starts last (pair_of y.reads b) b.exit
 
 abbrev pub blocks_code : Layout → (sizes : List ℕ) → (places : FnId → ℕ) (starts : ℕ → ℕ) → (last at : ℕ) → List Block → List Instr
 blocks_code y sizes places starts last at [] = []
@@ -118,7 +130,7 @@ instructions_calls y sizes at held (i ∷ is) =
 abbrev pub blocks_calls : Layout → (sizes : List ℕ) → (at : ℕ) → List Block → List Site
 blocks_calls y sizes at [] = []
 blocks_calls y sizes at (b ∷ bs) =
-    instructions_calls y sizes at None b.instructions
+    instructions_calls y sizes at None (plain_of y.reads b)
     ++ blocks_calls y sizes (at + length (block_code y sizes (λ f. 0) (λ c. 0) 0 0 b)) bs
 
 -- how many words the blocks take, and where each begins

@@ -1,3 +1,5 @@
+-- Which comparisons have one code with their branch.
+pub mod Pairs
 -- Where an activation's words stand in the machine.
 pub mod Places
 -- Numbers as operands of instructions, and code that loads them.

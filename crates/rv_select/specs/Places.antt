@@ -20,19 +20,25 @@ use Rattle.tac_form.specs.declared.tac.Operand.TheVariants.{Temp, Constant}
 use Rattle.tac_form.specs.declared.tac.Tac.{Tac}
 use Rattle.tac_form.specs.Flow.{Temps, Areas}
 use Rattle.tac_form.specs.Weights.{kept_bytes, most_moved}
+use Rattle.rv_select.specs.declared.pairs.Reads.{Reads}
+use Rattle.rv_select.specs.Pairs.{reads_of}
 
--- A function's layout: the homes of its temporaries, and how many areas and parameters it has.
+-- A function's layout: the homes of its temporaries, how many areas and parameters it has, and how often each temporary is read.
 pub record Layout : Type 0 where
   pub homes : List (Option Home)
   pub areas : ℕ
   pub parameters : ℕ
+  pub reads : List Reads
 
 abbrev pub layout_of : Tac → List (Option Home) → Layout
-layout_of code homes = record { homes = homes; areas = length code.areas; parameters = length code.parameters }
+layout_of code homes = record { homes = homes; areas = length code.areas; parameters = length code.parameters; reads = reads_of code }
 
--- code of one instruction depends on the homes alone
+-- code of one instruction depends on the homes alone, and that of blocks on how often temporaries are read besides
 abbrev pub with_homes : List (Option Home) → Layout
-with_homes homes = record { homes = homes; areas = 0; parameters = 0 }
+with_homes homes = record { homes = homes; areas = 0; parameters = 0; reads = [] }
+
+abbrev pub with_reads : List (Option Home) → List Reads → Layout
+with_reads homes reads = record { homes = homes; areas = 0; parameters = 0; reads = reads }
 
 -- where slots and areas lie in the frame, and its bytes
 abbrev pub slot_offset : ℕ → ℕ

@@ -23,6 +23,8 @@ use Rattle.tac_form.specs.Fits.{Counted, Fits}
 use Rattle.tac_form.specs.Weights.{most_moved}
 use Rattle.rv_operators.specs.Runs.{Stands}
 use Rattle.rv_select.specs.Places.{AreBytes, Holds, IsHeld, Keeps, Layout, area_offset, frame_bytes, home_of, layout_of, private_word, uses, word_at}
+use Rattle.rv_select.specs.declared.pairs.Reads.{Reads}
+use Rattle.rv_select.specs.Pairs.{plain_of, reads_of}
 use Rattle.rv_select.specs.Shapes.{held_after, start_of}
 use Rattle.rv_select.specs.Steps.{Ends, world_of}
 use Rattle.rv_select.specs.Entering.{begun, kept_offset}
@@ -81,17 +83,19 @@ held_at held is zero = held
 held_at held [] (suc k) = held
 held_at held (i ∷ is) (suc k) = held_at (held_after i) is k
 
-abbrev pub instructions_in : Option Block → List Instruction
-instructions_in None = []
-instructions_in (Some b) = b.instructions
+-- the instructions of a block that have code of their own
+abbrev pub plain_in : List Reads → Option Block → List Instruction
+plain_in reads None = []
+plain_in reads (Some b) = plain_of reads b
 
 abbrev pub place_in : Program → Image → Tac → Placed → (block at : ℕ) → ℕ
 place_in p image code x b k =
     let y : Layout = layout_of code x.homes in
-    instruction_at y code.areas (entries_of p image) (start_of (block_starts y code x.at) b) None (instructions_in (slice_get code.blocks b)) k
+    instruction_at y code.areas (entries_of p image) (start_of (block_starts y code x.at) b) None
+    (plain_in (reads_of code) (slice_get code.blocks b)) k
 
 abbrev pub held_in : Tac → (block at : ℕ) → Option ℕ
-held_in code b k = held_at None (instructions_in (slice_get code.blocks b)) k
+held_in code b k = held_at None (plain_in (reads_of code) (slice_get code.blocks b)) k
 
 -- what the caller's registers are once the function has put them back
 abbrev pub restored : Layout → (base : ℕ) → State → State
@@ -116,7 +120,7 @@ pub record Waiting (p : Program) (image : Image) (most : ℕ) (c : Caller) (dept
   pub place : Place
   pub callee : FnId
   pub arguments : List Part
-  pub in_block : slice_get block.instructions before ≡ Some (Call c.to place callee arguments)
+  pub in_block : slice_get (plain_of (reads_of code) block) before ≡ Some (Call c.to place callee arguments)
   pub returns : link ≡ place_in p image code (image c.waits.function) c.waits.block before
       + 4 * length (call_begun (layout_of code (image c.waits.function).homes) place arguments) + 8
   pub values : (t : ℕ) → InUse (graph_of code) c.waits.block c.waits.at t → destination_write c.to ≢ Some t →
@@ -141,13 +145,14 @@ Waits p image most size (c ∷ cs) link base placed m =
     (placed + w.code.frame)
     (restored (layout_of w.code (image c.waits.function).homes) base m)
 
--- The machine stands where three-address code does in a state: before the code of the next instruction, or of the exit. It holds what
--- three-address code sees, and in x5 what the instruction before left there, and all callers wait; and below the frame there is room for
--- each call that may still be made.
+-- The machine stands where three-address code does in a state: before the code of the next instruction, or of what ends the block. Between
+-- a comparison and its branch, where both have one code, it never stands. It holds what three-address code sees, and in x5 what the
+-- instruction before left there, and all callers wait; and below the frame there is room for each call that may still be made.
 pub record StandsIn (p : Program) (image : Image) (program : List (Option Instr)) (most size : ℕ) (s : tac.State) (base : ℕ) (m : State) :
     Type 0 where
   pub code : Tac
   pub function : p.code s.here.function ≡ Some code
+  pub before_end : s.here.at ≤ length (plain_in (reads_of code) (slice_get code.blocks s.here.block))
   pub pc : m.pc ≡ place_in p image code (image s.here.function) s.here.block s.here.at
   pub holds : Holds (layout_of code (image s.here.function).homes) (InUse (graph_of code) s.here.block s.here.at) (world_of s) base m
   pub five : IsHeld (held_in code s.here.block s.here.at) s.here.temps m

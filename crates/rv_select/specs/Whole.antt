@@ -11,7 +11,7 @@ use Rattle.terra_words.specs.Runs.{Value, word, Returned, Fault, Stuck, Run, Ove
 use Rattle.tac_form.specs.declared.tac.Block.{Block}
 use Rattle.tac_form.specs.declared.tac.Tac.{Tac}
 use Rattle.tac_form.specs.Flow as tac
-use Rattle.tac_form.specs.Flow.{Caller, Program, Goes, Stops, TacRun, enter, step, steps}
+use Rattle.tac_form.specs.Flow.{Caller, Program, Goes, Stops, TacRun, enter, steps}
 use Rattle.tac_form.specs.Weights.{block_words, code_words, exit_words, words_of}
 use Rattle.terra_memory.specs.Region.{Contents, IsLawful, end_address, fresh}
 use Rattle.rv_select.specs.Places.{AreBytes}
@@ -76,12 +76,12 @@ Ended program most s m (Over (Fault kind at) out) = (rest : List ℕ) × (out �
 Ended program most s m (Over Stuck out) = Unit {0}
 Ended program most s m (More out) = (rest : List ℕ) × (out ≡ s.out ++ rest) × RunGoesOn program s.left most rest m
 
--- Each step of a linked program is carried out, in a number of steps of the machine.
+-- Each step of a linked program is carried out, in a number of steps of the machine, and so are two at once: a comparison and its branch.
 abbrev pub StepsAreCarried : Type 0
 StepsAreCarried =
     (p : Program) (image : Image) (program : List (Option Instr)) (most size : ℕ) (s : tac.State) (base : ℕ) (m : State) →
     IsLinked p image program most → StandsIn p image program most size s base m →
-    (bound : ℕ) × Stepped p image program most size bound s m (step p s)
+    (count : ℕ) × (1 ≤ count) × (count ≤ 2) × (bound : ℕ) × Stepped p image program most size bound s m (steps p count (Goes s))
 
 -- So is each run, from a state on in which the machine stands where three-address code does.
 abbrev pub RunsAreCarried : Type 0

@@ -17,6 +17,7 @@ pub mod law;
 mod moving;
 mod operands;
 mod outputs;
+pub mod pairs;
 pub mod selectable;
 pub mod selected;
 pub mod selection;

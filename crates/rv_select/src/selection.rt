@@ -3,16 +3,19 @@
 ghost use Rattle.std.specs.Prelude.{◌≡◌, ◌*◌, ◌+◌, ◌^◌, ◌<◌, ◌≤◌, ◌&&◌, [], ◌∷◌, ◌++◌, map, length, IfOk, IsTrue, None, OnOk};
 ghost use Rattle.std.specs.List.{list_all};
 ghost use Rattle.rv_isa.specs.Table.{word_of};
-ghost use Rattle.rv_select.specs.Calls.{IsSelected, KeepsWithin, all_has_code, block_code, block_has_code, block_starts, blocks_calls, blocks_code, call_jump, called, exit_code, has_code, has_exit_code, head_code, held_behind, instruction_calls, instruction_code, instructions_calls, instructions_code, last_address, returned, starts_from};
+ghost use Rattle.rv_select.specs.Calls.{IsSelected, KeepsWithin, all_has_code, block_code, block_has_code, block_starts, blocks_calls, blocks_code, call_jump, called, end_code, exit_code, has_code, has_exit_code, head_code, held_behind, instruction_calls, instruction_code, instructions_calls, instructions_code, last_address, pair_code, returned, starts_from};
 ghost use Rattle.rv_select.specs.Entering.{begun, entered, received, words_offset};
-ghost use Rattle.rv_select.specs.Places.{frame_bytes, layout_of, with_homes};
+ghost use Rattle.rv_select.specs.Pairs.{but_pair, pair_of, plain_of, reads_of};
+ghost use Rattle.rv_select.specs.Places.{frame_bytes, layout_of, with_homes, with_reads};
 ghost use Rattle.rv_select.specs.Shapes.{jump, start_of};
 ghost use Rattle.tac_form.specs.declared.tac.Instruction.TheVariants as instructions;
 
 use crate::calls::{push_call_begun, push_call_ended, push_call_jump, push_given};
+use crate::compared::push_compared;
 use crate::entries::{push_begun, push_entered, push_left, push_received};
 use crate::exits::{push_exit, push_jump};
 use crate::instructions::{held_after, push_instruction};
+use crate::pairs::{Pair, Reads, pair_of, reads_of};
 use crate::selected::{Call, Code};
 use reg_alloc::{Assignment, Home};
 use std::alloc::Global;
@@ -154,6 +157,62 @@ fn push_end(
     }
 }
 
+/// The code of what ends a block, where x5 may hold the word of a temporary: its exit, or a comparison and its exit.
+fn push_block_end(
+    code: &mut Vec<u32>,
+    homes: &[Option<Home>],
+    held: Option<u64>,
+    starts: &[u64],
+    last: u64,
+    pair: Option<Pair>,
+    exit: &Exit,
+) -> Result<(), NoMemory>
+    requires { IsTrue (has_exit_code exit.now) }
+    ensures { OnOk result (code.new.items ≡ code.old.items ++ map word_of (end_code (with_homes homes.now) held (4 * length code.old.items) (start_of starts.now) last pair exit.now)) }
+{
+    match pair {
+        Some(pair) => push_pair(code, homes, held, starts, pair),
+        None => push_end(code, homes, held, starts, last, exit),
+    }
+}
+
+/// The code of a comparison and the branch on its result, where the code ends.
+#[tactic(auto, unfolding(crate::specs::Calls::pair_code))]
+fn push_pair(
+    code: &mut Vec<u32>,
+    homes: &[Option<Home>],
+    held: Option<u64>,
+    starts: &[u64],
+    pair: Pair,
+) -> Result<(), NoMemory>
+    ensures { OnOk result (code.new.items ≡ code.old.items ++ map word_of (pair_code (with_homes homes.now) held (4 * length code.old.items) (start_of starts.now) pair)) }
+{
+    let at = address(code)?;
+    push_compared(
+        code,
+        homes,
+        held,
+        at,
+        starts,
+        pair.operator,
+        pair.form,
+        pair.a,
+        pair.b,
+        pair.first,
+        pair.second,
+    )
+}
+
+/// The instructions of a block that have code of their own: all, but for a comparison that has one code with its branch.
+fn plain_of(instructions: &[Instruction], pair: Option<Pair>) -> &[Instruction]
+    ensures { result.now ≡ but_pair pair instructions.now }
+{
+    match pair {
+        Some(_) if !instructions.is_empty() => &instructions[..instructions.len() - 1],
+        _ => instructions,
+    }
+}
+
 /// The code of a block.
 fn push_block(
     code: &mut Vec<u32>,
@@ -162,14 +221,17 @@ fn push_block(
     sizes: &[u64],
     starts: &[u64],
     last: u64,
+    reads: &[Reads],
     block: &Block,
 ) -> Result<(), NoMemory>
     requires { IsTrue (block_has_code block.now) }
-    ensures code { OnOk result (code.new.items ≡ code.old.items ++ map word_of (block_code (with_homes homes.now) sizes.now (λ f. 0) (start_of starts.now) last (4 * length code.old.items) block.now)) }
-    ensures calls { OnOk result (calls.new.items ≡ calls.old.items ++ instructions_calls (with_homes homes.now) sizes.now (length code.old.items) None block.now.instructions) }
+    ensures code { OnOk result (code.new.items ≡ code.old.items ++ map word_of (block_code (with_reads homes.now reads.now) sizes.now (λ f. 0) (start_of starts.now) last (4 * length code.old.items) block.now)) }
+    ensures calls { OnOk result (calls.new.items ≡ calls.old.items ++ instructions_calls (with_reads homes.now reads.now) sizes.now (length code.old.items) None (plain_of reads.now block.now)) }
 {
-    let held = push_all(code, calls, homes, sizes, block.instructions.as_slice())?;
-    push_end(code, homes, held, starts, last, &block.exit)
+    let pair = pair_of(reads, block);
+    let plain = plain_of(block.instructions.as_slice(), pair);
+    let held = push_all(code, calls, homes, sizes, plain)?;
+    push_block_end(code, homes, held, starts, last, pair, &block.exit)
 }
 
 /// The code of blocks, each of whose addresses goes to a list.
@@ -181,16 +243,17 @@ fn push_blocks(
     sizes: &[u64],
     starts: &[u64],
     last: u64,
+    reads: &[Reads],
     blocks: &[Block],
 ) -> Result<(), NoMemory>
     requires { IsTrue (list_all block_has_code blocks.now) }
-    ensures code { OnOk result (code.new.items ≡ code.old.items ++ map word_of (blocks_code (with_homes homes.now) sizes.now (λ f. 0) (start_of starts.now) last (4 * length code.old.items) blocks.now)) }
-    ensures calls { OnOk result (calls.new.items ≡ calls.old.items ++ blocks_calls (with_homes homes.now) sizes.now (length code.old.items) blocks.now) }
-    ensures begins { OnOk result (begins.new.items ≡ begins.old.items ++ starts_from (with_homes homes.now) sizes.now (4 * length code.old.items) blocks.now) }
+    ensures code { OnOk result (code.new.items ≡ code.old.items ++ map word_of (blocks_code (with_reads homes.now reads.now) sizes.now (λ f. 0) (start_of starts.now) last (4 * length code.old.items) blocks.now)) }
+    ensures calls { OnOk result (calls.new.items ≡ calls.old.items ++ blocks_calls (with_reads homes.now reads.now) sizes.now (length code.old.items) blocks.now) }
+    ensures begins { OnOk result (begins.new.items ≡ begins.old.items ++ starts_from (with_reads homes.now reads.now) sizes.now (4 * length code.old.items) blocks.now) }
 {
     for block in blocks {
         begins.push(address(code)?)?;
-        push_block(code, calls, homes, sizes, starts, last, block)?;
+        push_block(code, calls, homes, sizes, starts, last, reads, block)?;
     }
     Ok(())
 }
@@ -271,8 +334,10 @@ fn push_body(
     tac: &Tac,
     starts: &[u64],
     last: u64,
+    reads: &[Reads],
 ) -> Result<(), NoMemory>
-    requires { IsTrue (all_has_code tac.now) }
+    requires has_code { IsTrue (all_has_code tac.now) }
+    requires reads { reads.now ≡ reads_of tac.now }
     ensures code { OnOk result (code.new.items ≡ code.old.items ++ map word_of (blocks_code (layout_of tac.now homes.now) tac.now.areas (λ f. 0) (start_of starts.now) last (4 * length code.old.items) tac.now.blocks)) }
     ensures calls { OnOk result (calls.new.items ≡ calls.old.items ++ blocks_calls (layout_of tac.now homes.now) tac.now.areas (length code.old.items) tac.now.blocks) }
     ensures begins { OnOk result (begins.new.items ≡ begins.old.items ++ starts_from (layout_of tac.now homes.now) tac.now.areas (4 * length code.old.items) tac.now.blocks) }
@@ -285,6 +350,7 @@ fn push_body(
         tac.areas.as_slice(),
         starts,
         last,
+        reads,
         tac.blocks.as_slice(),
     )
 }
@@ -297,8 +363,14 @@ struct Places {
 }
 
 /// The addresses of a function's blocks. Their code is as long wherever they stand, so it is put somewhere to see them.
-fn find_places(alloc: Global, homes: &[Option<Home>], tac: &Tac) -> Result<Places, NoMemory>
-    requires { IsTrue (all_has_code tac.now) }
+fn find_places(
+    alloc: Global,
+    homes: &[Option<Home>],
+    tac: &Tac,
+    reads: &[Reads],
+) -> Result<Places, NoMemory>
+    requires has_code { IsTrue (all_has_code tac.now) }
+    requires reads { reads.now ≡ reads_of tac.now }
     ensures starts { IfOk result (λ places. places.starts.items ≡ block_starts (layout_of tac.now homes.now) tac.now 0) }
     ensures last { IfOk result (λ places. places.last ≡ last_address (layout_of tac.now homes.now) tac.now 0) }
 {
@@ -306,7 +378,16 @@ fn find_places(alloc: Global, homes: &[Option<Home>], tac: &Tac) -> Result<Place
     let mut calls = Vec::new(alloc);
     let mut starts = Vec::new(alloc);
     push_head(&mut code, homes, tac)?;
-    push_body(&mut code, &mut calls, &mut starts, homes, tac, &[], 0)?;
+    push_body(
+        &mut code,
+        &mut calls,
+        &mut starts,
+        homes,
+        tac,
+        &[],
+        0,
+        reads,
+    )?;
     let last = address(&code)?;
     Ok(Places { starts, last })
 }
@@ -320,7 +401,8 @@ pub fn select(alloc: Global, tac: &Tac, assignment: &Assignment) -> Result<Code,
     ensures within { IfOk result (λ code. KeepsWithin tac.now assignment.now code) }
 {
     let homes = assignment.as_slice();
-    let places = find_places(alloc, homes, tac)?;
+    let reads = reads_of(alloc, tac)?;
+    let places = find_places(alloc, homes, tac, &reads)?;
     let mut words = Vec::new(alloc);
     let mut calls = Vec::new(alloc);
     let mut starts = Vec::new(alloc);
@@ -333,6 +415,7 @@ pub fn select(alloc: Global, tac: &Tac, assignment: &Assignment) -> Result<Code,
         tac,
         &places.starts,
         places.last,
+        &reads,
     )?;
     push_left(&mut words, homes, head.frame, tac.frame)?;
     Ok(Code {

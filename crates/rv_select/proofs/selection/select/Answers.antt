@@ -11,8 +11,10 @@ returns-clause-selected c =
     let h = c.as_slice-homes.result.now in
     subst (λ z. IsSelected tac z (record { words = c.push_left.new.code; calls = c.push_body.new.calls; entry = c.in_ok-head.head.entry; frame = c.in_ok-head.head.frame })) c.as_slice-homes.ensures
     (record {
-      words = whole-words (layout_of tac h) tac c.new-words.result.items c.push_head.new.code.items c.push_body.new.code.items c.push_left.new.code.items c.deref.result.now c.in_ok-places.places.last
-          c.new-words.ensures.items (c.deref.ensures.value ∙ c.in_ok-places.ensures.starts) c.in_ok-places.ensures.last c.in_ok-head.ensures.code c.in_ok-push_body.ensures.code
+      words = whole-words (layout_of tac h) tac c.new-words.result.items c.push_head.new.code.items c.push_body.new.code.items
+          c.push_left.new.code.items c.deref-2.result.now c.in_ok-places.places.last
+          c.new-words.ensures.items (c.deref-2.ensures.value ∙ c.in_ok-places.ensures.starts) c.in_ok-places.ensures.last
+          c.in_ok-head.ensures.code c.in_ok-push_body.ensures.code
           (left-whole tac h c.in_ok-head.head.frame c.push_body.new.code.items c.push_left.new.code.items c.in_ok-head.ensures.frame c.in_ok-push_left.ensures);
       calls = whole-calls (layout_of tac h) tac c.new-words.result.items c.push_head.new.code.items c.new-calls.result.items c.push_body.new.calls.items
           c.new-words.ensures.items c.new-calls.ensures.items c.in_ok-head.ensures.code c.in_ok-push_body.ensures.calls;

@@ -1,0 +1,212 @@
+-- A comparison and the branch on its result: two steps at once.
+use Rattle.std.proofs.Common.{◌≡◌, ℕ, suc, ◌+◌, ◌-◌, ◌^◌, ◌≤◌, Bool, false, ◌&&◌, ◌||◌, List, length, take, Option, Some, None, refl, sym, ap, ◌∙◌, subst, arith}
+use Rattle.std.specs.Prelude.{if◌then◌else◌, nat_eq, slice_get}
+use Rattle.std.proofs.lemmas.Bool.{eq-eqb}
+use Rattle.rv_isa.specs.declared.instr.Instr.{Instr}
+use Rattle.terra_words.specs.Runs.{Fault, More, Over, Returned, Stuck}
+use Rattle.terra_words.specs.Words.{applied, divides}
+use Rattle.tac_form.specs.declared.tac.Operand.TheVariants.{Temp}
+use Rattle.tac_form.specs.declared.tac.Exit.TheVariants.{Branch}
+use Rattle.tac_form.specs.declared.tac.Block.{Block}
+use Rattle.tac_form.specs.declared.tac.Tac.{Tac}
+use Rattle.tac_form.specs.Flow as tac
+use Rattle.tac_form.specs.Flow.{Goes, Program, Stops, Temps, put, step, steps, width_of}
+use Rattle.tac_form.specs.Graph.{block_of, exit_reads, graph_of, step_of}
+use Rattle.tac_form.specs.Live.{IsLive, has}
+use Rattle.tac_form.specs.Weights.{exit_words, words_of}
+use Rattle.rv_machine.specs.Machine.{State}
+use Rattle.rv_operators.specs.Runs.{Stands}
+use Rattle.rv_select.specs.declared.pairs.Pair.{Pair}
+use Rattle.rv_select.specs.Pairs.{but_pair, pair_of, plain_of, reads_of}
+use Rattle.rv_select.specs.Places.{Layout, layout_of, value_in}
+use Rattle.rv_select.specs.Shapes.{has_exit_shape, start_of}
+use Rattle.rv_select.specs.Compared.{StandsAtCompare, compared_shape}
+use Rattle.rv_select.specs.Calls.{block_starts, pair_code}
+use Rattle.rv_select.specs.Waiting.{Image, IsLinked, IsPlaced, StandsIn, Stepped, held_in, place_in, plain_in}
+use Rattle.rv_select.specs.Whole.{AreShort, steps_left}
+use Rattle.rv_select.proofs.Carries.{by-test}
+use Rattle.rv_select.proofs.Compares.{carry-leave}
+use Rattle.rv_select.proofs.Falls.{FallsIf, falls-exit, falls-inner}
+use Rattle.rv_select.proofs.Inner.{LeavesIf, Stays, leave-to}
+use Rattle.rv_select.proofs.Lives.{step-in-graph}
+use Rattle.rv_select.proofs.Pairing.{IsPair, compare_of, pair-place}
+use Rattle.rv_select.proofs.Stands.{AtExit, at-exit, instruction-within, within-parts}
+use Rattle.rv_select.proofs.Through.{left-joined, starts-small}
+use Rattle.rv_select.proofs.Unread.{unread-begins}
+
+-- three-address code behind the comparison
+abbrev after_temps : tac.State → Pair → ℕ → Temps
+after_temps s pair d =
+    put s.here.temps d (applied (width_of pair.form) pair.operator (value_in s.here.temps pair.a) (value_in s.here.temps pair.b))
+
+abbrev after_it : tac.State → Pair → ℕ → tac.State
+after_it s pair d = record s { here = record s.here { at = suc s.here.at; temps = after_temps s pair d } }
+
+abbrev stuck-at : tac.State → Pair → Bool
+stuck-at s pair = divides pair.operator && nat_eq (tac.operand s pair.b) 0
+
+-- what the two steps are
+record Couple (p : Program) (s : tac.State) (block : Block) (pair : Pair) (d : ℕ) : Type 0 where
+  here : slice_get block.instructions s.here.at ≡ Some (compare_of pair d)
+  behind : slice_get block.instructions (suc s.here.at) ≡ None
+  first : step p s ≡ (if stuck-at s pair then tac.stop s Stuck else Goes (after_it s pair d))
+  leaves : LeavesIf block.exit (after_it s pair d) (step p (after_it s pair d))
+
+couple : (p : Program) (code : Tac) (s : tac.State) (block : Block) (pair : Pair) → p.code s.here.function ≡ Some code →
+    slice_get code.blocks s.here.block ≡ Some block → slice_get (plain_of (reads_of code) block) s.here.at ≡ None →
+    s.here.at ≤ length (plain_in (reads_of code) (slice_get code.blocks s.here.block)) →
+    pair_of (reads_of code) block ≡ Some pair →
+    (k : IsPair (reads_of code) (slice_get block.instructions (length block.instructions - 1)) block.exit pair) →
+    Couple p s block pair k.result
+couple p code s block pair function in-f in-p within is k = record {
+  here = place.0;
+  behind = place.1;
+  first = let e = place.0 in rw (function, in-f, e) refl;
+  leaves = let e = place.1 in rw (function, in-f, e) (leave-to p block.exit (after_it s pair k.result) (ap has_exit_shape k.exit_is));
+}
+  where
+    plain : plain_of (reads_of code) block ≡ take (length block.instructions - 1) block.instructions
+    plain = ap (λ o. but_pair o block.instructions) is
+
+    place : (slice_get block.instructions s.here.at ≡ Some (compare_of pair k.result)) ×
+        (slice_get block.instructions (suc s.here.at) ≡ None)
+    place =
+        pair-place block.instructions (compare_of pair k.result) s.here.at k.last_is
+        (subst (λ z. s.here.at ≤ length z) plain (subst (λ o. s.here.at ≤ length (plain_in (reads_of code) o)) in-f within))
+        (ap (λ z. slice_get z s.here.at) (sym plain) ∙ in-p)
+
+-- the code of both
+pair-stands : (program : List (Option Instr)) (y : Layout) (held : Option ℕ) (at : ℕ) (starts : ℕ → ℕ) (pair : Pair) →
+    Stands program at (pair_code y held at starts pair) →
+    Stands program at (compared_shape y held at starts pair.operator pair.form pair.a pair.b pair.first pair.second)
+unfolding pair_code
+pair-stands program y held at starts pair h = h
+
+-- the machine carries out both
+pub pair-steps : (p : Program) (image : Image) (program : List (Option Instr)) (most size : ℕ) → IsLinked p image program most →
+    (s : tac.State) (base : ℕ) (m : State) (x : StandsIn p image program most size s base m) (block : Block) (pair : Pair) →
+    slice_get x.code.blocks s.here.block ≡ Some block → slice_get (plain_of (reads_of x.code) block) s.here.at ≡ None →
+    pair_of (reads_of x.code) block ≡ Some pair →
+    (k : IsPair (reads_of x.code) (slice_get block.instructions (length block.instructions - 1)) block.exit pair) →
+    Stepped p image program most size (words_of (compare_of pair k.result) + exit_words block.exit) s m (steps p 2 (Goes s))
+pair-steps p image program most size linked s base m x block pair in-f in-p is k =
+    subst (λ e. Stepped p image program most size (words_of (compare_of pair k.result) + exit_words e) s m (steps p 2 (Goes s)))
+    (sym k.exit_is)
+    (subst (λ moved. Stepped p image program most size weight s m (steps p 1 moved)) (sym both.first)
+    (by-test (λ moved. Stepped p image program most size weight s m (steps p 1 moved)) (stuck-at s pair) _ _ (λ h. tt)
+    (λ h.
+    left-joined p image program most size weight linked s (suc s.here.at) (after_temps s pair k.result) base m x block.exit
+    (step p (after_it s pair k.result)) both.leaves
+    (carry-leave p x.code (image s.here.function).homes held k.result pair.operator pair.form pair.a pair.b pair.first pair.second starts s
+    program
+    base m before))))
+  where
+    pl : IsPlaced p image program most x.code (image s.here.function)
+    pl = linked s.here.function x.code x.function
+
+    both : Couple p s block pair k.result
+    both = couple p x.code s block pair x.function in-f in-p x.before_end is k
+
+    held : Option ℕ
+    held = held_in x.code s.here.block s.here.at
+
+    starts : ℕ → ℕ
+    starts = start_of (block_starts (layout_of x.code (image s.here.function).homes) x.code (image s.here.function).at)
+
+    weight : ℕ
+    weight = words_of (compare_of pair k.result) + exit_words (Branch (Temp k.result) pair.first pair.second)
+
+    found : AtExit p image program x.code (image s.here.function) (held_in x.code s.here.block s.here.at) (Some pair) block.exit
+        (place_in p image x.code (image s.here.function) s.here.block s.here.at)
+    found = subst (λ o. AtExit p image program x.code (image s.here.function) (held_in x.code s.here.block s.here.at) o block.exit
+        (place_in p image x.code (image s.here.function) s.here.block s.here.at)) is
+        (at-exit p image program most x.code (image s.here.function) s.here.block s.here.at block pl in-f in-p)
+
+    unread : (c : ℕ) → IsLive (graph_of x.code) c 0 k.result → ⊥
+    unread c =
+        let g = step-in-graph x.code block (compare_of pair k.result) s.here.block s.here.at in-f both.here in
+        unread-begins x.code k.result s.here.block (block_of block) s.here.at (step_of (compare_of pair k.result)) k.once g.0
+        (ap (λ e. has (exit_reads e) k.result) k.exit_is ∙ ap (λ b. b || false) (eq-eqb k.result k.result refl)) g.1
+        (eq-eqb k.result k.result refl) c
+
+    before : StandsAtCompare p x.code (image s.here.function).homes (held_in x.code s.here.block s.here.at) k.result pair.operator pair.form
+        pair.a pair.b pair.first pair.second
+        (start_of (block_starts (layout_of x.code (image s.here.function).homes) x.code (image s.here.function).at)) s program base m
+    before = record {
+      block = block;
+      function = x.function;
+      in_function = in-f;
+      in_block = both.here;
+      last = both.behind;
+      is = k.exit_is;
+      compares = k.compares;
+      fits = instruction-within x.code s.here.block s.here.at block (compare_of pair k.result)
+          (within-parts p image program most x.code (image s.here.function) pl).blocks in-f both.here;
+      first_unread = unread pair.first.block;
+      second_unread = unread pair.second.block;
+      right = pl.right;
+      near = subst (λ q. q + 256 ≤ 2 ^ 30) (sym x.pc) found.near;
+      blocks = starts-small p image program most x.code s.here.function pl;
+      stands = subst (λ q. Stands program q
+          (compared_shape (layout_of x.code (image s.here.function).homes) (held_in x.code s.here.block s.here.at) q
+          (start_of (block_starts (layout_of x.code (image s.here.function).homes) x.code (image s.here.function).at)) pair.operator
+          pair.form
+          pair.a pair.b pair.first pair.second)) (sym x.pc)
+          (pair-stands program (layout_of x.code (image s.here.function).homes) (held_in x.code s.here.block s.here.at)
+          (place_in p image x.code (image s.here.function) s.here.block s.here.at)
+          (start_of (block_starts (layout_of x.code (image s.here.function).homes) x.code (image s.here.function).at)) pair found.stands);
+      holds = x.holds;
+      five = x.five;
+    }
+
+-- two steps take what both are given
+falls-both : (p : Program) (words first second : ℕ) (s t : tac.State) (moved : tac.Moved) →
+    first + steps_left p words t ≤ steps_left p words s → t.left ≡ s.left → FallsIf p words second t moved →
+    FallsIf p words (first + second) s moved
+falls-both p words first second s t (Goes u) h e g =
+    (goes (steps_left p words s) (steps_left p words t) (steps_left p words u) h g.0, subst (λ n. n ≤ suc u.left) e g.1)
+  where
+    goes : (a b c : ℕ) → first + b ≤ a → second + c ≤ b → first + second + c ≤ a
+    goes a b c i j = omega (arith, i, j)
+falls-both p words first second s t (Stops (Over (Returned v) out)) h e g = ends (steps_left p words s) (steps_left p words t) h g
+  where
+    ends : (a b : ℕ) → first + b ≤ a → second ≤ b → first + second ≤ a
+    ends a b i j = omega (arith, i, j)
+falls-both p words first second s t (Stops (Over (Fault kind at) out)) h e g = ends (steps_left p words s) (steps_left p words t) h g
+  where
+    ends : (a b : ℕ) → first + b ≤ a → second ≤ b → first + second ≤ a
+    ends a b i j = omega (arith, i, j)
+falls-both p words first second s t (Stops (Over Stuck out)) h e g = tt
+falls-both p words first second s t (Stops (More out)) h e g = tt
+
+pub falls-pair : (p : Program) (image : Image) (program : List (Option Instr)) (most size words : ℕ) → IsLinked p image program most →
+    AreShort p words → (s : tac.State) (base : ℕ) (m : State) (x : StandsIn p image program most size s base m) (block : Block)
+    (pair : Pair) →
+    slice_get x.code.blocks s.here.block ≡ Some block → slice_get (plain_of (reads_of x.code) block) s.here.at ≡ None →
+    pair_of (reads_of x.code) block ≡ Some pair →
+    (k : IsPair (reads_of x.code) (slice_get block.instructions (length block.instructions - 1)) block.exit pair) →
+    FallsIf p words (words_of (compare_of pair k.result) + exit_words block.exit) s (steps p 2 (Goes s))
+falls-pair p image program most size words linked short s base m x block pair in-f in-p is k =
+    subst (λ moved. FallsIf p words (words_of (compare_of pair k.result) + exit_words block.exit) s (steps p 1 moved)) (sym both.first)
+    (by-test (λ moved. FallsIf p words (words_of (compare_of pair k.result) + exit_words block.exit) s (steps p 1 moved))
+    (stuck-at s pair) _ _
+    (λ h. tt)
+    (λ h.
+    falls-both p words (words_of (compare_of pair k.result)) (exit_words block.exit) s (after_it s pair k.result)
+    (step p (after_it s pair k.result))
+    (falls-inner p words x.code block (compare_of pair k.result) s (Goes (after_it s pair k.result)) x.function in-f both.here stays).0 refl
+    (falls-exit p words x.code block (after_it s pair k.result) (step p (after_it s pair k.result)) x.function in-f
+    (linked s.here.function x.code x.function).counted (short s.here.function x.code x.function) both.leaves)))
+  where
+    both : Couple p s block pair k.result
+    both = couple p x.code s block pair x.function in-f in-p x.before_end is k
+
+    stays : Stays s (after_it s pair k.result)
+    stays = record {
+      temps = after_temps s pair k.result;
+      areas = s.here.areas;
+      region = s.region;
+      out = s.out;
+      is = refl;
+      long = refl;
+    }
