@@ -146,7 +146,7 @@ pub pair-sum : (f : Instruction → ℕ) (is : List Instruction) (i : Instructio
     sum_by f (take (length is - 1) is) + f i ≡ sum_by f is
 pair-sum f is i e = sum-front f is (length is - 1) i e (last-place is i e)
 
-past : {A : Type 0} (xs : List A) (k : ℕ) → slice_get xs k ≡ None → length xs ≤ k
+pub past : {A : Type 0} (xs : List A) (k : ℕ) → slice_get xs k ≡ None → length xs ≤ k
 past [] k e = omega arith
 past (x ∷ xs) zero e = cc
 past (x ∷ xs) (suc k) e = more (length xs) (past xs k e)

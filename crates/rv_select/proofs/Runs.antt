@@ -1,9 +1,10 @@
 -- Steps and runs of a program of several functions.
 use Rattle.std.proofs.Common.{◌≡◌, ◌≢◌, ℕ, zero, suc, ◌+◌, ◌-◌, ◌*◌, ◌<◌, ◌≤◌, true, List, [], ◌∷◌, ◌++◌, length, append_assoc, Option, Some, None, refl, sym, ap, ◌∙◌, subst, ⊎_elim, arith}
-use Rattle.std.specs.Prelude.{slice_get}
+use Rattle.std.specs.Prelude.{if◌then◌else◌, slice_get}
 use Rattle.std.specs.List.{list_all}
-use Rattle.std.proofs.lemmas.Bool.{cases_lt}
+use Rattle.std.proofs.lemmas.Bool.{cases_lt, eq-eqb, ne_eqb}
 use Rattle.std.proofs.lemmas.List.{append-nil}
+use Rattle.std.proofs.lemmas.Option.{slice_get_within}
 use Rattle.tl_base.specs.declared.ids.FnId.{FnId}
 use Rattle.tl_base.specs.declared.place.Place.{Place}
 use Rattle.rv_isa.specs.declared.instr.Instr.{Instr}
@@ -26,13 +27,13 @@ use Rattle.rv_select.specs.Places.{Layout, layout_of}
 use Rattle.rv_select.specs.Shapes.{has_exit_shape, has_shape, held_after, start_of}
 use Rattle.rv_select.specs.Calls.{block_code, block_has_code, block_starts, has_code, has_exit_code, head_code, instruction_code, starts_from}
 use Rattle.rv_select.specs.Waiting.{Arrives, Image, IsLinked, IsPlaced, Placed, StandsIn, Stepped, entries_of, instruction_at, place_in, plain_in}
-use Rattle.rv_select.specs.Whole.{AreShort, Ended, RunsAreCarried, StepsAreCarried, steps_left}
+use Rattle.rv_select.specs.Whole.{AreShort, Ended, RunsAreCarried, StepsAreCarried, block_count, pair_count, steps_at_once, steps_left}
 use Rattle.rv_select.proofs.Backs.{return-steps, return_most}
 use Rattle.rv_select.proofs.Calling.{call-step, taking}
 use Rattle.rv_select.proofs.Coupled.{falls-pair, pair-steps}
 use Rattle.rv_select.proofs.Falls.{FallsIf, falls-call, falls-exit, falls-inner, falls-return}
 use Rattle.rv_select.proofs.Inner.{act-stays, leave-to}
-use Rattle.rv_select.proofs.Pairing.{IsPair, compare_of, pair-parts, plain-get}
+use Rattle.rv_select.proofs.Pairing.{IsPair, compare_of, pair-parts, past, plain-get}
 use Rattle.rv_select.proofs.Stands.{both-true, list-all-get}
 use Rattle.rv_select.proofs.Through.{exit-step, inner-step}
 
@@ -82,11 +83,22 @@ pub record Done (p : Program) (image : Image) (program : List (Option Instr)) (m
     (m : State) : Type 0 where
   pub count : ℕ
   pub some : 1 ≤ count
-  pub few : count ≤ 2
+  pub count_is : count ≡ steps_at_once (p.code s.here.function) s.here.block s.here.at
   pub bound : ℕ
   pub stepped : Stepped p image program most size bound s m (steps p count (Goes s))
   pub falls : AreShort p words → FallsIf p words bound s (steps p count (Goes s))
   pub there : (out : List ℕ) → steps p count (Goes s) ≡ Stops (More out) → m.pc ≢ 0
+
+-- how many steps there are at once, by what stands at the place
+one-inside : (o : Option Pair) (k n : ℕ) → k < n → pair_count o k n ≡ 1
+one-inside None k n h = refl
+one-inside (Some pair) k n h = ap (λ b. if b then 2 else 1) (ne_eqb k n (differs h))
+  where
+    differs : k < n → k ≢ n
+    differs h e = omega (arith, h, e)
+
+two-at-end : (pair : Pair) (k n : ℕ) → k ≤ n → n ≤ k → pair_count (Some pair) k n ≡ 2
+two-at-end pair k n h g = ap (λ b. if b then 2 else 1) (eq-eqb k n (omega (arith, h, g)))
 
 pub a-step : (p : Program) (image : Image) (program : List (Option Instr)) (most size words : ℕ) → IsLinked p image program most →
     (s : tac.State) (base : ℕ) (m : State) →
@@ -99,11 +111,37 @@ a-step p image program most size words linked s base m x = in-block (slice_get x
     stuck-is : slice_get x.code.blocks s.here.block ≡ None → step p s ≡ Stops (Over Stuck s.out)
     stuck-is e = let e1 = x.function in rw (e1, e) refl
 
+    count-block : (block : Block) → slice_get x.code.blocks s.here.block ≡ Some block →
+        steps_at_once (p.code s.here.function) s.here.block s.here.at ≡
+        pair_count (pair_of (reads_of x.code) block) s.here.at (length (plain_of (reads_of x.code) block))
+    count-block block e = ap (λ o. steps_at_once o s.here.block s.here.at) x.function
+        ∙ ap (λ o. block_count (reads_of x.code) o s.here.at) e
+
+    one-here : (block : Block) (i : Instruction) → slice_get x.code.blocks s.here.block ≡ Some block →
+        slice_get (plain_of (reads_of x.code) block) s.here.at ≡ Some i → 1 ≡ steps_at_once (p.code s.here.function) s.here.block s.here.at
+    one-here block i e g =
+        sym (count-block block e ∙ one-inside (pair_of (reads_of x.code) block) s.here.at (length (plain_of (reads_of x.code) block))
+        (slice_get_within (plain_of (reads_of x.code) block) s.here.at i g))
+
+    one-alone : (block : Block) → slice_get x.code.blocks s.here.block ≡ Some block → pair_of (reads_of x.code) block ≡ None →
+        1 ≡ steps_at_once (p.code s.here.function) s.here.block s.here.at
+    one-alone block e alone =
+        sym (count-block block e ∙ ap (λ o. pair_count o s.here.at (length (plain_of (reads_of x.code) block))) alone)
+
+    two-here : (block : Block) (pair : Pair) → slice_get x.code.blocks s.here.block ≡ Some block →
+        slice_get (plain_of (reads_of x.code) block) s.here.at ≡ None → pair_of (reads_of x.code) block ≡ Some pair →
+        2 ≡ steps_at_once (p.code s.here.function) s.here.block s.here.at
+    two-here block pair e g q =
+        sym (count-block block e ∙ (ap (λ o. pair_count o s.here.at (length (plain_of (reads_of x.code) block))) q
+        ∙ two-at-end pair s.here.at (length (plain_of (reads_of x.code) block))
+        (subst (λ o. s.here.at ≤ length (plain_in (reads_of x.code) o)) e x.before_end)
+        (past (plain_of (reads_of x.code) block) s.here.at g)))
+
     stuck : slice_get x.code.blocks s.here.block ≡ None → Done p image program most size words s m
     stuck e = record {
       count = 1;
       some = omega arith;
-      few = omega arith;
+      count_is = sym (ap (λ o. steps_at_once o s.here.block s.here.at) x.function ∙ ap (λ o. block_count (reads_of x.code) o s.here.at) e);
       bound = 0;
       stepped = subst (λ moved. Stepped p image program most size 0 s m moved) (sym (stuck-is e)) tt;
       falls = λ short. subst (λ moved. FallsIf p words 0 s moved) (sym (stuck-is e)) tt;
@@ -134,7 +172,7 @@ a-step p image program most size words linked s base m x = in-block (slice_get x
     inside block i e g h = record {
       count = 1;
       some = omega arith;
-      few = omega arith;
+      count_is = one-here block i e g;
       bound = words_of i;
       stepped = inner-step p image program most size linked s base m x block i e g h;
       falls = λ short. let here = whole block i g in
@@ -148,7 +186,7 @@ a-step p image program most size words linked s base m x = in-block (slice_get x
     leaving block e g alone h = record {
       count = 1;
       some = omega arith;
-      few = omega arith;
+      count_is = one-alone block e alone;
       bound = exit_words block.exit;
       stepped = exit-step p image program most size linked s base m x block e g alone h;
       falls = λ short. falls-exit p words x.code block s (step p s) x.function e pl.counted (short s.here.function x.code x.function)
@@ -162,7 +200,7 @@ a-step p image program most size words linked s base m x = in-block (slice_get x
     returns block v e g alone is = record {
       count = 1;
       some = omega arith;
-      few = omega arith;
+      count_is = one-alone block e alone;
       bound = return_most s.callers;
       stepped = return-steps p image program most size linked s base m x block v e g alone is;
       falls = λ short. falls-return p words x.code block v s x.function e g is;
@@ -175,7 +213,7 @@ a-step p image program most size words linked s base m x = in-block (slice_get x
     calls block to place f arguments e g = record {
       count = 1;
       some = omega arith;
-      few = omega arith;
+      count_is = one-here block (Call to place f arguments) e g;
       bound = 49 + 11 * length arguments + taking (p.code f);
       stepped = call-step p image program most size linked s base m x block to place f arguments e g;
       falls = λ short. falls-call p words short x.code block to place f arguments s x.function e
@@ -219,7 +257,7 @@ a-step p image program most size words linked s base m x = in-block (slice_get x
         record {
           count = 2;
           some = omega arith;
-          few = omega arith;
+          count_is = two-here block pair e g q;
           bound = words_of (compare_of pair k.result) + exit_words block.exit;
           stepped = pair-steps p image program most size linked s base m x block pair e g q k;
           falls = λ short. falls-pair p image program most size words linked short s base m x block pair e g q k;
@@ -238,7 +276,7 @@ a-step p image program most size words linked s base m x = in-block (slice_get x
 
 pub steps-carried : StepsAreCarried
 steps-carried p image program most size s base m linked x = let d = a-step p image program most size 0 linked s base m x in
-    (d.count, d.some, d.few, d.bound, d.stepped)
+    (d.bound, subst (λ n. Stepped p image program most size d.bound s m (steps p n (Goes s))) d.count_is d.stepped)
 
 -- a run that is over stays so
 steps-stopped : (p : Program) (k : ℕ) (r : Run) → steps p k (Stops r) ≡ Stops r

@@ -13,6 +13,7 @@ use Rattle.tac_form.specs.Live.{IsLive, at_place, at_step, has, is_written, read
 use Rattle.rv_select.specs.declared.pairs.Reads.{Reads}
 use Rattle.rv_select.specs.declared.pairs.Reads.TheVariants.{Never, Once, Often}
 use Rattle.rv_select.specs.Pairs.{counted, counted_blocks, counted_steps, is_once, once_more, reads_at, reads_of}
+use Rattle.rv_select.proofs.Pairing.{past}
 
 -- how often a temporary is read
 one : (d t : ℕ) → ℕ
@@ -254,15 +255,7 @@ both-parts d (x ∷ bs) (suc j) (suc k) a b e g n =
     more : (a b c : ℕ) → a ≤ b → a ≤ c + b
     more a b c h = omega (arith, h)
 
--- a step of a place
-past : {A : Type 0} (xs : List A) (k : ℕ) → slice_get xs k ≡ None → length xs ≤ k
-past [] k e = omega arith
-past (x ∷ xs) zero e = cc
-past (x ∷ xs) (suc k) e = more (length xs) (past xs k e)
-  where
-    more : (n : ℕ) → n ≤ k → suc n ≤ suc k
-    more n h = omega (arith, h)
-
+-- nothing is any of a list where it's none of its items
 any-none : (f : ℕ → Bool) (xs : List ℕ) → ((q : ℕ) → f q ≡ false) → list_any f xs ≡ false
 any-none f [] h = refl
 any-none f (x ∷ xs) h = ap (λ z. z || list_any f xs) (h x) ∙ any-none f xs h

@@ -1,5 +1,5 @@
 -- Runs of a whole program in the machine, and how many steps they take.
-use Rattle.std.specs.Prelude.{◌≡◌, ◌≢◌, ℕ, suc, ◌+◌, ◌*◌, ◌^◌, ◌<◌, ◌≤◌, List, [], ◌∷◌, ◌++◌, length, drop, map, sum_by, Option, Some, None, slice_get}
+use Rattle.std.specs.Prelude.{◌≡◌, ◌≢◌, ℕ, suc, ◌+◌, ◌*◌, ◌^◌, ◌<◌, ◌≤◌, List, [], ◌∷◌, ◌++◌, length, drop, map, sum_by, if◌then◌else◌, nat_eq, Option, Some, None, slice_get}
 use Rattle.tl_base.specs.declared.ids.FnId.{FnId}
 use Rattle.tl_base.specs.declared.place.Place.{Place}
 use Rattle.rv_isa.specs.declared.instr.Instr.{Instr}
@@ -14,6 +14,9 @@ use Rattle.tac_form.specs.Flow as tac
 use Rattle.tac_form.specs.Flow.{Caller, Program, Goes, Stops, TacRun, enter, steps}
 use Rattle.tac_form.specs.Weights.{block_words, code_words, exit_words, words_of}
 use Rattle.terra_memory.specs.Region.{Contents, IsLawful, end_address, fresh}
+use Rattle.rv_select.specs.declared.pairs.Reads.{Reads}
+use Rattle.rv_select.specs.declared.pairs.Pair.{Pair}
+use Rattle.rv_select.specs.Pairs.{pair_of, plain_of, reads_of}
 use Rattle.rv_select.specs.Places.{AreBytes}
 use Rattle.rv_select.specs.Entering.{begun, receiving, result_words}
 use Rattle.rv_select.specs.Shapes.{place_number}
@@ -76,12 +79,26 @@ Ended program most s m (Over (Fault kind at) out) = (rest : List ℕ) × (out �
 Ended program most s m (Over Stuck out) = Unit {0}
 Ended program most s m (More out) = (rest : List ℕ) × (out ≡ s.out ++ rest) × RunGoesOn program s.left most rest m
 
--- Each step of a linked program is carried out, in a number of steps of the machine, and so are two at once: a comparison and its branch.
+-- How many steps are carried out at once from a place on: two where a comparison has one code with its branch, and else one.
+abbrev pub pair_count : Option Pair → (at plain : ℕ) → ℕ
+pair_count None at plain = 1
+pair_count (Some pair) at plain = if nat_eq at plain then 2 else 1
+
+abbrev pub block_count : List Reads → Option Block → (at : ℕ) → ℕ
+block_count reads None at = 1
+block_count reads (Some b) at = pair_count (pair_of reads b) at (length (plain_of reads b))
+
+abbrev pub steps_at_once : Option Tac → (block at : ℕ) → ℕ
+steps_at_once None b at = 1
+steps_at_once (Some code) b at = block_count (reads_of code) (slice_get code.blocks b) at
+
+-- Each step of a linked program is carried out, in a number of steps of the machine, and so are two at once where they have one code.
 abbrev pub StepsAreCarried : Type 0
 StepsAreCarried =
     (p : Program) (image : Image) (program : List (Option Instr)) (most size : ℕ) (s : tac.State) (base : ℕ) (m : State) →
     IsLinked p image program most → StandsIn p image program most size s base m →
-    (count : ℕ) × (1 ≤ count) × (count ≤ 2) × (bound : ℕ) × Stepped p image program most size bound s m (steps p count (Goes s))
+    (bound : ℕ) ×
+    Stepped p image program most size bound s m (steps p (steps_at_once (p.code s.here.function) s.here.block s.here.at) (Goes s))
 
 -- So is each run, from a state on in which the machine stands where three-address code does.
 abbrev pub RunsAreCarried : Type 0
