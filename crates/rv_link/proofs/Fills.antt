@@ -1,5 +1,5 @@
 -- A function's words, with its calls filled in, are those of its code where it stands.
-use Rattle.std.proofs.Common.{◌≡◌, ℕ, zero, suc, ◌+◌, ◌-◌, ◌*◌, ◌%◌, ◌^◌, ◌<◌, ◌≤◌, true, List, [], ◌∷◌, ◌++◌, length, take, drop, append_assoc, Option, Some, None, refl, sym, ap, ◌∙◌, subst, arith}
+use Rattle.std.proofs.Common.{◌≡◌, ℕ, zero, suc, ◌+◌, ◌-◌, ◌*◌, ◌%◌, ◌^◌, ◌<◌, ◌≤◌, Bool, true, false, List, [], ◌∷◌, ◌++◌, length, take, drop, append_assoc, Option, Some, None, refl, sym, ap, ◌∙◌, subst, arith}
 use Rattle.std.specs.Prelude.{map, slice_get}
 use Rattle.std.specs.List.{list_all}
 use Rattle.std.proofs.lemmas.Bool.{ltb-true}
@@ -7,9 +7,11 @@ use Rattle.std.proofs.lemmas.List.{append-nil, length-append, length-map, map-ap
 use Rattle.std.proofs.Math.Seq.{take-append-add}
 use Rattle.tl_base.specs.declared.ids.FnId.{FnId}
 use Rattle.rv_isa.specs.declared.instr.Instr.{Instr}
-use Rattle.rv_isa.specs.declared.instr.Instr.TheVariants.{Auipc, Jalr}
+use Rattle.rv_isa.specs.declared.instr.Instr.TheVariants.{Auipc, Jal, Jalr}
 use Rattle.rv_isa.specs.declared.instr.Instr.TheVariants as instrs
+use Rattle.rv_isa.specs.declared.operation.BranchCondition.{BranchCondition}
 use Rattle.rv_isa.specs.declared.operation.BranchCondition.TheVariants.{Ne}
+use Rattle.rv_isa.specs.declared.operand.Register.{Register}
 use Rattle.rv_isa.specs.Table.{word_of}
 use Rattle.tl_base.specs.declared.place.Place.{Place}
 use Rattle.tac_form.specs.declared.tac.Part.{Part}
@@ -27,7 +29,7 @@ use Rattle.rv_select.specs.declared.pairs.Pair.{Pair}
 use Rattle.rv_select.specs.Compared.{compared, condition_of, left_of, operands_taken, right_of}
 use Rattle.rv_select.specs.Pairs.{pair_of, plain_of}
 use Rattle.rv_select.specs.Places.{Layout, frame_bytes}
-use Rattle.rv_select.specs.Shapes.{distance, first_taken, held_after, jump, offset_of, shape_of, start_of, two_jumps, x10}
+use Rattle.rv_select.specs.Shapes.{branch_bytes, chosen, distance, first_taken, held_after, jump, jump_offset, offset_of, shape_of, start_of, x10}
 use Rattle.rv_select.specs.Entering.{left}
 use Rattle.rv_select.specs.Calls.{block_code, block_starts, blocks_calls, blocks_code, body_code, call_begun, call_ended, call_jump, end_code, exit_code, function_calls, function_code, head_code, held_behind, instruction_calls, instruction_code, instructions_calls, instructions_code, last_address, pair_code, part_taken, starts_from}
 use Rattle.rv_select.proofs.Homes.{first-few}
@@ -274,20 +276,48 @@ distance-moved b f t h =
     let same : b + t + (2 ^ 32 - (b + f)) ≡ t + (2 ^ 32 - f) = omega (arith, h) in
     ap (λ z. z % 2 ^ 32) same
 
-jump-moved : (b f t : ℕ) → b + f ≤ 2 ^ 32 → jump (b + f) (b + t) ≡ jump f t
-jump-moved b f t h = ap (λ d. Auipc x5 (upper_of d) ∷ Jalr x0 x5 (lower_of d) ∷ []) (distance-moved b f t h)
+abbrev jump-by : Bool → ℕ → List Instr
+jump-by true d = Jal x0 (jump_offset d) ∷ []
+jump-by false d = Auipc x5 (upper_of d) ∷ Jalr x0 x5 (lower_of d) ∷ []
 
-jump-from : (b f t p q : ℕ) → p ≡ b + f → q ≡ b + t → b + f ≤ 2 ^ 32 → jump p q ≡ jump f t
-jump-from b f t p q e g h = ap (λ z. jump z q) e ∙ (ap (jump (b + f)) g ∙ jump-moved b f t h)
+jump-is : (short : Bool) (f t : ℕ) → jump short f t ≡ jump-by short (distance f t)
+jump-is true f t = refl
+jump-is false f t = refl
+
+jump-moved : (short : Bool) (b f t : ℕ) → b + f ≤ 2 ^ 32 → jump short (b + f) (b + t) ≡ jump short f t
+jump-moved short b f t h = jump-is short (b + f) (b + t) ∙ (ap (jump-by short) (distance-moved b f t h) ∙ sym (jump-is short f t))
+
+jump-from : (short : Bool) (b f t p q : ℕ) → p ≡ b + f → q ≡ b + t → b + f ≤ 2 ^ 32 → jump short p q ≡ jump short f t
+jump-from short b f t p q e g h = ap (λ z. jump short z q) e ∙ (ap (jump short (b + f)) g ∙ jump-moved short b f t h)
+
+-- so are a branch and its two jumps
+bytes-few : (short : Bool) → branch_bytes short ≤ 12
+bytes-few true = omega arith
+bytes-few false = omega arith
+
+chosen-moved : (short : Bool) (condition : BranchCondition) (x y : Register) (b at n first second to other : ℕ) → b + at + n + 12 ≤ 2 ^ 32 →
+    to ≡ b + first → other ≡ b + second →
+    chosen short condition x y (b + at + n) to other ≡ chosen short condition x y (at + n) first second
+chosen-moved short condition x y b at n first second to other near g h =
+    let over : ℕ = branch_bytes short in
+    let head : Instr = instrs.Branch condition x y (offset_of over) in
+    let few : branch_bytes short ≤ 12 = bytes-few short in
+    let one : b + at + n + 4 ≡ b + (at + n + 4) = omega arith in
+    let next : b + at + n + over ≡ b + (at + n + over) = omega arith in
+    ap (λ z. head ∷ (z ++ jump short (b + at + n + over) to))
+    (jump-from short b (at + n + 4) second (b + at + n + 4) other one h (omega (arith, near)))
+    ∙ ap (λ z. head ∷ (jump short (at + n + 4) second ++ z))
+    (jump-from short b (at + n + over) first (b + at + n + over) to next g (omega (arith, near, few)))
 
 -- an exit's code is the same where it, the blocks and the function's end are moved
-exit-moved : (code : Tac) (y : Layout) (held : Option ℕ) (b at last : ℕ) (starts moved : ℕ → ℕ) (e : Exit) →
+exit-moved : (code : Tac) (y : Layout) (short : Bool) (held : Option ℕ) (b at last : ℕ) (starts moved : ℕ → ℕ) (e : Exit) →
     ((k : ℕ) → k < length code.blocks → moved k ≡ b + starts k) → exit_there code e ≡ true → b + at + 64 ≤ 2 ^ 32 →
-    exit_code y held (b + at) moved (b + last) e ≡ exit_code y held at starts last e
-exit-moved code y held b at last starts moved (Jump e) same fits near =
-    jump-from b at (starts e.block) (b + at) (moved e.block) refl (same e.block (ltb-true e.block (length code.blocks) fits)) (omega (arith, near))
-exit-moved code y held b at last starts moved (Branch a e f) same fits near =
-    ap (λ z. T ++ z) (two (4 * length T) (starts e.block) (starts f.block) (moved e.block) (moved f.block) (omega (arith, few))
+    exit_code y short held (b + at) moved (b + last) e ≡ exit_code y short held at starts last e
+exit-moved code y short held b at last starts moved (Jump e) same fits near =
+    jump-from short b at (starts e.block) (b + at) (moved e.block) refl (same e.block (ltb-true e.block (length code.blocks) fits)) (omega (arith, near))
+exit-moved code y short held b at last starts moved (Branch a e f) same fits near =
+    ap (λ z. T ++ z)
+    (chosen-moved short Ne x5 x0 b at (4 * length T) (starts e.block) (starts f.block) (moved e.block) (moved f.block) (omega (arith, near, few))
     (same e.block (ltb-true e.block (length code.blocks) parts.0)) (same f.block (ltb-true f.block (length code.blocks) parts.1)))
   where
     T : List Instr
@@ -298,44 +328,25 @@ exit-moved code y held b at last starts moved (Branch a e f) same fits near =
 
     parts : (edge_there code e ≡ true) × (edge_there code f ≡ true)
     parts = both-true (edge_there code e) (edge_there code f) fits
-
-    two : (n first second to other : ℕ) → n ≤ 32 → to ≡ b + first → other ≡ b + second →
-        two_jumps (b + at + n) to other ≡ two_jumps (at + n) first second
-    two n first second to other small g h =
-        let one : b + at + n + 4 ≡ b + (at + n + 4) = omega arith in
-        let next : b + at + n + 12 ≡ b + (at + n + 12) = omega arith in
-        ap (λ z. instrs.Branch Ne x5 x0 (offset_of 12) ∷ (z ++ jump (b + at + n + 12) to))
-        (jump-from b (at + n + 4) second (b + at + n + 4) other one h (omega (arith, near, small)))
-        ∙ ap (λ z. instrs.Branch Ne x5 x0 (offset_of 12) ∷ (jump (at + n + 4) second ++ z))
-        (jump-from b (at + n + 12) first (b + at + n + 12) to next g (omega (arith, near, small)))
-exit-moved code y held b at last starts moved (Return v) same fits near =
+exit-moved code y short held b at last starts moved (Return v) same fits near =
     let P : List Instr = part_taken y x10 v in
     let few : length P ≤ 8 = part-count y x10 v in
     let sum : b + at + 4 * length P ≡ b + (at + 4 * length P) = omega arith in
-    ap (λ z. P ++ z) (jump-from b (at + 4 * length P) last (b + at + 4 * length P) (b + last) sum refl (omega (arith, near, few)))
-exit-moved code y held b at last starts moved (Fail kind place) same fits near = refl
+    ap (λ z. P ++ z) (jump-from short b (at + 4 * length P) last (b + at + 4 * length P) (b + last) sum refl (omega (arith, near, few)))
+exit-moved code y short held b at last starts moved (Fail kind place) same fits near = refl
 
 -- and so is that of a comparison and its branch
-jumps-moved : (head : Instr) (b at n first second to other : ℕ) → b + at + n + 76 ≤ 2 ^ 32 → to ≡ b + first → other ≡ b + second →
-    head ∷ (jump (b + at + n + 4) other ++ jump (b + at + n + 12) to) ≡ head ∷ (jump (at + n + 4) second ++ jump (at + n + 12) first)
-jumps-moved head b at n first second to other near g h =
-    let one : b + at + n + 4 ≡ b + (at + n + 4) = omega arith in
-    let next : b + at + n + 12 ≡ b + (at + n + 12) = omega arith in
-    ap (λ z. head ∷ (z ++ jump (b + at + n + 12) to)) (jump-from b (at + n + 4) second (b + at + n + 4) other one h (omega (arith, near)))
-    ∙ ap (λ z. head ∷ (jump (at + n + 4) second ++ z)) (jump-from b (at + n + 12) first (b + at + n + 12) to next g (omega (arith, near)))
-
-end-moved : (code : Tac) (y : Layout) (held : Option ℕ) (b at last : ℕ) (starts moved : ℕ → ℕ) (k : Block) (o : Option Pair) →
+end-moved : (code : Tac) (y : Layout) (short : Bool) (held : Option ℕ) (b at last : ℕ) (starts moved : ℕ → ℕ) (k : Block) (o : Option Pair) →
     pair_of y.reads k ≡ o →
     ((j : ℕ) → j < length code.blocks → moved j ≡ b + starts j) → block_there code k ≡ true →
-    b + at + 4 * length (end_code y held at starts last o k.exit) + 64 ≤ 2 ^ 32 →
-    end_code y held (b + at) moved (b + last) o k.exit ≡ end_code y held at starts last o k.exit
+    b + at + 4 * length (end_code y short held at starts last o k.exit) + 64 ≤ 2 ^ 32 →
+    end_code y short held (b + at) moved (b + last) o k.exit ≡ end_code y short held at starts last o k.exit
 unfolding pair_code
-end-moved code y held b at last starts moved k None q same fits near =
-    exit-moved code y held b at last starts moved k.exit same fits (omega (arith, near))
-end-moved code y held b at last starts moved k (Some pair) q same fits near =
+end-moved code y short held b at last starts moved k None q same fits near =
+    exit-moved code y short held b at last starts moved k.exit same fits (omega (arith, near))
+end-moved code y short held b at last starts moved k (Some pair) q same fits near =
     ap (λ z. T ++ z)
-    (jumps-moved (instrs.Branch (condition_of pair.form.signed pair.operator) (left_of pair.operator) (right_of pair.operator)
-    (offset_of 12)) b at
+    (chosen-moved short (condition_of pair.form.signed pair.operator) (left_of pair.operator) (right_of pair.operator) b at
     (4 * length T) (starts pair.first.block) (starts pair.second.block) (moved pair.first.block) (moved pair.second.block) room
     (same pair.first.block (ltb-true pair.first.block (length code.blocks) parts.0))
     (same pair.second.block (ltb-true pair.second.block (length code.blocks) parts.1)))
@@ -343,14 +354,13 @@ end-moved code y held b at last starts moved k (Some pair) q same fits near =
     T : List Instr
     T = operands_taken y held pair.a pair.b
 
-    room : b + at + 4 * length (operands_taken y held pair.a pair.b) + 76 ≤ 2 ^ 32
+    room : b + at + 4 * length (operands_taken y held pair.a pair.b) + 12 ≤ 2 ^ 32
     room =
-        let count : length (operands_taken y held pair.a pair.b
-        ++ compared pair.form.signed pair.operator (at + 4 * length (operands_taken y held pair.a pair.b)) (starts pair.first.block)
-        (starts pair.second.block))
-        ≡ length (operands_taken y held pair.a pair.b) + 5 =
+        let count : length (end_code y short held at starts last (Some pair) k.exit) ≡ length (operands_taken y held pair.a pair.b) + length
+        (compared short pair.form.signed pair.operator (at + 4 * length (operands_taken y held pair.a pair.b)) (starts pair.first.block)
+        (starts pair.second.block)) =
         length-append (operands_taken y held pair.a pair.b)
-        (compared pair.form.signed pair.operator (at + 4 * length (operands_taken y held pair.a pair.b)) (starts pair.first.block)
+        (compared short pair.form.signed pair.operator (at + 4 * length (operands_taken y held pair.a pair.b)) (starts pair.first.block)
         (starts pair.second.block)) in
         omega (arith, near, count)
 
@@ -372,7 +382,7 @@ fill-block code places others agree base y sizes from end last starts moved cs k
     let A : List Instr = instructions_code y sizes (λ f. 0) (4 * from) None is in
     let P : List Instr = instructions_code y sizes others (base + 4 * from) None is in
     let held : Option ℕ = held_behind None is in
-    let E : List Instr = end_code y held (4 * from + 4 * length A) starts last o k.exit in
+    let E : List Instr = end_code y y.short held (4 * from + 4 * length A) starts last o k.exit in
     let long : length P ≡ length A = instructions-length y sizes others (λ f. 0) (base + 4 * from) (4 * from) None is in
     let count : length (A ++ E) ≡ length A + length E = length-append A E in
     let index : from + length A + length (words E) ≡ from + length (A ++ E) = omega (arith, count, words-length E) in
@@ -380,9 +390,9 @@ fill-block code places others agree base y sizes from end last starts moved cs k
     let one = fill-instructions places others agree base y sizes from end cs None is
     (in-less (from + length (A ++ E)) (from + length A) end cs (omega (arith, count)) h) in
     let address : base + 4 * from + 4 * length P ≡ base + (4 * from + 4 * length A) = omega (arith, long) in
-    let exit : end_code y held (base + 4 * from + 4 * length P) moved (base + last) o k.exit ≡ E =
-    ap (λ z. end_code y held z moved (base + last) o k.exit) address
-    ∙ end-moved code y held base (4 * from + 4 * length A) last starts moved k o refl same fits (omega (arith, near, count)) in
+    let exit : end_code y y.short held (base + 4 * from + 4 * length P) moved (base + last) o k.exit ≡ E =
+    ap (λ z. end_code y y.short held z moved (base + last) o k.exit) address
+    ∙ end-moved code y y.short held base (4 * from + 4 * length A) last starts moved k o refl same fits (omega (arith, near, count)) in
     subst (λ z. Filled places base y sizes from end cs (A ++ E) (P ++ z) (instructions_calls y sizes from None (plain_of y.reads k)))
     (sym exit)
     (record {

@@ -1,5 +1,5 @@
 -- Bytes of the heap.
-use Rattle.std.proofs.Common.{◌≡◌, ◌≢◌, ℕ, ◌+◌, ◌-◌, ◌*◌, ◌/◌, ◌%◌, ◌^◌, ◌<◌, ◌≤◌, true, false, pos, negsuc, List, [], ◌∷◌, ◌++◌, length, take, drop, Option, Some, refl, sym, ap, ◌∙◌, subst, ⊎_elim, arith}
+use Rattle.std.proofs.Common.{◌≡◌, ◌≢◌, ℕ, ◌+◌, ◌-◌, ◌*◌, ◌/◌, ◌%◌, ◌^◌, ◌<◌, ◌≤◌, true, false, pos, negsuc, List, ◌∷◌, ◌++◌, length, take, drop, Option, Some, refl, sym, ap, ◌∙◌, subst, ⊎_elim, arith}
 use Rattle.std.specs.Prelude.{if◌then◌else◌, nat_lt}
 use Rattle.std.proofs.lemmas.Bool.{cases_lt, le-leb, le-ltb, lt-leb, lt-ltb}
 use Rattle.rv_isa.specs.declared.instr.Instr.{Instr}
@@ -15,7 +15,7 @@ use Rattle.terra_memory.specs.Region.{Contents, aligned, alloc_of, first_address
 use Rattle.terra_words.specs.Words.{signed}
 use Rattle.tac_form.specs.declared.tac.Operand.{Operand}
 use Rattle.tac_form.specs.declared.tac.Instruction.TheVariants as instructions
-use Rattle.tac_form.specs.Weights.{operand_words, words_of}
+use Rattle.tac_form.specs.Weights.{words_of}
 use Rattle.rv_machine.specs.Word.{low, difference}
 use Rattle.rv_machine.specs.Arithmetic.{shifted_left, shifted_right}
 use Rattle.rv_machine.specs.Machine.{GoesOn, State, act, at_with, fetch, run_of}
@@ -23,8 +23,8 @@ use Rattle.rv_operators.specs.Codes.{x0, x5, x6}
 use Rattle.rv_operators.specs.Runs.{Stands}
 use Rattle.rv_select.specs.Numbers.{immediate_of, upper_of}
 use Rattle.rv_select.specs.Places.{AreBytes, Holds, Housed, IsHeld, IsHome, IsRead, Keeps, Layout, World, area_offset, frame_bytes, home_of, slot_offset, value_in, word_at}
-use Rattle.rv_select.specs.Shapes.{allocated, first_taken, four, moved, offset_of, put_to, taken, two, x3, x4, x7}
-use Rattle.rv_select.specs.Steps.{Comes, Follows, behind, with_temp}
+use Rattle.rv_select.specs.Shapes.{allocated, first_taken, four, moved, offset_of, put_to, two, x3, x4, x7}
+use Rattle.rv_select.specs.Steps.{Follows, behind, with_temp}
 use Rattle.rv_select.proofs.Claims.{Gives, with_region}
 use Rattle.rv_select.proofs.Straight.{Loads, behind-both, loads-five, low-below, low-small, written-elsewhere}
 use Rattle.rv_select.proofs.Numbers.{immediate-is}

@@ -32,7 +32,7 @@ use Rattle.rv_machine.specs.Machine as machine
 use Rattle.rv_machine.specs.declared.stops.Stop.TheVariants as stops
 use Rattle.rv_operators.specs.Runs.{Stands}
 use Rattle.rv_select.specs.Pairs.{pair_of, plain_of, reads_of}
-use Rattle.rv_select.specs.Places.{AreBytes, Holds, Housed, IsHeld, Layout, World, area_offset, frame_bytes, home_of, layout_of, private_word}
+use Rattle.rv_select.specs.Places.{is_short, AreBytes, Holds, Housed, IsHeld, Layout, World, area_offset, frame_bytes, home_of, layout_of, private_word}
 use Rattle.rv_select.specs.Shapes.{put_to}
 use Rattle.rv_select.specs.Steps.{Comes, world_of}
 use Rattle.rv_select.specs.Calls.{blocks_length, call_begun, call_ended, call_jump, head_code, last_address}
@@ -49,6 +49,7 @@ use Rattle.rv_select.proofs.Passes.{IsPartRead, part_value}
 use Rattle.rv_select.proofs.Receives.{housed-fewer}
 use Rattle.rv_select.proofs.Returns.{BackIn, HeldIn, Resumes, UsedBut, back-holds, goes-back, resumes}
 use Rattle.rv_select.proofs.Stands.{AtExit, AtPlace, at-plain-exit, at-instruction, both-true, exit-within, instruction-within, the-function, within-parts}
+use Rattle.rv_select.proofs.Reached.{short-bytes}
 use Rattle.rv_select.proofs.Waits.{SameAbove, restored-same, waits-keeps, waits-same, waits-within}
 use Rattle.rv_select.proofs.Ways.{Way, near-same, way-both, way-none}
 
@@ -507,6 +508,9 @@ return-steps p image program most size linked s base m x block v in-f in-b alone
         (within-parts p image program most x.code (image s.here.function) (linked s.here.function x.code x.function)).blocks in-f)
         in-f in-b is
 
+    last-reach : (at pc last : ℕ) → at ≤ pc → pc ≤ last → last ≤ at + 2 ^ 19 → (pc ≤ last) × (last ≤ pc + 2 ^ 19)
+    last-reach at pc last a b c = (b, omega (arith, a, c))
+
     last-even : (at n : ℕ) → at % 4 ≡ 0 → (at + 4 * n) % 2 ≡ 0
     last-even at n e = omega (arith, e)
 
@@ -534,10 +538,12 @@ return-steps p image program most size linked s base m x block v in-f in-b alone
         let here : AtExit p image program x.code (image s.here.function) held None (Return v) m.pc =
         subst (λ q. AtExit p image program x.code (image s.here.function) held None (Return v) q) (sym x.pc) at in
         goes-back program y (InUse (graph_of x.code) s.here.block s.here.at) (world_of s) base x.code.frame
-        (last_address y x.code (image s.here.function).at) link 0 v m x.holds
+        (last_address y x.code (image s.here.function).at) link 0 v m (is_short x.code) x.holds
         (housed x.code (image s.here.function).homes s.here.block s.here.at pl.right) reads here.near
         (last-small (last_address y x.code (image s.here.function).at) f.near)
         (last-even (image s.here.function).at (length (head_code y x.code) + blocks_length y x.code.areas x.code.blocks) pl.aligned)
+        (λ short. last-reach (image s.here.function).at m.pc (last_address y x.code (image s.here.function).at) here.low here.high
+        (short-bytes p image program most x.code (image s.here.function) pl short))
         (placed-small (s.here.base + x.code.frame) (length s.region.bytes) x.frame x.holds.lawful.sized.2) e even small here.stands f.leaves
 
     go : (cs : List Caller) → s.callers ≡ cs →

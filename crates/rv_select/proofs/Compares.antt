@@ -5,11 +5,9 @@ use Rattle.std.specs.List.{list_any}
 use Rattle.std.proofs.lemmas.Bool.{eq-eqb, ne_eqb, eqb-true}
 use Rattle.std.proofs.lemmas.List.{length-append}
 use Rattle.rv_isa.specs.declared.instr.Instr.{Instr}
-use Rattle.rv_isa.specs.declared.operation.BranchCondition.{BranchCondition}
-use Rattle.rv_isa.specs.declared.operand.Register.{Register}
 use Rattle.rv_isa.specs.Table.{word_of}
 use Rattle.reg_alloc.specs.declared.assignment.Home.{Home}
-use Rattle.rv_machine.specs.Word.{low, signed}
+use Rattle.rv_machine.specs.Word.{signed}
 use Rattle.rv_machine.specs.Arithmetic.{is_taken}
 use Rattle.rv_machine.specs.Machine.{State, value_at}
 use Rattle.terra_words.specs.declared.words.Width.{Width}
@@ -28,26 +26,24 @@ use Rattle.tac_form.specs.Flow.{Goes, Program, put, step, steps, width_of}
 use Rattle.terra_words.specs.Runs.{Stuck}
 use Rattle.tac_form.specs.Graph.{block_of, exit_next, graph_of, instruction_reads, operand_reads, step_of}
 use Rattle.tac_form.specs.Live.{InUse, IsLive, has, read_within}
-use Rattle.tac_form.specs.Fits.{operand_fits}
+use Rattle.tac_form.specs.Fits.{edge_fits, operand_fits}
 use Rattle.tac_form.specs.Weights as weights
 use Rattle.tac_form.specs.Weights.{exit_words, words_of}
-use Rattle.rv_operators.specs.Codes.{is_comparison, x5, x6}
-use Rattle.rv_operators.specs.Runs.{Stands}
+use Rattle.rv_operators.specs.Codes.{is_comparison, x6}
 use Rattle.rv_operators.proofs.Values.{signed-less}
-use Rattle.rv_select.specs.Places.{Holds, Housed, IsRead, Layout, World, layout_of, value_in}
-use Rattle.rv_select.specs.Shapes.{first_taken, jump, taken}
-use Rattle.rv_select.specs.Compared.{ComparesAreCarried, ComparesKeepWithin, StandsAtCompare, below_condition, chosen, compared, condition_of, least_condition, left_of, operands_taken, right_of}
+use Rattle.rv_select.specs.Places.{Holds, Housed, IsRead, Layout, World, is_short, layout_of, value_in}
+use Rattle.rv_select.specs.Shapes.{first_taken, taken}
+use Rattle.rv_select.specs.Compared.{ComparesAreCarried, ComparesKeepWithin, StandsAtCompare, below_condition, compared, compared_shape, condition_of, least_condition, left_of, operands_taken, right_of}
 use Rattle.rv_select.specs.Steps.{AreFewer, Comes, Left, with_temp, world_of}
 use Rattle.rv_select.proofs.Straight.{Loads, Scratch, loads-five, loads-six, scratch-both}
-use Rattle.rv_select.proofs.Ways.{Near, Way, at_pc, near-both, near-pc, scratch-near, stands-back, stands-front, straight-way, way-both}
 use Rattle.rv_select.proofs.Homes.{first-count, first-few, operand-count, take-first, take-operand, taken-count}
 use Rattle.rv_select.proofs.Moves.{scratch-holds, value-small}
 use Rattle.rv_select.proofs.Numbers.{pushed_words}
-use Rattle.rv_select.proofs.Faults.{branch-way}
 use Rattle.rv_select.proofs.Areas.{put-other}
 use Rattle.rv_select.proofs.Lives.{housed, read-live, step-in-graph, use-follows}
 use Rattle.rv_select.proofs.Carries.{both-true, by-test, has-left, has-right, operand-read}
-use Rattle.rv_select.proofs.Leaves.{exit-in-graph, jump-comes, low-near, next-live, or-left, or-second, zero-or-more}
+use Rattle.rv_select.proofs.Leaves.{chosen-comes, edge-reach, exit-in-graph, next-live, or-left, or-second, zero-or-more}
+use Rattle.rv_select.proofs.Jumps.{chosen-count, jump-few, jump_words}
 
 -- the result of a comparison, as its branch sees it
 flag-is : (b : Bool) → not (nat_eq (flag b) 0) ≡ b
@@ -84,41 +80,6 @@ compare-is w And x y c h k m e g = cc
 compare-is w Or x y c h k m e g = cc
 compare-is w ShiftLeft x y c h k m e g = cc
 compare-is w ShiftRight x y c h k m e g = cc
-
--- a branch on two registers, and the jump that it comes to
-chosen-comes : (y : Layout) (Used Next : ℕ → Type 0) (w : World) (base first second to weight : ℕ) (condition : BranchCondition) (a b : Register) (taken_it : Bool) (A : List Instr) (program : List (Option Instr)) (m k : State) →
-    Scratch A m k → Holds y Used w base m → Housed y Used → AreFewer Used Next → length A + 3 ≤ weight → length A ≤ 16 → m.pc + 256 ≤ 2 ^ 30 →
-    (first < 2 ^ 30) × (first % 2 ≡ 0) → (second < 2 ^ 30) × (second % 2 ≡ 0) → Stands program m.pc (A ++ chosen condition a b (m.pc + 4 * length A) first second) →
-    is_taken condition (value_at k a) (value_at k b) ≡ taken_it → (if taken_it then first else second) ≡ to → Comes y program Next w base weight to [] m
-chosen-comes y Used Next w base first second to weight condition a b taken_it A program m k l p h f enough short near first-near second-near there e is =
-    let at : ℕ = m.pc + 4 * length A in
-    let at-is : k.pc ≡ at = l.behind ∙ low-near at (omega arith) in
-    let B : List Instr = chosen condition a b at first second in
-    let rest : Stands program k.pc B = subst (λ q. Stands program q B) (sym l.behind) (stands-back program m.pc A B p.pc there) in
-    let one : Way program (length A) m k = straight-way program A m k (stands-front program m.pc A B there) l.straight l.goes in
-    let t : ℕ = if taken_it then low (k.pc + 12) else low (k.pc + 4) in
-    let n : State = at_pc k t in
-    let two : Way program 1 k n = branch-way program condition a b 12 k taken_it (omega arith) (omega arith) rest.0 e in
-    let way : Way program (length A + 1) m n = way-both program (length A) 1 m k n one two in
-    let around : Near m n = near-both m k n (scratch-near A m k l) (near-pc k t) in
-    let next : low (k.pc + 4) ≡ at + 4 = ap (λ q. low (q + 4)) at-is ∙ low-near (at + 4) (omega arith) in
-    let both : Stands program (at + 4) (jump (at + 4) second ++ jump (at + 12) first) = subst (λ q. Stands program q (jump (at + 4) second ++ jump (at + 12) first)) next rest.1 in
-    let third : low (at + 4 + 4 * 2) ≡ at + 12 = low-near (at + 4 + 4 * 2) (omega arith) ∙ omega arith in
-    let last : Stands program (at + 12) (jump (at + 12) first) =
-    subst (λ q. Stands program q (jump (at + 12) first)) third (stands-back program (at + 4) (jump (at + 4) second) (jump (at + 12) first) (omega arith) both) in
-    let nearer : Stands program (at + 4) (jump (at + 4) second) = stands-front program (at + 4) (jump (at + 4) second) (jump (at + 12) first) both in
-    let far-is : low (k.pc + 12) ≡ at + 12 = ap (λ q. low (q + 12)) at-is ∙ low-near (at + 12) (omega arith) in
-    choose taken_it n around way next far-is nearer last is refl
-  where
-    choose : (t : Bool) (n : State) → Near m n → Way program (length A + 1) m n → low (k.pc + 4) ≡ m.pc + 4 * length A + 4 → low (k.pc + 12) ≡ m.pc + 4 * length A + 12 →
-        Stands program (m.pc + 4 * length A + 4) (jump (m.pc + 4 * length A + 4) second) → Stands program (m.pc + 4 * length A + 12) (jump (m.pc + 4 * length A + 12) first) →
-        (if t then first else second) ≡ to → n.pc ≡ (if t then low (k.pc + 12) else low (k.pc + 4)) → Comes y program Next w base weight to [] m
-    choose true n around way i j c d is pc =
-        subst (λ q. Comes y program Next w base weight q [] m) is
-        (jump-comes y Used Next w base (length A + 1) weight (m.pc + 4 * length A + 12) first program m n p h f way around (pc ∙ j) (omega arith) first-near.0 first-near.1 d (omega arith))
-    choose false n around way i j c d is pc =
-        subst (λ q. Comes y program Next w base weight q [] m) is
-        (jump-comes y Used Next w base (length A + 1) weight (m.pc + 4 * length A + 4) second program m n p h f way around (pc ∙ i) (omega arith) second-near.0 second-near.1 c (omega arith))
 
 -- what is in use but for a temporary
 abbrev without : (ℕ → Type 0) → ℕ → ℕ → Type 0
@@ -204,6 +165,12 @@ module _ (p : Program) (code : Tac) (homes : List (Option Home)) (held : Option 
   read-b : IsRead used b
   read-b = operand-read code used b fits-both.1 (λ t u. reads-here t (has-right (operand_reads a) (operand_reads b) t u))
 
+  fit-e : edge_fits code e ≡ true
+  fit-e = (both-true (operand_fits code (Temp d)) (edge_fits code e) (both-true (operand_fits code (Temp d) && edge_fits code e) (edge_fits code f) x.there).0).1
+
+  fit-f : edge_fits code f ≡ true
+  fit-f = (both-true (operand_fits code (Temp d) && edge_fits code e) (edge_fits code f) x.there).1
+
   compare-comes : (taken_it : Bool) (c : ℕ) → not (nat_eq result 0) ≡ taken_it → (if taken_it then e.block else f.block) ≡ c → (IsLive (graph_of code) c 0 d → ⊥) →
       ((q : ℕ → Bool) → q c ≡ true → list_any q (exit_next (Branch (Temp d) e f)) ≡ true) → Comes y program (InUse (graph_of code) c 0) (world_of after_it) base weight (starts c) [] m
   compare-comes taken_it c is block unread h =
@@ -215,9 +182,10 @@ module _ (p : Program) (code : Tac) (homes : List (Option Home)) (held : Option 
       let count : length A ≤ weights.operand_words a + weights.operand_words b =
       omega (arith, length-append (first_taken y held a) (taken y x6 b), first-count y held a, operand-count y x6 b) in
       let few : length A ≤ 16 = omega (arith, length-append (first_taken y held a) (taken y x6 b), first-few y held a, taken-count y x6 b) in
-      chosen-comes y (without used d) (InUse (graph_of code) c 0) (world_of after_it) base (starts e.block) (starts f.block) (starts c) weight (condition_of form.signed op) (left_of op) (right_of op) taken_it A program m k.after
+      chosen-comes y (without used d) (InUse (graph_of code) c 0) (world_of after_it) base (starts e.block) (starts f.block) (starts c) weight (is_short code)
+      (condition_of form.signed op) (left_of op) (right_of op) taken_it A program m k.after
       both (unread-holds y used (world_of s) base d result m x.holds) (record { homes = λ t u. all-housed.homes t u.0; apart = λ t u i j g. all-housed.apart t u i.0 j.0 g }) (next-here c unread h)
-      (omega arith) few x.near (x.blocks e.block) (x.blocks f.block) x.stands
+      (omega (arith, count)) few x.near (x.blocks e.block) (x.blocks f.block) (edge-reach code starts m.pc e x.reach fit-e) (edge-reach code starts m.pc f x.reach fit-f) x.stands
       (compare-is (width_of form) op va vb x.compares (value-small used y (world_of s) base m a x.holds read-a) (value-small used y (world_of s) base m b x.holds read-b) k.after five k.gives ∙ is)
       (chosen-start taken_it c block)
     where
@@ -259,16 +227,22 @@ compares p code homes held d op form a b e f starts s program base m x =
     (by-test (λ moved. Left (layout_of code homes) (graph_of code) program base (words_of (Compute d op form a b) + exit_words (Branch (Temp d) e f)) starts s m (steps p 1 moved)) zero _ _ (λ h. tt) (λ h. leave))
 
 -- how many words there are
-compared-count : (y : Layout) (held : Option ℕ) (signed : Bool) (op : BinaryOperator) (a b : Operand) (at first second : ℕ) → length (operands_taken y held a b ++ compared signed op at first second) ≡ length (operands_taken y held a b) + 5
-compared-count y held signed op a b at first second = length-append (operands_taken y held a b) (compared signed op at first second)
+compared-count : (y : Layout) (short : Bool) (held : Option ℕ) (signed : Bool) (op : BinaryOperator) (a b : Operand) (at first second : ℕ) →
+    length (operands_taken y held a b ++ compared short signed op at first second) ≡
+    length (operands_taken y held a b) + (1 + jump_words short + jump_words short)
+compared-count y short held signed op a b at first second =
+    length-append (operands_taken y held a b) (compared short signed op at first second)
+    ∙ ap (λ n. length (operands_taken y held a b) + n) (chosen-count short (condition_of signed op) (left_of op) (right_of op) at first second)
 
 pub compares-within : ComparesKeepWithin
-compares-within y held d op form a b e f at other starts others = (
-  omega (arith, compared-count y held form.signed op a b (at + 4 * length (operands_taken y held a b)) (starts e.block) (starts f.block), length-append (first_taken y held a) (taken y x6 b), first-few y held a, taken-count y x6 b),
-  omega (arith, compared-count y held form.signed op a b (at + 4 * length (operands_taken y held a b)) (starts e.block) (starts f.block), length-append (first_taken y held a) (taken y x6 b), first-count y held a, operand-count y x6 b),
-  compared-count y held form.signed op a b (at + 4 * length (operands_taken y held a b)) (starts e.block) (starts f.block)
-      ∙ sym (compared-count y held form.signed op a b (other + 4 * length (operands_taken y held a b)) (others e.block) (others f.block)),
-)
+compares-within y short held d op form a b e f at other starts others =
+    let n : length (compared_shape y short held at starts op form a b e f) ≡ length (operands_taken y held a b) + (1 + jump_words short + jump_words short) =
+    compared-count y short held form.signed op a b (at + 4 * length (operands_taken y held a b)) (starts e.block) (starts f.block) in
+    let few : jump_words short ≤ 2 = (jump-few short).1 in (
+      omega (arith, n, few, length-append (first_taken y held a) (taken y x6 b), first-few y held a, taken-count y x6 b),
+      omega (arith, n, few, length-append (first_taken y held a) (taken y x6 b), first-count y held a, operand-count y x6 b),
+      n ∙ sym (compared-count y short held form.signed op a b (other + 4 * length (operands_taken y held a b)) (others e.block) (others f.block)),
+    )
 
 pub operand_words : (old : List ℕ) (y : Layout) (held : Option ℕ) (a b : Operand) →
     (length (old ++ map word_of (operands_taken y held a b)) ≡ length old + length (operands_taken y held a b)) × (length (operands_taken y held a b) ≤ 16)

@@ -1,5 +1,5 @@
 -- A comparison and the branch on its result: two steps at once.
-use Rattle.std.proofs.Common.{◌≡◌, ℕ, suc, ◌+◌, ◌-◌, ◌^◌, ◌≤◌, Bool, false, ◌&&◌, ◌||◌, List, length, take, Option, Some, None, refl, sym, ap, ◌∙◌, subst, arith}
+use Rattle.std.proofs.Common.{◌≡◌, ℕ, suc, ◌+◌, ◌-◌, ◌^◌, ◌≤◌, Bool, true, false, ◌&&◌, ◌||◌, List, length, take, Option, Some, None, refl, sym, ap, ◌∙◌, subst, arith}
 use Rattle.std.specs.Prelude.{if◌then◌else◌, nat_eq, slice_get}
 use Rattle.std.proofs.lemmas.Bool.{eq-eqb}
 use Rattle.rv_isa.specs.declared.instr.Instr.{Instr}
@@ -13,12 +13,14 @@ use Rattle.tac_form.specs.Flow as tac
 use Rattle.tac_form.specs.Flow.{Goes, Program, Stops, Temps, put, step, steps, width_of}
 use Rattle.tac_form.specs.Graph.{block_of, exit_reads, graph_of, step_of}
 use Rattle.tac_form.specs.Live.{IsLive, has}
+use Rattle.tac_form.specs.Fits.{exit_fits}
+use Rattle.rv_select.specs.Steps.{IsReached}
 use Rattle.tac_form.specs.Weights.{exit_words, words_of}
 use Rattle.rv_machine.specs.Machine.{State}
 use Rattle.rv_operators.specs.Runs.{Stands}
 use Rattle.rv_select.specs.declared.pairs.Pair.{Pair}
 use Rattle.rv_select.specs.Pairs.{but_pair, pair_of, plain_of, reads_of}
-use Rattle.rv_select.specs.Places.{Layout, layout_of, value_in}
+use Rattle.rv_select.specs.Places.{Layout, is_short, layout_of, value_in}
 use Rattle.rv_select.specs.Shapes.{has_exit_shape, start_of}
 use Rattle.rv_select.specs.Compared.{StandsAtCompare, compared_shape}
 use Rattle.rv_select.specs.Calls.{block_starts, pair_code}
@@ -30,8 +32,9 @@ use Rattle.rv_select.proofs.Falls.{FallsIf, falls-exit, falls-inner}
 use Rattle.rv_select.proofs.Inner.{LeavesIf, Stays, leave-to}
 use Rattle.rv_select.proofs.Lives.{step-in-graph}
 use Rattle.rv_select.proofs.Pairing.{IsPair, compare_of, pair-place}
-use Rattle.rv_select.proofs.Stands.{AtExit, at-exit, instruction-within, within-parts}
-use Rattle.rv_select.proofs.Through.{left-joined, starts-small}
+use Rattle.rv_select.proofs.Stands.{AtExit, at-exit, exit-within, instruction-within, within-parts}
+use Rattle.rv_select.proofs.Through.{left-joined}
+use Rattle.rv_select.proofs.Reached.{exit-reaches, starts-small}
 use Rattle.rv_select.proofs.Unread.{unread-begins}
 
 -- three-address code behind the comparison
@@ -76,11 +79,11 @@ couple p code s block pair function in-f in-p within is k = record {
         (ap (λ z. slice_get z s.here.at) (sym plain) ∙ in-p)
 
 -- the code of both
-pair-stands : (program : List (Option Instr)) (y : Layout) (held : Option ℕ) (at : ℕ) (starts : ℕ → ℕ) (pair : Pair) →
-    Stands program at (pair_code y held at starts pair) →
-    Stands program at (compared_shape y held at starts pair.operator pair.form pair.a pair.b pair.first pair.second)
+pair-stands : (program : List (Option Instr)) (y : Layout) (short : Bool) (held : Option ℕ) (at : ℕ) (starts : ℕ → ℕ) (pair : Pair) →
+    Stands program at (pair_code y short held at starts pair) →
+    Stands program at (compared_shape y short held at starts pair.operator pair.form pair.a pair.b pair.first pair.second)
 unfolding pair_code
-pair-stands program y held at starts pair h = h
+pair-stands program y short held at starts pair h = h
 
 -- the machine carries out both
 pub pair-steps : (p : Program) (image : Image) (program : List (Option Instr)) (most size : ℕ) → IsLinked p image program most →
@@ -147,12 +150,16 @@ pair-steps p image program most size linked s base m x block pair in-f in-p is k
       right = pl.right;
       near = subst (λ q. q + 256 ≤ 2 ^ 30) (sym x.pc) found.near;
       blocks = starts-small p image program most x.code s.here.function pl;
+      there = subst (λ z. exit_fits x.code z ≡ true) k.exit_is
+          (exit-within x.code s.here.block block (within-parts p image program most x.code (image s.here.function) pl).blocks in-f);
+      reach = subst (λ q. IsReached x.code (start_of (block_starts (layout_of x.code (image s.here.function).homes) x.code (image s.here.function).at)) q)
+          (sym x.pc) (exit-reaches p image program most x.code s.here.function _ pl found.low found.high);
       stands = subst (λ q. Stands program q
-          (compared_shape (layout_of x.code (image s.here.function).homes) (held_in x.code s.here.block s.here.at) q
+          (compared_shape (layout_of x.code (image s.here.function).homes) (is_short x.code) (held_in x.code s.here.block s.here.at) q
           (start_of (block_starts (layout_of x.code (image s.here.function).homes) x.code (image s.here.function).at)) pair.operator
           pair.form
           pair.a pair.b pair.first pair.second)) (sym x.pc)
-          (pair-stands program (layout_of x.code (image s.here.function).homes) (held_in x.code s.here.block s.here.at)
+          (pair-stands program (layout_of x.code (image s.here.function).homes) (is_short x.code) (held_in x.code s.here.block s.here.at)
           (place_in p image x.code (image s.here.function) s.here.block s.here.at)
           (start_of (block_starts (layout_of x.code (image s.here.function).homes) x.code (image s.here.function).at)) pair found.stands);
       holds = x.holds;

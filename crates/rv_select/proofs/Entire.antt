@@ -19,7 +19,8 @@ use Rattle.rv_select.specs.Whole.{ProgramsAreCarried, before_entry, steps_left, 
 use Rattle.rv_select.proofs.Begins.{entries-carried}
 use Rattle.rv_select.proofs.Calling.{fresh_call, takes-is}
 use Rattle.rv_select.proofs.Carries.{by-test}
-use Rattle.rv_select.proofs.Falls.{behind-le, params-least}
+use Rattle.rv_select.proofs.Falls.{behind-le}
+use Rattle.rv_select.proofs.Taken.{params-least}
 use Rattle.rv_select.proofs.Numbers.{constant-count}
 use Rattle.rv_select.proofs.Runs.{FallsTo, behind-step, runs-carried}
 use Rattle.rv_select.proofs.Within.{arguments-count}

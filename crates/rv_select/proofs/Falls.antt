@@ -1,6 +1,6 @@
 -- Each step takes no more of the machine's steps than are taken off what is left of them.
 use Rattle.std.proofs.Common.{◌≡◌, ℕ, zero, suc, ◌+◌, ◌*◌, ◌<◌, ◌≤◌, Bool, true, false, ◌&&◌, ◌||◌, List, [], ◌∷◌, length, drop, sum_by, Option, Some, None, refl, sym, ap, ◌∙◌, subst, ⊎_elim, inl, inr, arith}
-use Rattle.std.specs.Prelude.{fold, nat_le, nat_lt, slice_get, ◌⊎◌}
+use Rattle.std.specs.Prelude.{nat_le, nat_lt, slice_get, ◌⊎◌}
 use Rattle.std.proofs.Math.Nat.{suc-mul}
 use Rattle.std.proofs.lemmas.Bool.{cases_Bool, ltb-true}
 use Rattle.std.proofs.lemmas.List.Sums.{sum_by-cons}
@@ -29,6 +29,7 @@ use Rattle.rv_select.proofs.Backs.{return_most}
 use Rattle.rv_select.proofs.Calling.{entered_state, fresh_call, takes-is, taking}
 use Rattle.rv_select.proofs.Carries.{by-test}
 use Rattle.rv_select.proofs.Inner.{IsNext, LeavesIf, StaysIf}
+use Rattle.rv_select.proofs.Taken.{params-least}
 
 abbrev pub FallsIf : Program → (words bound : ℕ) → tac.State → tac.Moved → Type 0
 FallsIf p words bound s (Goes t) = (bound + steps_left p words t ≤ steps_left p words s) × (s.left ≤ suc t.left)
@@ -77,25 +78,6 @@ behind-le code c d h = go (slice_get code.blocks c) refl
         let more : sum_by block_words (drop c code.blocks) ≤ sum_by block_words (drop d code.blocks) = drop-more block_words code.blocks d
         c h in
         subst (λ n. n ≤ sum_by block_words (drop d code.blocks)) first more
-
-each-least : (f : Destination → ℕ) → ((d : Destination) → 3 + result_words d ≤ f d) → (ds : List Destination) → receiving ds ≤ sum_by f ds
-each-least f h [] = omega arith
-each-least f h (d ∷ ds) = least (receiving ds) (result_words d) (sum_by f ds) (sum_by f (d ∷ ds)) (f d) (each-least f h ds) (h d)
-    (sum_by-cons f d ds)
-  where
-    least : (r w a c n : ℕ) → r ≤ a → 3 + w ≤ n → c ≡ n + a → 3 + w + r ≤ c
-    least r w a c n g k e = omega (arith, g, k, e)
-
-taken-least : (f : Destination → ℕ) (ds : List Destination) (other : ℕ) → ((t : ℕ) → 6 ≤ f (Temp t)) → ((n : ℕ) → 42 ≤ f (Area n)) →
-    79 + receiving ds + other ≤ 79 + fold (λ a x. a + f x) 0 ds + other
-taken-least f ds other temp area = let h = each-least f least ds in omega (arith, h)
-  where
-    least : (d : Destination) → 3 + result_words d ≤ f d
-    least (Temp t) = temp t
-    least (Area n) = area n
-
-pub params-least : (code : Tac) → 79 + receiving code.parameters + sum_by block_words code.blocks ≤ code_words code
-params-least code = taken-least _ code.parameters (sum_by block_words code.blocks) (λ t. omega arith) (λ n. omega arith)
 
 pub call-least : (to : Destination) (place : Place) (f : FnId) (arguments : List Part) →
     22 + result_words to + 11 * length arguments ≤ words_of (Call to place f arguments)

@@ -1,5 +1,5 @@
 -- Where the parts of a function's code stand.
-use Rattle.std.proofs.Common.{◌≡◌, ℕ, zero, suc, ◌+◌, ◌*◌, ◌%◌, ◌^◌, ◌≤◌, List, [], ◌∷◌, ◌++◌, length, append_assoc, Option, Some, None, refl, ap, ◌∙◌, subst, arith}
+use Rattle.std.proofs.Common.{◌≡◌, ℕ, zero, suc, ◌+◌, ◌*◌, ◌%◌, ◌^◌, ◌<◌, ◌≤◌, List, [], ◌∷◌, ◌++◌, length, append_assoc, Option, Some, None, refl, ap, ◌∙◌, subst, arith}
 use Rattle.std.specs.Prelude.{slice_get}
 use Rattle.std.proofs.lemmas.List.{length-append}
 use Rattle.tl_base.specs.declared.ids.FnId.{FnId}
@@ -141,6 +141,17 @@ starts-near y sizes places starts last top (j ∷ bs) (suc k) at even near =
     let found = starts-near y sizes places starts last top bs k (at + 4 * length A) (omega (arith, even)) (omega (arith, near, count)) in
     subst (λ n. (start_of (starts_from y sizes (at + 4 * n) bs) k ≤ top) × (start_of (starts_from y sizes (at + 4 * n) bs) k % 4 ≡ 0))
     (block-length y sizes places (λ f. 0) starts (λ c. 0) last 0 at 0 j) found
+
+-- each begins behind what comes before the blocks
+pub starts-least : (y : Layout) (sizes : List ℕ) (bs : List Block) (k at : ℕ) → k < length bs → at ≤ start_of (starts_from y sizes at bs) k
+starts-least y sizes [] k at h = absurd (omega (arith, h))
+starts-least y sizes (j ∷ bs) zero at h = omega arith
+starts-least y sizes (j ∷ bs) (suc k) at h =
+    let n : ℕ = length (block_code y sizes (λ f. 0) (λ c. 0) 0 0 j) in
+    least (start_of (starts_from y sizes (at + 4 * n) bs) k) n (starts-least y sizes bs k (at + 4 * n) (omega (arith, h)))
+  where
+    least : (z n : ℕ) → at + 4 * n ≤ z → at ≤ z
+    least z n e = omega (arith, e)
 
 pub instruction-aligned : (y : Layout) (sizes : List ℕ) (places : FnId → ℕ) (held : Option ℕ) (is : List Instruction) (k at : ℕ) →
     at % 4 ≡ 0 → instruction_at y sizes places at held is k % 4 ≡ 0

@@ -1,5 +1,5 @@
 -- What instructions compute that hold a constant.
-use Rattle.std.proofs.Common.{◌≡◌, ◌≢◌, ℕ, suc, ◌+◌, ◌-◌, ◌*◌, ◌/◌, ◌%◌, ◌^◌, ◌<◌, ◌≤◌, Bool, true, false, not, ◌&&◌, List, [], ◌∷◌, ◌++◌, length, refl, sym, ap, ◌∙◌, subst, ⊎_elim, arith}
+use Rattle.std.proofs.Common.{◌≡◌, ℕ, ◌+◌, ◌-◌, ◌*◌, ◌/◌, ◌%◌, ◌^◌, ◌<◌, ◌≤◌, Bool, true, false, not, ◌&&◌, List, [], ◌∷◌, ◌++◌, length, refl, sym, ap, ◌∙◌, subst, ⊎_elim, arith}
 use Rattle.std.specs.Prelude.{if◌then◌else◌, nat_eq, nat_le, nat_lt, ◌||◌, bit_and, bit_or, bit_xor, int_lt}
 use Rattle.std.proofs.lemmas.Bool.{cases_eq, cases_lt, eq-eqb, le-leb, le-ltb, leb-true, lt-leb, lt-ltb, ltb-true, ne_eqb}
 use Rattle.std.proofs.lemmas.List.{length-append}
@@ -14,7 +14,7 @@ use Rattle.rv_isa.specs.declared.operation.ShiftOp.{ShiftOp}
 use Rattle.rv_isa.specs.declared.operation.ShiftOp.TheVariants.{Slli, Srli, Srai}
 use Rattle.rv_machine.specs.Word.{low, word, difference, signed, extended_word}
 use Rattle.rv_machine.specs.Machine.{State, GoesOn, act, at_with}
-use Rattle.rv_machine.specs.Arithmetic.{flag, immediate_value, shift_value, shifted_left, shifted_right, shifted_signed}
+use Rattle.rv_machine.specs.Arithmetic.{flag, immediate_value, shift_value, shifted_left, shifted_right}
 use Rattle.terra_words.specs.declared.words.Width.{Width}
 use Rattle.terra_words.specs.declared.words.BinaryOperator.{BinaryOperator}
 use Rattle.terra_words.specs.declared.words.BinaryOperator.TheVariants.{Add, Subtract, Multiply, Divide, Modulo, Xor, And, Or, ShiftLeft, ShiftRight, Equal, NotEqual, Less, LessEqual, Greater, GreaterEqual}
@@ -35,7 +35,7 @@ use Rattle.rv_operators.proofs.Values.{and-small, equal-words, other-words, sign
 use Rattle.rv_select.specs.Numbers.{below_zero, constant, immediate_of, lower_of}
 use Rattle.rv_select.specs.Places.{Layout}
 use Rattle.rv_select.specs.Shapes.{applied_to, taken}
-use Rattle.rv_select.specs.Folded.{by_number, count_if, count_of, differing, folded, is_folded, is_near, opposite, shift_down, sum_of, turned_round}
+use Rattle.rv_select.specs.Folded.{by_number, count_if, count_of, differing, folded, is_folded, is_near, opposite, shift_down, sum_of}
 use Rattle.rv_select.proofs.Homes.{operand-count}
 use Rattle.rv_select.proofs.Numbers.{below-is, immediate-is}
 use Rattle.rv_select.proofs.Sequences.{operator-count}

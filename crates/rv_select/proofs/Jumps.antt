@@ -1,17 +1,19 @@
 -- Jumps from block to block.
-use Rattle.std.proofs.Common.{◌≡◌, ℕ, suc, ◌+◌, ◌-◌, ◌*◌, ◌%◌, ◌^◌, ◌<◌, ◌≤◌, true, List, Option, refl, sym, ap, ◌∙◌, subst, ⊎_elim, arith}
-use Rattle.std.specs.Prelude.{if◌then◌else◌}
-use Rattle.std.proofs.lemmas.Bool.{cases_lt, le-leb, lt-leb}
+use Rattle.std.proofs.Common.{◌≡◌, ℕ, suc, pos, negsuc, ◌+◌, ◌-◌, ◌*◌, ◌/◌, ◌%◌, ◌^◌, ◌<◌, ◌≤◌, Bool, true, false, List, length, Option, Some, None, refl, sym, ap, ◌∙◌, subst, ⊎_elim, arith}
+use Rattle.std.specs.Prelude.{if◌then◌else◌, nat_eq, nat_le, nat_lt, slice_get}
+use Rattle.std.proofs.lemmas.Bool.{cases_lt, eq-eqb, eqb-true, le-leb, lt-leb}
 use Rattle.rv_isa.specs.declared.instr.Instr.{Instr}
-use Rattle.rv_isa.specs.declared.instr.Instr.TheVariants.{Auipc, Jalr}
+use Rattle.rv_isa.specs.declared.instr.Instr.TheVariants.{Auipc, Jal, Jalr}
+use Rattle.rv_isa.specs.declared.operation.BranchCondition.{BranchCondition}
+use Rattle.rv_isa.specs.declared.operand.Register.{Register}
 use Rattle.rv_machine.specs.Word.{low, word, extended_word}
-use Rattle.rv_machine.specs.Machine.{State, at_with}
+use Rattle.rv_machine.specs.Machine.{State, at_with, fetch}
 use Rattle.terra_words.specs.Words.{wrapped}
 use Rattle.rv_operators.specs.Codes.{x0, x5}
 use Rattle.rv_operators.specs.Runs.{Stands}
 use Rattle.rv_operators.proofs.Values.{width, wrapped-32}
 use Rattle.rv_select.specs.Numbers.{below_zero, immediate_of, lower_of, upper_number, upper_of}
-use Rattle.rv_select.specs.Shapes.{distance, jump}
+use Rattle.rv_select.specs.Shapes.{ahead, ahead_if, back, back_if, chosen, distance, jump, jump_offset}
 use Rattle.rv_select.proofs.Straight.{written-elsewhere}
 use Rattle.rv_select.proofs.Numbers.{below-is, immediate-is, parts, upper-is}
 use Rattle.rv_select.proofs.Ways.{Near, Way, step-way, way-both}
@@ -102,11 +104,108 @@ target-is from to h k even =
 pub even-stays : (t to : ℕ) → t ≡ to → to % 2 ≡ 0 → t - t % 2 ≡ to
 even-stays t to e h = omega arith
 
-pub jumps-there : (program : List (Option Instr)) (m : State) (from to : ℕ) → m.pc ≡ from → from < 2 ^ 30 → to < 2 ^ 30 → to % 2 ≡ 0 → Stands program from (jump from to) → Jumped program 2 to m
-jumps-there program m from to e h k even there =
+-- the offsets of jumps of one word
+ahead-if : (n : ℕ) (a b : Bool) (e : nat_le n 1048574 ≡ a) (g : nat_eq (n % 2) 0 ≡ b) → a ≡ true → b ≡ true → (ahead_if n a b e g).bytes ≡ pos n
+ahead-if n true true e g h k = refl
+ahead-if n false b e g h k = cc
+ahead-if n true false e g h k = cc
+
+ahead-is : (n : ℕ) → n ≤ 1048574 → n % 2 ≡ 0 → word (ahead n).bytes ≡ n
+ahead-is n h k = ap word (ahead-if n (nat_le n 1048574) (nat_eq (n % 2) 0) refl refl (le-leb n 1048574 h) (eq-eqb (n % 2) 0 k))
+
+back-if : (n : ℕ) (a b : Bool) (e : nat_le n 1048575 ≡ a) (g : nat_eq (suc n % 2) 0 ≡ b) → a ≡ true → b ≡ true → (back_if n a b e g).bytes ≡ negsuc n
+back-if n true true e g h k = refl
+back-if n false b e g h k = cc
+back-if n true false e g h k = cc
+
+back-is : (n : ℕ) → n ≤ 1048575 → suc n % 2 ≡ 0 → word (back n).bytes ≡ 2 ^ 64 - suc n
+back-is n h k = ap word (back-if n (nat_le n 1048575) (nat_eq (suc n % 2) 0) refl refl (le-leb n 1048575 h) (eq-eqb (suc n % 2) 0 k))
+
+back-there : (from to : ℕ) → to < from → to < 2 ^ 30 → from < 2 ^ 30 → low (from + (2 ^ 64 - suc (from - to - 1))) ≡ to
+unfolding low
+back-there from to less k h = omega (arith, less, k, h)
+
+ahead-there : (from to : ℕ) → from ≤ to → to < 2 ^ 30 → low (from + (to - from)) ≡ to
+unfolding low
+ahead-there from to more k = omega (arith, more, k)
+
+-- where one leads
+short-target : (from to : ℕ) → from < 2 ^ 30 → to < 2 ^ 30 → from % 2 ≡ 0 → to % 2 ≡ 0 → from ≤ to + 2 ^ 20 → to ≤ from + 1048574 →
+    low (from + word (jump_offset (distance from to)).bytes) ≡ to
+short-target from to h k even-from even behind before =
+    ⊎_elim
+    (λ less.
+    let n : ℕ = 2 ^ 32 - (from - to) in
+    let d : distance from to ≡ n = omega (arith, less, h, k) in
+    let far : nat_le n 1048574 ≡ false = lt-leb n 1048574 (omega (arith, less, behind)) in
+    let b : 2 ^ 32 - 1 - n ≡ from - to - 1 = omega (arith, less, behind) in
+    let is : word (back (from - to - 1)).bytes ≡ 2 ^ 64 - suc (from - to - 1) =
+    back-is (from - to - 1) (omega (arith, less, behind)) (omega (arith, less, even-from, even)) in
+    ap (λ z. low (from + word (jump_offset z).bytes)) d
+    ∙ (ap (λ z. low (from + word (if z then ahead n else back (2 ^ 32 - 1 - n)).bytes)) far
+    ∙ (ap (λ z. low (from + word (back z).bytes)) b
+    ∙ (ap (λ z. low (from + z)) is ∙ back-there from to less k h))))
+    (λ more.
+    let d : distance from to ≡ to - from = omega (arith, more, h, k) in
+    let near : nat_le (to - from) 1048574 ≡ true = le-leb (to - from) 1048574 (omega (arith, more, before)) in
+    let is : word (ahead (to - from)).bytes ≡ to - from = ahead-is (to - from) (omega (arith, more, before)) (omega (arith, more, even-from, even)) in
+    ap (λ z. low (from + word (jump_offset z).bytes)) d
+    ∙ (ap (λ z. low (from + word (if z then ahead (to - from) else back (2 ^ 32 - 1 - (to - from))).bytes)) near
+    ∙ (ap (λ z. low (from + z)) is ∙ ahead-there from to more k)))
+    (cases_lt to from)
+
+-- instructions stand at even addresses
+fetched-even : (program : List (Option Instr)) (pc : ℕ) (i : Instr) → fetch program pc ≡ Some (Some i) → pc % 2 ≡ 0
+unfolding fetch
+fetched-even program pc i there = even (nat_lt pc 0x10000) (nat_eq (pc % 4) 0) refl there
+  where
+    even : (a b : Bool) → nat_eq (pc % 4) 0 ≡ b →
+        (if a then None else (if b then slice_get program ((pc - 0x10000) / 4) else None)) ≡ Some (Some i) → pc % 2 ≡ 0
+    even true b e h = cc
+    even false false e h = cc
+    even false true e h = let z : pc % 4 ≡ 0 = eqb-true (pc % 4) 0 e in omega (arith, z)
+
+-- the words of a jump, each a step
+abbrev pub jump_words : Bool → ℕ
+jump_words true = 1
+jump_words false = 2
+
+pub jump-count : (short : Bool) (from to : ℕ) → length (jump short from to) ≡ jump_words short
+jump-count true from to = refl
+jump-count false from to = refl
+
+pub jump-few : (short : Bool) → (1 ≤ jump_words short) × (jump_words short ≤ 2)
+jump-few true = (omega arith, omega arith)
+jump-few false = (omega arith, omega arith)
+
+pub chosen-count : (short : Bool) (condition : BranchCondition) (a b : Register) (at first second : ℕ) →
+    length (chosen short condition a b at first second) ≡ 1 + jump_words short + jump_words short
+chosen-count true condition a b at first second = refl
+chosen-count false condition a b at first second = refl
+
+-- a jump of one word leads so far
+abbrev pub Reaches : (short : Bool) → (from to : ℕ) → Type 0
+Reaches short from to = short ≡ true → (from ≤ to + 2 ^ 20) × (to ≤ from + 1048574)
+
+pub jumps-there : (program : List (Option Instr)) (m : State) (short : Bool) (from to : ℕ) → m.pc ≡ from → from < 2 ^ 30 → to < 2 ^ 30 →
+    to % 2 ≡ 0 → Reaches short from to → Stands program from (jump short from to) → Jumped program (jump_words short) to m
+jumps-there program m true from to e h k even reach there =
+    let n : ℕ = distance from to in
+    let here : Stands program m.pc (jump true from to) = subst (λ q. Stands program q (jump true from to)) (sym e) there in
+    let t : ℕ = low (m.pc + word (jump_offset n).bytes) in
+    let one : State = at_with m t 0 (low (m.pc + 4)) in
+    let r : (from ≤ to + 2 ^ 20) × (to ≤ from + 1048574) = reach refl in
+    record {
+      after = one;
+      way = step-way program (Jal x0 (jump_offset n)) m one here.0 refl;
+      near = record { keeps = λ r five six seven. refl; region = refl; private = refl };
+      pc = ap (λ q. low (q + word (jump_offset n).bytes)) e
+          ∙ short-target from to h k (fetched-even program from (Jal x0 (jump_offset n)) there.0) even r.0 r.1;
+    }
+jumps-there program m false from to e h k even reach there =
     let n : ℕ = distance from to in
     let x : ℕ = extended_word ((upper_of n).value * 2 ^ 12) in
-    let here : Stands program m.pc (jump from to) = subst (λ q. Stands program q (jump from to)) (sym e) there in
+    let here : Stands program m.pc (jump false from to) = subst (λ q. Stands program q (jump false from to)) (sym e) there in
     let one : State = at_with m (low (m.pc + 4)) 5 (low (m.pc + x)) in
     let t : ℕ = low (low (m.pc + x) + word (lower_of n).value) in
     let two : State = at_with one (t - t % 2) 0 (low (one.pc + 4)) in

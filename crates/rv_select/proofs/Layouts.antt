@@ -1,5 +1,5 @@
 -- The code of instructions depends on a layout's homes alone.
-use Rattle.std.proofs.Common.{◌≡◌, ℕ, ◌+◌, ◌*◌, List, [], ◌∷◌, ◌++◌, length, Option, Some, None, refl, ap, ◌∙◌}
+use Rattle.std.proofs.Common.{◌≡◌, ℕ, ◌+◌, ◌*◌, Bool, List, [], ◌∷◌, ◌++◌, length, Option, Some, None, refl, ap, ◌∙◌}
 use Rattle.tl_base.specs.declared.ids.FnId.{FnId}
 use Rattle.reg_alloc.specs.declared.assignment.Home.{Home}
 use Rattle.rv_isa.specs.declared.instr.Instr.{Instr}
@@ -23,148 +23,148 @@ use Rattle.rv_select.specs.Shapes.{held_after, place_number, x11}
 use Rattle.rv_select.specs.Entering.{received, received_one, stored_below}
 use Rattle.rv_select.specs.Calls.{block_code, blocks_calls, blocks_code, call_ended, call_jump, depth_tested, end_code, exit_code, held_behind, instruction_calls, instruction_code, instructions_calls, instructions_code, one_more, pair_code, part_taken, passed, starts_from}
 
-abbrev laid : List (Option Home) → (a p : ℕ) → List Reads → Layout
-laid h a p r = record { homes = h; areas = a; parameters = p; reads = r }
+abbrev laid : List (Option Home) → (a p : ℕ) → List Reads → Bool → Layout
+laid h a p r v = record { homes = h; areas = a; parameters = p; reads = r; short = v }
 
-pub received-same : (h : List (Option Home)) (a p b q : ℕ) (r t : List Reads) (sizes : List ℕ) (last : ℕ) (ds : List Destination) →
-    received (laid h a p r) sizes last ds ≡ received (laid h b q t) sizes last ds
-received-same h a p b q r t sizes last [] = refl
-received-same h a p b q r t sizes last (destinations.Temp u ∷ ds) =
-    ap (λ z. received_one (laid h a p r) sizes (destinations.Temp u) (last + 8 * length ds) ++ z)
-    (received-same h a p b q r t sizes last ds)
-received-same h a p b q r t sizes last (destinations.Area n ∷ ds) =
-    ap (λ z. received_one (laid h a p r) sizes (destinations.Area n) (last + 8 * length ds) ++ z)
-    (received-same h a p b q r t sizes last ds)
+pub received-same : (h : List (Option Home)) (a p b q : ℕ) (r t : List Reads) (v o : Bool) (sizes : List ℕ) (last : ℕ) (ds : List Destination) →
+    received (laid h a p r v) sizes last ds ≡ received (laid h b q t o) sizes last ds
+received-same h a p b q r t v o sizes last [] = refl
+received-same h a p b q r t v o sizes last (destinations.Temp u ∷ ds) =
+    ap (λ z. received_one (laid h a p r v) sizes (destinations.Temp u) (last + 8 * length ds) ++ z)
+    (received-same h a p b q r t v o sizes last ds)
+received-same h a p b q r t v o sizes last (destinations.Area n ∷ ds) =
+    ap (λ z. received_one (laid h a p r v) sizes (destinations.Area n) (last + 8 * length ds) ++ z)
+    (received-same h a p b q r t v o sizes last ds)
 
-passed-same : (h : List (Option Home)) (a p b q : ℕ) (r t : List Reads) (i : ℕ) (ps : List Part) → passed (laid h a p r) i ps ≡ passed
-    (laid h b q t) i ps
-passed-same h a p b q r t i [] = refl
-passed-same h a p b q r t i (parts.Word (operands.Temp u) ∷ ps) =
-    ap (λ z. part_taken (laid h a p r) x5 (parts.Word (operands.Temp u)) ++ (stored_below x5 (8 * (i + 1)) ++ z))
-    (passed-same h a p b q r t (i + 1) ps)
-passed-same h a p b q r t i (parts.Word (operands.Constant n) ∷ ps) =
-    ap (λ z. part_taken (laid h a p r) x5 (parts.Word (operands.Constant n)) ++ (stored_below x5 (8 * (i + 1)) ++ z))
-    (passed-same h a p b q r t (i + 1) ps)
-passed-same h a p b q r t i (parts.Area n ∷ ps) =
-    ap (λ z. part_taken (laid h a p r) x5 (parts.Area n) ++ (stored_below x5 (8 * (i + 1)) ++ z)) (passed-same h a p b q r t (i + 1) ps)
+passed-same : (h : List (Option Home)) (a p b q : ℕ) (r t : List Reads) (v o : Bool) (i : ℕ) (ps : List Part) → passed (laid h a p r v) i ps ≡ passed
+    (laid h b q t o) i ps
+passed-same h a p b q r t v o i [] = refl
+passed-same h a p b q r t v o i (parts.Word (operands.Temp u) ∷ ps) =
+    ap (λ z. part_taken (laid h a p r v) x5 (parts.Word (operands.Temp u)) ++ (stored_below x5 (8 * (i + 1)) ++ z))
+    (passed-same h a p b q r t v o (i + 1) ps)
+passed-same h a p b q r t v o i (parts.Word (operands.Constant n) ∷ ps) =
+    ap (λ z. part_taken (laid h a p r v) x5 (parts.Word (operands.Constant n)) ++ (stored_below x5 (8 * (i + 1)) ++ z))
+    (passed-same h a p b q r t v o (i + 1) ps)
+passed-same h a p b q r t v o i (parts.Area n ∷ ps) =
+    ap (λ z. part_taken (laid h a p r v) x5 (parts.Area n) ++ (stored_below x5 (8 * (i + 1)) ++ z)) (passed-same h a p b q r t v o (i + 1) ps)
 
 -- what comes before the jump of a call, by the words that pass its arguments
 abbrev begun-with : ℕ → List Instr → List Instr
 begun-with place passes = constant x11 place ++ (depth_tested ++ (passes ++ one_more))
 
-instruction-same : (h : List (Option Home)) (a p b q : ℕ) (r t : List Reads) (sizes : List ℕ) (places : FnId → ℕ) (at : ℕ)
+instruction-same : (h : List (Option Home)) (a p b q : ℕ) (r t : List Reads) (v o : Bool) (sizes : List ℕ) (places : FnId → ℕ) (at : ℕ)
     (held : Option ℕ) (i : Instruction) →
-    instruction_code (laid h a p r) sizes places at held i ≡ instruction_code (laid h b q t) sizes places at held i
-instruction-same h a p b q r t sizes places at held (Call (destinations.Temp u) place f arguments) =
+    instruction_code (laid h a p r v) sizes places at held i ≡ instruction_code (laid h b q t o) sizes places at held i
+instruction-same h a p b q r t v o sizes places at held (Call (destinations.Temp u) place f arguments) =
     ap (λ z. begun-with (place_number place) z ++
-    (call_jump (at + 4 * length (begun-with (place_number place) z)) (places f) ++ call_ended (laid h a p r) sizes (destinations.Temp u)))
-    (passed-same h a p b q r t 0 arguments)
-instruction-same h a p b q r t sizes places at held (Call (destinations.Area n) place f arguments) =
+    (call_jump (at + 4 * length (begun-with (place_number place) z)) (places f) ++ call_ended (laid h a p r v) sizes (destinations.Temp u)))
+    (passed-same h a p b q r t v o 0 arguments)
+instruction-same h a p b q r t v o sizes places at held (Call (destinations.Area n) place f arguments) =
     ap (λ z. begun-with (place_number place) z ++
-    (call_jump (at + 4 * length (begun-with (place_number place) z)) (places f) ++ call_ended (laid h a p r) sizes (destinations.Area n)))
-    (passed-same h a p b q r t 0 arguments)
-instruction-same h a p b q r t sizes places at held (Compute d op form x y) = refl
-instruction-same h a p b q r t sizes places at held (TestDivisor place x) = refl
-instruction-same h a p b q r t sizes places at held (Copy d x) = refl
-instruction-same h a p b q r t sizes places at held (Locate d offset) = refl
-instruction-same h a p b q r t sizes places at held (Load d form spot) = refl
-instruction-same h a p b q r t sizes places at held (Store spot size x) = refl
-instruction-same h a p b q r t sizes places at held (Move to from size) = refl
-instruction-same h a p b q r t sizes places at held (Clear n size) = refl
-instruction-same h a p b q r t sizes places at held (CallValue to place sig x arguments) = refl
-instruction-same h a p b q r t sizes places at held (PutByte x) = refl
-instruction-same h a p b q r t sizes places at held (Write place x y) = refl
-instruction-same h a p b q r t sizes places at held (Alloc d x) = refl
+    (call_jump (at + 4 * length (begun-with (place_number place) z)) (places f) ++ call_ended (laid h a p r v) sizes (destinations.Area n)))
+    (passed-same h a p b q r t v o 0 arguments)
+instruction-same h a p b q r t v o sizes places at held (Compute d op form x y) = refl
+instruction-same h a p b q r t v o sizes places at held (TestDivisor place x) = refl
+instruction-same h a p b q r t v o sizes places at held (Copy d x) = refl
+instruction-same h a p b q r t v o sizes places at held (Locate d offset) = refl
+instruction-same h a p b q r t v o sizes places at held (Load d form spot) = refl
+instruction-same h a p b q r t v o sizes places at held (Store spot size x) = refl
+instruction-same h a p b q r t v o sizes places at held (Move to from size) = refl
+instruction-same h a p b q r t v o sizes places at held (Clear n size) = refl
+instruction-same h a p b q r t v o sizes places at held (CallValue to place sig x arguments) = refl
+instruction-same h a p b q r t v o sizes places at held (PutByte x) = refl
+instruction-same h a p b q r t v o sizes places at held (Write place x y) = refl
+instruction-same h a p b q r t v o sizes places at held (Alloc d x) = refl
 
-exit-same : (h : List (Option Home)) (a p b q : ℕ) (r t : List Reads) (held : Option ℕ) (at : ℕ) (starts : ℕ → ℕ) (last : ℕ) (e : Exit) →
-    exit_code (laid h a p r) held at starts last e ≡ exit_code (laid h b q t) held at starts last e
-exit-same h a p b q r t held at starts last (Return v) = refl
-exit-same h a p b q r t held at starts last (Jump e) = refl
-exit-same h a p b q r t held at starts last (Branch x e f) = refl
-exit-same h a p b q r t held at starts last (Fail kind place) = refl
+exit-same : (h : List (Option Home)) (a p b q : ℕ) (r t : List Reads) (v o short : Bool) (held : Option ℕ) (at : ℕ) (starts : ℕ → ℕ) (last : ℕ) (e : Exit) →
+    exit_code (laid h a p r v) short held at starts last e ≡ exit_code (laid h b q t o) short held at starts last e
+exit-same h a p b q r t v o short held at starts last (Return x) = refl
+exit-same h a p b q r t v o short held at starts last (Jump e) = refl
+exit-same h a p b q r t v o short held at starts last (Branch x e f) = refl
+exit-same h a p b q r t v o short held at starts last (Fail kind place) = refl
 
-pub end-same : (h : List (Option Home)) (a p b q : ℕ) (r t : List Reads) (held : Option ℕ) (at : ℕ) (starts : ℕ → ℕ) (last : ℕ)
-    (o : Option Pair) (e : Exit) →
-    end_code (laid h a p r) held at starts last o e ≡ end_code (laid h b q t) held at starts last o e
+pub end-same : (h : List (Option Home)) (a p b q : ℕ) (r t : List Reads) (v o short : Bool) (held : Option ℕ) (at : ℕ) (starts : ℕ → ℕ) (last : ℕ)
+    (k : Option Pair) (e : Exit) →
+    end_code (laid h a p r v) short held at starts last k e ≡ end_code (laid h b q t o) short held at starts last k e
 unfolding pair_code
-end-same h a p b q r t held at starts last None e = exit-same h a p b q r t held at starts last e
-end-same h a p b q r t held at starts last (Some pair) e = refl
+end-same h a p b q r t v o short held at starts last None e = exit-same h a p b q r t v o short held at starts last e
+end-same h a p b q r t v o short held at starts last (Some pair) e = refl
 
-pub instructions-same : (h : List (Option Home)) (a p b q : ℕ) (r t : List Reads) (sizes : List ℕ) (places : FnId → ℕ) (at : ℕ)
+pub instructions-same : (h : List (Option Home)) (a p b q : ℕ) (r t : List Reads) (v o : Bool) (sizes : List ℕ) (places : FnId → ℕ) (at : ℕ)
     (held : Option ℕ) (is : List Instruction) →
-    instructions_code (laid h a p r) sizes places at held is ≡ instructions_code (laid h b q t) sizes places at held is
-instructions-same h a p b q r t sizes places at held [] = refl
-instructions-same h a p b q r t sizes places at held (i ∷ is) =
-    let A : List Instr = instruction_code (laid h a p r) sizes places at held i in
-    ap (λ z. A ++ z) (instructions-same h a p b q r t sizes places (at + 4 * length A) (held_after i) is)
-    ∙ ap (λ z. z ++ instructions_code (laid h b q t) sizes places (at + 4 * length z) (held_after i) is)
-    (instruction-same h a p b q r t sizes places at held i)
+    instructions_code (laid h a p r v) sizes places at held is ≡ instructions_code (laid h b q t o) sizes places at held is
+instructions-same h a p b q r t v o sizes places at held [] = refl
+instructions-same h a p b q r t v o sizes places at held (i ∷ is) =
+    let A : List Instr = instruction_code (laid h a p r v) sizes places at held i in
+    ap (λ z. A ++ z) (instructions-same h a p b q r t v o sizes places (at + 4 * length A) (held_after i) is)
+    ∙ ap (λ z. z ++ instructions_code (laid h b q t o) sizes places (at + 4 * length z) (held_after i) is)
+    (instruction-same h a p b q r t v o sizes places at held i)
 
-block-same : (h : List (Option Home)) (a p b q : ℕ) (r : List Reads) (sizes : List ℕ) (places : FnId → ℕ) (starts : ℕ → ℕ) (last at : ℕ)
+block-same : (h : List (Option Home)) (a p b q : ℕ) (r : List Reads) (v : Bool) (sizes : List ℕ) (places : FnId → ℕ) (starts : ℕ → ℕ) (last at : ℕ)
     (k : Block) →
-    block_code (laid h a p r) sizes places starts last at k ≡ block_code (laid h b q r) sizes places starts last at k
-block-same h a p b q r sizes places starts last at k =
+    block_code (laid h a p r v) sizes places starts last at k ≡ block_code (laid h b q r v) sizes places starts last at k
+block-same h a p b q r v sizes places starts last at k =
     let is : List Instruction = plain_of r k in
     let o : Option Pair = pair_of r k in
-    let A : List Instr = instructions_code (laid h a p r) sizes places at None is in
+    let A : List Instr = instructions_code (laid h a p r v) sizes places at None is in
     let held : Option ℕ = held_behind None is in
-    ap (λ z. A ++ z) (end-same h a p b q r r held (at + 4 * length A) starts last o k.exit)
-    ∙ ap (λ z. z ++ end_code (laid h b q r) held (at + 4 * length z) starts last o k.exit)
-    (instructions-same h a p b q r r sizes places at None is)
+    ap (λ z. A ++ z) (end-same h a p b q r r v v v held (at + 4 * length A) starts last o k.exit)
+    ∙ ap (λ z. z ++ end_code (laid h b q r v) v held (at + 4 * length z) starts last o k.exit)
+    (instructions-same h a p b q r r v v sizes places at None is)
 
-pub blocks-same : (h : List (Option Home)) (a p b q : ℕ) (r : List Reads) (sizes : List ℕ) (places : FnId → ℕ) (starts : ℕ → ℕ)
+pub blocks-same : (h : List (Option Home)) (a p b q : ℕ) (r : List Reads) (v : Bool) (sizes : List ℕ) (places : FnId → ℕ) (starts : ℕ → ℕ)
     (last at : ℕ) (ks : List Block) →
-    blocks_code (laid h a p r) sizes places starts last at ks ≡ blocks_code (laid h b q r) sizes places starts last at ks
-blocks-same h a p b q r sizes places starts last at [] = refl
-blocks-same h a p b q r sizes places starts last at (k ∷ ks) =
-    let A : List Instr = block_code (laid h a p r) sizes places starts last at k in
-    ap (λ z. A ++ z) (blocks-same h a p b q r sizes places starts last (at + 4 * length A) ks)
-    ∙ ap (λ z. z ++ blocks_code (laid h b q r) sizes places starts last (at + 4 * length z) ks)
-    (block-same h a p b q r sizes places starts last at k)
+    blocks_code (laid h a p r v) sizes places starts last at ks ≡ blocks_code (laid h b q r v) sizes places starts last at ks
+blocks-same h a p b q r v sizes places starts last at [] = refl
+blocks-same h a p b q r v sizes places starts last at (k ∷ ks) =
+    let A : List Instr = block_code (laid h a p r v) sizes places starts last at k in
+    ap (λ z. A ++ z) (blocks-same h a p b q r v sizes places starts last (at + 4 * length A) ks)
+    ∙ ap (λ z. z ++ blocks_code (laid h b q r v) sizes places starts last (at + 4 * length z) ks)
+    (block-same h a p b q r v sizes places starts last at k)
 
-call-same : (h : List (Option Home)) (a p b q : ℕ) (r t : List Reads) (at : ℕ) (i : Instruction) →
-    instruction_calls (laid h a p r) at i ≡ instruction_calls (laid h b q t) at i
-call-same h a p b q r t at (Call to place f arguments) =
-    ap (λ z. record { at = at + length (begun-with (place_number place) z); callee = f } ∷ []) (passed-same h a p b q r t 0 arguments)
-call-same h a p b q r t at (Compute d op form x y) = refl
-call-same h a p b q r t at (TestDivisor place x) = refl
-call-same h a p b q r t at (Copy d x) = refl
-call-same h a p b q r t at (Locate d offset) = refl
-call-same h a p b q r t at (Load d form spot) = refl
-call-same h a p b q r t at (Store spot size x) = refl
-call-same h a p b q r t at (Move to from size) = refl
-call-same h a p b q r t at (Clear n size) = refl
-call-same h a p b q r t at (CallValue to place sig x arguments) = refl
-call-same h a p b q r t at (PutByte x) = refl
-call-same h a p b q r t at (Write place x y) = refl
-call-same h a p b q r t at (Alloc d x) = refl
+call-same : (h : List (Option Home)) (a p b q : ℕ) (r t : List Reads) (v o : Bool) (at : ℕ) (i : Instruction) →
+    instruction_calls (laid h a p r v) at i ≡ instruction_calls (laid h b q t o) at i
+call-same h a p b q r t v o at (Call to place f arguments) =
+    ap (λ z. record { at = at + length (begun-with (place_number place) z); callee = f } ∷ []) (passed-same h a p b q r t v o 0 arguments)
+call-same h a p b q r t v o at (Compute d op form x y) = refl
+call-same h a p b q r t v o at (TestDivisor place x) = refl
+call-same h a p b q r t v o at (Copy d x) = refl
+call-same h a p b q r t v o at (Locate d offset) = refl
+call-same h a p b q r t v o at (Load d form spot) = refl
+call-same h a p b q r t v o at (Store spot size x) = refl
+call-same h a p b q r t v o at (Move to from size) = refl
+call-same h a p b q r t v o at (Clear n size) = refl
+call-same h a p b q r t v o at (CallValue to place sig x arguments) = refl
+call-same h a p b q r t v o at (PutByte x) = refl
+call-same h a p b q r t v o at (Write place x y) = refl
+call-same h a p b q r t v o at (Alloc d x) = refl
 
-instructions-calls-same : (h : List (Option Home)) (a p b q : ℕ) (r t : List Reads) (sizes : List ℕ) (at : ℕ) (held : Option ℕ)
+instructions-calls-same : (h : List (Option Home)) (a p b q : ℕ) (r t : List Reads) (v o : Bool) (sizes : List ℕ) (at : ℕ) (held : Option ℕ)
     (is : List Instruction) →
-    instructions_calls (laid h a p r) sizes at held is ≡ instructions_calls (laid h b q t) sizes at held is
-instructions-calls-same h a p b q r t sizes at held [] = refl
-instructions-calls-same h a p b q r t sizes at held (i ∷ is) =
-    let A : List Instr = instruction_code (laid h a p r) sizes (λ f. 0) 0 held i in
-    ap (λ z. z ++ instructions_calls (laid h a p r) sizes (at + length A) (held_after i) is) (call-same h a p b q r t at i)
-    ∙ (ap (λ z. instruction_calls (laid h b q t) at i ++ z) (instructions-calls-same h a p b q r t sizes (at + length A) (held_after i) is)
-    ∙ ap (λ z. instruction_calls (laid h b q t) at i ++ instructions_calls (laid h b q t) sizes (at + length z) (held_after i) is)
-    (instruction-same h a p b q r t sizes (λ f. 0) 0 held i))
+    instructions_calls (laid h a p r v) sizes at held is ≡ instructions_calls (laid h b q t o) sizes at held is
+instructions-calls-same h a p b q r t v o sizes at held [] = refl
+instructions-calls-same h a p b q r t v o sizes at held (i ∷ is) =
+    let A : List Instr = instruction_code (laid h a p r v) sizes (λ f. 0) 0 held i in
+    ap (λ z. z ++ instructions_calls (laid h a p r v) sizes (at + length A) (held_after i) is) (call-same h a p b q r t v o at i)
+    ∙ (ap (λ z. instruction_calls (laid h b q t o) at i ++ z) (instructions-calls-same h a p b q r t v o sizes (at + length A) (held_after i) is)
+    ∙ ap (λ z. instruction_calls (laid h b q t o) at i ++ instructions_calls (laid h b q t o) sizes (at + length z) (held_after i) is)
+    (instruction-same h a p b q r t v o sizes (λ f. 0) 0 held i))
 
-pub blocks-calls-same : (h : List (Option Home)) (a p b q : ℕ) (r : List Reads) (sizes : List ℕ) (at : ℕ) (ks : List Block) →
-    blocks_calls (laid h a p r) sizes at ks ≡ blocks_calls (laid h b q r) sizes at ks
-blocks-calls-same h a p b q r sizes at [] = refl
-blocks-calls-same h a p b q r sizes at (k ∷ ks) =
-    let A : List Instr = block_code (laid h a p r) sizes (λ f. 0) (λ c. 0) 0 0 k in
-    ap (λ z. z ++ blocks_calls (laid h a p r) sizes (at + length A) ks) (instructions-calls-same h a p b q r r sizes at None (plain_of r k))
-    ∙ (ap (λ z. instructions_calls (laid h b q r) sizes at None (plain_of r k) ++ z)
-    (blocks-calls-same h a p b q r sizes (at + length A) ks)
-    ∙ ap (λ z. instructions_calls (laid h b q r) sizes at None (plain_of r k) ++ blocks_calls (laid h b q r) sizes (at + length z) ks)
-    (block-same h a p b q r sizes (λ f. 0) (λ c. 0) 0 0 k))
+pub blocks-calls-same : (h : List (Option Home)) (a p b q : ℕ) (r : List Reads) (v : Bool) (sizes : List ℕ) (at : ℕ) (ks : List Block) →
+    blocks_calls (laid h a p r v) sizes at ks ≡ blocks_calls (laid h b q r v) sizes at ks
+blocks-calls-same h a p b q r v sizes at [] = refl
+blocks-calls-same h a p b q r v sizes at (k ∷ ks) =
+    let A : List Instr = block_code (laid h a p r v) sizes (λ f. 0) (λ c. 0) 0 0 k in
+    ap (λ z. z ++ blocks_calls (laid h a p r v) sizes (at + length A) ks) (instructions-calls-same h a p b q r r v v sizes at None (plain_of r k))
+    ∙ (ap (λ z. instructions_calls (laid h b q r v) sizes at None (plain_of r k) ++ z)
+    (blocks-calls-same h a p b q r v sizes (at + length A) ks)
+    ∙ ap (λ z. instructions_calls (laid h b q r v) sizes at None (plain_of r k) ++ blocks_calls (laid h b q r v) sizes (at + length z) ks)
+    (block-same h a p b q r v sizes (λ f. 0) (λ c. 0) 0 0 k))
 
-pub starts-same : (h : List (Option Home)) (a p b q : ℕ) (r : List Reads) (sizes : List ℕ) (at : ℕ) (ks : List Block) →
-    starts_from (laid h a p r) sizes at ks ≡ starts_from (laid h b q r) sizes at ks
-starts-same h a p b q r sizes at [] = refl
-starts-same h a p b q r sizes at (k ∷ ks) =
-    let A : List Instr = block_code (laid h a p r) sizes (λ f. 0) (λ c. 0) 0 0 k in
-    ap (λ z. at ∷ z) (starts-same h a p b q r sizes (at + 4 * length A) ks)
-    ∙ ap (λ z. at ∷ starts_from (laid h b q r) sizes (at + 4 * length z) ks) (block-same h a p b q r sizes (λ f. 0) (λ c. 0) 0 0 k)
+pub starts-same : (h : List (Option Home)) (a p b q : ℕ) (r : List Reads) (v : Bool) (sizes : List ℕ) (at : ℕ) (ks : List Block) →
+    starts_from (laid h a p r v) sizes at ks ≡ starts_from (laid h b q r v) sizes at ks
+starts-same h a p b q r v sizes at [] = refl
+starts-same h a p b q r v sizes at (k ∷ ks) =
+    let A : List Instr = block_code (laid h a p r v) sizes (λ f. 0) (λ c. 0) 0 0 k in
+    ap (λ z. at ∷ z) (starts-same h a p b q r v sizes (at + 4 * length A) ks)
+    ∙ ap (λ z. at ∷ starts_from (laid h b q r v) sizes (at + 4 * length z) ks) (block-same h a p b q r v sizes (λ f. 0) (λ c. 0) 0 0 k)

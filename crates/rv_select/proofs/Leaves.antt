@@ -2,14 +2,17 @@
 use Rattle.std.proofs.Common.{◌≡◌, ◌≢◌, ℕ, zero, suc, ◌+◌, ◌*◌, ◌%◌, ◌^◌, ◌<◌, ◌≤◌, Bool, true, false, not, ◌&&◌, ◌||◌, List, [], ◌++◌, length, option_map, Option, Some, None, refl, sym, ap, ◌∙◌, subst, ⊎_elim, inl, inr, arith}
 use Rattle.std.specs.Prelude.{if◌then◌else◌, nat_eq, nat_le, slice_get, ◌⊎◌}
 use Rattle.std.specs.List.{list_any}
-use Rattle.std.proofs.lemmas.Bool.{eq-eqb, ne_eqb, eqb-true, leb-true}
+use Rattle.std.proofs.lemmas.Bool.{eq-eqb, ne_eqb, eqb-true, leb-true, ltb-true}
 use Rattle.std.proofs.lemmas.Option.{slice_get-map}
 use Rattle.tl_base.specs.declared.place.Place.{Place}
 use Rattle.rv_isa.specs.declared.instr.Instr.{Instr}
+use Rattle.rv_isa.specs.declared.operation.BranchCondition.{BranchCondition}
 use Rattle.rv_isa.specs.declared.operation.BranchCondition.TheVariants.{Ne}
+use Rattle.rv_isa.specs.declared.operand.Register.{Register}
 use Rattle.reg_alloc.specs.declared.assignment.Home.{Home}
 use Rattle.rv_machine.specs.Word.{low}
-use Rattle.rv_machine.specs.Machine.{State}
+use Rattle.rv_machine.specs.Arithmetic.{is_taken}
+use Rattle.rv_machine.specs.Machine.{State, value_at}
 use Rattle.terra_words.specs.declared.words.FaultKind.{FaultKind}
 use Rattle.terra_words.specs.declared.words.FaultKind.TheVariants.{BadAddress, DivZero, StackFull, CallDepth, NoReturn, BadCall}
 use Rattle.terra_words.specs.Words.{fault_number}
@@ -28,17 +31,17 @@ use Rattle.tac_form.specs.Fits.{edge_fits, operand_fits}
 use Rattle.tac_form.specs.Weights.{exit_words}
 use Rattle.rv_operators.specs.Codes.{x0, x5}
 use Rattle.rv_operators.specs.Runs.{Stands}
-use Rattle.rv_select.specs.Places.{Holds, Housed, Layout, World, layout_of, value_in}
-use Rattle.rv_select.specs.Shapes.{branch_jumps, first_taken, jump}
-use Rattle.rv_select.specs.Steps.{AreFewer, Comes, ExitsAreCarried, Left, StandsAtExit, world_of}
-use Rattle.rv_select.proofs.Straight.{Loads, loads-five}
+use Rattle.rv_select.specs.Places.{Holds, Housed, Layout, World, is_short, layout_of, value_in}
+use Rattle.rv_select.specs.Shapes.{branch_bytes, chosen, first_taken, jump}
+use Rattle.rv_select.specs.Steps.{AreFewer, Comes, ExitsAreCarried, IsReached, Left, StandsAtExit, world_of}
+use Rattle.rv_select.proofs.Straight.{Loads, Scratch, loads-five}
 use Rattle.rv_select.proofs.Ways.{Near, Way, at_pc, near-both, near-pc, near-same, scratch-near, stands-back, stands-front, straight-way, way-both, way-none}
 use Rattle.rv_select.proofs.Homes.{first-count, first-few, take-first}
 use Rattle.rv_select.proofs.Faults.{branch-way, fails}
 use Rattle.rv_select.proofs.Divisors.{stays}
 use Rattle.rv_select.proofs.Lives.{housed}
 use Rattle.rv_select.proofs.Carries.{both-true, by-test, operand-read, place-small}
-use Rattle.rv_select.proofs.Jumps.{Jumped, jumps-there}
+use Rattle.rv_select.proofs.Jumps.{Jumped, Reaches, jump-count, jump-few, jump_words, jumps-there}
 
 -- the exit of a block in the flow graph
 pub exit-in-graph : (code : Tac) (b : Block) (block at : ℕ) → slice_get code.blocks block ≡ Some b → slice_get b.instructions at ≡ None →
@@ -77,56 +80,92 @@ next-live graph block at t f c e g h u =
     (λ written. let none : false ≡ true = written in cc)
     u
 
--- a jump to a block, from anywhere near the exit
-pub jump-comes : (y : Layout) (Used Next : ℕ → Type 0) (w : World) (base k weight from to : ℕ) (program : List (Option Instr)) (m n : State) →
-    Holds y Used w base m → Housed y Used → AreFewer Used Next → Way program k m n → Near m n → n.pc ≡ from → from < 2 ^ 30 → to < 2 ^ 30 → to % 2 ≡ 0 →
-    Stands program from (jump from to) → k + 2 ≤ weight → Comes y program Next w base weight to [] m
-jump-comes y Used Next w base k weight from to program m n p h f way near e small few even there enough =
-    let j : Jumped program 2 to n = jumps-there program n from to e small few even there in
-    stays y Used Next w base (k + 2) weight to program m j.after p h f (way-both program k 2 m n j.after way j.way) (near-both m n j.after near j.near)
-    (subst (λ q. q < 2 ^ 64) (sym j.pc) (omega arith)) (omega arith) enough j.pc
-
--- a branch, over an operand that stands in x5, and the jump that it comes to
 pub low-near : (n : ℕ) → n < 2 ^ 30 → low n ≡ n
 unfolding low
 low-near n h = omega arith
 
-branch-comes : (y : Layout) (Used Next : ℕ → Type 0) (w : World) (base weight v first second to : ℕ) (taken_it : Bool) (A : List Instr) (starts : ℕ → ℕ) (program : List (Option Instr)) (m : State)
-    (l : Loads 5 A m v) → Holds y Used w base m → Housed y Used → AreFewer Used Next → length A + 3 ≤ weight → length A ≤ 8 → m.pc + 256 ≤ 2 ^ 30 →
-    ((b : ℕ) → (starts b < 2 ^ 30) × (starts b % 2 ≡ 0)) → Stands program m.pc (A ++ branch_jumps (m.pc + 4 * length A) starts first second) →
-    not (nat_eq v 0) ≡ taken_it → (if taken_it then starts first else starts second) ≡ to → Comes y program Next w base weight to [] m
-branch-comes y Used Next w base weight v first second to taken_it A starts program m l p h f enough short near blocks there e is =
+-- a jump to a block, from anywhere near the exit
+pub jump-comes : (y : Layout) (Used Next : ℕ → Type 0) (w : World) (base k weight from to : ℕ) (short : Bool) (program : List (Option Instr))
+    (m n : State) →
+    Holds y Used w base m → Housed y Used → AreFewer Used Next → Way program k m n → Near m n → n.pc ≡ from → from < 2 ^ 30 → to < 2 ^ 30 → to % 2 ≡ 0 →
+    Reaches short from to → Stands program from (jump short from to) → k + 2 ≤ weight → Comes y program Next w base weight to [] m
+jump-comes y Used Next w base k weight from to short program m n p h f way near e small few even reach there enough =
+    let j : Jumped program (jump_words short) to n = jumps-there program n short from to e small few even reach there in
+    let c : (1 ≤ jump_words short) × (jump_words short ≤ 2) = jump-few short in
+    stays y Used Next w base (k + jump_words short) weight to program m j.after p h f (way-both program k (jump_words short) m n j.after way j.way)
+    (near-both m n j.after near j.near)
+    (subst (λ q. q < 2 ^ 64) (sym j.pc) (omega arith)) (omega (arith, c.0)) (omega (arith, c.1, enough)) j.pc
+
+-- within a function, from an address and from what stands close behind it
+abbrev pub InReach : (short : Bool) → (from to : ℕ) → Type 0
+InReach short from to = short ≡ true → (from ≤ to + 2 ^ 19) × (to ≤ from + 2 ^ 19)
+
+pub reach-behind : (short : Bool) (from to n : ℕ) → n ≤ 256 → InReach short from to → Reaches short (from + n) to
+reach-behind short from to n h r e = (omega (arith, h, (r e).0), omega (arith, h, (r e).1))
+
+pub bytes-are : (short : Bool) → branch_bytes short ≡ 4 + 4 * jump_words short
+bytes-are true = refl
+bytes-are false = refl
+
+-- a branch on two registers, and the jump that it comes to
+pub chosen-comes : (y : Layout) (Used Next : ℕ → Type 0) (w : World) (base first second to weight : ℕ) (short : Bool) (condition : BranchCondition)
+    (a b : Register) (taken_it : Bool) (A : List Instr) (program : List (Option Instr)) (m k : State) →
+    Scratch A m k → Holds y Used w base m → Housed y Used → AreFewer Used Next → length A + 3 ≤ weight → length A ≤ 16 → m.pc + 256 ≤ 2 ^ 30 →
+    (first < 2 ^ 30) × (first % 2 ≡ 0) → (second < 2 ^ 30) × (second % 2 ≡ 0) → InReach short m.pc first → InReach short m.pc second →
+    Stands program m.pc (A ++ chosen short condition a b (m.pc + 4 * length A) first second) →
+    is_taken condition (value_at k a) (value_at k b) ≡ taken_it → (if taken_it then first else second) ≡ to → Comes y program Next w base weight to [] m
+chosen-comes y Used Next w base first second to weight short condition a b taken_it A program m k l p h f enough few near first-near second-near first-reach
+    second-reach there e is =
     let at : ℕ = m.pc + 4 * length A in
-    let at-is : l.after.pc ≡ at = l.behind ∙ low-near at (omega arith) in
-    let B : List Instr = branch_jumps at starts first second in
-    let rest : Stands program l.after.pc B = subst (λ q. Stands program q B) (sym l.behind) (stands-back program m.pc A B p.pc there) in
-    let one : Way program (length A) m l.after = straight-way program A m l.after (stands-front program m.pc A B there) l.straight l.goes in
-    let t : ℕ = if taken_it then low (l.after.pc + 12) else low (l.after.pc + 4) in
-    let n : State = at_pc l.after t in
-    let two : Way program 1 l.after n = branch-way program Ne x5 x0 12 l.after taken_it (omega arith) (omega arith) rest.0 (ap (λ x. not (nat_eq x 0)) l.gives ∙ e) in
-    let way : Way program (length A + 1) m n = way-both program (length A) 1 m l.after n one two in
-    let around : Near m n = near-both m l.after n (scratch-near A m l.after (loads-five A m v l)) (near-pc l.after t) in
-    let next : low (l.after.pc + 4) ≡ at + 4 = ap (λ q. low (q + 4)) at-is ∙ low-near (at + 4) (omega arith) in
-    let both : Stands program (at + 4) (jump (at + 4) (starts second) ++ jump (at + 12) (starts first)) =
-    subst (λ q. Stands program q (jump (at + 4) (starts second) ++ jump (at + 12) (starts first))) next rest.1 in
-    let third : low (at + 4 + 4 * 2) ≡ at + 12 = low-near (at + 4 + 4 * 2) (omega arith) ∙ omega arith in
-    let last : Stands program (at + 12) (jump (at + 12) (starts first)) =
-    subst (λ q. Stands program q (jump (at + 12) (starts first))) third
-    (stands-back program (at + 4) (jump (at + 4) (starts second)) (jump (at + 12) (starts first)) (omega arith) both) in
-    let nearer : Stands program (at + 4) (jump (at + 4) (starts second)) = stands-front program (at + 4) (jump (at + 4) (starts second)) (jump (at + 12) (starts first)) both in
-    let far-is : low (l.after.pc + 12) ≡ at + 12 = ap (λ q. low (q + 12)) at-is ∙ low-near (at + 12) (omega arith) in
+    let over : ℕ = branch_bytes short in
+    let c : (1 ≤ jump_words short) × (jump_words short ≤ 2) = jump-few short in
+    let over-is : over ≡ 4 + 4 * jump_words short = bytes-are short in
+    let at-is : k.pc ≡ at = l.behind ∙ low-near at (omega (arith, few, near)) in
+    let B : List Instr = chosen short condition a b at first second in
+    let F : List Instr = jump short (at + over) first in
+    let S : List Instr = jump short (at + 4) second in
+    let rest : Stands program k.pc B = subst (λ q. Stands program q B) (sym l.behind) (stands-back program m.pc A B p.pc there) in
+    let one : Way program (length A) m k = straight-way program A m k (stands-front program m.pc A B there) l.straight l.goes in
+    let t : ℕ = if taken_it then low (k.pc + over) else low (k.pc + 4) in
+    let n : State = at_pc k t in
+    let two : Way program 1 k n = branch-way program condition a b over k taken_it (omega (arith, over-is, c.1)) (omega (arith, over-is)) rest.0 e in
+    let way : Way program (length A + 1) m n = way-both program (length A) 1 m k n one two in
+    let around : Near m n = near-both m k n (scratch-near A m k l) (near-pc k t) in
+    let next : low (k.pc + 4) ≡ at + 4 = ap (λ q. low (q + 4)) at-is ∙ low-near (at + 4) (omega (arith, few, near)) in
+    let both : Stands program (at + 4) (S ++ F) = subst (λ q. Stands program q (S ++ F)) next rest.1 in
+    let third : low (at + 4 + 4 * length S) ≡ at + over =
+    ap (λ z. low (at + 4 + 4 * z)) (jump-count short (at + 4) second)
+    ∙ (low-near (at + 4 + 4 * jump_words short) (omega (arith, few, near, c.1)) ∙ omega (arith, over-is)) in
+    let last : Stands program (at + over) F =
+    subst (λ q. Stands program q F) third (stands-back program (at + 4) S F (omega (arith, few, near)) both) in
+    let nearer : Stands program (at + 4) S = stands-front program (at + 4) S F both in
+    let far-is : low (k.pc + over) ≡ at + over = ap (λ q. low (q + over)) at-is ∙ low-near (at + over) (omega (arith, few, near, over-is, c.1)) in
     choose taken_it n around way next far-is nearer last is refl
   where
-    choose : (b : Bool) (n : State) → Near m n → Way program (length A + 1) m n → low (l.after.pc + 4) ≡ m.pc + 4 * length A + 4 → low (l.after.pc + 12) ≡ m.pc + 4 * length A + 12 →
-        Stands program (m.pc + 4 * length A + 4) (jump (m.pc + 4 * length A + 4) (starts second)) →
-        Stands program (m.pc + 4 * length A + 12) (jump (m.pc + 4 * length A + 12) (starts first)) →
-        (if b then starts first else starts second) ≡ to → n.pc ≡ (if b then low (l.after.pc + 12) else low (l.after.pc + 4)) → Comes y program Next w base weight to [] m
-    choose true n around way a b c d is pc =
+    over-few : (short : Bool) → branch_bytes short ≤ 12
+    over-few true = omega arith
+    over-few false = omega arith
+
+    choose : (t : Bool) (n : State) → Near m n → Way program (length A + 1) m n → low (k.pc + 4) ≡ m.pc + 4 * length A + 4 →
+        low (k.pc + branch_bytes short) ≡ m.pc + 4 * length A + branch_bytes short →
+        Stands program (m.pc + 4 * length A + 4) (jump short (m.pc + 4 * length A + 4) second) →
+        Stands program (m.pc + 4 * length A + branch_bytes short) (jump short (m.pc + 4 * length A + branch_bytes short) first) →
+        (if t then first else second) ≡ to → n.pc ≡ (if t then low (k.pc + branch_bytes short) else low (k.pc + 4)) → Comes y program Next w base weight to [] m
+    choose true n around way i j c d is pc =
+        let small : branch_bytes short ≤ 12 = over-few short in
+        let sum : m.pc + (4 * length A + branch_bytes short) ≡ m.pc + 4 * length A + branch_bytes short = omega arith in
         subst (λ q. Comes y program Next w base weight q [] m) is
-        (jump-comes y Used Next w base (length A + 1) weight (m.pc + 4 * length A + 12) (starts first) program m n p h f way around (pc ∙ b) (omega arith) (blocks first).0 (blocks first).1 d (omega arith))
-    choose false n around way a b c d is pc =
+        (jump-comes y Used Next w base (length A + 1) weight (m.pc + 4 * length A + branch_bytes short) first short program m n p h f way around (pc ∙ j)
+        (omega (arith, few, near, small)) first-near.0 first-near.1
+        (subst (λ q. Reaches short q first) sum (reach-behind short m.pc first (4 * length A + branch_bytes short) (omega (arith, few, small)) first-reach)) d
+        (omega (arith, enough)))
+    choose false n around way i j c d is pc =
+        let sum : m.pc + (4 * length A + 4) ≡ m.pc + 4 * length A + 4 = omega arith in
         subst (λ q. Comes y program Next w base weight q [] m) is
-        (jump-comes y Used Next w base (length A + 1) weight (m.pc + 4 * length A + 4) (starts second) program m n p h f way around (pc ∙ a) (omega arith) (blocks second).0 (blocks second).1 c (omega arith))
+        (jump-comes y Used Next w base (length A + 1) weight (m.pc + 4 * length A + 4) second short program m n p h f way around (pc ∙ i)
+        (omega (arith, few, near)) second-near.0 second-near.1
+        (subst (λ q. Reaches short q second) sum (reach-behind short m.pc second (4 * length A + 4) (omega (arith, few)) second-reach)) c
+        (omega (arith, enough)))
 
 pub zero-or-more : (n : ℕ) → (n ≡ 0) ⊎ ((k : ℕ) × (n ≡ suc k))
 zero-or-more zero = inl refl
@@ -155,15 +194,24 @@ module _ (p : Program) (code : Tac) (homes : List (Option Home)) (held : Option 
   where-housed : Housed (layout_of code homes) here
   where-housed = housed code homes s.here.block s.here.at x.right
 
+pub edge-reach : (code : Tac) (starts : ℕ → ℕ) (from : ℕ) (e : Edge) → IsReached code starts from → edge_fits code e ≡ true →
+    InReach (is_short code) from (starts e.block)
+edge-reach code starts from e reach fits short = reach short e.block (ltb-true e.block (length code.blocks) fits)
+
+reach-here : (short : Bool) (from to : ℕ) → InReach short from to → Reaches short from to
+reach-here short from to r e = (omega (arith, (r e).0), omega (arith, (r e).1))
+
 carry-jump : (p : Program) (code : Tac) (homes : List (Option Home)) (held : Option ℕ) (e : Edge) (starts : ℕ → ℕ) (s : tac.State) (program : List (Option Instr)) (base : ℕ) (m : State) →
     StandsAtExit p code homes held (Jump e) starts s program base m → Left (layout_of code homes) (graph_of code) program base 2 starts s m (step p s)
 carry-jump p code homes held e starts s program base m x =
     let y : Layout = layout_of code homes in
     let comes : Comes y program (InUse (graph_of code) e.block 0) (world_of s) base 2 (starts e.block) [] m =
-    jump-comes y (InUse (graph_of code) s.here.block s.here.at) (InUse (graph_of code) e.block 0) (world_of s) base 0 2 m.pc (starts e.block) program m m x.holds
+    jump-comes y (InUse (graph_of code) s.here.block s.here.at) (InUse (graph_of code) e.block 0) (world_of s) base 0 2 m.pc (starts e.block) (is_short code)
+    program m m x.holds
     (where-housed p code homes held (Jump e) starts s program base m x)
     (next-here p code homes held (Jump e) starts s program base m x e.block (λ q h. or-left (q e.block) false h)) (way-none program m) (near-same m) refl (omega (arith, x.near))
-    (x.blocks e.block).0 (x.blocks e.block).1 x.stands (omega arith) in
+    (x.blocks e.block).0 (x.blocks e.block).1 (reach-here (is_short code) m.pc (starts e.block) (edge-reach code starts m.pc e x.reach x.fits)) x.stands
+    (omega arith) in
     let e1 = x.function in
     let e2 = x.in_function in
     let e3 = x.in_block in
@@ -201,16 +249,23 @@ carry-branch p code homes held a e f starts s program base m x =
     let fit = both-true (operand_fits code a && edge_fits code e) (edge_fits code f) x.fits in
     let fit-a = both-true (operand_fits code a) (edge_fits code e) fit.0 in
     let h : Housed y used = where-housed p code homes held (Branch a e f) starts s program base m x in
+    let short : length (first_taken y held a) ≤ 16 = omega (arith, first-few y held a) in
+    let reach-e : InReach (is_short code) m.pc (starts e.block) = edge-reach code starts m.pc e x.reach fit-a.1 in
+    let reach-f : InReach (is_short code) m.pc (starts f.block) = edge-reach code starts m.pc f x.reach fit.1 in
     let l : Loads 5 (first_taken y held a) m v =
     take-first y held used (world_of s) base m a x.five x.holds h (operand-read code used a fit-a.0 (reads-here p code homes held (Branch a e f) starts s program base m x)) in
     let first : v ≢ 0 → Comes y program (InUse (graph_of code) e.block 0) (world_of s) base (exit_words (Branch a e f)) (starts e.block) [] m =
-    λ n. branch-comes y used (InUse (graph_of code) e.block 0) (world_of s) base (exit_words (Branch a e f)) v e.block f.block (starts e.block) true (first_taken y held a) starts program m l x.holds h
-    (next-here p code homes held (Branch a e f) starts s program base m x e.block (λ q g. or-left (q e.block) (q f.block || false) g)) few (first-few y held a) x.near x.blocks x.stands
-    (ap not (ne_eqb v 0 n)) refl in
+    λ n. chosen-comes y used (InUse (graph_of code) e.block 0) (world_of s) base (starts e.block) (starts f.block) (starts e.block) (exit_words (Branch a e f))
+    (is_short code) Ne x5 x0 true (first_taken y held a) program m l.after (loads-five (first_taken y held a) m v l) x.holds h
+    (next-here p code homes held (Branch a e f) starts s program base m x e.block (λ q g. or-left (q e.block) (q f.block || false) g)) few short
+    x.near (x.blocks e.block) (x.blocks f.block) reach-e reach-f x.stands
+    (ap (λ q. not (nat_eq q 0)) l.gives ∙ ap not (ne_eqb v 0 n)) refl in
     let second : v ≡ 0 → Comes y program (InUse (graph_of code) f.block 0) (world_of s) base (exit_words (Branch a e f)) (starts f.block) [] m =
-    λ z. branch-comes y used (InUse (graph_of code) f.block 0) (world_of s) base (exit_words (Branch a e f)) v e.block f.block (starts f.block) false (first_taken y held a) starts program m l x.holds h
-    (next-here p code homes held (Branch a e f) starts s program base m x f.block (λ q g. or-second (q e.block) (q f.block || false) (or-left (q f.block) false g))) few (first-few y held a) x.near x.blocks x.stands
-    (ap not (eq-eqb v 0 z)) refl in
+    λ z. chosen-comes y used (InUse (graph_of code) f.block 0) (world_of s) base (starts e.block) (starts f.block) (starts f.block) (exit_words (Branch a e f))
+    (is_short code) Ne x5 x0 false (first_taken y held a) program m l.after (loads-five (first_taken y held a) m v l) x.holds h
+    (next-here p code homes held (Branch a e f) starts s program base m x f.block (λ q g. or-second (q e.block) (q f.block || false) (or-left (q f.block) false g))) few short
+    x.near (x.blocks e.block) (x.blocks f.block) reach-e reach-f x.stands
+    (ap (λ q. not (nat_eq q 0)) l.gives ∙ ap not (eq-eqb v 0 z)) refl in
     let e1 = x.function in
     let e2 = x.in_function in
     let e3 = x.in_block in

@@ -1,18 +1,22 @@
 -- Code is as long wherever it, functions and blocks stand.
-use Rattle.std.proofs.Common.{◌≡◌, ℕ, ◌+◌, ◌*◌, List, [], ◌∷◌, ◌++◌, length, Option, Some, None, refl, sym, ◌∙◌, arith}
+use Rattle.std.proofs.Common.{◌≡◌, ℕ, ◌+◌, ◌*◌, Bool, List, [], ◌∷◌, ◌++◌, length, Option, Some, None, refl, sym, ap, ◌∙◌, arith}
 use Rattle.std.proofs.lemmas.List.{length-append}
 use Rattle.tl_base.specs.declared.ids.FnId.{FnId}
+use Rattle.rv_isa.specs.declared.instr.Instr.{Instr}
 use Rattle.tac_form.specs.declared.tac.Instruction.{Instruction}
 use Rattle.tac_form.specs.declared.tac.Instruction.TheVariants.{Alloc, Call, CallValue, Clear, Compute, Copy, Load, Locate, Move, PutByte, Store, TestDivisor, Write}
 use Rattle.tac_form.specs.declared.tac.Exit.{Exit}
 use Rattle.tac_form.specs.declared.tac.Exit.TheVariants.{Branch, Fail, Jump, Return}
 use Rattle.tac_form.specs.declared.tac.Block.{Block}
 use Rattle.rv_select.specs.declared.pairs.Pair.{Pair}
-use Rattle.rv_select.specs.Compared.{operands_taken}
+use Rattle.rv_isa.specs.declared.operation.BranchCondition.TheVariants.{Ne}
+use Rattle.rv_operators.specs.Codes.{x0, x5}
+use Rattle.rv_select.specs.Compared.{condition_of, left_of, operands_taken, right_of}
 use Rattle.rv_select.specs.Pairs.{pair_of, plain_of}
 use Rattle.rv_select.specs.Places.{Layout}
 use Rattle.rv_select.specs.Shapes.{first_taken, held_after, x10}
 use Rattle.rv_select.specs.Calls.{block_code, blocks_code, call_begun, call_ended, call_jump, end_code, exit_code, held_behind, instruction_code, instructions_code, pair_code, part_taken}
+use Rattle.rv_select.proofs.Jumps.{chosen-count, jump-count}
 
 -- the code of an instruction is as long wherever it and functions stand
 pub instruction-length : (y : Layout) (sizes : List ℕ) (places others : FnId → ℕ) (at other : ℕ) (held : Option ℕ) (i : Instruction) →
@@ -34,19 +38,33 @@ instruction-length y sizes places others at other held (PutByte a) = refl
 instruction-length y sizes places others at other held (Write place a b) = refl
 instruction-length y sizes places others at other held (Alloc d a) = refl
 
-pub exit-length : (y : Layout) (held : Option ℕ) (at other last final : ℕ) (starts others : ℕ → ℕ) (e : Exit) → length (exit_code y held at starts last e) ≡ length (exit_code y held other others final e)
-exit-length y held at other last final starts others (Return v) =
-    let A = part_taken y x10 v in length-append A _ ∙ sym (length-append A _)
-exit-length y held at other last final starts others (Jump e) = refl
-exit-length y held at other last final starts others (Branch a e f) = length-append (first_taken y held a) _ ∙ sym (length-append (first_taken y held a) _)
-exit-length y held at other last final starts others (Fail kind place) = refl
+-- code behind other code
+same-behind : (A B C : List Instr) → length B ≡ length C → length (A ++ B) ≡ length (A ++ C)
+same-behind A B C e = length-append A B ∙ (ap (λ n. length A + n) e ∙ sym (length-append A C))
 
-pub end-length : (y : Layout) (held : Option ℕ) (at other last final : ℕ) (starts others : ℕ → ℕ) (o : Option Pair) (e : Exit) →
-    length (end_code y held at starts last o e) ≡ length (end_code y held other others final o e)
+pub exit-length : (y : Layout) (short : Bool) (held : Option ℕ) (at other last final : ℕ) (starts others : ℕ → ℕ) (e : Exit) →
+    length (exit_code y short held at starts last e) ≡ length (exit_code y short held other others final e)
+exit-length y short held at other last final starts others (Return v) =
+    same-behind (part_taken y x10 v) _ _
+    (jump-count short (at + 4 * length (part_taken y x10 v)) last ∙ sym (jump-count short (other + 4 * length (part_taken y x10 v)) final))
+exit-length y short held at other last final starts others (Jump e) = jump-count short at (starts e.block) ∙ sym (jump-count short other (others e.block))
+exit-length y short held at other last final starts others (Branch a e f) =
+    same-behind (first_taken y held a) _ _
+    (chosen-count short Ne x5 x0 (at + 4 * length (first_taken y held a)) (starts e.block) (starts f.block)
+    ∙ sym (chosen-count short Ne x5 x0 (other + 4 * length (first_taken y held a)) (others e.block) (others f.block)))
+exit-length y short held at other last final starts others (Fail kind place) = refl
+
+pub end-length : (y : Layout) (short : Bool) (held : Option ℕ) (at other last final : ℕ) (starts others : ℕ → ℕ) (o : Option Pair) (e : Exit) →
+    length (end_code y short held at starts last o e) ≡ length (end_code y short held other others final o e)
 unfolding pair_code
-end-length y held at other last final starts others None e = exit-length y held at other last final starts others e
-end-length y held at other last final starts others (Some pair) e =
-    length-append (operands_taken y held pair.a pair.b) _ ∙ sym (length-append (operands_taken y held pair.a pair.b) _)
+end-length y short held at other last final starts others None e = exit-length y short held at other last final starts others e
+end-length y short held at other last final starts others (Some pair) e =
+    let T = operands_taken y held pair.a pair.b in
+    let c = condition_of pair.form.signed pair.operator in
+    same-behind T _ _
+    (chosen-count short c (left_of pair.operator) (right_of pair.operator) (at + 4 * length T) (starts pair.first.block) (starts pair.second.block)
+    ∙ sym (chosen-count short c (left_of pair.operator) (right_of pair.operator) (other + 4 * length T) (others pair.first.block)
+    (others pair.second.block)))
 
 pub instructions-length : (y : Layout) (sizes : List ℕ) (places others : FnId → ℕ) (at other : ℕ) (held : Option ℕ) (is : List Instruction) →
     length (instructions_code y sizes places at held is) ≡ length (instructions_code y sizes others other held is)
@@ -70,10 +88,10 @@ block-length y sizes places others starts ends last final at other b =
     let o : Option Pair = pair_of y.reads b in
     let A = instructions_code y sizes places at None is in
     let B = instructions_code y sizes others other None is in
-    let C = end_code y (held_behind None is) (at + 4 * length A) starts last o b.exit in
-    let D = end_code y (held_behind None is) (other + 4 * length B) ends final o b.exit in
+    let C = end_code y y.short (held_behind None is) (at + 4 * length A) starts last o b.exit in
+    let D = end_code y y.short (held_behind None is) (other + 4 * length B) ends final o b.exit in
     let a : length A ≡ length B = instructions-length y sizes places others at other None is in
-    let c : length C ≡ length D = end-length y (held_behind None is) (at + 4 * length A) (other + 4 * length B) last final starts ends o
+    let c : length C ≡ length D = end-length y y.short (held_behind None is) (at + 4 * length A) (other + 4 * length B) last final starts ends o
     b.exit in
     length-append A C ∙ (sums (length A) (length B) (length C) (length D) a c ∙ sym (length-append B D))
   where

@@ -1,5 +1,5 @@
 -- Copies and operators.
-use Rattle.std.proofs.Common.{◌≡◌, ◌≢◌, ℕ, ◌+◌, ◌*◌, ◌^◌, ◌<◌, ◌≤◌, Bool, true, false, not, ◌&&◌, List, [], ◌++◌, length, take, drop, append_assoc, Option, refl, sym, ap, ◌∙◌, subst, ⊎_elim, inl, inr, arith}
+use Rattle.std.proofs.Common.{◌≡◌, ◌≢◌, ℕ, ◌+◌, ◌*◌, ◌^◌, ◌<◌, ◌≤◌, Bool, true, false, not, ◌&&◌, List, ◌++◌, length, take, drop, append_assoc, Option, refl, sym, ap, ◌∙◌, subst, ⊎_elim, inl, inr, arith}
 use Rattle.std.specs.Prelude.{if◌then◌else◌, nat_eq, ◌⊎◌, IsTrue}
 use Rattle.std.proofs.lemmas.Bool.{cases_Bool, cases_eq, eq-eqb, ne_eqb}
 use Rattle.std.proofs.lemmas.List.{length-append}
@@ -24,7 +24,7 @@ use Rattle.tac_form.specs.declared.tac.Operand.{Operand}
 use Rattle.tac_form.specs.declared.tac.Operand.TheVariants.{Temp, Constant}
 use Rattle.tac_form.specs.declared.tac.Instruction.TheVariants.{Compute, Copy}
 use Rattle.tac_form.specs.Flow.{put, bytes_of, width_of}
-use Rattle.tac_form.specs.Weights.{operand_words, operator_words, words_of}
+use Rattle.tac_form.specs.Weights.{words_of}
 use Rattle.rv_operators.specs.Claims.{Leads}
 use Rattle.rv_operators.specs.Codes.{x5, x6, code_of, is_width}
 use Rattle.rv_operators.specs.Runs.{Stands}
@@ -34,12 +34,12 @@ use Rattle.rv_select.specs.Places.{AreBytes, Layout, World, Holds, Housed, IsHel
 use Rattle.rv_select.specs.Folded.{folded, is_folded}
 use Rattle.rv_select.specs.Numbers.{constant}
 use Rattle.rv_select.specs.Shapes.{applied_to, first_taken, is_held, is_symmetric, is_turned, operated, put_to, taken}
-use Rattle.rv_select.specs.Steps.{Comes, Follows, behind, with_temp}
+use Rattle.rv_select.specs.Steps.{Follows, behind, with_temp}
 use Rattle.rv_select.proofs.Claims.{CopiesAreCarried, Gives, OperatorsAreCarried}
 use Rattle.rv_select.proofs.Straight.{Loads, Scratch, behind-both, leads-scratch, loads-five, loads-six, low-below, scratch-both}
 use Rattle.rv_select.proofs.Ways.{Near, Way, scratch-near, stands-back, stands-front, straight-way, way-both}
 use Rattle.rv_select.proofs.Frames.{framed-some}
-use Rattle.rv_select.proofs.Homes.{Puts, first-count, operand-count, put-count, put-home, region-small, take-first, take-operand}
+use Rattle.rv_select.proofs.Homes.{Puts, first-count, put-count, put-home, region-small, take-first, take-operand}
 use Rattle.rv_select.proofs.Holding.{applied-count, folded-few, folds}
 use Rattle.rv_select.proofs.Numbers.{constant-loads}
 use Rattle.rv_select.proofs.Small.{applied-small}

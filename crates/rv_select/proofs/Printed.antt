@@ -16,7 +16,7 @@ use Rattle.rv_machine.specs.Machine.{GoesOn, State, Writes, act, at_with, loads,
 use Rattle.rv_operators.specs.Codes.{x0, x5, x6, zero_immediate}
 use Rattle.rv_operators.specs.Runs.{Stands}
 use Rattle.rv_select.specs.Numbers.{constant, immediate_of}
-use Rattle.rv_select.specs.Places.{AreBytes, Holds, Housed, IsHeld, IsRead, Layout, World, home_of, value_in}
+use Rattle.rv_select.specs.Places.{AreBytes, Holds, Housed, IsHeld, IsRead, Layout, World, value_in}
 use Rattle.rv_select.specs.Shapes.{byte_put, byte_taken, byte_written, moved, x2, x10, x11, x12, x17}
 use Rattle.rv_select.specs.Steps.{AreFewer, Comes, behind}
 use Rattle.rv_select.proofs.Bytes.{private-part}

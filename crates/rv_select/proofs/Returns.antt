@@ -21,7 +21,7 @@ use Rattle.rv_select.specs.Shapes.{jump, moved, x10}
 use Rattle.rv_select.specs.Entering.{kept_offset, left, x28}
 use Rattle.rv_select.specs.Calls.{part_taken, returned}
 use Rattle.rv_select.specs.Waiting.{Image, IsLinked, Waiting, restored}
-use Rattle.rv_select.proofs.Jumps.{Jumped, jumps-there}
+use Rattle.rv_select.proofs.Jumps.{Jumped, Reaches, jump-few, jump_words, jumps-there}
 use Rattle.rv_select.proofs.Lives.{housed}
 use Rattle.rv_select.proofs.Homes.{region-small}
 use Rattle.rv_select.proofs.Numbers.{below-is}
@@ -70,24 +70,27 @@ below-r r o = ⊎_elim (λ z. inl (omega (arith, z))) (λ k. ⊎_elim (λ z. inl
 
 -- the code of a return, from where its part is to be taken
 pub goes-back : (program : List (Option Instr)) (y : Layout) (Used : ℕ → Type 0) (w : World) (base frame last link from : ℕ) (v : Part)
-    (m : State) → Holds y Used w base m → Housed y Used → IsPartRead y Used v →
-    m.pc + 256 ≤ 2 ^ 30 → last < 2 ^ 30 → last % 2 ≡ 0 → w.placed + frame < 2 ^ 63 → private_word m base ≡ link → link % 2 ≡ 0 →
+    (m : State) (short : Bool) → Holds y Used w base m → Housed y Used → IsPartRead y Used v →
+    m.pc + 256 ≤ 2 ^ 30 → last < 2 ^ 30 → last % 2 ≡ 0 → (short ≡ true → (m.pc ≤ last) × (last ≤ m.pc + 2 ^ 19)) → w.placed + frame < 2 ^ 63 → private_word m base ≡ link → link % 2 ≡ 0 →
     link < 2 ^ 64 →
-    Stands program m.pc (returned y m.pc last v) → Stands program last (left y (frame_bytes y) frame) →
+    Stands program m.pc (returned y short m.pc last v) → Stands program last (left y (frame_bytes y) frame) →
     BackIn program y (frame_bytes y) base (w.placed + frame) link (part_value y base w v) m
-goes-back program y Used w base frame last link from v m p h reads near last-small last-even fits link-is even link-small there leaves =
+goes-back program y Used w base frame last link from v m short p h reads near last-small last-even reach fits link-is even link-small there leaves =
     let A : List Instr = part_taken y x10 v in
     let at : ℕ = m.pc + 4 * length A in
     let few : length A ≤ 8 = part-count y x10 v in
     let l : Loads 10 A m (part_value y base w v) = take-part y x10 Used w base m v (λ z. omega (arith, z)) p h reads in
     let t1 : State = l.after in
     let at-is : t1.pc ≡ at = l.behind ∙ low-small (m.pc + 4 * length A) (omega (arith, near, few)) in
-    let one : Way program (length A) m t1 = straight-way program A m t1 (stands-front program m.pc A (jump at last) there) l.straight
+    let one : Way program (length A) m t1 = straight-way program A m t1 (stands-front program m.pc A (jump short at last) there) l.straight
     l.goes in
-    let after-1 : Stands program at (jump at last) =
-    subst (λ q. Stands program q (jump at last)) (low-small (m.pc + 4 * length A) (omega (arith, near, few)))
-    (stands-back program m.pc A (jump at last) p.pc there) in
-    let j : Jumped program 2 last t1 = jumps-there program t1 at last at-is (omega (arith, near, few)) last-small last-even after-1 in
+    let after-1 : Stands program at (jump short at last) =
+    subst (λ q. Stands program q (jump short at last)) (low-small (m.pc + 4 * length A) (omega (arith, near, few)))
+    (stands-back program m.pc A (jump short at last) p.pc there) in
+    let c : (1 ≤ jump_words short) × (jump_words short ≤ 2) = jump-few short in
+    let reaches : Reaches short at last = λ q. (omega (arith, few, (reach q).0), omega (arith, (reach q).1)) in
+    let j : Jumped program (jump_words short) last t1 =
+    jumps-there program t1 short at last at-is (omega (arith, near, few)) last-small last-even reaches after-1 in
     let t2 : State = j.after in
     let same-2 : (r : ℕ) → r ≢ 5 → r ≢ 6 → r ≢ 7 → r ≢ 10 →
     t2.registers r ≡ m.registers r = λ r five six seven ten. j.near.keeps r five six seven ∙ l.keeps r ten seven in
@@ -116,10 +119,10 @@ goes-back program y Used w base frame last link from v m p h reads near last-sma
     (λ z. omega (arith, z, lo))) in
     record {
       after = q.after;
-      steps = length A + 2 + q.steps;
-      way = way-both program (length A + 2) q.steps m t2 q.after (way-both program (length A) 2 m t1 t2 one j.way) q.way;
-      few = omega (arith, few, q.few);
-      some = omega arith;
+      steps = length A + jump_words short + q.steps;
+      way = way-both program (length A + jump_words short) q.steps m t2 q.after (way-both program (length A) (jump_words short) m t1 t2 one j.way) q.way;
+      few = omega (arith, few, c.1, q.few);
+      some = omega (arith, c.0);
       pc = q.pc;
       ten = q.others 10 (λ z. omega (arith, z)) (λ z. omega (arith, z)) (λ z. omega (arith, z)) (λ z. omega (arith, z))
           (λ z. omega (arith, z)) (λ z. omega (arith, z)) (λ z. omega (arith, z)) (inl (omega arith))

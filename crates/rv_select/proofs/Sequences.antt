@@ -1,5 +1,5 @@
 -- The code of an operator keeps within its weight.
-use Rattle.std.proofs.Common.{ℕ, ◌+◌, ◌≤◌, Bool, true, false, List, ◌++◌, length, Option, Some, None, arith}
+use Rattle.std.proofs.Common.{ℕ, ◌≤◌, Bool, true, false, List, length, Option, Some, None, arith}
 use Rattle.std.specs.Prelude.{if◌then◌else◌, ◌&&◌, nat_eq}
 use Rattle.std.proofs.lemmas.List.{length-append}
 use Rattle.rv_isa.specs.declared.instr.Instr.{Instr}

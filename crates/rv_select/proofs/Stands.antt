@@ -4,6 +4,7 @@ use Rattle.std.specs.Prelude.{nat_lt, slice_get}
 use Rattle.std.specs.List.{list_all}
 use Rattle.std.proofs.lemmas.Bool.{ltb-true}
 use Rattle.std.proofs.lemmas.List.{length-append}
+use Rattle.std.proofs.lemmas.Option.{slice_get_within}
 use Rattle.rv_isa.specs.declared.instr.Instr.{Instr}
 use Rattle.tac_form.specs.declared.tac.Instruction.{Instruction}
 use Rattle.tac_form.specs.declared.tac.Exit.{Exit}
@@ -14,12 +15,12 @@ use Rattle.tac_form.specs.Fits.{area_fits, block_fits, destination_fits, exit_fi
 use Rattle.rv_operators.specs.Runs.{Stands}
 use Rattle.rv_select.specs.declared.pairs.Pair.{Pair}
 use Rattle.rv_select.specs.Pairs.{but_pair, pair_of, plain_of, reads_of}
-use Rattle.rv_select.specs.Places.{Layout, frame_bytes, layout_of}
+use Rattle.rv_select.specs.Places.{Layout, frame_bytes, is_short, layout_of}
 use Rattle.rv_select.specs.Shapes.{start_of}
 use Rattle.rv_select.specs.Entering.{left}
 use Rattle.rv_select.specs.Calls.{block_starts, end_code, head_code, held_behind, instruction_code, instructions_code, last_address}
 use Rattle.rv_select.specs.Waiting.{Image, IsPlaced, Placed, entries_of, held_at, held_in, instruction_at, place_in, plain_in}
-use Rattle.rv_select.proofs.Finds.{Found, FoundBlock, FoundFunction, find-block, find-exit, find-function, find-instruction, held-last, instruction-aligned}
+use Rattle.rv_select.proofs.Finds.{Found, FoundBlock, FoundFunction, find-block, find-exit, find-function, find-instruction, held-last, instruction-aligned, starts-least}
 
 pub both-true : (a b : Bool) → (a && b) ≡ true → (a ≡ true) × (b ≡ true)
 both-true true b e = (refl, e)
@@ -82,10 +83,12 @@ pub record AtPlace (p : Program) (image : Image) (program : List (Option Instr))
 pub record AtExit (p : Program) (image : Image) (program : List (Option Instr)) (code : Tac) (x : Placed) (held : Option ℕ)
     (o : Option Pair) (e : Exit) (at : ℕ) : Type 0 where
   pub stands : Stands program at
-      (end_code (layout_of code x.homes) held at (start_of (block_starts (layout_of code x.homes) code x.at))
+      (end_code (layout_of code x.homes) (is_short code) held at (start_of (block_starts (layout_of code x.homes) code x.at))
       (last_address (layout_of code x.homes) code x.at) o e)
   pub near : at + 256 ≤ 2 ^ 30
   pub aligned : at % 4 ≡ 0
+  pub low : x.at ≤ at
+  pub high : at ≤ last_address (layout_of code x.homes) code x.at
 
 pub the-function : (p : Program) (image : Image) (program : List (Option Instr)) (most : ℕ) (code : Tac) (x : Placed) →
     IsPlaced p image program most code x →
@@ -116,7 +119,7 @@ at-instruction p image program most code x b k block i h e g =
     let f : FoundFunction program y code places x.at = the-function p image program most code x h in
     let fb = the-block p image program most code x b block h e in
     let A = instructions_code y code.areas places S None is in
-    let E = end_code y (held_behind None is) (S + 4 * length A) (start_of (block_starts y code x.at)) (last_address y code x.at)
+    let E = end_code y y.short (held_behind None is) (S + 4 * length A) (start_of (block_starts y code x.at)) (last_address y code x.at)
     (pair_of (reads_of code) block) block.exit in
     let count : length (A ++ E) ≡ length A + length E = length-append A E in
     let fi : Found program y code.areas places (held_at None is k) i (S + 4 * length A)
@@ -151,7 +154,7 @@ at-exit p image program most code x b k block h e g =
     let f : FoundFunction program y code places x.at = the-function p image program most code x h in
     let fb = the-block p image program most code x b block h e in
     let A = instructions_code y code.areas places S None is in
-    let E = end_code y (held_behind None is) (S + 4 * length A) (start_of (block_starts y code x.at)) (last_address y code x.at)
+    let E = end_code y y.short (held_behind None is) (S + 4 * length A) (start_of (block_starts y code x.at)) (last_address y code x.at)
     (pair_of (reads_of code) block) block.exit in
     let count : length (A ++ E) ≡ length A + length E = length-append A E in
     let fe = find-exit program y code.areas places None is k S E g (omega (arith, fb.near, f.near, count)) fb.stands in
@@ -162,7 +165,17 @@ at-exit p image program most code x b k block h e g =
     ap (λ o. held_at None (plain_in (reads_of code) o) k) e ∙ held-last None is k g in
     subst (λ at. AtExit p image program code x (held_in code b k) (pair_of (reads_of code) block) block.exit at) (sym here)
     (subst (λ o. AtExit p image program code x o (pair_of (reads_of code) block) block.exit (S + 4 * length A)) (sym held)
-    (record { stands = fe.1; near = omega (arith, fb.near, f.near, count); aligned = omega (arith, fb.aligned) }))
+    (record {
+      stands = fe.1;
+      near = omega (arith, fb.near, f.near, count);
+      aligned = omega (arith, fb.aligned);
+      low = from-first x.at S (length (head_code y code)) (length A)
+          (starts-least y code.areas code.blocks b (x.at + 4 * length (head_code y code)) (slice_get_within code.blocks b block e));
+      high = omega (arith, fb.near, count);
+    }))
+  where
+    from-first : (a s n k : ℕ) → a + 4 * n ≤ s → a ≤ s + 4 * k
+    from-first a s n k h = omega (arith, h)
 
 -- the end of a block whose exit has code of its own
 pub at-plain-exit : (p : Program) (image : Image) (program : List (Option Instr)) (most : ℕ) (code : Tac) (x : Placed) (b k : ℕ)

@@ -1,5 +1,5 @@
 -- Steps that stay within a function, in a program of several functions.
-use Rattle.std.proofs.Common.{◌≡◌, ℕ, suc, ◌+◌, ◌*◌, ◌%◌, ◌^◌, ◌<◌, ◌≤◌, true, List, [], ◌++◌, length, Option, Some, None, refl, sym, ap, ◌∙◌, subst, arith}
+use Rattle.std.proofs.Common.{◌≡◌, ℕ, suc, ◌+◌, ◌*◌, ◌^◌, ◌≤◌, Bool, true, List, [], ◌++◌, length, Option, Some, None, refl, sym, ap, ◌∙◌, subst, arith}
 use Rattle.std.specs.Prelude.{slice_get}
 use Rattle.tl_base.specs.declared.ids.FnId.{FnId}
 use Rattle.rv_isa.specs.declared.instr.Instr.{Instr}
@@ -9,7 +9,6 @@ use Rattle.tac_form.specs.declared.tac.Exit.TheVariants.{Branch, Fail, Jump, Ret
 use Rattle.tac_form.specs.declared.tac.Instruction.{Instruction}
 use Rattle.tac_form.specs.declared.tac.Instruction.TheVariants.{Alloc, Call, CallValue, Clear, Compute, Copy, Load, Locate, Move, PutByte, Store, TestDivisor, Write}
 use Rattle.tac_form.specs.declared.tac.Block.{Block}
-use Rattle.tac_form.specs.declared.tac.Tac.{Tac}
 use Rattle.tac_form.specs.Flow as tac
 use Rattle.tac_form.specs.Flow.{Goes, Program, Stops, Temps, act, leave, step}
 use Rattle.tac_form.specs.Graph.{graph_of}
@@ -19,17 +18,18 @@ use Rattle.rv_machine.specs.Word.{low}
 use Rattle.rv_machine.specs.Machine.{State}
 use Rattle.rv_operators.specs.Runs.{Stands}
 use Rattle.rv_select.specs.Pairs.{pair_of, plain_of, reads_of}
-use Rattle.rv_select.specs.Places.{IsHeld, Layout, layout_of}
+use Rattle.rv_select.specs.Places.{IsHeld, Layout, is_short, layout_of}
 use Rattle.rv_select.specs.Shapes.{exit_shape, has_exit_shape, has_shape, held_after, shape_of, start_of}
-use Rattle.rv_select.specs.Steps.{Carried, Comes, Left, StandsAtExit, StandsBefore, behind, world_of}
-use Rattle.rv_select.specs.Calls.{block_starts, exit_code, head_code, instruction_code, last_address}
+use Rattle.rv_select.specs.Steps.{Carried, Comes, IsReached, Left, StandsAtExit, StandsBefore, behind, world_of}
+use Rattle.rv_select.specs.Calls.{block_starts, exit_code, instruction_code, last_address}
 use Rattle.rv_select.specs.Waiting.{Arrives, Image, IsLinked, IsPlaced, StandsIn, Stepped, entries_of, held_at, held_in, place_in, plain_in}
 use Rattle.rv_select.proofs.Carries.{instructions, nothing-written}
-use Rattle.rv_select.proofs.Finds.{FoundFunction, held-next, starts-near}
+use Rattle.rv_select.proofs.Finds.{held-next}
 use Rattle.rv_select.proofs.Inner.{LeavesIf, LeavesTo, Stays, StaysIf, act-stays, leave-to}
 use Rattle.rv_select.proofs.Leaves.{exits}
 use Rattle.rv_select.proofs.Pairing.{before-next, plain-get}
-use Rattle.rv_select.proofs.Stands.{AtExit, AtPlace, at-plain-exit, at-instruction, exit-within, instruction-within, the-function, within-parts}
+use Rattle.rv_select.proofs.Stands.{AtExit, AtPlace, at-plain-exit, at-instruction, exit-within, instruction-within, within-parts}
+use Rattle.rv_select.proofs.Reached.{exit-reaches, starts-small}
 use Rattle.rv_select.proofs.Waits.{waits-keeps}
 
 pub code-is : (y : Layout) (sizes : List ℕ) (places : FnId → ℕ) (at : ℕ) (held : Option ℕ) (i : Instruction) → has_shape i ≡ true →
@@ -48,12 +48,12 @@ code-is y sizes places at held (PutByte a) h = refl
 code-is y sizes places at held (Write place a b) h = refl
 code-is y sizes places at held (Alloc d a) h = refl
 
-exit-is : (y : Layout) (held : Option ℕ) (at last : ℕ) (starts : ℕ → ℕ) (e : Exit) → has_exit_shape e ≡ true →
-    exit_code y held at starts last e ≡ exit_shape y held at starts e
-exit-is y held at last starts (Return v) h = cc
-exit-is y held at last starts (Jump e) h = refl
-exit-is y held at last starts (Branch a e f) h = refl
-exit-is y held at last starts (Fail kind place) h = refl
+exit-is : (y : Layout) (short : Bool) (held : Option ℕ) (at last : ℕ) (starts : ℕ → ℕ) (e : Exit) → has_exit_shape e ≡ true →
+    exit_code y short held at starts last e ≡ exit_shape y short held at starts e
+exit-is y short held at last starts (Return v) h = cc
+exit-is y short held at last starts (Jump e) h = refl
+exit-is y short held at last starts (Branch a e f) h = refl
+exit-is y short held at last starts (Fail kind place) h = refl
 
 near-low : (n : ℕ) → n + 256 ≤ 2 ^ 30 → low n ≡ n
 unfolding low
@@ -253,32 +253,6 @@ left-joined p image program most size weight linked s at temps base m x exit (St
 left-joined p image program most size weight linked s at temps base m x exit (Stops (Over Stuck out)) l c = tt
 left-joined p image program most size weight linked s at temps base m x exit (Stops (More out)) l c = l
 
-small : (n top : ℕ) → n ≤ top → top + 256 ≤ 2 ^ 30 → n < 2 ^ 30
-small n top a b = omega (arith, a, b)
-
-even : (n : ℕ) → n % 4 ≡ 0 → n % 2 ≡ 0
-even n a = omega (arith, a)
-
-aligned-first : (at n : ℕ) → at % 4 ≡ 0 → (at + 4 * n) % 4 ≡ 0
-aligned-first at n a = omega (arith, a)
-
-most-is : (a b : ℕ) → a ≡ b → a ≤ b
-most-is a b e = omega (arith, e)
-
--- where blocks begin
-pub starts-small : (p : Program) (image : Image) (program : List (Option Instr)) (most : ℕ) (code : Tac) (f : FnId) →
-    IsPlaced p image program most code (image f) → (b : ℕ) →
-    (start_of (block_starts (layout_of code (image f).homes) code (image f).at) b < 2 ^ 30)
-    × (start_of (block_starts (layout_of code (image f).homes) code (image f).at) b % 2 ≡ 0)
-starts-small p image program most code f pl b =
-    let y : Layout = layout_of code (image f).homes in
-    let at : ℕ = (image f).at in
-    let found : FoundFunction program y code (entries_of p image) at = the-function p image program most code (image f) pl in
-    let n = starts-near y code.areas (entries_of p image) (start_of (block_starts y code at)) (last_address y code at)
-    (last_address y code at) code.blocks b (at + 4 * length (head_code y code))
-    (aligned-first at (length (head_code y code)) pl.aligned) (most-is _ _ found.whole) in
-    (small (start_of (block_starts y code at) b) (last_address y code at) n.0 found.near, even (start_of (block_starts y code at) b) n.1)
-
 -- an exit that stays within its function, or ends the run
 pub exit-step : (p : Program) (image : Image) (program : List (Option Instr)) (most size : ℕ) → IsLinked p image program most →
     (s : tac.State) (base : ℕ) (m : State)
@@ -316,11 +290,13 @@ exit-step p image program most size linked s base m x block in-f in-b alone h =
       right = pl.right;
       near = subst (λ q. q + 256 ≤ 2 ^ 30) (sym x.pc) found.near;
       blocks = starts-small p image program most x.code s.here.function pl;
-      stands = subst (λ q. Stands program q (exit_shape (layout_of x.code (image s.here.function).homes) held q
+      reach = subst (λ q. IsReached x.code (start_of (block_starts (layout_of x.code (image s.here.function).homes) x.code (image s.here.function).at)) q)
+          (sym x.pc) (exit-reaches p image program most x.code s.here.function _ pl found.low found.high);
+      stands = subst (λ q. Stands program q (exit_shape (layout_of x.code (image s.here.function).homes) (is_short x.code) held q
           (start_of (block_starts (layout_of x.code (image s.here.function).homes) x.code (image s.here.function).at)) block.exit))
           (sym x.pc)
           (subst (λ c. Stands program (place_in p image x.code (image s.here.function) s.here.block s.here.at) c)
-          (exit-is (layout_of x.code (image s.here.function).homes) held (place_in p image x.code (image s.here.function) s.here.block s.here.at)
+          (exit-is (layout_of x.code (image s.here.function).homes) (is_short x.code) held (place_in p image x.code (image s.here.function) s.here.block s.here.at)
           (last_address (layout_of x.code (image s.here.function).homes) x.code (image s.here.function).at)
           (start_of (block_starts (layout_of x.code (image s.here.function).homes) x.code (image s.here.function).at)) block.exit h)
           found.stands);

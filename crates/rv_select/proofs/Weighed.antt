@@ -1,5 +1,5 @@
 -- A function's code and its frame keep within their weights.
-use Rattle.std.proofs.Common.{◌≡◌, ℕ, suc, ◌+◌, ◌*◌, ◌-◌, ◌<◌, ◌≤◌, true, List, [], ◌∷◌, ◌++◌, length, sum_by, Option, Some, None, refl, sym, ap, ◌∙◌, subst, arith}
+use Rattle.std.proofs.Common.{◌≡◌, ℕ, suc, ◌+◌, ◌*◌, ◌-◌, ◌<◌, ◌≤◌, Bool, true, false, List, [], ◌∷◌, ◌++◌, length, sum_by, Option, Some, None, refl, sym, ap, ◌∙◌, subst, arith}
 use Rattle.std.specs.Prelude.{fold, slice_get}
 use Rattle.std.specs.List.{list_all}
 use Rattle.std.proofs.lemmas.List.{length-append, length-map}
@@ -26,7 +26,7 @@ use Rattle.rv_select.specs.Shapes.{held_after, start_of}
 use Rattle.rv_select.specs.Entering.{begun, entered, left, received, receiving, words_offset}
 use Rattle.rv_select.specs.Calls.{IsSelected, KeepsWithin, all_has_code, block_code, block_has_code, block_starts, blocks_code, body_code, end_code, exit_code, function_code, has_code, has_exit_code, head_code, held_behind, instruction_code, instructions_code, last_address, pair_code}
 use Rattle.rv_select.proofs.Compares.{compares-within}
-use Rattle.rv_select.proofs.Falls.{params-least}
+use Rattle.rv_select.proofs.Taken.{params-least}
 use Rattle.rv_select.proofs.Pairing.{IsPair, compare_of, pair-parts, pair-sum, plain-all}
 use Rattle.rv_select.proofs.Stands.{both-true}
 use Rattle.rv_select.proofs.Weights.{exits-within, within}
@@ -63,18 +63,18 @@ instructions-weight y sizes places at held (i ∷ is) small h =
     (both A (instructions_code y sizes places (at + 4 * length A) (held_after i) is) (words_of i) (sum_by words_of is)
     (instruction-weight y sizes places at held i small e.0) (instructions-weight y sizes places (at + 4 * length A) (held_after i) is small e.1))
 
-exit-weight : (code : Tac) (y : Layout) (held : Option ℕ) (at : ℕ) (starts : ℕ → ℕ) (last : ℕ) (e : Exit) → has_exit_code e ≡ true →
-    length (exit_code y held at starts last e) ≤ exit_words e
-exit-weight code y held at starts last (Return v) h = (frames-within code y 0 at last v).1
-exit-weight code y held at starts last (Jump e) h = (exits-within y held (Jump e) at at starts starts h).0
-exit-weight code y held at starts last (Branch a e f) h = (exits-within y held (Branch a e f) at at starts starts h).0
-exit-weight code y held at starts last (Fail kind place) h = (exits-within y held (Fail kind place) at at starts starts h).0
+exit-weight : (code : Tac) (y : Layout) (short : Bool) (held : Option ℕ) (at : ℕ) (starts : ℕ → ℕ) (last : ℕ) (e : Exit) → has_exit_code e ≡ true →
+    length (exit_code y short held at starts last e) ≤ exit_words e
+exit-weight code y short held at starts last (Return v) h = (frames-within code y short 0 at last v).1
+exit-weight code y short held at starts last (Jump e) h = (exits-within y short held (Jump e) at at starts starts h).0
+exit-weight code y short held at starts last (Branch a e f) h = (exits-within y short held (Branch a e f) at at starts starts h).0
+exit-weight code y short held at starts last (Fail kind place) h = (exits-within y short held (Fail kind place) at at starts starts h).0
 
-pair-weight : (y : Layout) (starts : ℕ → ℕ) (held : Option ℕ) (at d : ℕ) (pair : Pair) →
-    length (pair_code y held at starts pair) < words_of (compare_of pair d) + exit_words (Branch (Temp d) pair.first pair.second)
+pair-weight : (y : Layout) (short : Bool) (starts : ℕ → ℕ) (held : Option ℕ) (at d : ℕ) (pair : Pair) →
+    length (pair_code y short held at starts pair) < words_of (compare_of pair d) + exit_words (Branch (Temp d) pair.first pair.second)
 unfolding pair_code
-pair-weight y starts held at d pair =
-    (compares-within y held d pair.operator pair.form pair.a pair.b pair.first pair.second at 0 starts starts).1
+pair-weight y short starts held at d pair =
+    (compares-within y short held d pair.operator pair.form pair.a pair.b pair.first pair.second at 0 starts starts).1
 
 block-weight : (code : Tac) (y : Layout) (sizes : List ℕ) (places : FnId → ℕ) (starts : ℕ → ℕ) (last at : ℕ) (b : Block) →
     list_all area_fits sizes ≡ true → block_has_code b ≡ true → length (block_code y sizes places starts last at b) ≤ block_words b
@@ -88,25 +88,25 @@ block-weight code y sizes places starts last at b small h = go (pair_of y.reads 
 
     go : (o : Option Pair) → pair_of y.reads b ≡ o →
         length (instructions_code y sizes places at None (but_pair o b.instructions)
-        ++ end_code y (held_behind None (but_pair o b.instructions))
+        ++ end_code y y.short (held_behind None (but_pair o b.instructions))
         (at + 4 * length (instructions_code y sizes places at None (but_pair o b.instructions))) starts last o b.exit)
         ≤ block_words b
     go None q =
         let A = instructions_code y sizes places at None b.instructions in
         let held : Option ℕ = held_behind None b.instructions in
-        both A (exit_code y held (at + 4 * length A) starts last b.exit) (sum_by words_of b.instructions) (exit_words b.exit)
+        both A (exit_code y y.short held (at + 4 * length A) starts last b.exit) (sum_by words_of b.instructions) (exit_words b.exit)
         (instructions-weight y sizes places at None b.instructions small parts.0)
-        (exit-weight code y held (at + 4 * length A) starts last b.exit parts.1)
+        (exit-weight code y y.short held (at + 4 * length A) starts last b.exit parts.1)
     go (Some pair) q =
         let k : IsPair y.reads (slice_get b.instructions (length b.instructions - 1)) b.exit pair =
         pair-parts y.reads (slice_get b.instructions (length b.instructions - 1)) b.exit pair q in
         let is : List Instruction = but_pair (Some pair) b.instructions in
         let A = instructions_code y sizes places at None is in
         let held : Option ℕ = held_behind None is in
-        let C = pair_code y held (at + 4 * length A) starts pair in
+        let C = pair_code y y.short held (at + 4 * length A) starts pair in
         let i : Instruction = compare_of pair k.result in
         let first : length C < words_of i + exit_words b.exit =
-        subst (λ z. length C < words_of i + exit_words z) (sym k.exit_is) (pair-weight y starts held (at + 4 * length A) k.result pair) in
+        subst (λ z. length C < words_of i + exit_words z) (sym k.exit_is) (pair-weight y y.short starts held (at + 4 * length A) k.result pair) in
         let count : length (A ++ C) ≡ length A + length C = length-append A C in
         subst (λ n. n ≤ sum_by words_of b.instructions + exit_words b.exit) (sym count)
         (less (length A) (length C) (words_of i) (sum_by words_of is) (sum_by words_of b.instructions) (exit_words b.exit)
@@ -126,7 +126,7 @@ blocks-weight code y sizes places starts last at (b ∷ bs) small h =
     (blocks-weight code y sizes places starts last (at + 4 * length A) bs small e.1))
 
 -- a function's code
-function-weight : (y : Layout) (code : Tac) (places : FnId → ℕ) (at : ℕ) → all_has_code code ≡ true →
+pub function-weight : (y : Layout) (code : Tac) (places : FnId → ℕ) (at : ℕ) → all_has_code code ≡ true →
     list_all area_fits code.areas ≡ true → length (function_code y code places at) ≤ code_words code
 function-weight y code places at h small =
     let B = begun code in
@@ -136,7 +136,7 @@ function-weight y code places at h small =
     let D = body_code y code places at in
     sums (length B) (length E) (length L) (length R) (length D) (length (B ++ (E ++ R))) (length (E ++ R))
     (length (D ++ L)) (length (function_code y code places at)) (receiving code.parameters) (sum_by block_words code.blocks) (code_words code)
-    (frames-within code y (frame_bytes y) 0 0 (Word (Constant 0))).0
+    (frames-within code y false (frame_bytes y) 0 0 (Word (Constant 0))).0
     (parameters-within y code.areas (words_offset y) code.parameters small)
     (blocks-weight code y code.areas places (start_of (block_starts y code at)) (last_address y code at) (at + 4 * length (head_code y code))
     code.blocks small h)

@@ -1,5 +1,5 @@
 -- The code of an instruction keeps within its weight.
-use Rattle.std.proofs.Common.{◌≡◌, ℕ, ◌+◌, ◌*◌, ◌/◌, ◌≤◌, Bool, true, false, List, [], ◌∷◌, ◌++◌, length, Option, refl, sym, ◌∙◌, arith}
+use Rattle.std.proofs.Common.{◌≡◌, ℕ, ◌+◌, ◌*◌, ◌/◌, ◌≤◌, Bool, true, false, List, [], ◌∷◌, ◌++◌, length, Option, refl, sym, ap, ◌∙◌, arith}
 use Rattle.std.specs.Prelude.{if◌then◌else◌}
 use Rattle.std.proofs.lemmas.Bool.{leb-true}
 use Rattle.std.proofs.lemmas.List.{length-append}
@@ -20,7 +20,7 @@ use Rattle.tac_form.specs.Flow.{bytes_of, width_of}
 use Rattle.tac_form.specs.Weights.{operand_words, operator_words, words_of}
 use Rattle.rv_operators.specs.Codes.{x0, x5, x6, zero_immediate}
 use Rattle.rv_select.specs.Places.{Layout, area_offset, home_of}
-use Rattle.rv_select.specs.Shapes.{all_carried, applied_to, area_reached, bounds_tested, branch_jumps, byte_taken, bytes_given, failed, first_taken, framed, from_area, heap_aligned, is_turned, limit_found, load_of, located, operated, over, put_to, range_tested, reached, store_of, taken, to_area, write_call, x11, x12, zeros}
+use Rattle.rv_select.specs.Shapes.{all_carried, applied_to, area_reached, bounds_tested, chosen, byte_taken, bytes_given, failed, first_taken, framed, from_area, heap_aligned, is_turned, jump, limit_found, load_of, located, operated, over, put_to, range_tested, reached, store_of, taken, to_area, write_call, x11, x12, zeros}
 use Rattle.rv_select.specs.Steps.{ExitsKeepWithin, ShapesKeepWithin}
 use Rattle.rv_select.proofs.Frames.{framed-count}
 use Rattle.rv_select.proofs.Homes.{first-count, operand-count, put-count}
@@ -30,6 +30,7 @@ use Rattle.rv_select.proofs.Divisors.{located-count}
 use Rattle.rv_select.proofs.Clears.{zeros-count}
 use Rattle.rv_select.proofs.Transports.{area-count, carried-count, moved-count}
 use Rattle.rv_select.proofs.Printed.{byte-count}
+use Rattle.rv_select.proofs.Jumps.{chosen-count, jump-count, jump-few, jump_words}
 
 -- most words of two pieces of code
 both : (a b : List Instr) (n k : ℕ) → length a ≤ n → length b ≤ k → length (a ++ b) ≤ n + k
@@ -145,14 +146,22 @@ within y held (Alloc d a) h =
     (both (first_taken y held a) (heap_aligned ++ (limit_found ++ (bytes_given ++ put_to (home_of y d)))) (operand_words a) 16 (first-count y held a) (omega (arith, put-count (home_of y d))))
 
 -- exits
-branch-count : (y : Layout) (held : Option ℕ) (a : Operand) (at : ℕ) (starts : ℕ → ℕ) (first second : ℕ) → length (first_taken y held a ++ branch_jumps at starts first second) ≡ length (first_taken y held a) + 5
-branch-count y held a at starts first second = length-append (first_taken y held a) (branch_jumps at starts first second)
+branch-count : (y : Layout) (short : Bool) (held : Option ℕ) (a : Operand) (at first second : ℕ) →
+    length (first_taken y held a ++ chosen short Ne x5 x0 at first second) ≡ length (first_taken y held a) + (1 + jump_words short + jump_words short)
+branch-count y short held a at first second =
+    length-append (first_taken y held a) (chosen short Ne x5 x0 at first second)
+    ∙ ap (λ n. length (first_taken y held a) + n) (chosen-count short Ne x5 x0 at first second)
 
 pub exits-within : ExitsKeepWithin
-exits-within y held (Jump e) at other starts others h = (omega arith, refl)
-exits-within y held (Branch a e f) at other starts others h = (
-  omega (arith, branch-count y held a (at + 4 * length (first_taken y held a)) starts e.block f.block, first-count y held a),
-  branch-count y held a (at + 4 * length (first_taken y held a)) starts e.block f.block ∙ sym (branch-count y held a (other + 4 * length (first_taken y held a)) others e.block f.block),
-)
-exits-within y held (Return v) at other starts others h = cc
-exits-within y held (Fail kind place) at other starts others h = (failed-count kind place, refl)
+exits-within y short held (Jump e) at other starts others h =
+    let n : length (jump short at (starts e.block)) ≡ jump_words short = jump-count short at (starts e.block) in (
+      omega (arith, n, (jump-few short).1),
+      n ∙ sym (jump-count short other (others e.block)),
+    )
+exits-within y short held (Branch a e f) at other starts others h =
+    let n = branch-count y short held a (at + 4 * length (first_taken y held a)) (starts e.block) (starts f.block) in (
+      omega (arith, n, (jump-few short).1, first-count y held a),
+      n ∙ sym (branch-count y short held a (other + 4 * length (first_taken y held a)) (others e.block) (others f.block)),
+    )
+exits-within y short held (Return v) at other starts others h = cc
+exits-within y short held (Fail kind place) at other starts others h = (failed-count kind place, refl)

@@ -32,6 +32,7 @@ use Rattle.rv_select.proofs.Numbers.{constant-count, short-count}
 use Rattle.rv_select.proofs.Passes.{below-count, part-count}
 use Rattle.rv_select.proofs.Quits.{put-back-count}
 use Rattle.rv_select.proofs.Weights.{to-count}
+use Rattle.rv_select.proofs.Jumps.{jump-count, jump-few}
 
 -- most words of two pieces of code
 both : (a b : List Instr) (n k : ℕ) → length a ≤ n → length b ≤ k → length (a ++ b) ≤ n + k
@@ -71,7 +72,7 @@ most-eight n = either (nat_le n 8) refl
     either false e = omega arith
 
 pub frames-within : FramesKeepWithin
-frames-within code y bytes at last v =
+frames-within code y short bytes at last v =
     let n : ℕ = most_arguments (length code.parameters) in
     let args : length (arguments_stored n 0) ≤ n = arguments-count n 0 (omega (arith, most-eight (length code.parameters))) in
     let eight : length (arguments_stored n 0) ≤ 8 = omega (arith, args, most-eight (length code.parameters)) in
@@ -80,16 +81,19 @@ frames-within code y bytes at last v =
     both (arguments_stored n 0) (constant x11 (place_number code.place)) 8 8 eight place in
     let five : length (constant x5 code.frame) ≤ 8 = constant-count x5 code.frame in
     let tested : length (constant x5 code.frame ++ (limit_found ++ stack_branch)) ≤ 8 + 9 = both (constant x5 code.frame) (limit_found ++ stack_branch) 8 9 five (omega arith) in
-    let short : length (short_constant x6 bytes) ≤ 2 = short-count x6 bytes in
+    let sized : length (short_constant x6 bytes) ≤ 2 = short-count x6 bytes in
     let keeps : length (saved y 10 18) ≤ 10 = saved-count y 10 18 in
-    let taken : length (short_constant x6 bytes) + (2 + length (saved y 10 18)) ≤ 14 = omega (arith, short, keeps) in
+    let taken : length (short_constant x6 bytes) + (2 + length (saved y 10 18)) ≤ 14 = omega (arith, sized, keeps) in
     let enters : length (entered y bytes code.frame) ≤ 17 + 15 =
     both (stack_tested code.frame) (frames_taken y bytes) 17 15 tested (omega (arith, length-append (short_constant x6 bytes) (RegisterRegister Sub x2 x2 x6 ∷ Store Sd x2 x1 zero_immediate ∷ saved y 10 18), taken)) in
     let backs : length (put_back y 10 18) ≤ 10 = put-back-count y 10 18 in
     let gives : length (frames_given bytes code.frame) ≤ 8 + 5 =
-    both (constant x5 code.frame) (RegisterRegister Add x8 x8 x5 ∷ (short_constant x6 bytes ++ (RegisterRegister Add x2 x2 x6 ∷ Jalr x0 x1 zero_immediate ∷ []))) 8 5 five (omega (arith, length-append (short_constant x6 bytes) (RegisterRegister Add x2 x2 x6 ∷ Jalr x0 x1 zero_immediate ∷ []), short)) in
-    let leaves : length (put_back y 10 18 ++ frames_given bytes code.frame) ≤ 10 + 13 = both (put_back y 10 18) (frames_given bytes code.frame) 10 13 backs gives in
-    (omega (arith, begins, enters, leaves), both (part_taken y x10 v) (jump (at + 4 * length (part_taken y x10 v)) last) 8 2 (part-count y x10 v) (omega arith))
+    both (constant x5 code.frame) (RegisterRegister Add x8 x8 x5 ∷ (short_constant x6 bytes ++ (RegisterRegister Add x2 x2 x6 ∷ Jalr x0 x1 zero_immediate ∷ []))) 8 5 five (omega (arith, length-append (short_constant x6 bytes) (RegisterRegister Add x2 x2 x6 ∷ Jalr x0 x1 zero_immediate ∷ []), sized)) in
+    let leaves : length (put_back y 10 18 ++ frames_given bytes code.frame) ≤ 10 + 13 = both (put_back y 10 18) (frames_given bytes code.frame) 10 13 backs gives in (
+      omega (arith, begins, enters, leaves),
+      both (part_taken y x10 v) (jump short (at + 4 * length (part_taken y x10 v)) last) 8 2 (part-count y x10 v)
+          (omega (arith, jump-count short (at + 4 * length (part_taken y x10 v)) last, (jump-few short).1)),
+    )
 
 -- a word goes to its home, and bytes to their area
 result-count : (y : Layout) (sizes : List ℕ) (to : Destination) → list_all area_fits sizes ≡ true →

@@ -77,12 +77,12 @@ instruction_code y sizes places at held (Call to place f arguments) = called y s
 instruction_code y sizes places at held i = shape_of y held i
 
 -- that of an exit, by the addresses of blocks and of the code that leaves the function: it gives back a part
-abbrev pub returned : Layout → (at last : ℕ) → Part → List Instr
-returned y at last v = part_taken y x10 v ++ jump (at + 4 * length (part_taken y x10 v)) last
+abbrev pub returned : Layout → (short : Bool) → (at last : ℕ) → Part → List Instr
+returned y short at last v = part_taken y x10 v ++ jump short (at + 4 * length (part_taken y x10 v)) last
 
-abbrev pub exit_code : Layout → (held : Option ℕ) → (at : ℕ) → (starts : ℕ → ℕ) → (last : ℕ) → Exit → List Instr
-exit_code y held at starts last (Return v) = returned y at last v
-exit_code y held at starts last e = exit_shape y held at starts e
+abbrev pub exit_code : Layout → (short : Bool) → (held : Option ℕ) → (at : ℕ) → (starts : ℕ → ℕ) → (last : ℕ) → Exit → List Instr
+exit_code y short held at starts last (Return v) = returned y short at last v
+exit_code y short held at starts last e = exit_shape y short held at starts e
 
 abbrev pub instructions_code : Layout → (sizes : List ℕ) → (places : FnId → ℕ) → (at : ℕ) → (held : Option ℕ) → List Instruction → List Instr
 instructions_code y sizes places at held [] = []
@@ -96,17 +96,20 @@ held_behind held [] = held
 held_behind held (i ∷ is) = held_behind (held_after i) is
 
 -- what follows the instructions with code of their own: the code of a comparison and the exit, or that of the exit
-unfoldable pub pair_code : Layout → (held : Option ℕ) → (at : ℕ) → (starts : ℕ → ℕ) → Pair → List Instr
-pair_code y held at starts pair = compared_shape y held at starts pair.operator pair.form pair.a pair.b pair.first pair.second
+unfoldable pub pair_code : Layout → (short : Bool) → (held : Option ℕ) → (at : ℕ) → (starts : ℕ → ℕ) → Pair → List Instr
+pair_code y short held at starts pair =
+    compared_shape y short held at starts pair.operator pair.form pair.a pair.b pair.first pair.second
 
-abbrev pub end_code : Layout → (held : Option ℕ) → (at : ℕ) → (starts : ℕ → ℕ) → (last : ℕ) → Option Pair → Exit → List Instr
-end_code y held at starts last None e = exit_code y held at starts last e
-end_code y held at starts last (Some pair) e = pair_code y held at starts pair
+abbrev pub end_code : Layout → (short : Bool) → (held : Option ℕ) → (at : ℕ) → (starts : ℕ → ℕ) → (last : ℕ) → Option Pair → Exit →
+    List Instr
+end_code y short held at starts last None e = exit_code y short held at starts last e
+end_code y short held at starts last (Some pair) e = pair_code y short held at starts pair
 
 abbrev pub block_code : Layout → (sizes : List ℕ) → (places : FnId → ℕ) (starts : ℕ → ℕ) → (last at : ℕ) → Block → List Instr
 block_code y sizes places starts last at b =
     instructions_code y sizes places at None (plain_of y.reads b)
-    ++ end_code y (held_behind None (plain_of y.reads b)) (at + 4 * length (instructions_code y sizes places at None (plain_of y.reads b)))
+    ++ end_code y y.short (held_behind None (plain_of y.reads b))
+    (at + 4 * length (instructions_code y sizes places at None (plain_of y.reads b)))
     starts last (pair_of y.reads b) b.exit
 
 abbrev pub blocks_code : Layout → (sizes : List ℕ) → (places : FnId → ℕ) (starts : ℕ → ℕ) → (last at : ℕ) → List Block → List Instr

@@ -1,7 +1,6 @@
 -- A comparison at a block's end and the branch on its result, as one branch of the machine.
-use Rattle.std.specs.Prelude.{◌≡◌, ℕ, suc, ◌+◌, ◌*◌, ◌%◌, ◌^◌, ◌<◌, ◌≤◌, Bool, true, false, IsTrue, List, ◌∷◌, ◌++◌, length, Option, Some, None, slice_get}
+use Rattle.std.specs.Prelude.{◌≡◌, ℕ, suc, ◌+◌, ◌*◌, ◌%◌, ◌^◌, ◌<◌, ◌≤◌, Bool, true, false, IsTrue, List, ◌++◌, length, Option, Some, None, slice_get}
 use Rattle.rv_isa.specs.declared.instr.Instr.{Instr}
-use Rattle.rv_isa.specs.declared.instr.Instr.TheVariants as instrs
 use Rattle.rv_isa.specs.declared.operation.BranchCondition.{BranchCondition}
 use Rattle.rv_isa.specs.declared.operation.BranchCondition.TheVariants.{Eq, Ne, Lt, Ltu, Ge, Geu}
 use Rattle.rv_isa.specs.declared.operand.Register.{Register}
@@ -20,15 +19,15 @@ use Rattle.tac_form.specs.declared.tac.Block.{Block}
 use Rattle.tac_form.specs.declared.tac.Tac.{Tac}
 use Rattle.tac_form.specs.Flow as tac
 use Rattle.tac_form.specs.Flow.{Goes, Program, steps}
-use Rattle.tac_form.specs.Fits.{instruction_fits}
+use Rattle.tac_form.specs.Fits.{exit_fits, instruction_fits}
 use Rattle.tac_form.specs.Graph.{graph_of}
 use Rattle.tac_form.specs.Live.{InUse, IsLive}
 use Rattle.tac_form.specs.Weights.{exit_words, words_of}
 use Rattle.rv_operators.specs.Codes.{is_comparison, x5, x6}
 use Rattle.rv_operators.specs.Runs.{Stands}
-use Rattle.rv_select.specs.Places.{IsHeld, Layout, Holds, layout_of}
-use Rattle.rv_select.specs.Shapes.{first_taken, jump, offset_of, taken}
-use Rattle.rv_select.specs.Steps.{Left, world_of}
+use Rattle.rv_select.specs.Places.{IsHeld, Layout, Holds, is_short, layout_of}
+use Rattle.rv_select.specs.Shapes.{chosen, first_taken, taken}
+use Rattle.rv_select.specs.Steps.{IsReached, Left, world_of}
 
 -- the branches on "below" and on "not below", of numbers with a sign and without
 abbrev pub below_condition : Bool → BranchCondition
@@ -58,20 +57,17 @@ right_of Greater = x5
 right_of LessEqual = x5
 right_of _ = x6
 
--- a branch over a jump to the second block, to a jump to the first
-abbrev pub chosen : BranchCondition → (a b : Register) → (at first second : ℕ) → List Instr
-chosen condition a b at first second = instrs.Branch condition a b (offset_of 12) ∷ (jump (at + 4) second ++ jump (at + 12) first)
-
-abbrev pub compared : Bool → BinaryOperator → (at first second : ℕ) → List Instr
-compared signed op at first second = chosen (condition_of signed op) (left_of op) (right_of op) at first second
+abbrev pub compared : (short signed : Bool) → BinaryOperator → (at first second : ℕ) → List Instr
+compared short signed op at first second = chosen short (condition_of signed op) (left_of op) (right_of op) at first second
 
 abbrev pub operands_taken : Layout → (held : Option ℕ) → (a b : Operand) → List Instr
 operands_taken y held a b = first_taken y held a ++ taken y x6 b
 
-abbrev pub compared_shape : Layout → (held : Option ℕ) → (at : ℕ) → (starts : ℕ → ℕ) → BinaryOperator → Number → (a b : Operand) → (e f : Edge) →
-    List Instr
-compared_shape y held at starts op form a b e f =
-    operands_taken y held a b ++ compared form.signed op (at + 4 * length (operands_taken y held a b)) (starts e.block) (starts f.block)
+abbrev pub compared_shape : Layout → (short : Bool) → (held : Option ℕ) → (at : ℕ) → (starts : ℕ → ℕ) → BinaryOperator → Number →
+    (a b : Operand) → (e f : Edge) → List Instr
+compared_shape y short held at starts op form a b e f =
+    operands_taken y held a b
+    ++ compared short form.signed op (at + 4 * length (operands_taken y held a b)) (starts e.block) (starts f.block)
 
 -- Where a function's code stands at the last instruction of a block, a comparison, whose result the block's branch tests and nothing
 -- reads after that: its temporary is live at the begin of neither block. So no home gets it.
@@ -90,7 +86,9 @@ pub record StandsAtCompare (p : Program) (code : Tac) (homes : List (Option Home
   pub right : IsRight code homes
   pub near : m.pc + 256 ≤ 2 ^ 30
   pub blocks : (b : ℕ) → (starts b < 2 ^ 30) × (starts b % 2 ≡ 0)
-  pub stands : Stands program m.pc (compared_shape (layout_of code homes) held m.pc starts op form a b e f)
+  pub there : IsTrue (exit_fits code (Branch (Temp d) e f))
+  pub reach : IsReached code starts m.pc
+  pub stands : Stands program m.pc (compared_shape (layout_of code homes) (is_short code) held m.pc starts op form a b e f)
   pub holds : Holds (layout_of code homes) (InUse (graph_of code) s.here.block s.here.at) (world_of s) base m
   pub five : IsHeld held s.here.temps m
 
@@ -106,7 +104,8 @@ ComparesAreCarried =
 -- It has at most 21 words, fewer than the two weigh, and as many wherever it and the blocks stand.
 abbrev pub ComparesKeepWithin : Type 0
 ComparesKeepWithin =
-    (y : Layout) (held : Option ℕ) (d : ℕ) (op : BinaryOperator) (form : Number) (a b : Operand) (e f : Edge) (at other : ℕ) (starts others : ℕ → ℕ) →
-    (length (compared_shape y held at starts op form a b e f) ≤ 21)
-    × (length (compared_shape y held at starts op form a b e f) < words_of (Compute d op form a b) + exit_words (Branch (Temp d) e f))
-    × (length (compared_shape y held at starts op form a b e f) ≡ length (compared_shape y held other others op form a b e f))
+    (y : Layout) (short : Bool) (held : Option ℕ) (d : ℕ) (op : BinaryOperator) (form : Number) (a b : Operand) (e f : Edge)
+    (at other : ℕ) (starts others : ℕ → ℕ) →
+    (length (compared_shape y short held at starts op form a b e f) ≤ 21)
+    × (length (compared_shape y short held at starts op form a b e f) < words_of (Compute d op form a b) + exit_words (Branch (Temp d) e f))
+    × (length (compared_shape y short held at starts op form a b e f) ≡ length (compared_shape y short held other others op form a b e f))

@@ -1,5 +1,5 @@
 -- What the code that enters and leaves functions promises.
-use Rattle.std.specs.Prelude.{◌≡◌, ◌≢◌, ℕ, IsTrue, ◌∷◌, suc, ◌+◌, ◌-◌, ◌*◌, ◌/◌, ◌%◌, ◌^◌, ◌<◌, ◌≤◌, true, List, length, take, drop, Option, Some, slice_get, if◌then◌else◌}
+use Rattle.std.specs.Prelude.{◌≡◌, Bool, ◌≢◌, ℕ, IsTrue, ◌∷◌, suc, ◌+◌, ◌-◌, ◌*◌, ◌/◌, ◌%◌, ◌^◌, ◌<◌, ◌≤◌, true, List, length, take, drop, Option, Some, slice_get, if◌then◌else◌}
 use Rattle.std.specs.List.{list_all}
 use Rattle.tl_base.specs.declared.ids.FnId.{FnId}
 use Rattle.tl_base.specs.declared.place.Place.{Place}
@@ -140,12 +140,13 @@ pub record Returns (program : List (Option Instr)) (y : Layout) (base over link 
 abbrev pub FunctionsAreLeft : Type 0
 FunctionsAreLeft =
     (code : Tac) (homes : List (Option Home)) (block step : ℕ) (program : List (Option Instr)) (w : World) (base frame last link : ℕ)
-    (v : Part) (m : State) →
+    (v : Part) (m : State) (short : Bool) →
     let y : Layout = layout_of code homes in
     let Used : ℕ → Type 0 = InUse (graph_of code) block step in
     IsRight code homes → Holds y Used w base m → IsPartRead y Used v → m.pc + 256 ≤ 2 ^ 30 → last < 2 ^ 30 → last % 2 ≡ 0 →
+    (IsTrue short → (m.pc ≤ last) × (last ≤ m.pc + 2 ^ 19)) →
     w.placed + frame < 2 ^ 63 →
-    private_word m base ≡ link → link % 2 ≡ 0 → link < 2 ^ 64 → Stands program m.pc (returned y m.pc last v) →
+    private_word m base ≡ link → link % 2 ≡ 0 → link < 2 ^ 64 → Stands program m.pc (returned y short m.pc last v) →
     Stands program last (left y (frame_bytes y) frame) →
     Returns program y base (w.placed + frame) link (part_value y base w v) m
 
@@ -209,9 +210,9 @@ ParametersAreReceived =
 -- return.
 abbrev pub FramesKeepWithin : Type 0
 FramesKeepWithin =
-    (code : Tac) (y : Layout) (bytes at last : ℕ) (v : Part) →
+    (code : Tac) (y : Layout) (short : Bool) (bytes at last : ℕ) (v : Part) →
     (length (begun code) + (length (entered y bytes code.frame) + length (left y bytes code.frame)) ≤ entered_words) ×
-    (length (returned y at last v) ≤ exit_words (Return v))
+    (length (returned y short at last v) ≤ exit_words (Return v))
 
 -- The code of a call has no more words than its weight, where no area has more than 128 bytes.
 abbrev pub CallsKeepWithin : Type 0

@@ -8,7 +8,7 @@
 -- The private frame has, from x2 upwards, the return address and a word for each of x18 to x27, in which a function that uses
 -- one keeps its caller's word; then the slots, a word each; then 128 bytes for each area; and at its end the words of the
 -- parameters, which the caller stores below its own frame, the first uppermost.
-use Rattle.std.specs.Prelude.{◌≡◌, ℕ, ◌+◌, ◌*◌, ◌^◌, ◌<◌, ◌≤◌, Bool, false, ◌&&◌, ◌||◌, nat_eq, nat_le, List, take, drop, length, Option, Some, None, slice_get, IsTrue, ◌⊎◌, [], ◌∷◌}
+use Rattle.std.specs.Prelude.{◌≡◌, ℕ, ◌+◌, ◌*◌, ◌^◌, ◌<◌, ◌≤◌, Bool, false, ◌&&◌, ◌||◌, nat_eq, nat_le, nat_lt, List, take, drop, length, Option, Some, None, slice_get, IsTrue, ◌⊎◌, [], ◌∷◌}
 use Rattle.std.specs.List.{list_any}
 use Rattle.reg_alloc.specs.declared.assignment.Home.{Home}
 use Rattle.reg_alloc.specs.declared.assignment.Home.TheVariants.{Register, Slot}
@@ -19,26 +19,38 @@ use Rattle.tac_form.specs.declared.tac.Operand.{Operand}
 use Rattle.tac_form.specs.declared.tac.Operand.TheVariants.{Temp, Constant}
 use Rattle.tac_form.specs.declared.tac.Tac.{Tac}
 use Rattle.tac_form.specs.Flow.{Temps, Areas}
-use Rattle.tac_form.specs.Weights.{kept_bytes, most_moved}
+use Rattle.tac_form.specs.Weights.{code_words, kept_bytes, most_moved}
 use Rattle.rv_select.specs.declared.pairs.Reads.{Reads}
 use Rattle.rv_select.specs.Pairs.{reads_of}
 
--- A function's layout: the homes of its temporaries, how many areas and parameters it has, and how often each temporary is read.
+-- A function whose code has, by its weight, fewer words than this is short: a jump of one word leads from each word of it to each other.
+unfoldable pub is_short : Tac → Bool
+is_short code = nat_lt (code_words code) (2 ^ 17)
+
+-- A function's layout: the homes of its temporaries, how many areas and parameters it has, how often each temporary is read, and whether
+-- it is short.
 pub record Layout : Type 0 where
   pub homes : List (Option Home)
   pub areas : ℕ
   pub parameters : ℕ
   pub reads : List Reads
+  pub short : Bool
 
 abbrev pub layout_of : Tac → List (Option Home) → Layout
-layout_of code homes = record { homes = homes; areas = length code.areas; parameters = length code.parameters; reads = reads_of code }
+layout_of code homes = record {
+  homes = homes;
+  areas = length code.areas;
+  parameters = length code.parameters;
+  reads = reads_of code;
+  short = is_short code;
+}
 
--- code of one instruction depends on the homes alone, and that of blocks on how often temporaries are read besides
+-- code of one instruction depends on the homes alone, and that of blocks on how often temporaries are read and on the length besides
 abbrev pub with_homes : List (Option Home) → Layout
-with_homes homes = record { homes = homes; areas = 0; parameters = 0; reads = [] }
+with_homes homes = record { homes = homes; areas = 0; parameters = 0; reads = []; short = false }
 
-abbrev pub with_reads : List (Option Home) → List Reads → Layout
-with_reads homes reads = record { homes = homes; areas = 0; parameters = 0; reads = reads }
+abbrev pub with_reads : List (Option Home) → List Reads → (short : Bool) → Layout
+with_reads homes reads short = record { homes = homes; areas = 0; parameters = 0; reads = reads; short = short }
 
 -- where slots and areas lie in the frame, and its bytes
 abbrev pub slot_offset : ℕ → ℕ

@@ -1,10 +1,10 @@
 -- Which instructions carry out those of three-address code that stay within a function.
-use Rattle.std.specs.Prelude.{◌≡◌, ℕ, suc, zero, ◌+◌, ◌-◌, ◌*◌, ◌/◌, ◌%◌, ◌^◌, pos, Bool, true, false, ◌&&◌, nat_eq, nat_le, if◌then◌else◌, List, [], ◌∷◌, ◌++◌, length, Option, Some, None, slice_get, unwrap_or}
+use Rattle.std.specs.Prelude.{◌≡◌, ℕ, suc, zero, ◌+◌, ◌-◌, ◌*◌, ◌/◌, ◌%◌, ◌^◌, pos, negsuc, Bool, true, false, ◌&&◌, nat_eq, nat_le, if◌then◌else◌, List, [], ◌∷◌, ◌++◌, length, Option, Some, None, slice_get, unwrap_or}
 use Rattle.std.proofs.Common.{lit≤, subst, sym, refl, eqb→eq}
 use lib.Dec.{T}
 use Rattle.tl_base.specs.declared.place.Place.{Place}
 use Rattle.rv_isa.specs.declared.instr.Instr.{Instr}
-use Rattle.rv_isa.specs.declared.instr.Instr.TheVariants.{Lui, Auipc, Jalr, Branch, Load, Store, RegisterImmediate, Shift, RegisterRegister, Ecall}
+use Rattle.rv_isa.specs.declared.instr.Instr.TheVariants.{Lui, Auipc, Jal, Jalr, Branch, Load, Store, RegisterImmediate, Shift, RegisterRegister, Ecall}
 use Rattle.rv_isa.specs.declared.operation.BranchCondition.{BranchCondition}
 use Rattle.rv_isa.specs.declared.operation.BranchCondition.TheVariants.{Eq, Ne, Ltu, Geu}
 use Rattle.rv_isa.specs.declared.operation.ImmediateOp.TheVariants.{Addi}
@@ -17,6 +17,7 @@ use Rattle.rv_isa.specs.declared.operation.StoreOp.TheVariants.{Sb, Sh, Sw, Sd}
 use Rattle.rv_isa.specs.declared.operand.Register.{Register}
 use Rattle.rv_isa.specs.declared.operand.Immediate.{Immediate}
 use Rattle.rv_isa.specs.declared.operand.BranchOffset.{BranchOffset}
+use Rattle.rv_isa.specs.declared.operand.JumpOffset.{JumpOffset}
 use Rattle.rv_isa.specs.declared.operand.ShiftCount.{ShiftCount}
 use Rattle.reg_alloc.specs.declared.assignment.Home.{Home}
 use Rattle.reg_alloc.specs.declared.assignment.Home.TheVariants as homes
@@ -410,30 +411,68 @@ has_shape (instructions.Write at a b) = true
 has_shape (instructions.Alloc d a) = true
 has_shape _ = false
 
--- A jump from an address to another, both below 2 ^ 30: how far it is, in 32 bits, in two parts.
+-- how far it is from an address to another, both below 2 ^ 30, in 32 bits
 abbrev pub distance : (from to : ℕ) → ℕ
 distance from to = (to + (2 ^ 32 - from)) % 2 ^ 32
 
-abbrev pub jump : (from to : ℕ) → List Instr
-jump from to = Auipc x5 (upper_of (distance from to)) ∷ Jalr x0 x5 (lower_of (distance from to)) ∷ []
+-- the offset of a jump of one word by so many bytes ahead, and by so many and one more back
+abbrev pub ahead_if : (n : ℕ) (fits even : Bool) → nat_le n 1048574 ≡ fits → nat_eq (n % 2) 0 ≡ even → JumpOffset
+ahead_if n true true e g =
+    record {
+      bytes = pos n;
+      lowest = record { le = tt };
+      highest = record { le = subst T (sym e) tt };
+      even = eqb→eq (n % 2) 0 (subst T (sym g) tt);
+    }
+ahead_if n _ _ e g = record { bytes = pos 0; lowest = record { le = tt }; highest = record { le = tt }; even = refl }
 
--- The code of an exit that stands at an address, by the addresses of the blocks: a branch passes the jump to the second block.
-abbrev pub two_jumps : (at first second : ℕ) → List Instr
-two_jumps at first second = Branch Ne x5 x0 (offset_of 12) ∷ (jump (at + 4) second ++ jump (at + 12) first)
+abbrev pub back_if : (n : ℕ) (fits even : Bool) → nat_le n 1048575 ≡ fits → nat_eq (suc n % 2) 0 ≡ even → JumpOffset
+back_if n true true e g =
+    record {
+      bytes = negsuc n;
+      lowest = record { le = subst T (sym e) tt };
+      highest = record { le = tt };
+      even = eqb→eq (suc n % 2) 0 (subst T (sym g) tt);
+    }
+back_if n _ _ e g = record { bytes = pos 0; lowest = record { le = tt }; highest = record { le = tt }; even = refl }
 
-abbrev pub branch_jumps : (at : ℕ) → (starts : ℕ → ℕ) → (first second : ℕ) → List Instr
-branch_jumps at starts first second = two_jumps at (starts first) (starts second)
+abbrev pub ahead : ℕ → JumpOffset
+ahead n = ahead_if n (nat_le n 1048574) (nat_eq (n % 2) 0) refl refl
+
+abbrev pub back : ℕ → JumpOffset
+back n = back_if n (nat_le n 1048575) (nat_eq (suc n % 2) 0) refl refl
+
+-- that of a jump by a distance in 32 bits
+abbrev pub jump_offset : ℕ → JumpOffset
+jump_offset n = if nat_le n 1048574 then ahead n else back (2 ^ 32 - 1 - n)
+
+-- A jump within a function, of one word where the function is short.
+abbrev pub jump : (short : Bool) → (from to : ℕ) → List Instr
+jump true from to = Jal x0 (jump_offset (distance from to)) ∷ []
+jump false from to = Auipc x5 (upper_of (distance from to)) ∷ Jalr x0 x5 (lower_of (distance from to)) ∷ []
+
+-- how many bytes a branch has with the jump that it passes
+abbrev pub branch_bytes : (short : Bool) → ℕ
+branch_bytes true = 8
+branch_bytes false = 12
+
+-- a branch over a jump to the second block, to a jump to the first
+abbrev pub chosen : (short : Bool) → BranchCondition → (a b : Register) → (at first second : ℕ) → List Instr
+chosen short condition a b at first second =
+    Branch condition a b (offset_of (branch_bytes short)) ∷ (jump short (at + 4) second ++ jump short (at + branch_bytes short) first)
 
 -- where a block begins, by a list of all
 abbrev pub start_of : List ℕ → ℕ → ℕ
 start_of starts block = unwrap_or (slice_get starts block) 0
 
-abbrev pub exit_shape : Layout → (held : Option ℕ) → (at : ℕ) → (starts : ℕ → ℕ) → Exit → List Instr
-exit_shape y held at starts (exits.Jump e) = jump at (starts e.block)
-exit_shape y held at starts (exits.Branch a e f) =
-    first_taken y held a ++ branch_jumps (at + 4 * length (first_taken y held a)) starts e.block f.block
-exit_shape y held at starts (exits.Return v) = []
-exit_shape y held at starts (exits.Fail kind at_place) = failed kind at_place
+-- the code of an exit that stands at an address, by the addresses of the blocks
+abbrev pub exit_shape : Layout → (short : Bool) → (held : Option ℕ) → (at : ℕ) → (starts : ℕ → ℕ) → Exit → List Instr
+exit_shape y short held at starts (exits.Jump e) = jump short at (starts e.block)
+exit_shape y short held at starts (exits.Branch a e f) =
+    first_taken y held a
+    ++ chosen short Ne x5 x0 (at + 4 * length (first_taken y held a)) (starts e.block) (starts f.block)
+exit_shape y short held at starts (exits.Return v) = []
+exit_shape y short held at starts (exits.Fail kind at_place) = failed kind at_place
 
 -- which exits have a code so far
 abbrev pub has_exit_shape : Exit → Bool

@@ -1,6 +1,6 @@
 -- What the code of an instruction promises: one step of three-address code is at least one and at most its weight of the
 -- machine's steps, and the machine holds afterwards what three-address code sees then.
-use Rattle.std.specs.Prelude.{◌≡◌, ℕ, ◌+◌, ◌*◌, ◌^◌, ◌<◌, ◌≤◌, ◌%◌, List, [], ◌++◌, length, Option, Some, None, slice_get, IsTrue, ◌⊎◌}
+use Rattle.std.specs.Prelude.{◌≡◌, Bool, ℕ, ◌+◌, ◌*◌, ◌^◌, ◌<◌, ◌≤◌, ◌%◌, List, [], ◌++◌, length, Option, Some, None, slice_get, IsTrue, ◌⊎◌}
 use Rattle.std.specs.List.{list_all}
 use Rattle.tl_base.specs.declared.place.Place.{Place}
 use Rattle.rv_isa.specs.declared.instr.Instr.{Instr}
@@ -25,7 +25,7 @@ use Rattle.tac_form.specs.Live.{InUse}
 use Rattle.tac_form.specs.Fits.{area_fits, exit_fits, instruction_fits}
 use Rattle.tac_form.specs.Weights.{exit_words, words_of}
 use Rattle.rv_operators.specs.Runs.{Stands}
-use Rattle.rv_select.specs.Places.{IsHeld, Layout, World, Holds, Keeps, layout_of}
+use Rattle.rv_select.specs.Places.{IsHeld, Layout, World, Holds, Keeps, is_short, layout_of}
 use Rattle.rv_select.specs.Shapes.{exit_shape, has_exit_shape, has_shape, held_after, place_number, shape_of}
 
 -- what is in use after an instruction was in use before it, or is what it writes
@@ -125,6 +125,11 @@ Left y graph program base weight starts s m (Stops (Over (Returned v) out)) = �
 Left y graph program base weight starts s m (Stops (Over Stuck out)) = Unit {0}
 Left y graph program base weight starts s m (Stops (More out)) = Unit {0}
 
+-- In a short function each block begins at most so many bytes from an address.
+abbrev pub IsReached : Tac → (starts : ℕ → ℕ) → (from : ℕ) → Type 0
+IsReached code starts from =
+    IsTrue (is_short code) → (b : ℕ) → b < length code.blocks → (from ≤ starts b + 2 ^ 19) × (starts b ≤ from + 2 ^ 19)
+
 -- Where a function's code stands at a block's exit. Code and blocks stand at addresses below 2 ^ 30.
 pub record StandsAtExit (p : Program) (code : Tac) (homes : List (Option Home)) (held : Option ℕ) (exit : Exit) (starts : ℕ → ℕ) (s : tac.State) (program : List (Option Instr)) (base : ℕ) (m : State) : Type 0 where
   pub block : Block
@@ -136,7 +141,8 @@ pub record StandsAtExit (p : Program) (code : Tac) (homes : List (Option Home)) 
   pub right : IsRight code homes
   pub near : m.pc + 256 ≤ 2 ^ 30
   pub blocks : (b : ℕ) → (starts b < 2 ^ 30) × (starts b % 2 ≡ 0)
-  pub stands : Stands program m.pc (exit_shape (layout_of code homes) held m.pc starts exit)
+  pub reach : IsReached code starts m.pc
+  pub stands : Stands program m.pc (exit_shape (layout_of code homes) (is_short code) held m.pc starts exit)
   pub holds : Holds (layout_of code homes) (InUse (graph_of code) s.here.block s.here.at) (world_of s) base m
   pub five : IsHeld held s.here.temps m
 
@@ -150,6 +156,6 @@ ExitsAreCarried =
 -- The code of an exit has at most as many words as its weight, and as many wherever it and the blocks stand.
 abbrev pub ExitsKeepWithin : Type 0
 ExitsKeepWithin =
-    (y : Layout) (held : Option ℕ) (exit : Exit) (at other : ℕ) (starts others : ℕ → ℕ) → IsTrue (has_exit_shape exit) →
-    (length (exit_shape y held at starts exit) ≤ exit_words exit) ×
-    (length (exit_shape y held at starts exit) ≡ length (exit_shape y held other others exit))
+    (y : Layout) (short : Bool) (held : Option ℕ) (exit : Exit) (at other : ℕ) (starts others : ℕ → ℕ) → IsTrue (has_exit_shape exit) →
+    (length (exit_shape y short held at starts exit) ≤ exit_words exit) ×
+    (length (exit_shape y short held at starts exit) ≡ length (exit_shape y short held other others exit))

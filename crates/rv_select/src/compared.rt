@@ -3,15 +3,14 @@
 ghost use Rattle.std.specs.Prelude.{◌≡◌, ◌+◌, ◌^◌, ◌≤◌, [], ◌∷◌, ◌++◌, map, length, IfOk, OnOk};
 ghost use Rattle.rv_isa.specs.Table.{word_of};
 ghost use Rattle.rv_select.specs.Places.{with_homes};
-ghost use Rattle.rv_select.specs.Compared.{below_condition, chosen, compared, compared_shape, condition_of, least_condition, left_of, operands_taken, right_of};
+ghost use Rattle.rv_select.specs.Compared.{below_condition, compared, compared_shape, condition_of, least_condition, left_of, operands_taken, right_of};
 ghost use Rattle.rv_select.specs.Shapes.{start_of};
 
-use crate::emit::{X5, X6, put};
-use crate::exits::{push_jump, start_of};
+use crate::emit::{X5, X6};
+use crate::exits::{push_chosen, start_of};
 use crate::instructions::push_operands;
-use crate::operands::offset;
 use reg_alloc::Home;
-use rv_isa::{BranchCondition, Instr, Register};
+use rv_isa::{BranchCondition, Register};
 use tac_form::{Edge, Number, Operand};
 use terra_words::BinaryOperator;
 use tl_base::NoMemory;
@@ -25,6 +24,7 @@ use tl_base::NoMemory;
 pub fn push_compared(
     code: &mut Vec<u32>,
     homes: &[Option<Home>],
+    short: bool,
     held: Option<u64>,
     at: u64,
     starts: &[u64],
@@ -36,12 +36,20 @@ pub fn push_compared(
     second: Edge,
 ) -> Result<(), NoMemory>
     requires { at + 256 ≤ 2 ^ 30 }
-    ensures { OnOk result (code.new.items ≡ code.old.items ++ map word_of (compared_shape (with_homes homes.now) held at (start_of starts.now) operator form a b first second)) }
+    ensures { OnOk result (code.new.items ≡ code.old.items ++ map word_of (compared_shape (with_homes homes.now) short held at (start_of starts.now) operator form a b first second)) }
 {
     let words = push_counted(code, homes, held, a, b)?;
     let to = start_of(starts, first.block);
     let other = start_of(starts, second.block);
-    push_test(code, form.signed, operator, at + 4 * words, to, other)
+    push_test(
+        code,
+        short,
+        form.signed,
+        operator,
+        at + 4 * words,
+        to,
+        other,
+    )
 }
 
 /// x5 and x6 get operands, the first unless x5 holds it. The answer is how many words that takes.
@@ -65,6 +73,7 @@ fn push_counted(
 /// The branch on a comparison of x5 and x6, and the jumps.
 fn push_test(
     code: &mut Vec<u32>,
+    short: bool,
     signed: bool,
     operator: BinaryOperator,
     at: u64,
@@ -72,11 +81,12 @@ fn push_test(
     second: u64,
 ) -> Result<(), NoMemory>
     requires { at + 12 ≤ 2 ^ 32 }
-    ensures { OnOk result (code.new.items ≡ code.old.items ++ map word_of (compared signed operator at first second)) }
+    ensures { OnOk result (code.new.items ≡ code.old.items ++ map word_of (compared short signed operator at first second)) }
 {
     let condition = condition_of(signed, operator);
     push_chosen(
         code,
+        short,
         condition,
         left_of(operator),
         right_of(operator),
@@ -84,32 +94,6 @@ fn push_test(
         first,
         second,
     )
-}
-
-/// A branch over a jump to the second block, to a jump to the first.
-fn push_chosen(
-    code: &mut Vec<u32>,
-    condition: BranchCondition,
-    rs1: Register,
-    rs2: Register,
-    at: u64,
-    first: u64,
-    second: u64,
-) -> Result<(), NoMemory>
-    requires { at + 12 ≤ 2 ^ 32 }
-    ensures { OnOk result (code.new.items ≡ code.old.items ++ map word_of (chosen condition rs1 rs2 at first second)) }
-{
-    put(
-        code,
-        Instr::Branch {
-            condition,
-            rs1,
-            rs2,
-            offset: offset(12),
-        },
-    )?;
-    push_jump(code, at + 4, second)?;
-    push_jump(code, at + 12, first)
 }
 
 /// The condition under which a comparison is true.

@@ -1,10 +1,10 @@
 // Numbers as operands of instructions.
 
-ghost use Rattle.std.specs.Prelude.{◌≡◌, ◌%◌, ◌≤◌};
+ghost use Rattle.std.specs.Prelude.{◌≡◌, ◌%◌, ◌^◌, ◌<◌, ◌≤◌};
 ghost use Rattle.rv_select.specs.Numbers.{below_zero, immediate_of, lower_of, register_of, upper_of};
-ghost use Rattle.rv_select.specs.Shapes.{offset_of};
+ghost use Rattle.rv_select.specs.Shapes.{ahead, back, jump_offset, offset_of};
 
-use rv_isa::{BranchOffset, Immediate, Register, UpperImmediate};
+use rv_isa::{BranchOffset, Immediate, JumpOffset, Register, UpperImmediate};
 
 /// The register of a number, and x0 where there is none.
 pub(crate) fn register(number: u64) -> Register
@@ -69,5 +69,44 @@ pub(crate) fn offset(bytes: u64) -> BranchOffset
 {
     BranchOffset {
         bytes: bytes as i16,
+    }
+}
+
+/// The offset of a jump of one word by a distance in 32 bits, which is nearly 2 ^ 32 for a jump back. None goes further than 2 ^ 20
+/// bytes, or by an odd number of them.
+pub(crate) fn jump_offset(distance: u64) -> JumpOffset
+    requires { distance < 2 ^ 32 }
+    ensures { result.bytes ≡ (jump_offset distance).bytes }
+{
+    if distance <= 1_048_574 {
+        ahead(distance)
+    } else {
+        back((1 << 32) - 1 - distance)
+    }
+}
+
+/// So many bytes ahead.
+fn ahead(bytes: u64) -> JumpOffset
+    ensures { result.bytes ≡ (ahead bytes).bytes }
+{
+    if bytes <= 1_048_574 && bytes % 2 == 0 {
+        JumpOffset {
+            bytes: bytes as i32,
+        }
+    } else {
+        JumpOffset { bytes: 0 }
+    }
+}
+
+/// So many bytes and one more back.
+fn back(bytes: u64) -> JumpOffset
+    ensures { result.bytes ≡ (back bytes).bytes }
+{
+    if bytes <= 1_048_575 && (bytes + 1) % 2 == 0 {
+        JumpOffset {
+            bytes: -(bytes as i32) - 1,
+        }
+    } else {
+        JumpOffset { bytes: 0 }
     }
 }

@@ -6,7 +6,7 @@ ghost use Rattle.rv_isa.specs.Table.{word_of};
 ghost use Rattle.rv_select.specs.Calls.{IsSelected, KeepsWithin, all_has_code, block_code, block_has_code, block_starts, blocks_calls, blocks_code, call_jump, called, end_code, exit_code, has_code, has_exit_code, head_code, held_behind, instruction_calls, instruction_code, instructions_calls, instructions_code, last_address, pair_code, returned, starts_from};
 ghost use Rattle.rv_select.specs.Entering.{begun, entered, received, words_offset};
 ghost use Rattle.rv_select.specs.Pairs.{but_pair, pair_of, plain_of, reads_of};
-ghost use Rattle.rv_select.specs.Places.{frame_bytes, layout_of, with_homes, with_reads};
+ghost use Rattle.rv_select.specs.Places.{frame_bytes, is_short, layout_of, with_homes, with_reads};
 ghost use Rattle.rv_select.specs.Shapes.{jump, start_of};
 ghost use Rattle.tac_form.specs.declared.tac.Instruction.TheVariants as instructions;
 
@@ -17,6 +17,7 @@ use crate::exits::{push_exit, push_jump};
 use crate::instructions::{held_after, push_instruction};
 use crate::pairs::{Pair, Reads, pair_of, reads_of};
 use crate::selected::{Call, Code};
+use crate::short::is_short;
 use reg_alloc::{Assignment, Home};
 use std::alloc::Global;
 use tac_form::{Block, Destination, Exit, Instruction, Part, Tac};
@@ -116,43 +117,45 @@ fn push_all(
 }
 
 /// A jump from where the code ends.
-fn push_jump_here(code: &mut Vec<u32>, to: u64) -> Result<(), NoMemory>
-    ensures { OnOk result (code.new.items ≡ code.old.items ++ map word_of (jump (4 * length code.old.items) to)) }
+fn push_jump_here(code: &mut Vec<u32>, short: bool, to: u64) -> Result<(), NoMemory>
+    ensures { OnOk result (code.new.items ≡ code.old.items ++ map word_of (jump short (4 * length code.old.items) to)) }
 {
     let at = address(code)?;
-    push_jump(code, at, to)
+    push_jump(code, short, at, to)
 }
 
 /// The code by which a function gives back a part, and goes to where it is left.
 fn push_returned(
     code: &mut Vec<u32>,
     homes: &[Option<Home>],
+    short: bool,
     part: Part,
     last: u64,
 ) -> Result<(), NoMemory>
-    ensures { OnOk result (code.new.items ≡ code.old.items ++ map word_of (returned (with_homes homes.now) (4 * length code.old.items) last part)) }
+    ensures { OnOk result (code.new.items ≡ code.old.items ++ map word_of (returned (with_homes homes.now) short (4 * length code.old.items) last part)) }
 {
     push_given(code, homes, part)?;
-    push_jump_here(code, last)
+    push_jump_here(code, short, last)
 }
 
 /// The code of an exit, where x5 may hold the word of a temporary.
 fn push_end(
     code: &mut Vec<u32>,
     homes: &[Option<Home>],
+    short: bool,
     held: Option<u64>,
     starts: &[u64],
     last: u64,
     exit: &Exit,
 ) -> Result<(), NoMemory>
     requires { IsTrue (has_exit_code exit.now) }
-    ensures { OnOk result (code.new.items ≡ code.old.items ++ map word_of (exit_code (with_homes homes.now) held (4 * length code.old.items) (start_of starts.now) last exit.now)) }
+    ensures { OnOk result (code.new.items ≡ code.old.items ++ map word_of (exit_code (with_homes homes.now) short held (4 * length code.old.items) (start_of starts.now) last exit.now)) }
 {
     match exit {
-        Exit::Return(part) => push_returned(code, homes, *part, last),
+        Exit::Return(part) => push_returned(code, homes, short, *part, last),
         _ => {
             let at = address(code)?;
-            push_exit(code, homes, held, at, starts, exit)
+            push_exit(code, homes, short, held, at, starts, exit)
         }
     }
 }
@@ -161,6 +164,7 @@ fn push_end(
 fn push_block_end(
     code: &mut Vec<u32>,
     homes: &[Option<Home>],
+    short: bool,
     held: Option<u64>,
     starts: &[u64],
     last: u64,
@@ -168,11 +172,11 @@ fn push_block_end(
     exit: &Exit,
 ) -> Result<(), NoMemory>
     requires { IsTrue (has_exit_code exit.now) }
-    ensures { OnOk result (code.new.items ≡ code.old.items ++ map word_of (end_code (with_homes homes.now) held (4 * length code.old.items) (start_of starts.now) last pair exit.now)) }
+    ensures { OnOk result (code.new.items ≡ code.old.items ++ map word_of (end_code (with_homes homes.now) short held (4 * length code.old.items) (start_of starts.now) last pair exit.now)) }
 {
     match pair {
-        Some(pair) => push_pair(code, homes, held, starts, pair),
-        None => push_end(code, homes, held, starts, last, exit),
+        Some(pair) => push_pair(code, homes, short, held, starts, pair),
+        None => push_end(code, homes, short, held, starts, last, exit),
     }
 }
 
@@ -181,16 +185,18 @@ fn push_block_end(
 fn push_pair(
     code: &mut Vec<u32>,
     homes: &[Option<Home>],
+    short: bool,
     held: Option<u64>,
     starts: &[u64],
     pair: Pair,
 ) -> Result<(), NoMemory>
-    ensures { OnOk result (code.new.items ≡ code.old.items ++ map word_of (pair_code (with_homes homes.now) held (4 * length code.old.items) (start_of starts.now) pair)) }
+    ensures { OnOk result (code.new.items ≡ code.old.items ++ map word_of (pair_code (with_homes homes.now) short held (4 * length code.old.items) (start_of starts.now) pair)) }
 {
     let at = address(code)?;
     push_compared(
         code,
         homes,
+        short,
         held,
         at,
         starts,
@@ -222,16 +228,17 @@ fn push_block(
     starts: &[u64],
     last: u64,
     reads: &[Reads],
+    short: bool,
     block: &Block,
 ) -> Result<(), NoMemory>
     requires { IsTrue (block_has_code block.now) }
-    ensures code { OnOk result (code.new.items ≡ code.old.items ++ map word_of (block_code (with_reads homes.now reads.now) sizes.now (λ f. 0) (start_of starts.now) last (4 * length code.old.items) block.now)) }
-    ensures calls { OnOk result (calls.new.items ≡ calls.old.items ++ instructions_calls (with_reads homes.now reads.now) sizes.now (length code.old.items) None (plain_of reads.now block.now)) }
+    ensures code { OnOk result (code.new.items ≡ code.old.items ++ map word_of (block_code (with_reads homes.now reads.now short) sizes.now (λ f. 0) (start_of starts.now) last (4 * length code.old.items) block.now)) }
+    ensures calls { OnOk result (calls.new.items ≡ calls.old.items ++ instructions_calls (with_reads homes.now reads.now short) sizes.now (length code.old.items) None (plain_of reads.now block.now)) }
 {
     let pair = pair_of(reads, block);
     let plain = plain_of(block.instructions.as_slice(), pair);
     let held = push_all(code, calls, homes, sizes, plain)?;
-    push_block_end(code, homes, held, starts, last, pair, &block.exit)
+    push_block_end(code, homes, short, held, starts, last, pair, &block.exit)
 }
 
 /// The code of blocks, each of whose addresses goes to a list.
@@ -244,16 +251,17 @@ fn push_blocks(
     starts: &[u64],
     last: u64,
     reads: &[Reads],
+    short: bool,
     blocks: &[Block],
 ) -> Result<(), NoMemory>
     requires { IsTrue (list_all block_has_code blocks.now) }
-    ensures code { OnOk result (code.new.items ≡ code.old.items ++ map word_of (blocks_code (with_reads homes.now reads.now) sizes.now (λ f. 0) (start_of starts.now) last (4 * length code.old.items) blocks.now)) }
-    ensures calls { OnOk result (calls.new.items ≡ calls.old.items ++ blocks_calls (with_reads homes.now reads.now) sizes.now (length code.old.items) blocks.now) }
-    ensures begins { OnOk result (begins.new.items ≡ begins.old.items ++ starts_from (with_reads homes.now reads.now) sizes.now (4 * length code.old.items) blocks.now) }
+    ensures code { OnOk result (code.new.items ≡ code.old.items ++ map word_of (blocks_code (with_reads homes.now reads.now short) sizes.now (λ f. 0) (start_of starts.now) last (4 * length code.old.items) blocks.now)) }
+    ensures calls { OnOk result (calls.new.items ≡ calls.old.items ++ blocks_calls (with_reads homes.now reads.now short) sizes.now (length code.old.items) blocks.now) }
+    ensures begins { OnOk result (begins.new.items ≡ begins.old.items ++ starts_from (with_reads homes.now reads.now short) sizes.now (4 * length code.old.items) blocks.now) }
 {
     for block in blocks {
         begins.push(address(code)?)?;
-        push_block(code, calls, homes, sizes, starts, last, reads, block)?;
+        push_block(code, calls, homes, sizes, starts, last, reads, short, block)?;
     }
     Ok(())
 }
@@ -335,9 +343,11 @@ fn push_body(
     starts: &[u64],
     last: u64,
     reads: &[Reads],
+    short: bool,
 ) -> Result<(), NoMemory>
     requires has_code { IsTrue (all_has_code tac.now) }
     requires reads { reads.now ≡ reads_of tac.now }
+    requires short { short ≡ is_short tac.now }
     ensures code { OnOk result (code.new.items ≡ code.old.items ++ map word_of (blocks_code (layout_of tac.now homes.now) tac.now.areas (λ f. 0) (start_of starts.now) last (4 * length code.old.items) tac.now.blocks)) }
     ensures calls { OnOk result (calls.new.items ≡ calls.old.items ++ blocks_calls (layout_of tac.now homes.now) tac.now.areas (length code.old.items) tac.now.blocks) }
     ensures begins { OnOk result (begins.new.items ≡ begins.old.items ++ starts_from (layout_of tac.now homes.now) tac.now.areas (4 * length code.old.items) tac.now.blocks) }
@@ -351,6 +361,7 @@ fn push_body(
         starts,
         last,
         reads,
+        short,
         tac.blocks.as_slice(),
     )
 }
@@ -368,9 +379,11 @@ fn find_places(
     homes: &[Option<Home>],
     tac: &Tac,
     reads: &[Reads],
+    short: bool,
 ) -> Result<Places, NoMemory>
     requires has_code { IsTrue (all_has_code tac.now) }
     requires reads { reads.now ≡ reads_of tac.now }
+    requires short { short ≡ is_short tac.now }
     ensures starts { IfOk result (λ places. places.starts.items ≡ block_starts (layout_of tac.now homes.now) tac.now 0) }
     ensures last { IfOk result (λ places. places.last ≡ last_address (layout_of tac.now homes.now) tac.now 0) }
 {
@@ -387,6 +400,7 @@ fn find_places(
         &[],
         0,
         reads,
+        short,
     )?;
     let last = address(&code)?;
     Ok(Places { starts, last })
@@ -402,7 +416,8 @@ pub fn select(alloc: Global, tac: &Tac, assignment: &Assignment) -> Result<Code,
 {
     let homes = assignment.as_slice();
     let reads = reads_of(alloc, tac)?;
-    let places = find_places(alloc, homes, tac, &reads)?;
+    let short = is_short(tac);
+    let places = find_places(alloc, homes, tac, &reads, short)?;
     let mut words = Vec::new(alloc);
     let mut calls = Vec::new(alloc);
     let mut starts = Vec::new(alloc);
@@ -416,6 +431,7 @@ pub fn select(alloc: Global, tac: &Tac, assignment: &Assignment) -> Result<Code,
         &places.starts,
         places.last,
         &reads,
+        short,
     )?;
     push_left(&mut words, homes, head.frame, tac.frame)?;
     Ok(Code {

@@ -11,7 +11,7 @@ push_block-requires c =
 
 pub loop-block-preserved : goal.loop-block-preserved
 loop-block-preserved c =
-    let y = with_reads c.args.homes.now c.args.reads.now in
+    let y = with_reads c.args.homes.now c.args.reads.now c.args.short in
     let starts = start_of c.args.starts.now in
     let i = c.loop-block.block-index in
     let xs = c.args.blocks.now in
@@ -30,18 +30,18 @@ loop-block-preserved c =
 pub returns-clause-code : goal.returns-clause-code
 returns-clause-code c =
     items-end c.loop-block.code.items _ _ c.loop-block.invariant.0
-    (blocks-end (with_reads c.args.homes.now c.args.reads.now) c.args.sizes.now (start_of c.args.starts.now) c.args.last _
+    (blocks-end (with_reads c.args.homes.now c.args.reads.now c.args.short) c.args.sizes.now (start_of c.args.starts.now) c.args.last _
     c.loop-block.block-index
     c.args.blocks.now c.loop-block-test.false)
 
 pub returns-clause-calls : goal.returns-clause-calls
 returns-clause-calls c =
     items-end c.loop-block.calls.items _ _ c.loop-block.invariant.1
-    (blocks-calls-end (with_reads c.args.homes.now c.args.reads.now) c.args.sizes.now _ c.loop-block.block-index c.args.blocks.now
+    (blocks-calls-end (with_reads c.args.homes.now c.args.reads.now c.args.short) c.args.sizes.now _ c.loop-block.block-index c.args.blocks.now
     c.loop-block-test.false)
 
 pub returns-clause-begins : goal.returns-clause-begins
 returns-clause-begins c =
     items-end c.loop-block.begins.items _ _ c.loop-block.invariant.2
-    (begins-end (with_reads c.args.homes.now c.args.reads.now) c.args.sizes.now _ c.loop-block.block-index c.args.blocks.now
+    (begins-end (with_reads c.args.homes.now c.args.reads.now c.args.short) c.args.sizes.now _ c.loop-block.block-index c.args.blocks.now
     c.loop-block-test.false)

@@ -1,0 +1,183 @@
+// How many words a function's code has at most, by its weight.
+
+ghost use Rattle.std.specs.Prelude.{◌≡◌, ◌*◌, ◌+◌, ◌-◌, ◌^◌, ◌≤◌, length, sum_by};
+ghost use Rattle.rv_select.specs.Places.{is_short};
+ghost use Rattle.tac_form.specs.Weights.{block_words, constant_words, exit_words, operand_words, operator_words, reached, received, words_of};
+
+use tac_form::{Address, Block, Destination, Exit, Instruction, Operand, Spot, Tac};
+use terra_words::BinaryOperator;
+
+/// The words of code that is no longer short.
+const SHORT: u64 = 1 << 17;
+
+/// Whether a function's code has, by its weight, fewer words than 2 ^ 17.
+#[tactic(auto, unfolding(crate::specs::Places::is_short))]
+pub(crate) fn is_short(tac: &Tac) -> bool
+    ensures { result ≡ is_short tac.now }
+{
+    let rest = less_parameters(SHORT - 79, tac.parameters.as_slice());
+    less_blocks(rest, tac.blocks.as_slice()) > 0
+}
+
+/// What is left of a number behind the words that take parameters, or 0.
+fn less_parameters(most: u64, parameters: &[Destination]) -> u64
+    requires { most ≤ 2 ^ 17 }
+    ensures { result ≡ most - sum_by received parameters.now }
+{
+    let mut rest = most;
+    for parameter in parameters {
+        rest = rest.saturating_sub(received(*parameter));
+    }
+    rest
+}
+
+/// What is left of it behind the words of blocks.
+fn less_blocks(most: u64, blocks: &[Block]) -> u64
+    requires { most ≤ 2 ^ 17 }
+    ensures { result ≡ most - sum_by block_words blocks.now }
+{
+    let mut rest = most;
+    for block in blocks {
+        rest = less_block(rest, block);
+    }
+    rest
+}
+
+fn less_block(most: u64, block: &Block) -> u64
+    requires { most ≤ 2 ^ 17 }
+    ensures { result ≡ most - block_words block.now }
+{
+    let rest = less_instructions(most, block.instructions.as_slice());
+    rest.saturating_sub(exit_words(&block.exit))
+}
+
+fn less_instructions(most: u64, instructions: &[Instruction]) -> u64
+    requires { most ≤ 2 ^ 17 }
+    ensures { result ≡ most - sum_by words_of instructions.now }
+{
+    let mut rest = most;
+    for instruction in instructions {
+        rest = less_instruction(rest, instruction);
+    }
+    rest
+}
+
+fn less_instruction(most: u64, instruction: &Instruction) -> u64
+    requires { most ≤ 2 ^ 17 }
+    ensures { result ≡ most - words_of instruction.now }
+{
+    match instruction {
+        Instruction::Compute(_, op, _, a, b) => {
+            most.saturating_sub(operand_words(*a) + operand_words(*b) + operator_words(*op) + 3)
+        }
+        Instruction::TestDivisor(_, a) => most.saturating_sub(operand_words(*a) + 1 + 11),
+        Instruction::Copy(_, a) => most.saturating_sub(operand_words(*a) + 3),
+        Instruction::Locate(_, _) => most.saturating_sub(12),
+        Instruction::Load(_, _, spot) => most.saturating_sub(reached(*spot) + 2 + 3),
+        Instruction::Store(spot, _, a) => {
+            most.saturating_sub(reached(*spot) + operand_words(*a) + 1)
+        }
+        Instruction::Move(to, from, _) => {
+            most.saturating_sub(reached(*to) + reached(*from) + 36)
+        }
+        Instruction::Clear(_, _) => most.saturating_sub(19),
+        Instruction::Call(to, _, _, arguments) => {
+            less_call(most, 17, arguments.as_slice().len() as u64, received(*to))
+        }
+        Instruction::CallValue(to, _, _, a, arguments) => less_call(
+            most,
+            40 + operand_words(*a) + 6,
+            arguments.as_slice().len() as u64,
+            received(*to),
+        ),
+        Instruction::PutByte(_) => most.saturating_sub(11),
+        Instruction::Write(_, a, b) => {
+            most.saturating_sub(operand_words(*a) + operand_words(*b) + 8 + 11 + 5)
+        }
+        Instruction::Alloc(_, a) => most.saturating_sub(operand_words(*a) + 18 + 3),
+    }
+}
+
+/// A call passes so many parts, eleven words each.
+fn less_call(most: u64, before: u64, parts: u64, behind: u64) -> u64
+    requires most { most ≤ 2 ^ 17 }
+    requires before { before ≤ 64 }
+    requires behind { behind ≤ 64 }
+    ensures { result ≡ most - (before + 11 * parts + 2 + behind) }
+{
+    if parts >= most {
+        return 0;
+    }
+    most.saturating_sub(before + 11 * parts + 2 + behind)
+}
+
+fn exit_words(exit: &Exit) -> u64
+    ensures { result ≡ exit_words exit.now }
+{
+    match exit {
+        Exit::Jump(_) => 2,
+        Exit::Branch(a, _, _) => operand_words(*a) + 1 + 2 + 2,
+        Exit::Return(_) => 10,
+        Exit::Fail(_, _) => 11,
+    }
+}
+
+fn received(to: Destination) -> u64
+    ensures words { result ≡ received to }
+    ensures few { result ≤ 42 }
+{
+    match to {
+        Destination::Temp(_) => 6,
+        Destination::Area(_) => 42,
+    }
+}
+
+fn reached(spot: Spot) -> u64
+    ensures words { result ≡ reached spot }
+    ensures few { result ≤ 24 }
+{
+    match spot {
+        Spot::Region(_, Address::Word(a)) => operand_words(a) + 5 + 11,
+        Spot::Region(_, Address::Frame(_)) => 9,
+        Spot::Area(_, _) => 3,
+    }
+}
+
+fn operand_words(a: Operand) -> u64
+    ensures words { result ≡ operand_words a }
+    ensures few { result ≤ 8 }
+{
+    match a {
+        Operand::Temp(_) => 3,
+        Operand::Constant(c) => constant_words(c),
+    }
+}
+
+fn constant_words(c: u64) -> u64
+    ensures words { result ≡ constant_words c }
+    ensures few { result ≤ 8 }
+{
+    if c < 2048 {
+        1
+    } else if c < 1 << 31 {
+        2
+    } else {
+        8
+    }
+}
+
+fn operator_words(op: BinaryOperator) -> u64
+    ensures words { result ≡ operator_words op }
+    ensures few { result ≤ 4 }
+{
+    match op {
+        BinaryOperator::ShiftLeft | BinaryOperator::ShiftRight => 4,
+        BinaryOperator::Equal
+        | BinaryOperator::NotEqual
+        | BinaryOperator::Less
+        | BinaryOperator::LessEqual
+        | BinaryOperator::Greater
+        | BinaryOperator::GreaterEqual => 2,
+        _ => 3,
+    }
+}
