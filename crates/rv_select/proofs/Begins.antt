@@ -1,5 +1,5 @@
 -- How the machine comes from its start into the first function.
-use Rattle.std.proofs.Common.{◌≡◌, ◌≢◌, ℕ, zero, suc, ◌+◌, ◌-◌, ◌*◌, ◌^◌, ◌<◌, ◌≤◌, true, false, List, [], ◌∷◌, ◌++◌, length, take, drop, map, append_assoc, Option, Some, refl, sym, ap, ◌∙◌, subst, ⊎_elim, inl, inr, arith}
+use Rattle.std.proofs.Common.{◌≡◌, ◌≢◌, ℕ, zero, suc, ◌+◌, ◌-◌, ◌*◌, ◌/◌, ◌^◌, ◌<◌, ◌≤◌, true, false, List, [], ◌∷◌, ◌++◌, length, take, drop, map, append_assoc, Option, Some, refl, sym, ap, ◌∙◌, subst, ⊎_elim, inl, inr, arith}
 use Rattle.std.specs.Prelude.{if◌then◌else◌, nat_lt, slice_get, ◌⊎◌}
 use Rattle.std.proofs.lemmas.Bool.{cases_eq, cases_lt, le-leb, ltb-true, lt-ltb}
 use Rattle.std.proofs.lemmas.List.{length-append}
@@ -274,6 +274,9 @@ still-below p n e h = omega (arith, h)
 least-same : (n : ℕ) → n ≤ n
 least-same n = omega arith
 
+limit-below : (size : ℕ) → 2 ^ 30 + size - size / 4 ≤ 2 ^ 30 + size
+limit-below size = omega arith
+
 room-first : (most base b : ℕ) → 512 * most ≤ base → b ≤ most → (b ≤ base) × (511 * most ≤ base - b)
 room-first most base b h k = (omega (arith, h, k), omega (arith, h, k))
 
@@ -357,6 +360,7 @@ module _ (p : Program) (image : Image) (program : List (Option Instr)) (most n :
     placed_is = b.eight ∙ x.limit;
     place = b.place_is;
     small = wi.frame;
+    above = limit-below (length region.bytes);
     below = least-same (end_address region);
     region = subst (λ z. length z ≤ 67108864) (sym b.region) small-region;
     region_is = x.lawful.sized.2;

@@ -586,6 +586,7 @@ callee-step p image program most size linked s base m x block to place f argumen
           (λ q. omega (arith, q)) (λ q. omega (arith, q)) ∙ x.holds.placed;
       place = jump.others 11 (λ q. omega (arith, q)) (λ q. omega (arith, q)) ∙ b.place;
       small = wi.frame;
+      above = x.holds.above;
       below = x.holds.below;
       region = subst (λ q. length q ≤ 67108864) (sym (jump.region ∙ (b.region ∙ x.holds.region))) x.holds.lawful.sized.2;
       region_is = x.holds.lawful.sized.2;

@@ -22,7 +22,7 @@ use Rattle.rv_select.specs.Numbers.{constant, immediate_of, register_of, short_c
 use Rattle.rv_select.specs.Places.{AreBytes, Layout, private_word, uses}
 use Rattle.rv_select.specs.Shapes.{fault_call, limit_found, place_number, two, x2, x4, x7, x8, x10, x17}
 use Rattle.rv_select.specs.Steps.{Ends}
-use Rattle.rv_select.specs.Entering.{frames_taken, if_used, kept_offset, saved, stack_branch, stack_tested, x1}
+use Rattle.rv_select.specs.Entering.{frame_taken, if_used, kept_offset, region_taken, saved, stack_branch, stack_tested, x1}
 use Rattle.rv_select.proofs.Allocs.{less, right-two}
 use Rattle.rv_select.proofs.Faults.{branch-way, later-ends, small-load, throws}
 use Rattle.terra_memory.specs.Numbers.{number_of}
@@ -30,7 +30,7 @@ use Rattle.rv_select.proofs.Homes.{word_stored}
 use Rattle.rv_select.proofs.Kept.{Saved, Stored, saves, stored-one, word-stored}
 use Rattle.rv_select.proofs.Numbers.{constant-count, constant-loads, short-count, short-loads, extended-small}
 use Rattle.rv_select.proofs.Straight.{Loads, loads-both, loads-one, low-below, low-small, written-elsewhere, written-there}
-use Rattle.rv_select.proofs.Ways.{Near, Way, at_pc, near-both, near-pc, stands-back, stands-front, step-way, straight-way, throw-step, way-both}
+use Rattle.rv_select.proofs.Ways.{Near, Way, at_pc, low-none, near-both, near-pc, stands-back, stands-front, step-way, straight-way, throw-step, way-both, way-none}
 
 -- the call by which a run ends, at a place that stands in x11
 pub call-fails : (program : List (Option Instr)) (m : State) (kind : FaultKind) (at : Place) → m.registers 11 ≡ place_number at →
@@ -204,23 +204,98 @@ module _ (program : List (Option Instr)) (m : State) (frame size placed : ℕ) (
       call-fails program d StackFull at eleven (omega arith) (omega arith) (stands-front program d.pc (fault_call StackFull) rest behind-b.1.1) in
       later-ends program StackFull at (length A + 4 + 1 + 1) 3 17 m d (way-both program (length A + 4 + 1) 1 m c d way-c branch) last (omega (arith, constant-count x5 frame))
 
--- Both frames are taken, and what callers rest on is kept.
-pub record Taken (program : List (Option Instr)) (y : Layout) (bytes base under : ℕ) (rest : List Instr) (m : State) : Type 0 where
+-- The frame in the region is taken or given back, in no more than so many steps.
+pub record Placed (program : List (Option Instr)) (code rest : List Instr) (most under : ℕ) (m : State) : Type 0 where
   pub after : State
   pub steps : ℕ
   pub way : Way program steps m after
-  pub few : steps ≤ 15
+  pub few : steps ≤ most
+  pub eight : after.registers 8 ≡ under
+  pub keeps : (r : ℕ) → r ≢ 5 → r ≢ 6 → r ≢ 7 → r ≢ 8 → after.registers r ≡ m.registers r
+  pub region : after.region ≡ m.region
+  pub private : after.private ≡ m.private
+  pub pc : after.pc ≡ low (m.pc + 4 * length code)
+  pub there : Stands program after.pc rest
+
+-- an empty one needs no code
+pub placed-still : (program : List (Option Instr)) (rest : List Instr) (most under : ℕ) (m : State) → m.pc < 2 ^ 64 →
+    m.registers 8 ≡ under → Stands program m.pc rest → Placed program [] rest most under m
+placed-still program rest most under m p eight there = record {
+  after = m;
+  steps = 0;
+  way = way-none program m;
+  few = omega arith;
+  eight = eight;
+  keeps = λ r five six seven eight'. refl;
+  region = refl;
+  private = refl;
+  pc = sym (low-none m.pc p);
+  there = there;
+}
+
+pub pc-one : (p n a : ℕ) → a ≡ low (p + 4 * n) → low (a + 4) ≡ low (p + 4 * (n + 1))
+unfolding low
+pc-one p n a e = omega arith
+
+pub takes-region : (program : List (Option Instr)) (frame size placed : ℕ) (rest : List Instr) (m : State) → m.pc < 2 ^ 64 → frame < 2 ^ 63 →
+    m.registers 4 ≡ 2 ^ 30 + size → size ≤ 67108864 → m.registers 8 ≡ placed → placed < 2 ^ 63 → 2 ^ 30 + size - size / 4 + frame ≤ placed →
+    Stands program m.pc (region_taken frame ++ rest) → Placed program (region_taken frame) rest 15 (placed - frame) m
+takes-region program zero size placed rest m p small four most eight placed-small fits there =
+    let same : placed ≡ placed - 0 = omega arith in
+    placed-still program rest 15 (placed - 0) m p (eight ∙ same) there
+takes-region program (suc n) size placed rest m p small four most eight placed-small fits there =
+    let A : List Instr = stack_tested (suc n) in
+    let S : List Instr = RegisterRegister Sub x8 x8 x5 ∷ [] in
+    let all : Stands program m.pc (A ++ (S ++ rest)) = subst (λ z. Stands program m.pc z) (append_assoc A S rest) there in
+    let t : Passed program (suc n) (S ++ rest) m = passes program m (suc n) size placed (S ++ rest) p small four most eight placed-small all fits in
+    let eight-t : t.after.registers 8 ≡ placed = t.near.keeps 8 (λ z. omega (arith, z)) (λ z. omega (arith, z)) (λ z. omega (arith, z)) ∙ eight in
+    let b : State = at_with t.after (low (t.after.pc + 4)) 8 (placed - suc n) in
+    let to-b : act (RegisterRegister Sub x8 x8 x5) t.after ≡ GoesOn b =
+    ap (λ x. GoesOn (at_with t.after (low (t.after.pc + 4)) 8 (difference x (t.after.registers 5)))) eight-t
+    ∙ (ap (λ x. GoesOn (at_with t.after (low (t.after.pc + 4)) 8 (difference placed x))) t.five
+    ∙ ap (λ x. GoesOn (at_with t.after (low (t.after.pc + 4)) 8 x)) (less placed (suc n) (omega (arith, fits)) (omega (arith, placed-small)))) in
+    let count : length (A ++ S) ≡ length A + 1 = length-append A S in
+    record {
+      after = b;
+      steps = t.steps + 1;
+      way = way-both program t.steps 1 m t.after b t.way (step-way program (RegisterRegister Sub x8 x8 x5) t.after b t.there.0 to-b);
+      few = omega (arith, t.few);
+      eight = written-there t.after.registers 8 (placed - suc n) (λ z. omega (arith, z));
+      keeps = λ r five six seven eight'. written-elsewhere t.after.registers 8 (placed - suc n) r eight' ∙ t.near.keeps r five six seven;
+      region = t.near.region;
+      private = t.near.private;
+      pc = pc-one m.pc (length A) t.after.pc t.pc ∙ ap (λ k. low (m.pc + 4 * k)) (sym count);
+      there = t.there.1;
+    }
+
+-- The run fails where the data stack has no room for a frame, which is not empty then.
+pub region-refused : (program : List (Option Instr)) (frame size placed : ℕ) (rest : List Instr) (m : State) → m.pc < 2 ^ 64 → frame < 2 ^ 63 →
+    m.registers 4 ≡ 2 ^ 30 + size → size ≤ 67108864 → m.registers 8 ≡ placed → placed < 2 ^ 63 → 2 ^ 30 + size - size / 4 ≤ placed →
+    Stands program m.pc (region_taken frame ++ rest) → (at : Place) → m.registers 11 ≡ place_number at →
+    placed < 2 ^ 30 + size - size / 4 + frame → Ends program StackFull at 17 m
+region-refused program zero size placed rest m p small four most eight placed-small above there at e h = absurd (omega (arith, above, h))
+region-refused program (suc n) size placed rest m p small four most eight placed-small above there at e h =
+    let A : List Instr = stack_tested (suc n) in
+    let S : List Instr = RegisterRegister Sub x8 x8 x5 ∷ [] in
+    refuses program m (suc n) size placed (S ++ rest) p small four most eight placed-small
+    (subst (λ z. Stands program m.pc z) (append_assoc A S rest) there) at e h
+
+-- The frame in private memory is taken, and what callers rest on is kept.
+pub record Taken (program : List (Option Instr)) (y : Layout) (bytes base : ℕ) (rest : List Instr) (m : State) : Type 0 where
+  pub after : State
+  pub steps : ℕ
+  pub way : Way program steps m after
+  pub few : steps ≤ 14
   pub some : 1 ≤ steps
   pub pointer : after.registers 2 ≡ 2 ^ 32 + base
-  pub eight : after.registers 8 ≡ under
-  pub others : (r : ℕ) → r ≢ 2 → r ≢ 6 → r ≢ 7 → r ≢ 8 → after.registers r ≡ m.registers r
+  pub others : (r : ℕ) → r ≢ 2 → r ≢ 6 → r ≢ 7 → after.registers r ≡ m.registers r
   pub region : after.region ≡ m.region
   pub long : length after.private ≡ length m.private
   pub bytes_are : AreBytes m.private → AreBytes after.private
   pub above : (at n : ℕ) → base + 88 ≤ at → take n (drop at after.private) ≡ take n (drop at m.private)
   pub link : private_word after base ≡ low (m.registers 1)
   pub kept : (r : ℕ) → 18 ≤ r → r < 28 → uses y r ≡ true → private_word after (base + kept_offset r) ≡ low (m.registers r)
-  pub pc : after.pc ≡ low (m.pc + 4 * length (frames_taken y bytes))
+  pub pc : after.pc ≡ low (m.pc + 4 * length (frame_taken y bytes))
   pub there : Stands program after.pc rest
 
 pub used-count : (b : Bool) (i : Instr) (is : List Instr) (n : ℕ) → length is ≤ n → length (if_used b i ++ is) ≤ suc n
@@ -235,29 +310,23 @@ pub zero-sum : (x base : ℕ) → x ≡ 2 ^ 32 + base → base < 2 ^ 63 → low 
 unfolding low
 zero-sum x base e h = omega arith
 
-pc-frames : (p n a b c d e k : ℕ) → a ≡ low (p + 4) → b ≡ low (a + 4 * n) → c ≡ low (b + 4) → d ≡ low (c + 4) → e ≡ low (d + 4 * k) →
-    e ≡ low (p + 4 * suc (n + suc (suc k)))
+pc-frame : (p n b c d e k : ℕ) → b ≡ low (p + 4 * n) → c ≡ low (b + 4) → d ≡ low (c + 4) → e ≡ low (d + 4 * k) →
+    e ≡ low (p + 4 * (n + suc (suc k)))
 unfolding low
-pc-frames p n a b c d e k h i j l o = omega arith
+pc-frame p n b c d e k i j l o = omega arith
 
-pub takes-frames : (program : List (Option Instr)) (y : Layout) (bytes top placed frame : ℕ) (rest : List Instr) (m : State) → m.pc < 2 ^ 64 →
-    m.registers 5 ≡ frame → m.registers 8 ≡ placed → frame ≤ placed → placed < 2 ^ 63 → m.registers 2 ≡ 2 ^ 32 + top → 88 ≤ bytes → bytes ≤ top →
-    top ≤ length m.private → length m.private ≤ 603979776 → length m.region ≤ 67108864 → Stands program m.pc (frames_taken y bytes ++ rest) →
-    Taken program y bytes (top - bytes) (placed - frame) rest m
-takes-frames program y bytes top placed frame rest m p five eight fits small two-is least room within most region there =
+pub takes-frame : (program : List (Option Instr)) (y : Layout) (bytes top : ℕ) (rest : List Instr) (m : State) → m.pc < 2 ^ 64 →
+    m.registers 2 ≡ 2 ^ 32 + top → 88 ≤ bytes → bytes ≤ top →
+    top ≤ length m.private → length m.private ≤ 603979776 → length m.region ≤ 67108864 → Stands program m.pc (frame_taken y bytes ++ rest) →
+    Taken program y bytes (top - bytes) rest m
+takes-frame program y bytes top rest m p two-is least room within most region there =
     let base : ℕ = top - bytes in
     let C : List Instr = short_constant x6 bytes in
-    let t1 : State = at_with m (low (m.pc + 4)) 8 (placed - frame) in
-    let to-1 : act (RegisterRegister Sub x8 x8 x5) m ≡ GoesOn t1 =
-    ap (λ x. GoesOn (at_with m (low (m.pc + 4)) 8 (difference x (m.registers 5)))) eight
-    ∙ (ap (λ x. GoesOn (at_with m (low (m.pc + 4)) 8 (difference placed x))) five
-    ∙ ap (λ x. GoesOn (at_with m (low (m.pc + 4)) 8 x)) (less placed frame fits (omega arith))) in
-    let l : Loads 6 C t1 bytes =
-    subst (λ v. Loads 6 C t1 v) (extended-small bytes (omega arith)) (short-loads x6 t1 bytes (λ z. omega (arith, z))) in
+    let l : Loads 6 C m bytes =
+    subst (λ v. Loads 6 C m v) (extended-small bytes (omega arith)) (short-loads x6 m bytes (λ z. omega (arith, z))) in
     let t2 : State = l.after in
     let t3 : State = at_with t2 (low (t2.pc + 4)) 2 (2 ^ 32 + base) in
-    let pointer : t2.registers 2 ≡ 2 ^ 32 + top =
-    l.keeps 2 (λ z. omega (arith, z)) (λ z. omega (arith, z)) ∙ (written-elsewhere m.registers 8 (placed - frame) 2 (λ z. omega (arith, z)) ∙ two-is) in
+    let pointer : t2.registers 2 ≡ 2 ^ 32 + top = l.keeps 2 (λ z. omega (arith, z)) (λ z. omega (arith, z)) ∙ two-is in
     let down : 2 ^ 32 + top - bytes ≡ 2 ^ 32 + base = omega arith in
     let to-3 : act (RegisterRegister Sub x2 x2 x6) t2 ≡ GoesOn t3 =
     ap (λ x. GoesOn (at_with t2 (low (t2.pc + 4)) 2 (difference x (t2.registers 6)))) pointer
@@ -268,40 +337,35 @@ takes-frames program y bytes top placed frame rest m p five eight fits small two
     let s1 : Stored (Store Sd x2 x1 zero_immediate ∷ []) base (base + 8) t3 _ =
     stored-one t3 x2 x1 zero_immediate base (t3.registers 1) (zero-sum (t3.registers 2) base (written-there t2.registers 2 (2 ^ 32 + base) (λ z. omega (arith, z))) (omega arith)) refl region-3 room-3 in
     let t4 : State = word_stored t3 base (t3.registers 1) in
-    let pc-1 : t1.pc < 2 ^ 64 = low-below (m.pc + 4) in
-    let pc-2 : t2.pc < 2 ^ 64 = subst (λ q. q < 2 ^ 64) (sym l.behind) (low-below (t1.pc + 4 * length C)) in
+    let pc-2 : t2.pc < 2 ^ 64 = subst (λ q. q < 2 ^ 64) (sym l.behind) (low-below (m.pc + 4 * length C)) in
     let pc-4 : t4.pc < 2 ^ 64 = low-below (t3.pc + 4) in
     let sv : Saved y 10 18 base t4 =
     saves y 10 18 base t4 pc-4 (written-there t2.registers 2 (2 ^ 32 + base) (λ z. omega (arith, z))) (omega arith) (omega arith)
     (subst (λ z. base + 88 ≤ z) (sym (s1.long ∙ ap length (l.private))) (omega arith)) (subst (λ z. z ≤ 603979776) (sym (s1.long ∙ ap length (l.private))) most) region-3 in
     let t5 : State = sv.after in
     let D : List Instr = RegisterRegister Sub x2 x2 x6 ∷ Store Sd x2 x1 zero_immediate ∷ saved y 10 18 in
-    let after-1 : Stands program t1.pc (C ++ (D ++ rest)) = subst (λ z. Stands program t1.pc z) (append_assoc C D rest) there.1 in
-    let after-2 : Stands program t2.pc (D ++ rest) = subst (λ q. Stands program q (D ++ rest)) (sym l.behind) (stands-back program t1.pc C (D ++ rest) pc-1 after-1) in
+    let all : Stands program m.pc (C ++ (D ++ rest)) = subst (λ z. Stands program m.pc z) (append_assoc C D rest) there in
+    let after-2 : Stands program t2.pc (D ++ rest) = subst (λ q. Stands program q (D ++ rest)) (sym l.behind) (stands-back program m.pc C (D ++ rest) p all) in
     let after-4 : Stands program t4.pc (saved y 10 18 ++ rest) = after-2.1.1 in
     let after-5 : Stands program t5.pc rest = subst (λ q. Stands program q rest) (sym sv.is.behind) (stands-back program t4.pc (saved y 10 18) rest pc-4 after-4) in
-    let way-2 : Way program (1 + length C) m t2 =
-    way-both program 1 (length C) m t1 t2 (step-way program (RegisterRegister Sub x8 x8 x5) m t1 there.0 to-1)
-    (straight-way program C t1 t2 (stands-front program t1.pc C (D ++ rest) after-1) l.straight l.goes) in
-    let way-3 : Way program (1 + length C + 1) m t3 = way-both program (1 + length C) 1 m t2 t3 way-2 (step-way program (RegisterRegister Sub x2 x2 x6) t2 t3 after-2.0 to-3) in
-    let way-4 : Way program (1 + length C + 1 + 1) m t4 =
-    way-both program (1 + length C + 1) 1 m t3 t4 way-3 (straight-way program (Store Sd x2 x1 zero_immediate ∷ []) t3 t4 (after-2.1.0, tt) refl s1.goes) in
-    let way-5 : Way program (1 + length C + 1 + 1 + length (saved y 10 18)) m t5 =
-    way-both program (1 + length C + 1 + 1) (length (saved y 10 18)) m t4 t5 way-4
+    let way-2 : Way program (length C) m t2 = straight-way program C m t2 (stands-front program m.pc C (D ++ rest) all) l.straight l.goes in
+    let way-3 : Way program (length C + 1) m t3 = way-both program (length C) 1 m t2 t3 way-2 (step-way program (RegisterRegister Sub x2 x2 x6) t2 t3 after-2.0 to-3) in
+    let way-4 : Way program (length C + 1 + 1) m t4 =
+    way-both program (length C + 1) 1 m t3 t4 way-3 (straight-way program (Store Sd x2 x1 zero_immediate ∷ []) t3 t4 (after-2.1.0, tt) refl s1.goes) in
+    let way-5 : Way program (length C + 1 + 1 + length (saved y 10 18)) m t5 =
+    way-both program (length C + 1 + 1) (length (saved y 10 18)) m t4 t5 way-4
     (straight-way program (saved y 10 18) t4 t5 (stands-front program t4.pc (saved y 10 18) rest after-4) sv.is.straight sv.is.goes) in
-    let count : length (frames_taken y bytes) ≡ suc (length C + suc (suc (length (saved y 10 18)))) = ap suc (length-append C D) in
-    let same : (r : ℕ) → r ≢ 2 → r ≢ 6 → r ≢ 7 → r ≢ 8 → t3.registers r ≡ m.registers r =
-    λ r two six seven eight'. written-elsewhere t2.registers 2 (2 ^ 32 + base) r two ∙ (l.keeps r six seven ∙ written-elsewhere m.registers 8 (placed - frame) r eight') in
+    let count : length (frame_taken y bytes) ≡ length C + suc (suc (length (saved y 10 18))) = length-append C D in
+    let same : (r : ℕ) → r ≢ 2 → r ≢ 6 → r ≢ 7 → t3.registers r ≡ m.registers r =
+    λ r two six seven. written-elsewhere t2.registers 2 (2 ^ 32 + base) r two ∙ l.keeps r six seven in
     record {
       after = t5;
-      steps = 1 + length C + 1 + 1 + length (saved y 10 18);
+      steps = length C + 1 + 1 + length (saved y 10 18);
       way = way-5;
-      few = omega (arith, saved-count y 10 18, constant-short bytes);
+      few = omega (arith, saved-count y 10 18, short-count x6 bytes);
       some = omega arith;
       pointer = sv.is.registers 2 ∙ written-there t2.registers 2 (2 ^ 32 + base) (λ z. omega (arith, z));
-      eight = sv.is.registers 8 ∙ (written-elsewhere t2.registers 2 (2 ^ 32 + base) 8 (λ z. omega (arith, z)) ∙ (l.keeps 8 (λ z. omega (arith, z)) (λ z. omega (arith, z))
-          ∙ written-there m.registers 8 (placed - frame) (λ z. omega (arith, z))));
-      others = λ r two six seven eight'. sv.is.registers r ∙ same r two six seven eight';
+      others = λ r two six seven. sv.is.registers r ∙ same r two six seven;
       region = sv.is.region ∙ l.region;
       long = sv.is.long ∙ (s1.long ∙ ap length l.private);
       bytes_are = λ b. sv.is.bytes (s1.bytes (subst AreBytes (sym l.private) b));
@@ -309,13 +373,10 @@ takes-frames program y bytes top placed frame rest m p five eight fits small two
           sv.is.outside at n (inr (omega (arith, h))) ∙ (s1.outside at n (inr (omega (arith, h))) ∙ ap (λ z. take n (drop at z)) l.private);
       link =
           ap number_of (sv.is.outside base 8 (inl (omega arith)))
-          ∙ (word-stored t3.private base (t3.registers 1) room-3 ∙ ap low (same 1 (λ z. omega (arith, z)) (λ z. omega (arith, z)) (λ z. omega (arith, z)) (λ z. omega (arith, z))));
+          ∙ (word-stored t3.private base (t3.registers 1) room-3 ∙ ap low (same 1 (λ z. omega (arith, z)) (λ z. omega (arith, z)) (λ z. omega (arith, z))));
       kept = λ r h k used.
           sv.words r h (omega (arith, k)) used
-          ∙ ap low (same r (λ z. omega (arith, z, h)) (λ z. omega (arith, z, h)) (λ z. omega (arith, z, h)) (λ z. omega (arith, z, h)));
-      pc = pc-frames m.pc (length C) t1.pc t2.pc t3.pc t4.pc t5.pc (length (saved y 10 18)) refl l.behind refl refl sv.is.behind ∙ ap (λ n. low (m.pc + 4 * n)) (sym count);
+          ∙ ap low (same r (λ z. omega (arith, z, h)) (λ z. omega (arith, z, h)) (λ z. omega (arith, z, h)));
+      pc = pc-frame m.pc (length C) t2.pc t3.pc t4.pc t5.pc (length (saved y 10 18)) l.behind refl refl sv.is.behind ∙ ap (λ n. low (m.pc + 4 * n)) (sym count);
       there = after-5;
     }
-  where
-    constant-short : (n : ℕ) → length (short_constant x6 n) ≤ 2
-    constant-short n = short-count x6 n

@@ -1,5 +1,5 @@
 -- The laws of entering and leaving functions.
-use Rattle.std.proofs.Common.{◌≡◌, ℕ, ◌+◌, ◌-◌, ◌*◌, ◌/◌, ◌^◌, ◌<◌, ◌≤◌, List, [], ◌++◌, length, take, drop, Option, refl, sym, ap, ◌∙◌, subst, inl, inr, arith}
+use Rattle.std.proofs.Common.{◌≡◌, ℕ, ◌+◌, ◌-◌, ◌*◌, ◌^◌, ◌<◌, ◌≤◌, List, [], ◌++◌, length, take, drop, Option, refl, sym, ap, ◌∙◌, subst, inl, inr, arith}
 use Rattle.std.proofs.lemmas.List.{append-nil, length-append}
 use Rattle.rv_isa.specs.declared.instr.Instr.{Instr}
 use Rattle.tl_base.specs.declared.place.Place.{Place}
@@ -12,12 +12,11 @@ use Rattle.tac_form.specs.Live.{InUse}
 use Rattle.rv_select.specs.Places.{AreBytes, Housed, Layout, frame_bytes, layout_of}
 use Rattle.rv_select.proofs.Lives.{housed}
 use Rattle.rv_select.specs.Steps.{Ends}
-use Rattle.rv_select.specs.Entering.{entered, frames_taken, stack_tested}
+use Rattle.rv_select.specs.Entering.{entered, frame_taken, region_taken}
 use Rattle.rv_select.specs.Calls.{call_begun}
 use Rattle.rv_select.specs.Frames.{BeforeEntering, Calls, CallsAreBegun, Enters, FunctionsAreEntered, FunctionsAreLeft, Returns, part_value}
 use Rattle.rv_select.proofs.Callings.{Begun, begins, too-deep}
-use Rattle.rv_select.proofs.Enters.{Passed, Taken, takes-frames}
-use Rattle.rv_select.proofs.Enters as tests
+use Rattle.rv_select.proofs.Enters.{Placed, Taken, region-refused, takes-frame, takes-region}
 use Rattle.rv_select.proofs.Returns.{BackIn, goes-back}
 use Rattle.rv_select.proofs.Straight.{low-below}
 use Rattle.rv_select.proofs.Ways.{Way, way-both}
@@ -29,29 +28,30 @@ pc-both : (p a b n k : ℕ) → a ≡ low (p + 4 * n) → b ≡ low (a + 4 * k) 
 unfolding low
 pc-both p a b n k e h = omega arith
 
--- the test passes, and the frames are taken
+-- both frames are taken
 both-entered : (program : List (Option Instr)) (y : Layout) (bytes frame top placed size : ℕ) (at : Place) (m : State) → BeforeEntering program y bytes frame top placed size at m →
-    (p : Passed program frame (frames_taken y bytes) m) → Taken program y bytes (top - bytes) (placed - frame) [] p.after →
+    (p : Placed program (region_taken frame) (frame_taken y bytes) 15 (placed - frame) m) → Taken program y bytes (top - bytes) [] p.after →
     Enters program y (top - bytes) (placed - frame) (low (m.pc + 4 * length (entered y bytes frame))) m
 both-entered program y bytes frame top placed size at m h p t =
     let way : Way program (p.steps + t.steps) m t.after = way-both program p.steps t.steps m p.after t.after p.way t.way in
-    let count : length (entered y bytes frame) ≡ length (stack_tested frame) + length (frames_taken y bytes) = length-append (stack_tested frame) (frames_taken y bytes) in
+    let count : length (entered y bytes frame) ≡ length (region_taken frame) + length (frame_taken y bytes) = length-append (region_taken frame) (frame_taken y bytes) in
     record {
       steps = p.steps + t.steps;
       after = t.after;
       some = omega (arith, t.some);
       few = omega (arith, p.few, t.few);
       runs = way.runs;
-      at = pc-both m.pc p.after.pc t.after.pc (length (stack_tested frame)) (length (frames_taken y bytes)) p.pc t.pc ∙ ap (λ n. low (m.pc + 4 * n)) (sym count);
+      at = pc-both m.pc p.after.pc t.after.pc (length (region_taken frame)) (length (frame_taken y bytes)) p.pc t.pc ∙ ap (λ n. low (m.pc + 4 * n)) (sym count);
       pointer = t.pointer;
-      placed = t.eight;
-      others = λ r two five six seven eight. t.others r two six seven eight ∙ p.near.keeps r five six seven;
-      region = t.region ∙ p.near.region;
-      long = t.long ∙ ap length p.near.private;
-      bytes = λ b. t.bytes_are (subst AreBytes (sym p.near.private) b);
-      above = λ a n o. t.above a n o ∙ ap (λ z. take n (drop a z)) p.near.private;
-      link = t.link ∙ ap low (p.near.keeps 1 (λ z. omega (arith, z)) (λ z. omega (arith, z)) (λ z. omega (arith, z)));
-      kept = λ r lo hi used. t.kept r lo hi used ∙ ap low (p.near.keeps r (λ z. omega (arith, z, lo)) (λ z. omega (arith, z, lo)) (λ z. omega (arith, z, lo)));
+      placed = t.others 8 (λ z. omega (arith, z)) (λ z. omega (arith, z)) (λ z. omega (arith, z)) ∙ p.eight;
+      others = λ r two five six seven eight. t.others r two six seven ∙ p.keeps r five six seven eight;
+      region = t.region ∙ p.region;
+      long = t.long ∙ ap length p.private;
+      bytes = λ b. t.bytes_are (subst AreBytes (sym p.private) b);
+      above = λ a n o. t.above a n o ∙ ap (λ z. take n (drop a z)) p.private;
+      link = t.link ∙ ap low (p.keeps 1 (λ z. omega (arith, z)) (λ z. omega (arith, z)) (λ z. omega (arith, z)) (λ z. omega (arith, z)));
+      kept = λ r lo hi used. t.kept r lo hi used
+          ∙ ap low (p.keeps r (λ z. omega (arith, z, lo)) (λ z. omega (arith, z, lo)) (λ z. omega (arith, z, lo)) (λ z. omega (arith, z, lo)));
     }
 
 pub functions-entered : FunctionsAreEntered
@@ -59,19 +59,18 @@ functions-entered program y bytes frame top placed size at m h =
     let most : size ≤ 67108864 = h.region_is in
     let placed-small : placed < 2 ^ 63 = omega (arith, h.below) in (
       λ less. more-ends program _ at 17 36 m (omega arith)
-          (tests.refuses program m frame size placed (frames_taken y bytes) h.pc h.small h.limit most h.placed_is placed-small h.stands at h.place less),
-      λ fits. passed (tests.passes program m frame size placed (frames_taken y bytes) h.pc h.small h.limit most h.placed_is placed-small h.stands fits) fits,
+          (region-refused program frame size placed (frame_taken y bytes) m h.pc h.small h.limit most h.placed_is placed-small h.above h.stands at h.place less),
+      λ fits. taken (takes-region program frame size placed (frame_taken y bytes) m h.pc h.small h.limit most h.placed_is placed-small fits h.stands),
     )
   where
-    passed : (p : Passed program frame (frames_taken y bytes) m) → 2 ^ 30 + size - size / 4 + frame ≤ placed →
+    taken : (p : Placed program (region_taken frame) (frame_taken y bytes) 15 (placed - frame) m) →
         Enters program y (top - bytes) (placed - frame) (low (m.pc + 4 * length (entered y bytes frame))) m
-    passed p fits =
+    taken p =
         both-entered program y bytes frame top placed size at m h p
-        (takes-frames program y bytes top placed frame [] p.after (subst (λ q. q < 2 ^ 64) (sym p.pc) (low-below (m.pc + 4 * length (stack_tested frame)))) p.five
-        (p.near.keeps 8 (λ z. omega (arith, z)) (λ z. omega (arith, z)) (λ z. omega (arith, z)) ∙ h.placed_is) (omega (arith, fits)) (omega (arith, h.below, h.region_is))
-        (p.near.keeps 2 (λ z. omega (arith, z)) (λ z. omega (arith, z)) (λ z. omega (arith, z)) ∙ h.pointer) h.least h.room
-        (subst (λ z. top ≤ length z) (sym p.near.private) h.within) (subst (λ z. length z ≤ 603979776) (sym p.near.private) h.private)
-        (subst (λ z. length z ≤ 67108864) (sym p.near.region) h.region) (subst (λ z. Stands program p.after.pc z) (sym (append-nil (frames_taken y bytes))) p.there))
+        (takes-frame program y bytes top [] p.after (subst (λ q. q < 2 ^ 64) (sym p.pc) (low-below (m.pc + 4 * length (region_taken frame))))
+        (p.keeps 2 (λ z. omega (arith, z)) (λ z. omega (arith, z)) (λ z. omega (arith, z)) (λ z. omega (arith, z)) ∙ h.pointer) h.least h.room
+        (subst (λ z. top ≤ length z) (sym p.private) h.within) (subst (λ z. length z ≤ 603979776) (sym p.private) h.private)
+        (subst (λ z. length z ≤ 67108864) (sym p.region) h.region) (subst (λ z. Stands program p.after.pc z) (sym (append-nil (frame_taken y bytes))) p.there))
 
 pub calls-begun : CallsAreBegun
 calls-begun code homes block step program w base at ps m right p fits there =

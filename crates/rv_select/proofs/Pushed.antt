@@ -1,14 +1,18 @@
 -- Code that is put behind other code, a part at a time.
-use Rattle.std.proofs.Common.{◌≡◌, ◌≢◌, ℕ, zero, suc, ◌+◌, ◌-◌, ◌*◌, List, ◌++◌, length, append_assoc, refl, sym, ap, subst, ◌∙◌, arith}
+use Rattle.std.proofs.Common.{◌≡◌, ◌≢◌, ℕ, zero, suc, ◌+◌, ◌-◌, ◌*◌, List, [], ◌∷◌, ◌++◌, length, append_assoc, refl, sym, ap, subst, ◌∙◌, arith}
 use Rattle.std.specs.Prelude.{map, Result, Ok, Err, OnOk}
 use Rattle.std.proofs.lemmas.List.{map-append}
 use Rattle.rv_isa.specs.declared.instr.Instr.{Instr}
+use Rattle.rv_isa.specs.declared.instr.Instr.TheVariants.{RegisterRegister}
+use Rattle.rv_isa.specs.declared.operation.RegisterOp.TheVariants.{Add, Sub}
 use Rattle.rv_isa.specs.declared.operand.Register.{Register}
 use Rattle.rv_isa.proofs.Operands.{register_same}
 use Rattle.rv_isa.specs.Table.{word_of}
+use Rattle.rv_operators.specs.Codes.{x5}
 use Rattle.rv_select.specs.Places.{Layout}
-use Rattle.rv_select.specs.Entering.{arguments_stored, put_back, put_back_one, saved, saved_one, stored_below}
-use Rattle.rv_select.specs.Numbers.{register_of}
+use Rattle.rv_select.specs.Entering.{arguments_stored, put_back, put_back_one, region_given, region_taken, saved, saved_one, stack_tested, stored_below}
+use Rattle.rv_select.specs.Numbers.{constant, register_of}
+use Rattle.rv_select.specs.Shapes.{x8}
 use Rattle.rv_select.proofs.Numbers.{pushed_words}
 
 -- two parts, where the second depends on where it stands
@@ -38,6 +42,14 @@ turn (Err x) old mid new a b whole w e g = g
 pub saved-more : (y : Layout) (n x : ℕ) → n ≢ 0 → saved y n x ≡ saved_one y x ++ saved y (n - 1) (x + 1)
 saved-more y zero x h = absurd (h refl)
 saved-more y (suc n) x h = let e : n ≡ suc n - 1 = omega arith in ap (λ k. saved_one y x ++ saved y k (x + 1)) e
+
+pub region-taken-more : (n : ℕ) → n ≢ 0 → region_taken n ≡ stack_tested n ++ RegisterRegister Sub x8 x8 x5 ∷ []
+region-taken-more zero h = absurd (h refl)
+region-taken-more (suc n) h = refl
+
+pub region-given-more : (n : ℕ) → n ≢ 0 → region_given n ≡ constant x5 n ++ RegisterRegister Add x8 x8 x5 ∷ []
+region-given-more zero h = absurd (h refl)
+region-given-more (suc n) h = refl
 
 pub put-back-more : (y : Layout) (n x : ℕ) → n ≢ 0 → put_back y n x ≡ put_back_one y x ++ put_back y (n - 1) (x + 1)
 put-back-more y zero x h = absurd (h refl)

@@ -1,6 +1,7 @@
 -- How functions are left.
-use Rattle.std.proofs.Common.{◌≡◌, ◌≢◌, ℕ, zero, suc, ◌+◌, ◌-◌, ◌*◌, ◌%◌, ◌^◌, ◌<◌, ◌≤◌, true, false, List, [], ◌∷◌, ◌++◌, length, Option, refl, sym, ap, ◌∙◌, subst, ⊎_elim, inl, inr, arith}
+use Rattle.std.proofs.Common.{◌≡◌, ◌≢◌, ℕ, zero, suc, ◌+◌, ◌-◌, ◌*◌, ◌%◌, ◌^◌, ◌<◌, ◌≤◌, true, false, List, [], ◌∷◌, ◌++◌, length, append_assoc, Option, refl, sym, ap, ◌∙◌, subst, ⊎_elim, inl, inr, arith}
 use Rattle.std.specs.Prelude.{◌⊎◌}
+use Rattle.std.proofs.lemmas.List.{length-append}
 use Rattle.rv_isa.specs.declared.instr.Instr.{Instr}
 use Rattle.rv_isa.specs.declared.instr.Instr.TheVariants.{Jalr, Load, RegisterRegister}
 use Rattle.rv_isa.specs.declared.operation.LoadOp.TheVariants.{Ld}
@@ -12,8 +13,8 @@ use Rattle.rv_operators.specs.Runs.{Stands}
 use Rattle.rv_select.specs.Numbers.{constant, immediate_of, register_of, short_constant}
 use Rattle.rv_select.specs.Places.{Layout, private_word, uses}
 use Rattle.rv_select.specs.Shapes.{x2, x8}
-use Rattle.rv_select.specs.Entering.{kept_offset, left, put_back, x1}
-use Rattle.rv_select.proofs.Enters.{used-count, zero-sum}
+use Rattle.rv_select.specs.Entering.{kept_offset, left, put_back, region_given, x1}
+use Rattle.rv_select.proofs.Enters.{Placed, pc-one, placed-still, used-count, zero-sum}
 use Rattle.rv_select.proofs.Kept.{PutBack, load-word, puts-back}
 use Rattle.rv_select.proofs.Numbers.{constant-count, constant-loads, extended-small, short-count, short-loads}
 use Rattle.rv_select.proofs.Straight.{Loads, low-below, low-small, written-elsewhere, written-there}
@@ -48,15 +49,49 @@ sum-small : (x base bytes : ℕ) → x ≡ 2 ^ 32 + base → base + bytes < 2 ^ 
 unfolding low
 sum-small x base bytes e h = omega arith
 
+-- the frame in the region is given back
+gives-region : (program : List (Option Instr)) (frame under : ℕ) (rest : List Instr) (m : State) → m.pc < 2 ^ 64 → m.registers 8 ≡ under →
+    under + frame < 2 ^ 63 → Stands program m.pc (region_given frame ++ rest) → Placed program (region_given frame) rest 9 (under + frame) m
+gives-region program zero under rest m p eight small there =
+    let same : under ≡ under + 0 = omega arith in
+    placed-still program rest 9 (under + 0) m p (eight ∙ same) there
+gives-region program (suc n) under rest m p eight small there =
+    let B : List Instr = constant x5 (suc n) in
+    let S : List Instr = RegisterRegister Add x8 x8 x5 ∷ [] in
+    let all : Stands program m.pc (B ++ (S ++ rest)) = subst (λ z. Stands program m.pc z) (append_assoc B S rest) there in
+    let l : Loads 5 B m (suc n) = constant-loads x5 m (suc n) (λ z. omega (arith, z)) (omega (arith, small)) in
+    let t : State = l.after in
+    let eight-t : t.registers 8 ≡ under = l.keeps 8 (λ z. omega (arith, z)) (λ z. omega (arith, z)) ∙ eight in
+    let b : State = at_with t (low (t.pc + 4)) 8 (under + suc n) in
+    let to-b : act (RegisterRegister Add x8 x8 x5) t ≡ GoesOn b =
+    ap (λ v. GoesOn (at_with t (low (t.pc + 4)) 8 (low (v + t.registers 5)))) eight-t
+    ∙ (ap (λ v. GoesOn (at_with t (low (t.pc + 4)) 8 (low (under + v)))) l.gives
+    ∙ ap (λ v. GoesOn (at_with t (low (t.pc + 4)) 8 v)) (low-small (under + suc n) (omega (arith, small)))) in
+    let behind : Stands program t.pc (S ++ rest) = subst (λ q. Stands program q (S ++ rest)) (sym l.behind) (stands-back program m.pc B (S ++ rest) p all) in
+    let count : length (B ++ S) ≡ length B + 1 = length-append B S in
+    record {
+      after = b;
+      steps = length B + 1;
+      way = way-both program (length B) 1 m t b (straight-way program B m t (stands-front program m.pc B (S ++ rest) all) l.straight l.goes)
+          (step-way program (RegisterRegister Add x8 x8 x5) t b behind.0 to-b);
+      few = omega (arith, constant-count x5 (suc n));
+      eight = written-there t.registers 8 (under + suc n) (λ z. omega (arith, z));
+      keeps = λ r five six seven eight'. written-elsewhere t.registers 8 (under + suc n) r eight' ∙ l.keeps r five seven;
+      region = l.region;
+      private = l.private;
+      pc = pc-one m.pc (length B) t.pc l.behind ∙ ap (λ k. low (m.pc + 4 * k)) (sym count);
+      there = behind.1;
+    }
+
 pub quits : (program : List (Option Instr)) (y : Layout) (bytes base under frame link : ℕ) (m : State) → m.pc < 2 ^ 64 → m.registers 2 ≡ 2 ^ 32 + base → m.registers 8 ≡ under →
     under + frame < 2 ^ 63 → 88 ≤ bytes → base + bytes ≤ length m.private → length m.private ≤ 603979776 → length m.region ≤ 67108864 →
     private_word m base ≡ link → link % 2 ≡ 0 → link < 2 ^ 64 → Stands program m.pc (left y bytes frame) → Quit program y bytes base (under + frame) link m
 quits program y bytes base under frame link m p two-is eight-is small least within most region link-is even link-small there =
     let A : List Instr = put_back y 10 18 in
-    let B : List Instr = constant x5 frame in
+    let B : List Instr = region_given frame in
     let C : List Instr = short_constant x6 bytes in
     let F : List Instr = RegisterRegister Add x2 x2 x6 ∷ Jalr x0 x1 zero_immediate ∷ [] in
-    let E : List Instr = RegisterRegister Add x8 x8 x5 ∷ (C ++ F) in
+    let E : List Instr = C ++ F in
     let t1 : State = at_with m (low (m.pc + 4)) 1 (private_word m base) in
     let to-1 : act (Load Ld x1 x2 zero_immediate) m ≡ GoesOn t1 =
     load-word m x1 x2 zero_immediate base (zero-sum (m.registers 2) base two-is (omega arith)) region (omega arith) in
@@ -65,61 +100,52 @@ quits program y bytes base under frame link m p two-is eight-is small least with
     puts-back y 10 18 base t1 pc-1 (written-elsewhere m.registers 1 (private_word m base) 2 (λ z. omega (arith, z)) ∙ two-is) (omega arith) (omega arith) (omega arith) most region in
     let t2 : State = pb.after in
     let pc-2 : t2.pc < 2 ^ 64 = subst (λ q. q < 2 ^ 64) (sym pb.behind) (low-below (t1.pc + 4 * length A)) in
-    let l : Loads 5 B t2 frame = constant-loads x5 t2 frame (λ z. omega (arith, z)) (omega arith) in
+    let all-1 : Stands program t1.pc (A ++ (B ++ E)) = there.1 in
+    let after-2 : Stands program t2.pc (B ++ E) = subst (λ q. Stands program q (B ++ E)) (sym pb.behind) (stands-back program t1.pc A (B ++ E) pc-1 all-1) in
+    let l : Placed program B E 9 (under + frame) t2 =
+    gives-region program frame under E t2 pc-2 (pb.outside 8 (inl (omega arith)) ∙ (written-elsewhere m.registers 1 (private_word m base) 8 (λ z. omega (arith, z)) ∙ eight-is))
+    small after-2 in
     let t3 : State = l.after in
-    let pc-3 : t3.pc < 2 ^ 64 = subst (λ q. q < 2 ^ 64) (sym l.behind) (low-below (t2.pc + 4 * length B)) in
-    let eight-3 : t3.registers 8 ≡ under =
-    l.keeps 8 (λ z. omega (arith, z)) (λ z. omega (arith, z)) ∙ (pb.outside 8 (inl (omega arith)) ∙ (written-elsewhere m.registers 1 (private_word m base) 8 (λ z. omega (arith, z)) ∙ eight-is)) in
-    let t4 : State = at_with t3 (low (t3.pc + 4)) 8 (under + frame) in
-    let to-4 : act (RegisterRegister Add x8 x8 x5) t3 ≡ GoesOn t4 =
-    ap (λ v. GoesOn (at_with t3 (low (t3.pc + 4)) 8 (low (v + t3.registers 5)))) eight-3
-    ∙ (ap (λ v. GoesOn (at_with t3 (low (t3.pc + 4)) 8 (low (under + v)))) l.gives
-    ∙ ap (λ v. GoesOn (at_with t3 (low (t3.pc + 4)) 8 v)) (low-small (under + frame) (omega arith))) in
-    let pc-4 : t4.pc < 2 ^ 64 = low-below (t3.pc + 4) in
-    let k : Loads 6 C t4 bytes = subst (λ v. Loads 6 C t4 v) (extended-small bytes (omega arith)) (short-loads x6 t4 bytes (λ z. omega (arith, z))) in
+    let pc-3 : t3.pc < 2 ^ 64 = subst (λ q. q < 2 ^ 64) (sym l.pc) (low-below (t2.pc + 4 * length B)) in
+    let k : Loads 6 C t3 bytes = subst (λ v. Loads 6 C t3 v) (extended-small bytes (omega arith)) (short-loads x6 t3 bytes (λ z. omega (arith, z))) in
     let t5 : State = k.after in
     let two-5 : t5.registers 2 ≡ 2 ^ 32 + base =
-    k.keeps 2 (λ z. omega (arith, z)) (λ z. omega (arith, z)) ∙ (written-elsewhere t3.registers 8 (under + frame) 2 (λ z. omega (arith, z))
-    ∙ (l.keeps 2 (λ z. omega (arith, z)) (λ z. omega (arith, z)) ∙ (pb.outside 2 (inl (omega arith)) ∙ (written-elsewhere m.registers 1 (private_word m base) 2 (λ z. omega (arith, z)) ∙ two-is)))) in
+    k.keeps 2 (λ z. omega (arith, z)) (λ z. omega (arith, z))
+    ∙ (l.keeps 2 (λ z. omega (arith, z)) (λ z. omega (arith, z)) (λ z. omega (arith, z)) (λ z. omega (arith, z)) ∙ (pb.outside 2 (inl (omega arith)) ∙ (written-elsewhere m.registers 1 (private_word m base) 2 (λ z. omega (arith, z)) ∙ two-is))) in
     let t6 : State = at_with t5 (low (t5.pc + 4)) 2 (2 ^ 32 + (base + bytes)) in
     let to-6 : act (RegisterRegister Add x2 x2 x6) t5 ≡ GoesOn t6 =
     ap (λ v. GoesOn (at_with t5 (low (t5.pc + 4)) 2 (low (t5.registers 2 + v)))) k.gives
     ∙ ap (λ v. GoesOn (at_with t5 (low (t5.pc + 4)) 2 v)) (sum-small (t5.registers 2) base bytes two-5 (omega arith)) in
     let one-6 : t6.registers 1 ≡ link =
-    written-elsewhere t5.registers 2 (2 ^ 32 + (base + bytes)) 1 (λ z. omega (arith, z)) ∙ (k.keeps 1 (λ z. omega (arith, z)) (λ z. omega (arith, z)) ∙ (written-elsewhere t3.registers 8 (under + frame) 1 (λ z. omega (arith, z))
-    ∙ (l.keeps 1 (λ z. omega (arith, z)) (λ z. omega (arith, z)) ∙ (pb.outside 1 (inl (omega arith)) ∙ (written-there m.registers 1 (private_word m base) (λ z. omega (arith, z)) ∙ link-is))))) in
+    written-elsewhere t5.registers 2 (2 ^ 32 + (base + bytes)) 1 (λ z. omega (arith, z)) ∙ (k.keeps 1 (λ z. omega (arith, z)) (λ z. omega (arith, z))
+    ∙ (l.keeps 1 (λ z. omega (arith, z)) (λ z. omega (arith, z)) (λ z. omega (arith, z)) (λ z. omega (arith, z))
+    ∙ (pb.outside 1 (inl (omega arith)) ∙ (written-there m.registers 1 (private_word m base) (λ z. omega (arith, z)) ∙ link-is)))) in
     let t7 : State = at_with t6 (low (t6.registers 1 + 0) - low (t6.registers 1 + 0) % 2) 0 (low (t6.pc + 4)) in
-    let all-1 : Stands program t1.pc (A ++ (B ++ E)) = there.1 in
-    let after-2 : Stands program t2.pc (B ++ E) = subst (λ q. Stands program q (B ++ E)) (sym pb.behind) (stands-back program t1.pc A (B ++ E) pc-1 all-1) in
-    let after-3 : Stands program t3.pc E = subst (λ q. Stands program q E) (sym l.behind) (stands-back program t2.pc B E pc-2 after-2) in
-    let after-5 : Stands program t5.pc F = subst (λ q. Stands program q F) (sym k.behind) (stands-back program t4.pc C F pc-4 after-3.1) in
-    let way-3 : Way program (1 + length A + length B) m t3 =
-    way-both program (1 + length A) (length B) m t2 t3
+    let after-5 : Stands program t5.pc F = subst (λ q. Stands program q F) (sym k.behind) (stands-back program t3.pc C F pc-3 l.there) in
+    let way-3 : Way program (1 + length A + l.steps) m t3 =
+    way-both program (1 + length A) l.steps m t2 t3
     (way-both program 1 (length A) m t1 t2 (step-way program (Load Ld x1 x2 zero_immediate) m t1 there.0 to-1)
-    (straight-way program A t1 t2 (stands-front program t1.pc A (B ++ E) all-1) pb.straight pb.goes))
-    (straight-way program B t2 t3 (stands-front program t2.pc B E after-2) l.straight l.goes) in
-    let way-5 : Way program (1 + length A + length B + 1 + length C) m t5 =
-    way-both program (1 + length A + length B + 1) (length C) m t4 t5
-    (way-both program (1 + length A + length B) 1 m t3 t4 way-3 (step-way program (RegisterRegister Add x8 x8 x5) t3 t4 after-3.0 to-4))
-    (straight-way program C t4 t5 (stands-front program t4.pc C F after-3.1) k.straight k.goes) in
-    let way-7 : Way program (1 + length A + length B + 1 + length C + 1 + 1) m t7 =
-    way-both program (1 + length A + length B + 1 + length C + 1) 1 m t6 t7
-    (way-both program (1 + length A + length B + 1 + length C) 1 m t5 t6 way-5 (step-way program (RegisterRegister Add x2 x2 x6) t5 t6 after-5.0 to-6))
+    (straight-way program A t1 t2 (stands-front program t1.pc A (B ++ E) all-1) pb.straight pb.goes)) l.way in
+    let way-5 : Way program (1 + length A + l.steps + length C) m t5 =
+    way-both program (1 + length A + l.steps) (length C) m t3 t5 way-3
+    (straight-way program C t3 t5 (stands-front program t3.pc C F l.there) k.straight k.goes) in
+    let way-7 : Way program (1 + length A + l.steps + length C + 1 + 1) m t7 =
+    way-both program (1 + length A + l.steps + length C + 1) 1 m t6 t7
+    (way-both program (1 + length A + l.steps + length C) 1 m t5 t6 way-5 (step-way program (RegisterRegister Add x2 x2 x6) t5 t6 after-5.0 to-6))
     (step-way program (Jalr x0 x1 zero_immediate) t6 t7 after-5.1.0 refl) in
     let other : (r : ℕ) → r ≢ 2 → r ≢ 5 → r ≢ 6 → r ≢ 7 → r ≢ 8 → t6.registers r ≡ t2.registers r =
     λ r two five six seven eight.
-    written-elsewhere t5.registers 2 (2 ^ 32 + (base + bytes)) r two ∙ (k.keeps r six seven ∙ (written-elsewhere t3.registers 8 (under + frame) r eight ∙ l.keeps r five seven)) in
+    written-elsewhere t5.registers 2 (2 ^ 32 + (base + bytes)) r two ∙ (k.keeps r six seven ∙ l.keeps r five six seven eight) in
     record {
       after = t7;
-      steps = 1 + length A + length B + 1 + length C + 1 + 1;
+      steps = 1 + length A + l.steps + length C + 1 + 1;
       way = way-7;
-      few = omega (arith, put-back-count y 10 18, constant-count x5 frame, short-count x6 bytes);
+      few = omega (arith, put-back-count y 10 18, l.few, short-count x6 bytes);
       some = omega arith;
       pc = even-target (t6.registers 1) link one-6 even link-small;
       pointer = written-there t5.registers 2 (2 ^ 32 + (base + bytes)) (λ z. omega (arith, z));
       eight =
-          written-elsewhere t5.registers 2 (2 ^ 32 + (base + bytes)) 8 (λ z. omega (arith, z)) ∙ (k.keeps 8 (λ z. omega (arith, z)) (λ z. omega (arith, z))
-          ∙ written-there t3.registers 8 (under + frame) (λ z. omega (arith, z)));
+          written-elsewhere t5.registers 2 (2 ^ 32 + (base + bytes)) 8 (λ z. omega (arith, z)) ∙ (k.keeps 8 (λ z. omega (arith, z)) (λ z. omega (arith, z)) ∙ l.eight);
       there = λ r h g used.
           other r (λ z. omega (arith, z, h)) (λ z. omega (arith, z, h)) (λ z. omega (arith, z, h)) (λ z. omega (arith, z, h)) (λ z. omega (arith, z, h)) ∙ pb.there r h (omega (arith, g)) used;
       unused = λ r h g used.

@@ -66,7 +66,7 @@ pub stands-front : (program : List (Option Instr)) (pc : ℕ) (a b : List Instr)
 stands-front program pc [] b h = tt
 stands-front program pc (i ∷ a) b h = (h.0, stands-front program (low (pc + 4)) a b h.1)
 
-low-none : (p : ℕ) → p < 2 ^ 64 → low (p + 4 * 0) ≡ p
+pub low-none : (p : ℕ) → p < 2 ^ 64 → low (p + 4 * 0) ≡ p
 unfolding low
 low-none p h = omega arith
 

@@ -21,7 +21,7 @@ use Rattle.rv_operators.specs.Codes.{x0, x5, x6, zero_immediate}
 use Rattle.rv_select.specs.Numbers.{below_zero, constant, lower_of, register_of, short_constant}
 use Rattle.rv_select.specs.Places.{Layout, home_of}
 use Rattle.rv_select.specs.Shapes.{far_part, framed, jump, limit_found, place_number, x2, x7, x8, x10, x11}
-use Rattle.rv_select.specs.Entering.{arguments_stored, entered, frames_given, frames_taken, stack_tested, x1, most_arguments, put_back, received, receiving, result_put, result_words, saved, size_in, stack_branch, stored_below}
+use Rattle.rv_select.specs.Entering.{arguments_stored, entered, frame_taken, frames_given, region_given, region_taken, stack_tested, x1, most_arguments, put_back, received, receiving, result_put, result_words, saved, size_in, stack_branch, stored_below}
 use Rattle.rv_select.specs.Calls.{call_begun, call_ended, called, call_jump, depth_tested, one_more, part_taken, passed}
 use Rattle.rv_select.specs.Frames.{CallsKeepWithin, FramesKeepWithin, ParametersKeepWithin}
 use Rattle.rv_select.proofs.Copies.{size-small}
@@ -71,6 +71,17 @@ most-eight n = either (nat_le n 8) refl
     either true e = leb-true n 8 e
     either false e = omega arith
 
+region-taken-count : (n : ℕ) → length (region_taken n) ≤ 18
+region-taken-count zero = omega arith
+region-taken-count (suc n) =
+    let five : length (constant x5 (suc n)) ≤ 8 = constant-count x5 (suc n) in
+    both (stack_tested (suc n)) (RegisterRegister Sub x8 x8 x5 ∷ []) 17 1
+    (both (constant x5 (suc n)) (limit_found ++ stack_branch) 8 9 five (omega arith)) (omega arith)
+
+region-given-count : (n : ℕ) → length (region_given n) ≤ 9
+region-given-count zero = omega arith
+region-given-count (suc n) = both (constant x5 (suc n)) (RegisterRegister Add x8 x8 x5 ∷ []) 8 1 (constant-count x5 (suc n)) (omega arith)
+
 pub frames-within : FramesKeepWithin
 frames-within code y short bytes at last v =
     let n : ℕ = most_arguments (length code.parameters) in
@@ -79,16 +90,14 @@ frames-within code y short bytes at last v =
     let place : length (constant x11 (place_number code.place)) ≤ 8 = constant-count x11 (place_number code.place) in
     let begins : length (arguments_stored n 0 ++ constant x11 (place_number code.place)) ≤ 8 + 8 =
     both (arguments_stored n 0) (constant x11 (place_number code.place)) 8 8 eight place in
-    let five : length (constant x5 code.frame) ≤ 8 = constant-count x5 code.frame in
-    let tested : length (constant x5 code.frame ++ (limit_found ++ stack_branch)) ≤ 8 + 9 = both (constant x5 code.frame) (limit_found ++ stack_branch) 8 9 five (omega arith) in
     let sized : length (short_constant x6 bytes) ≤ 2 = short-count x6 bytes in
     let keeps : length (saved y 10 18) ≤ 10 = saved-count y 10 18 in
     let taken : length (short_constant x6 bytes) + (2 + length (saved y 10 18)) ≤ 14 = omega (arith, sized, keeps) in
-    let enters : length (entered y bytes code.frame) ≤ 17 + 15 =
-    both (stack_tested code.frame) (frames_taken y bytes) 17 15 tested (omega (arith, length-append (short_constant x6 bytes) (RegisterRegister Sub x2 x2 x6 ∷ Store Sd x2 x1 zero_immediate ∷ saved y 10 18), taken)) in
+    let enters : length (entered y bytes code.frame) ≤ 18 + 14 =
+    both (region_taken code.frame) (frame_taken y bytes) 18 14 (region-taken-count code.frame) (omega (arith, length-append (short_constant x6 bytes) (RegisterRegister Sub x2 x2 x6 ∷ Store Sd x2 x1 zero_immediate ∷ saved y 10 18), taken)) in
     let backs : length (put_back y 10 18) ≤ 10 = put-back-count y 10 18 in
-    let gives : length (frames_given bytes code.frame) ≤ 8 + 5 =
-    both (constant x5 code.frame) (RegisterRegister Add x8 x8 x5 ∷ (short_constant x6 bytes ++ (RegisterRegister Add x2 x2 x6 ∷ Jalr x0 x1 zero_immediate ∷ []))) 8 5 five (omega (arith, length-append (short_constant x6 bytes) (RegisterRegister Add x2 x2 x6 ∷ Jalr x0 x1 zero_immediate ∷ []), sized)) in
+    let gives : length (frames_given bytes code.frame) ≤ 9 + 4 =
+    both (region_given code.frame) (short_constant x6 bytes ++ (RegisterRegister Add x2 x2 x6 ∷ Jalr x0 x1 zero_immediate ∷ [])) 9 4 (region-given-count code.frame) (omega (arith, length-append (short_constant x6 bytes) (RegisterRegister Add x2 x2 x6 ∷ Jalr x0 x1 zero_immediate ∷ []), sized)) in
     let leaves : length (put_back y 10 18 ++ frames_given bytes code.frame) ≤ 10 + 13 = both (put_back y 10 18) (frames_given bytes code.frame) 10 13 backs gives in (
       omega (arith, begins, enters, leaves),
       both (part_taken y x10 v) (jump short (at + 4 * length (part_taken y x10 v)) last) 8 2 (part-count y x10 v)

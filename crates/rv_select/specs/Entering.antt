@@ -56,16 +56,19 @@ stack_branch =
 abbrev pub stack_tested : ℕ → List Instr
 stack_tested frame = constant x5 frame ++ (limit_found ++ stack_branch)
 
--- both frames go down, and what is kept for the caller is stored
-abbrev pub frames_taken : Layout → (bytes : ℕ) → List Instr
-frames_taken y bytes =
-    RegisterRegister Sub x8 x8 x5
-    ∷ (short_constant x6 bytes
-    ++ (RegisterRegister Sub x2 x2 x6 ∷ Store Sd x2 x1 zero_immediate ∷ saved y 10 18))
+-- The frame in the region goes down, if there is room. An empty one needs no test, and x8 stays.
+abbrev pub region_taken : (frame : ℕ) → List Instr
+region_taken zero = []
+region_taken (suc n) = stack_tested (suc n) ++ RegisterRegister Sub x8 x8 x5 ∷ []
+
+-- that in private memory goes down, and what is kept for the caller is stored
+abbrev pub frame_taken : Layout → (bytes : ℕ) → List Instr
+frame_taken y bytes =
+    short_constant x6 bytes ++ (RegisterRegister Sub x2 x2 x6 ∷ Store Sd x2 x1 zero_immediate ∷ saved y 10 18)
 
 -- how a function is entered by a call, whose frames have so many bytes in private memory and in the region
 abbrev pub entered : Layout → (bytes frame : ℕ) → List Instr
-entered y bytes frame = stack_tested frame ++ frames_taken y bytes
+entered y bytes frame = region_taken frame ++ frame_taken y bytes
 
 -- where the parameters' words begin in the frame, the last first
 abbrev pub words_offset : Layout → ℕ
@@ -97,12 +100,15 @@ abbrev pub received : Layout → (sizes : List ℕ) → (last : ℕ) → List De
 received y sizes last [] = []
 received y sizes last (d ∷ ds) = received_one y sizes d (last + 8 * length ds) ++ received y sizes last ds
 
+-- the frame in the region goes up again, and an empty one leaves x8
+abbrev pub region_given : (frame : ℕ) → List Instr
+region_given zero = []
+region_given (suc n) = constant x5 (suc n) ++ RegisterRegister Add x8 x8 x5 ∷ []
+
 -- back to the caller, with the result in x10
 abbrev pub frames_given : (bytes frame : ℕ) → List Instr
 frames_given bytes frame =
-    constant x5 frame
-    ++ (RegisterRegister Add x8 x8 x5
-    ∷ (short_constant x6 bytes ++ (RegisterRegister Add x2 x2 x6 ∷ Jalr x0 x1 zero_immediate ∷ [])))
+    region_given frame ++ (short_constant x6 bytes ++ (RegisterRegister Add x2 x2 x6 ∷ Jalr x0 x1 zero_immediate ∷ []))
 
 abbrev pub left : Layout → (bytes frame : ℕ) → List Instr
 left y bytes frame = Load Ld x1 x2 zero_immediate ∷ (put_back y 10 18 ++ frames_given bytes frame)

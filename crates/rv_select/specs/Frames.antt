@@ -58,7 +58,7 @@ pub record Enters (program : List (Option Instr)) (y : Layout) (base under targe
   pub kept : (r : ℕ) → 18 ≤ r → r < 28 → uses y r ≡ true → private_word after (base + kept_offset r) ≡ low (m.registers r)
 
 -- Where the code of entering a function stands: x2 is the end of the caller's frame, x4 that of the region, x8 the caller's frame
--- in the region, and x11 the place of the call.
+-- in the region, which lies in the data stack's quarter, and x11 the place of the call.
 pub record BeforeEntering (program : List (Option Instr)) (y : Layout) (bytes frame top placed size : ℕ) (at : Place)
     (m : State) : Type 0 where
   pub stands : Stands program m.pc (entered y bytes frame)
@@ -68,6 +68,7 @@ pub record BeforeEntering (program : List (Option Instr)) (y : Layout) (bytes fr
   pub placed_is : m.registers 8 ≡ placed
   pub place : m.registers 11 ≡ place_number at
   pub small : frame < 2 ^ 63
+  pub above : 2 ^ 30 + size - size / 4 ≤ placed
   pub below : placed ≤ 2 ^ 30 + size
   pub region : length m.region ≤ 67108864
   pub region_is : size ≤ 67108864

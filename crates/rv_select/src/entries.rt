@@ -2,7 +2,7 @@
 
 ghost use Rattle.std.specs.Prelude.{◌≡◌, ◌*◌, ◌+◌, ◌^◌, ◌<◌, ◌≤◌, [], ◌∷◌, ◌++◌, map, length, IfOk, IsTrue, OnOk};
 ghost use Rattle.rv_isa.specs.Table.{word_of};
-ghost use Rattle.rv_select.specs.Entering.{arguments_stored, begun, entered, frames_given, frames_taken, kept_offset, left, most_arguments, put_back, put_back_one, received, received_one, result_put, saved, saved_one, size_in, stack_branch, stack_tested, stored_below};
+ghost use Rattle.rv_select.specs.Entering.{arguments_stored, begun, entered, frame_taken, frames_given, kept_offset, left, most_arguments, put_back, put_back_one, received, received_one, region_given, region_taken, result_put, saved, saved_one, size_in, stack_branch, stack_tested, stored_below};
 ghost use Rattle.rv_select.specs.Numbers.{register_of};
 ghost use Rattle.rv_select.specs.Places.{is_register, uses, with_homes};
 ghost use Rattle.rv_select.specs.Shapes.{to_area};
@@ -176,14 +176,14 @@ fn push_stack_branch(code: &mut Vec<u32>) -> Result<(), NoMemory>
     push_fault_call(code, FaultKind::StackFull)
 }
 
-/// Both frames go down, and what is kept for the caller is stored.
-fn push_frames_taken(
-    code: &mut Vec<u32>,
-    homes: &[Option<Home>],
-    bytes: u64,
-) -> Result<(), NoMemory>
-    ensures { OnOk result (code.new.items ≡ code.old.items ++ map word_of (frames_taken (with_homes homes.now) bytes)) }
+/// The frame in the region goes down, if there is room. An empty one leaves x8.
+fn push_region_taken(code: &mut Vec<u32>, frame: u64) -> Result<(), NoMemory>
+    ensures { OnOk result (code.new.items ≡ code.old.items ++ map word_of (region_taken frame)) }
 {
+    if frame == 0 {
+        return Ok(());
+    }
+    push_stack_test(code, frame)?;
     put(
         code,
         Instr::RegisterRegister {
@@ -192,7 +192,13 @@ fn push_frames_taken(
             rs1: X8,
             rs2: X5,
         },
-    )?;
+    )
+}
+
+/// The frame in private memory goes down, and what is kept for the caller is stored.
+fn push_frame_taken(code: &mut Vec<u32>, homes: &[Option<Home>], bytes: u64) -> Result<(), NoMemory>
+    ensures { OnOk result (code.new.items ≡ code.old.items ++ map word_of (frame_taken (with_homes homes.now) bytes)) }
+{
     push_short_constant(code, X6, bytes)?;
     put(
         code,
@@ -224,8 +230,8 @@ pub(crate) fn push_entered(
 ) -> Result<(), NoMemory>
     ensures { OnOk result (code.new.items ≡ code.old.items ++ map word_of (entered (with_homes homes.now) bytes frame)) }
 {
-    push_stack_test(code, frame)?;
-    push_frames_taken(code, homes, bytes)
+    push_region_taken(code, frame)?;
+    push_frame_taken(code, homes, bytes)
 }
 
 /// The words by which a function is left, with its result in x10.
@@ -250,10 +256,13 @@ pub(crate) fn push_left(
     push_frames_given(code, bytes, frame)
 }
 
-/// Both frames go up again, and the caller goes on.
-fn push_frames_given(code: &mut Vec<u32>, bytes: u64, frame: u64) -> Result<(), NoMemory>
-    ensures { OnOk result (code.new.items ≡ code.old.items ++ map word_of (frames_given bytes frame)) }
+/// The frame in the region goes up again, and an empty one leaves x8.
+fn push_region_given(code: &mut Vec<u32>, frame: u64) -> Result<(), NoMemory>
+    ensures { OnOk result (code.new.items ≡ code.old.items ++ map word_of (region_given frame)) }
 {
+    if frame == 0 {
+        return Ok(());
+    }
     push_constant(code, X5, frame)?;
     put(
         code,
@@ -263,7 +272,14 @@ fn push_frames_given(code: &mut Vec<u32>, bytes: u64, frame: u64) -> Result<(), 
             rs1: X8,
             rs2: X5,
         },
-    )?;
+    )
+}
+
+/// Both frames go up again, and the caller goes on.
+fn push_frames_given(code: &mut Vec<u32>, bytes: u64, frame: u64) -> Result<(), NoMemory>
+    ensures { OnOk result (code.new.items ≡ code.old.items ++ map word_of (frames_given bytes frame)) }
+{
+    push_region_given(code, frame)?;
     push_short_constant(code, X6, bytes)?;
     put(
         code,
