@@ -11,9 +11,9 @@ use Rattle.terra_types.specs.Opening.{AreTypes}
 use Rattle.terra_term.specs.Stores.{Callable, Contents, callable_of, static_bytes}
 use Rattle.terra_meaning.specs.Values.{AreValues, is_aggregate}
 use Rattle.terra_meaning.specs.Meaning.{meaning}
-use Rattle.tac_form.specs.Flow.{Program, TacRun}
+use Rattle.tac_form.specs.Flow.{TacRun}
 use Rattle.tac_lower.specs.Laws.{AreTyped}
-use Rattle.tac_lower.specs.Lowering.{are_narrow, lowered, parameter_types}
+use Rattle.tac_lower.specs.Lowering.{are_narrow, parameter_types}
 use Rattle.tac_lower.proofs.Keeps.{lowering_keeps_runs}
 use Rattle.terra_sound.proofs.Values.{gives-values}
 use Rattle.terra_sound.proofs.Whole.{never-stuck}
@@ -27,14 +27,12 @@ use Rattle.rv_link.specs.Linked.{AreSelected, AreSound, IsLinkedText, code_in, i
 use Rattle.rv_link.specs.Images.{AreWords, EndsLike}
 use Rattle.rv_link.proofs.Starting.{images-carried}
 use Rattle.back_end.specs.Agrees.{Agree, SameEnd}
+use Rattle.back_end.specs.Working.{compiled_code}
 use Rattle.back_end.proofs.Closed.{HasSame, IsClosed, same-run}
 use Rattle.back_end.proofs.Composes.{agree}
 use Rattle.back_end.proofs.Extends.{extends}
 use Rattle.back_end.proofs.Following.{follows, only}
-
--- the code of all functions of a store that can be called
-abbrev pub all_lowered : Contents → Program
-all_lowered store = record { code = λ g. option_map (lowered store []) (callable_of store g); entries = [] }
+use Rattle.back_end.proofs.WithoutCopies.{all_compiled, all_lowered, compiled-runs}
 
 -- An image whose text was linked of functions that have all that they call, from a typed store.
 pub record IsMade (store : Contents) (functions : List Function) (linked : Linked) (image : Image) (words : ℕ) (In : FnId → Type 0) : Type 0 where
@@ -50,8 +48,8 @@ pub record IsMade (store : Contents) (functions : List Function) (linked : Linke
   pub text_is : image.text ≡ linked.words.items
   pub room : 512 * linked.frame ≤ image.private
   pub short : AreShort (program_of functions []) words
-  pub closed : IsClosed (all_lowered store) In
-  pub same : HasSame (all_lowered store) (program_of functions []) In
+  pub closed : IsClosed (all_compiled store) In
+  pub same : HasSame (all_compiled store) (program_of functions []) In
 
 module _ (store : Contents) (functions : List Function) (linked : Linked) (image : Image) (words : ℕ) (In : FnId → Type 0)
     (made : IsMade store functions linked image words In) (f : FnId) (k : Callable) (there : callable_of store f ≡ Some k) (here : In f)
@@ -64,27 +62,28 @@ module _ (store : Contents) (functions : List Function) (linked : Linked) (image
   abbrev target : ℕ → Ran
   target = run_of program (image_start image (image_of functions f).at arguments)
 
-  code-is : code_in functions f ≡ Some (lowered store [] k)
-  code-is = made.same.same f here ∙ ap (option_map (lowered store [])) there
+  code-is : code_in functions f ≡ Some (compiled_code store k)
+  code-is = made.same.same f here ∙ ap (option_map (compiled_code store)) there
 
   none-few : length {A = FnId} [] < 2 ^ 32
   none-few = omega arith
 
-  ends-like : length arguments ≡ length (lowered store [] k).parameters → (n : ℕ) →
+  ends-like : length arguments ≡ length (compiled_code store k).parameters → (n : ℕ) →
       EndsLike image (image_of functions f).at arguments n ((n + 1) * words) (source n)
   ends-like count n =
       let run = lowering_keeps_runs store (all_lowered store) made.types made.typed none-few (λ g. refl) image.memory n f k
       (map word arguments) made.memory made.half there narrow values in
-      images-carried functions [] linked image f (lowered store [] k) words n arguments (source n) made.selected made.sound made.text
+      images-carried functions [] linked image f (compiled_code store k) words n arguments (source n) made.selected made.sound made.text
       made.lawful made.text_is made.room made.short code-is args eight count
       (subst (λ bytes. Run_of bytes n) (sym made.statics)
-      (same-run (all_lowered store) (program_of functions []) In made.closed made.same (static_bytes store) image.memory n f
-      (map word arguments) (source n) here run.runs))
+      (same-run (all_compiled store) (program_of functions []) In made.closed made.same (static_bytes store) image.memory n f
+      (map word arguments) (source n) here
+      (compiled-runs store (static_bytes store) image.memory n f (map word arguments) (source n) run.runs)))
     where
       Run_of : List ℕ → ℕ → Type 0
       Run_of bytes m = TacRun (program_of functions []) bytes image.memory m f (map word arguments) (source m)
 
-  pub agrees : length arguments ≡ length (lowered store [] k).parameters →
+  pub agrees : length arguments ≡ length (compiled_code store k).parameters →
       Agree (SameEnd store.types k.body.result) source target words
   agrees count =
       agree (SameEnd store.types k.body.result) (only store.types k.body.result) source target words

@@ -14,4 +14,5 @@ pub mod Parted
 pub mod Passing
 pub mod Placed
 pub mod Sounds
+pub mod WithoutCopies
 pub mod Worked

@@ -42,9 +42,10 @@ use Rattle.rv_link.proofs.Links.{selected-length}
 use Rattle.back_end.specs.Agrees.{Agree, SameEnd}
 use Rattle.back_end.specs.Compiled.{AreExported, AreExports, IsCompiled, IsExported, IsOutward, all_scalar, codes_of, is_result, is_scalar, nodes_in, nodes_of, type_code}
 use Rattle.back_end.specs.Symbols.{parameters_in, result_in, start_among, symbol_of, symbols_of}
-use Rattle.back_end.specs.Working.{AllCallWithin, AreFunctions, AreWhole, CallsWithin, Has, IsFunction, id_of}
+use Rattle.back_end.specs.Working.{AllCallWithin, AreFunctions, AreWhole, CallsWithin, Has, IsFunction, compiled_code, id_of}
 use Rattle.back_end.proofs.Compiles.{IsMade, agrees}
 use Rattle.back_end.proofs.Sounds.{are-selected, are-sound, as-many, both, code-is, parts-within}
+use Rattle.back_end.proofs.WithoutCopies.{same-count}
 
 -- ---- agreement of runs that are the same at each number of steps
 
@@ -149,8 +150,8 @@ starts-are (x ∷ xs) at f = by (nat_eq x.id.0 f.0) refl (starts-are xs (at + 4 
         ap (λ b. if b then at else start_among (map id_of xs) (starts_in next xs) f) q ∙ later
         ∙ sym (ap (λ b. (if b then record { homes = x.homes; at = at } else placed_in next xs f).at) q)
 
-pub same-nodes : (store : Contents) (k : Callable) → (lowered store [] k).nodes ≡ (body_size k.body).nodes
-same-nodes store k = by (are_narrow store.types (parameter_types k))
+pub same-nodes : (store : Contents) (k : Callable) → (compiled_code store k).nodes ≡ (body_size k.body).nodes
+same-nodes store k = same-count (lowered store [] k) ∙ by (are_narrow store.types (parameter_types k))
   where
     by : (b : Bool) → (if b then code_of store [] k else unreached k).nodes ≡ (body_size k.body).nodes
     by true = refl
@@ -246,11 +247,11 @@ module _ (store : Contents) (exports : List Export) (functions : List Function) 
   abbrev most : ℕ
   most = 250 * nodes_in store ids
 
-  code-of : (f : FnId) → Has ids f → code_in functions f ≡ option_map (lowered store []) (callable_of store f)
+  code-of : (f : FnId) → Has ids f → code_in functions f ≡ option_map (compiled_code store) (callable_of store f)
   code-of f h =
       let t = there store functions f h.0 h.1 in
       let c = code-is store functions f t.0 whole.made t.1 in
-      t.1 ∙ ap Some c.2 ∙ sym (ap (option_map (lowered store [])) c.1)
+      t.1 ∙ ap Some c.2 ∙ sym (ap (option_map (compiled_code store)) c.1)
 
   made : IsMade store functions linked image most (Has ids)
   made = record {

@@ -28,7 +28,7 @@ use Rattle.tac_form.specs.declared.tac.Spot.{Spot}
 use Rattle.tac_form.specs.declared.tac.Spot.TheVariants as spots
 use Rattle.tac_lower.specs.Items.{Item, does, ends, Ending, skips, tests, repeats, repeats_unless, leaves, gives, fails, count_ends, loop_of}
 use Rattle.tac_lower.specs.Pieces.{Used, nothing_used, with_temp, with_area, Piece, known, doing, then_piece, taken, Result, a_word, an_area, an_offset, no_word, word_of, part_of, parts_of, address_of, word_at, result_at, rest, whole_word, number_of, is_bool, given, compute, copied, located, loaded_bit, loaded_area, loaded_word, loaded, stored_part, stored, placed, Holder, in_temp, at_offset, Holders, holder_of, Around, declare_at, declare, declare_all, first_of}
-use Rattle.tac_lower.specs.Lowering.{Counting, is_one, either_way, with_step, body_piece, reached, variable, entry, element, extracted, constructed, call, operation, target_at, aimed, Target, to_temp, to_place, assigned, assigned_all, passed_over, choice, counting, runs, counted_on, while_loop, piece, pieces, targets, one, all, around, ending, received}
+use Rattle.tac_lower.specs.Lowering.{cut, is_whole, Counting, is_one, either_way, with_step, body_piece, reached, variable, entry, element, extracted, constructed, call, operation, target_at, aimed, Target, to_temp, to_place, assigned, assigned_all, passed_over, choice, counting, runs, counted_on, while_loop, piece, pieces, targets, one, all, around, ending, received}
 
 -- An instruction calls no other functions than these with so many arguments, and none that is a value; and what follows does so too.
 abbrev pub before_rest : (In : FnId → ℕ → Type 0) → Instruction → Type 0 → Type 0
@@ -229,12 +229,15 @@ module _ (In : FnId → ℕ → Type 0) where
   operation-names c at of operations.StepForward ts vs u h = tt
   operation-names c at of operations.StepBack ts vs u h = tt
   operation-names c at of operations.Difference ts vs u h = tt
-  operation-names c at of operations.Convert ts vs u h = by (nat_eq of.0 boolean.0)
+  operation-names c at of operations.Convert ts vs u h =
+      by (nat_eq of.0 boolean.0) (is_whole (number_of c.types of).size) (word_at vs 0)
     where
-      by : (b : Bool) → Names (if b then compute operators.NotEqual whole_word (word_at vs 0) (Constant 0) u
-          else compute operators.Add (number_of c.types of) (word_at vs 0) (Constant 0) u).code
-      by true = tt
-      by false = tt
+      by : (b whole : Bool) (x : Operand) → Names (if b then compute operators.NotEqual whole_word x (Constant 0) u
+          else (if whole then known (a_word x) u else cut (number_of c.types of) x u)).code
+      by true whole x = tt
+      by false true x = tt
+      by false false (Temp t) = tt
+      by false false (Constant k) = tt
   operation-names c at of (operations.Extract offset) ts vs u h = extracted-names c.types of offset (result_at vs 0) u
   operation-names c at of (operations.Call f) ts vs u h = by (is_aggregate c.types of)
     where

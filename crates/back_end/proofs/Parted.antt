@@ -12,16 +12,15 @@ use Rattle.terra_meaning.specs.Values.{AreValues, form_at}
 use Rattle.terra_meaning.specs.Laws.{AreAlike, Reaches, itself, value, mentioned}
 use Rattle.terra_meaning.specs.Meaning.{meaning}
 use Rattle.terra_meaning.proofs.Alike.{reached-alone}
-use Rattle.tac_lower.specs.Lowering.{lowered}
 use Rattle.rv_link.specs.declared.function.Function.{Function}
 use Rattle.back_end.specs.Agrees.{Agree, SameEnd}
 use Rattle.back_end.specs.Compiled.{AreExported, AreExports, AreReached, IsCompiled, IsExported, IsReady, IsTypedPart, all_scalar, codes_of, is_result, nodes_in, nodes_of, type_code}
 use Rattle.back_end.specs.Symbols.{symbol_of, symbols_of, parameters_in, result_in, start_among}
-use Rattle.back_end.specs.Working.{AreFunctions, AreWhole, IsFunction, id_of}
+use Rattle.back_end.specs.Working.{AreFunctions, AreWhole, IsFunction, compiled_code, id_of}
 
 -- code depends on nothing of a store but its types
-lowered-same : (a b : Contents) (k : Callable) → a.types ≡ b.types → lowered a [] k ≡ lowered b [] k
-lowered-same a b k types = ap (λ (ts : List TypeForm). lowered (record b { types = ts }) [] k) types
+same-code : (a b : Contents) (k : Callable) → a.types ≡ b.types → compiled_code a k ≡ compiled_code b k
+same-code a b k types = ap (λ (ts : List TypeForm). compiled_code (record b { types = ts }) k) types
 
 module _ (store : Contents) (exports : List Export) (part : Contents) (is : IsTypedPart store exports part) where
   -- what exports reach in the one store, they reach in the other
@@ -73,7 +72,7 @@ module _ (store : Contents) (exports : List Export) (part : Contents) (is : IsTy
     term = h.term;
     is = same x.id r ∙ h.is;
     ready = ready-part x.id r h.ready;
-    tac = h.tac ∙ lowered-same store part h.term (sym is.types);
+    tac = h.tac ∙ same-code store part h.term (sym is.types);
     good = h.good;
     right = h.right;
     homes_few = h.homes_few;

@@ -21,16 +21,19 @@ use Rattle.tac_lower.specs.Laws.{GoodWhereTyped, IsGood}
 use Rattle.tac_lower.specs.Lowering.{are_narrow, code_of, lowered, parameter_types, unreached}
 use Rattle.tac_lower.proofs.Weights.{received-count}
 use Rattle.tac_lower.specs.Pieces.{nothing_used}
+use Rattle.tac_copies.specs.Directed.{directed_code}
+use Rattle.tac_copies.specs.Shortened.{shortened_code}
 use Rattle.rv_select.specs.Calls.{all_has_code, block_has_code, has_code, has_exit_code}
 use Rattle.rv_select.specs.Waiting.{PassesAll}
 use Rattle.rv_link.specs.declared.function.Function.{Function}
 use Rattle.rv_link.specs.Linked.{AreSelected, AreSound, AreThere, block_there, code_in, edge_there, exit_there, program_of}
 use Rattle.back_end.specs.Compiled.{IsOutward, IsReady}
 use Rattle.back_end.specs.Plain.{all_plain}
-use Rattle.back_end.specs.Working.{AreFunctions, IsFunction}
+use Rattle.back_end.specs.Working.{AreFunctions, IsFunction, compiled_code, without_copies}
 use Rattle.back_end.proofs.Coded.{AllBlocks, AllNamed, Exits, Named, block-at, instruction-at, lowered-names}
 use Rattle.back_end.proofs.Growing.{same-function}
 use Rattle.back_end.proofs.Passing.{Passes, body-passes}
+use Rattle.back_end.proofs.WithoutCopies.{same-parameters, stays-good, stays-named}
 
 pub both : (a b : Bool) → a ≡ true → b ≡ true → (a && b) ≡ true
 both true true e f = refl
@@ -132,28 +135,31 @@ module _ (store : Contents) where
   same-callable a b q = cc
 
   -- what the code of a function calls, and with how many arguments
-  named : (f : FnId) (k : Callable) → callable_of store f ≡ Some k → IsReady store f → AllBlocks (Passes store) (lowered store [] k).blocks
+  named : (f : FnId) (k : Callable) → callable_of store f ≡ Some k → IsReady store f →
+      AllBlocks (Passes store) (compiled_code store k).blocks
   named f k is r =
-      lowered-names (Passes store) store [] k
+      stays-named (Passes store) (lowered store [] k)
+      (lowered-names (Passes store) store [] k
       (body-passes store k (subst (λ (c : Callable). all_plain c.body.body ≡ true) (same-callable r.term k (sym r.is ∙ is)) r.plain)
-      (subst (λ (c : Callable). body_typed store c.body ≡ true) (same-callable r.term k (sym r.is ∙ is)) r.passes))
+      (subst (λ (c : Callable). body_typed store c.body ≡ true) (same-callable r.term k (sym r.is ∙ is)) r.passes)))
 
-  pub has-code : (f : FnId) (k : Callable) → callable_of store f ≡ Some k → IsReady store f → IsGood (lowered store [] k) →
-      all_has_code (lowered store [] k) ≡ true
+  pub has-code : (f : FnId) (k : Callable) → callable_of store f ≡ Some k → IsReady store f → IsGood (compiled_code store k) →
+      all_has_code (compiled_code store k) ≡ true
   has-code f k is r good =
-      let p = parts-within (lowered store [] k) good.fits.within in
-      blocks-have (Passes store) (lowered store [] k) p.1 (lowered store [] k).blocks (named f k is r) p.0
+      let p = parts-within (compiled_code store k) good.fits.within in
+      blocks-have (Passes store) (compiled_code store k) p.1 (compiled_code store k).blocks (named f k is r) p.0
 
   -- as many parameters as the term has
   pub as-many : (k : Callable) → are_narrow store.types (parameter_types k) ≡ true →
-      length (lowered store [] k).parameters ≡ length k.body.parameters
+      length (compiled_code store k).parameters ≡ length k.body.parameters
   as-many k narrow =
-      ap (λ b. length (if b then code_of store [] k else unreached k).parameters) narrow
+      ap length (same-parameters (lowered store [] k))
+      ∙ ap (λ b. length (if b then code_of store [] k else unreached k).parameters) narrow
       ∙ received-count store.types k.body.parameters nothing_used
 
   -- the code of a number is that of a function that is there
   pub code-is : (xs : List Function) (f : FnId) (code : Tac) → AreFunctions store xs → code_in xs f ≡ Some code →
-      (k : Callable) × (callable_of store f ≡ Some k) × (code ≡ lowered store [] k)
+      (k : Callable) × (callable_of store f ≡ Some k) × (code ≡ compiled_code store k)
   code-is [] f code h e = absurd (grind (arith, e))
   code-is (x ∷ xs) f code h e = by (nat_eq x.id.0 f.0) refl (λ later. code-is xs f code h.1 later)
     where
@@ -161,8 +167,8 @@ module _ (store : Contents) where
       one a b q = cc
 
       by : (b : Bool) → nat_eq x.id.0 f.0 ≡ b →
-          (code_in xs f ≡ Some code → (k : Callable) × (callable_of store f ≡ Some k) × (code ≡ lowered store [] k)) →
-          (k : Callable) × (callable_of store f ≡ Some k) × (code ≡ lowered store [] k)
+          (code_in xs f ≡ Some code → (k : Callable) × (callable_of store f ≡ Some k) × (code ≡ compiled_code store k)) →
+          (k : Callable) × (callable_of store f ≡ Some k) × (code ≡ compiled_code store k)
       by true q later = (
         h.0.term,
         subst (λ g. callable_of store g ≡ Some h.0.term) (same-function f x.id q) h.0.is,
@@ -179,7 +185,7 @@ module _ (store : Contents) where
       let same : passes.0.0 ≡ c.0 = same-callable passes.0.0 c.0 (sym passes.0.1 ∙ c.1) in
       passes.0.2
       ∙ sym (as-many passes.0.0 passes.0.3)
-      ∙ ap (λ (k : Callable). length (lowered store [] k).parameters) same
+      ∙ ap (λ (k : Callable). length (compiled_code store k).parameters) same
       ∙ ap (λ (t : Tac). length t.parameters) (sym c.2)
 
   pub are-sound : (all : List Function) → AreFunctions store all → (xs : List Function) → AreFunctions store xs →
@@ -197,15 +203,17 @@ module _ (store : Contents) where
     are-sound all are xs h.1,
   )
 
-  -- what `lower` gives of a function that can be compiled
-  pub lowered-good : (f : FnId) (r : IsReady store f) (types : AreTypes store.types) (found : Option Tac) (tac : Tac) →
-      found ≡ option_map (lowered store []) (callable_of store f) → IfSome found (λ t. GoodWhereTyped store [] f t) → found ≡ Some tac →
-      (tac ≡ lowered store [] r.term) × IsGood tac
-  lowered-good f r types found tac is good here = (
-    one tac (lowered store [] r.term) (sym here ∙ is ∙ ap (option_map (lowered store [])) r.is),
-    subst (λ o. IfSome o (λ t. GoodWhereTyped store [] f t)) here good r.term r.is types (omega arith) r.place
-        (fewer (body_size r.term.body).nodes r.few) r.passes,
-  )
+  -- what `lower` gives of a function that can be compiled, without copies
+  pub compiled-good : (f : FnId) (r : IsReady store f) (types : AreTypes store.types) (found : Option Tac) (code direct tac : Tac) →
+      found ≡ option_map (lowered store []) (callable_of store f) → IfSome found (λ t. GoodWhereTyped store [] f t) → found ≡ Some code →
+      direct ≡ directed_code code → tac ≡ shortened_code direct → (tac ≡ compiled_code store r.term) × IsGood tac
+  compiled-good f r types found code direct tac is good here first second =
+      let without : tac ≡ without_copies code = second ∙ ap shortened_code first in (
+        without ∙ ap without_copies (one code (lowered store [] r.term) (sym here ∙ is ∙ ap (option_map (lowered store [])) r.is)),
+        subst IsGood (sym without) (stays-good code
+            (subst (λ o. IfSome o (λ t. GoodWhereTyped store [] f t)) here good r.term r.is types (omega arith) r.place
+            (fewer (body_size r.term.body).nodes r.few) r.passes)),
+      )
     where
       one : (a b : Tac) → Some a ≡ Some b → a ≡ b
       one a b q = cc
@@ -213,11 +221,11 @@ module _ (store : Contents) where
       fewer : (n : ℕ) → n ≤ 8192 → n ≤ 131072
       fewer n h = omega (arith, h)
 
-  pub lowered-has-code : (f : FnId) (r : IsReady store f) (types : AreTypes store.types) (found : Option Tac) (tac : Tac) →
-      found ≡ option_map (lowered store []) (callable_of store f) → IfSome found (λ t. GoodWhereTyped store [] f t) → found ≡ Some tac →
-      all_has_code tac ≡ true
-  lowered-has-code f r types found tac is good here =
-      let g = lowered-good f r types found tac is good here in
+  pub compiled-has-code : (f : FnId) (r : IsReady store f) (types : AreTypes store.types) (found : Option Tac) (code direct tac : Tac) →
+      found ≡ option_map (lowered store []) (callable_of store f) → IfSome found (λ t. GoodWhereTyped store [] f t) → found ≡ Some code →
+      direct ≡ directed_code code → tac ≡ shortened_code direct → all_has_code tac ≡ true
+  compiled-has-code f r types found code direct tac is good here first second =
+      let g = compiled-good f r types found code direct tac is good here first second in
       subst (λ t. all_has_code t ≡ true) (sym g.0) (has-code f r.term r.is r (subst IsGood g.0 g.1))
 
 -- ---- functions that are there

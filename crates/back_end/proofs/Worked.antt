@@ -14,11 +14,12 @@ use Rattle.tac_lower.specs.Lowering.{lowered}
 use Rattle.rv_link.specs.declared.function.Function.{Function}
 use Rattle.back_end.specs.Compiled.{AreReached, IsReady}
 use Rattle.back_end.specs.Plain.{all_plain}
-use Rattle.back_end.specs.Working.{AllCallWithin, AreFunctions, AreWhole, CallsWithin, Has, IsFunction, Working, id_of}
+use Rattle.back_end.specs.Working.{AllCallWithin, AreFunctions, AreWhole, CallsWithin, Has, IsFunction, Working, compiled_code, id_of}
 use Rattle.back_end.specs.Worklist.{with_blocks, with_exports}
 use Rattle.back_end.proofs.Coded.{AllBlocks, lowered-names}
 use Rattle.back_end.proofs.Growing.{Grown, grows-blocks, grows-exports, has-blocks, has-exports, has-grown}
 use Rattle.back_end.proofs.Mentioning.{AllMentioned, calls-block}
+use Rattle.back_end.proofs.WithoutCopies.{stays-named}
 
 -- ---- what terms mention
 
@@ -45,9 +46,10 @@ module _ (store : Contents) (exports : List Export) where
 
   -- what is called by the code of a function that is reached is reached
   pub calls-reached : (f : FnId) (k : Callable) → IsReached f → callable_of store f ≡ Some k → (r : IsReady store f) →
-      AllBlocks (λ g n. IsReached g) (lowered store [] k).blocks
+      AllBlocks (λ g n. IsReached g) (compiled_code store k).blocks
   calls-reached f k reached is r =
-      lowered-names (λ g n. IsReached g) store [] k
+      stays-named (λ g n. IsReached g) (lowered store [] k)
+      (lowered-names (λ g n. IsReached g) store [] k
       (calls-block IsReached k.body.body (subst (λ (c : Callable). all_plain' c ≡ true) (same-callable r.term k (sym r.is ∙ is)) r.plain)
       (all-among IsReached (block_events k.body.body) (λ g m. (
         reached.0,
@@ -55,7 +57,7 @@ module _ (store : Contents) (exports : List Export) where
         reached.2,
         mentioned f g m.0 m.1 k reached.3 is
             (subst (λ ms. slice_get ms m.0 ≡ Some (m.1, g)) (sym (no-mentions k.body.parameters (block_events k.body.body))) m.2),
-      ))))
+      )))))
     where
       all_plain' : Callable → Bool
       all_plain' c = all_plain c.body.body

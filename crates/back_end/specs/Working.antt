@@ -12,6 +12,8 @@ use Rattle.tac_form.specs.declared.tac.Block.{Block}
 use Rattle.tac_form.specs.declared.tac.Tac.{Tac}
 use Rattle.tac_lower.specs.Laws.{IsGood}
 use Rattle.tac_lower.specs.Lowering.{lowered}
+use Rattle.tac_copies.specs.Directed.{directed_code}
+use Rattle.tac_copies.specs.Shortened.{shortened_code}
 use Rattle.rv_select.specs.Calls.{IsSelected, KeepsWithin}
 use Rattle.rv_link.specs.declared.function.Function.{Function}
 use Rattle.back_end.specs.Compiled.{AreReached, IsReady}
@@ -22,12 +24,20 @@ id_of x = x.id
 abbrev pub Has : List FnId → FnId → Type 0
 Has fs f = (n : ℕ) × (slice_get fs n ≡ Some f)
 
+-- code in which results go at once to where they are copied, and what is copied is then read where it was copied from
+abbrev pub without_copies : Tac → Tac
+without_copies code = shortened_code (directed_code code)
+
+-- the code of a typed term of which machine code is made
+abbrev pub compiled_code : Contents → Callable → Tac
+compiled_code store term = without_copies (lowered store [] term)
+
 -- A function that is compiled: its code is that of its typed term, and machine code is selected of it.
 pub record IsFunction (store : Contents) (x : Function) : Type 0 where
   pub term : Callable
   pub is : callable_of store x.id ≡ Some term
   pub ready : IsReady store x.id
-  pub tac : x.tac ≡ lowered store [] term
+  pub tac : x.tac ≡ compiled_code store term
   pub good : IsGood x.tac
   pub right : IsRight x.tac x.homes
   pub homes_few : length x.homes ≤ x.tac.temps

@@ -1,8 +1,8 @@
 //! From the typed functions of a store to an image.
 //!
-//! `compile` lowers each function that exports reach, gives its temporaries homes, selects its machine code, and links all of them into one
-//! lawful image. `specs/Compiled.antt` says what is promised of it: from each export's address a run of the image agrees with what the
-//! function's typed term means.
+//! `compile` lowers each function that exports reach, takes out copies that its code can do without, gives its temporaries homes, selects
+//! its machine code, and links all of them into one lawful image. `specs/Compiled.antt` says what is promised of it: from each export's
+//! address a run of the image agrees with what the function's typed term means.
 #![tactic(auto)]
 
 mod compiling;

@@ -1,0 +1,136 @@
+-- What the code of a function keeps without copies: its runs, that machine code can be made of it, and what it calls.
+use Rattle.std.proofs.Common.{◌≡◌, ℕ, Bool, List, [], ◌∷◌, map, Option, Some, None, option_map, refl, sym, subst}
+use Rattle.std.proofs.lemmas.List.{length-map}
+use Rattle.tl_base.specs.declared.ids.FnId.{FnId}
+use Rattle.terra_words.specs.Runs.{Value, Run}
+use Rattle.terra_term.specs.Stores.{Callable, Contents, callable_of}
+use Rattle.tac_form.specs.declared.tac.Instruction.{Instruction}
+use Rattle.tac_form.specs.declared.tac.Instruction.TheVariants.{Compute, TestDivisor, Copy, Locate, Load, Store, Move, Clear, Call, CallValue, PutByte, Write, Alloc}
+use Rattle.tac_form.specs.declared.tac.Exit.{Exit}
+use Rattle.tac_form.specs.declared.tac.Exit.TheVariants.{Jump, Branch, Return, Fail}
+use Rattle.tac_form.specs.declared.tac.Block.{Block}
+use Rattle.tac_form.specs.declared.tac.Tac.{Tac}
+use Rattle.tac_form.specs.Flow.{Program, TacRun, put}
+use Rattle.tac_lower.specs.Laws.{IsGood}
+use Rattle.tac_lower.specs.Lowering.{lowered}
+use Rattle.tac_copies.specs.Once.{is_once}
+use Rattle.tac_copies.specs.Directed.{directed, directed_all, directed_block, directed_code}
+use Rattle.tac_copies.specs.Shortened.{Code, named_exit, named_in, named_part, own_names, shortened, shortened_block, shortened_code}
+use Rattle.tac_copies.proofs.DirectedKeeps.{by-merges}
+use Rattle.tac_copies.proofs.DirectedKeepsCounted.{directed-counted}
+use Rattle.tac_copies.proofs.DirectedKeepsFits.{directed-fits}
+use Rattle.tac_copies.proofs.DirectedKeepsSized.{directed-sized}
+use Rattle.tac_copies.proofs.DirectedRuns.{directed-runs}
+use Rattle.tac_copies.proofs.ShortenedKeepsCounted.{keeps-counted}
+use Rattle.tac_copies.proofs.ShortenedKeepsFits.{keeps-fits}
+use Rattle.tac_copies.proofs.ShortenedKeepsSized.{keeps-sized}
+use Rattle.tac_copies.proofs.ShortenedKeepsStep.{by-step}
+use Rattle.tac_copies.proofs.ShortenedRuns.{shortening-keeps-runs}
+use Rattle.back_end.specs.Working.{compiled_code, without_copies}
+use Rattle.back_end.proofs.Coded.{AllBlocks, AllNamed, Exits, Named}
+
+-- ---- what the passes leave alone
+
+pub same-parameters : (code : Tac) → (without_copies code).parameters ≡ code.parameters
+unfolding directed_code shortened_code
+same-parameters code = refl
+
+pub same-count : (code : Tac) → (without_copies code).nodes ≡ code.nodes
+unfolding directed_code shortened_code
+same-count code = refl
+
+pub stays-good : (code : Tac) → IsGood code → IsGood (without_copies code)
+stays-good code h = record {
+  fits = keeps-fits (directed_code code) (directed-fits code h.fits);
+  counted = keeps-counted (directed_code code) (directed-counted code h.counted);
+  sized = keeps-sized (directed_code code) (directed-sized code h.sized);
+}
+
+-- ---- what is called
+
+-- an instruction calls the same with as many arguments, whatever its operands are and wherever its result goes
+module _ (In : FnId → ℕ → Type 0) where
+  directed-named : (x : ℕ) (i : Instruction) → Named In i → Named In (directed x i)
+  directed-named x (Compute d op form a b) h = tt
+  directed-named x (Locate d offset) h = tt
+  directed-named x (Load d form spot) h = tt
+  directed-named x (Alloc d a) h = tt
+  directed-named x _ h = h
+
+  directed-all : (once : ℕ → Bool) (is : List Instruction) → AllNamed In is → AllNamed In (directed_all once is)
+  directed-all once is =
+      by-merges once (λ xs ys. AllNamed In ys → AllNamed In xs) (λ zs h. h) (λ i xs ys f h. (h.0, f h.1)) (λ xs ys zs f g h. f (g h))
+      (λ x u i zs m o h. (directed-named x i h.0, h.1.1)) is
+
+  directed-blocks : (once : ℕ → Bool) (bs : List Block) → AllBlocks In bs → AllBlocks In (map (directed_block once) bs)
+  directed-blocks once [] h = tt
+  directed-blocks once (b ∷ bs) h = ((directed-all once b.instructions h.0.0, h.0.1), directed-blocks once bs h.1)
+
+  named-named : (names : ℕ → ℕ) (i : Instruction) → Named In i → Named In (named_in names i)
+  named-named names (Compute d op form a b) h = tt
+  named-named names (TestDivisor at a) h = tt
+  named-named names (Copy d a) h = tt
+  named-named names (Locate d offset) h = tt
+  named-named names (Load d form spot) h = tt
+  named-named names (Store spot size a) h = tt
+  named-named names (Move to from size) h = tt
+  named-named names (Clear n size) h = tt
+  named-named names (Call to at f arguments) h = (subst (In f) (sym (length-map arguments (named_part names))) h.0, tt)
+  named-named names (CallValue to at sig a arguments) h = absurd h
+  named-named names (PutByte a) h = tt
+  named-named names (Write at a b) h = tt
+  named-named names (Alloc d a) h = tt
+
+  named-exits : (names : ℕ → ℕ) (e : Exit) → Exits In e → Exits In (named_exit names e)
+  named-exits names (Jump e) h = tt
+  named-exits names (Branch a e f) h = tt
+  named-exits names (Return v) h = tt
+  named-exits names (Fail kind at) h = h
+
+  abbrev Names : Code → Type 0
+  Names c = AllNamed In c.instructions × Exits In c.exit
+
+  shortened-names : (once : ℕ → Bool) (names : ℕ → ℕ) (is : List Instruction) (e : Exit) → AllNamed In is → Exits In e →
+      Names (shortened once names is e)
+  shortened-names once names [] e h g = (tt, named-exits names e g)
+  shortened-names once names (i ∷ is) e h g =
+      let r = shortened-names once names is e h.1 g in
+      by-step Names once names i is e ((named-named names i h.0, r.0), r.1)
+      (λ t s is_copy gone. shortened-names once (put names t (names s)) is e h.1 g)
+
+  shortened-blocks : (once : ℕ → Bool) (bs : List Block) → AllBlocks In bs → AllBlocks In (map (shortened_block once) bs)
+  shortened-blocks once [] h = tt
+  shortened-blocks once (b ∷ bs) h =
+      (shortened-names once own_names b.instructions b.exit h.0.0 h.0.1, shortened-blocks once bs h.1)
+
+  pub stays-named : (code : Tac) → AllBlocks In code.blocks → AllBlocks In (without_copies code).blocks
+  unfolding directed_code shortened_code
+  stays-named code h =
+      shortened-blocks (is_once (directed_code code)) (directed_code code).blocks (directed-blocks (is_once code) code.blocks h)
+
+-- ---- runs
+
+-- the lowered code of all functions of a store that can be called
+abbrev pub all_lowered : Contents → Program
+all_lowered store = record { code = λ g. option_map (lowered store []) (callable_of store g); entries = [] }
+
+-- that with its results put at once to where they are copied
+abbrev all_directed : Contents → Program
+all_directed store = record { code = λ g. option_map directed_code ((all_lowered store).code g); entries = [] }
+
+-- and the code that is compiled
+abbrev pub all_compiled : Contents → Program
+all_compiled store = record { code = λ g. option_map (compiled_code store) (callable_of store g); entries = [] }
+
+in-turn : (store : Contents) (o : Option Callable) →
+    option_map (compiled_code store) o ≡ option_map shortened_code (option_map directed_code (option_map (lowered store []) o))
+in-turn store None = refl
+in-turn store (Some k) = refl
+
+pub compiled-runs : (store : Contents) (statics : List ℕ) (memory n : ℕ) (f : FnId) (arguments : List Value) (r : Run) →
+    TacRun (all_lowered store) statics memory n f arguments r → TacRun (all_compiled store) statics memory n f arguments r
+compiled-runs store statics memory n f arguments r run =
+    shortening-keeps-runs (all_directed store) (all_compiled store)
+    (record { code = λ g. in-turn store (callable_of store g); entries = refl }) statics memory n f arguments r
+    (directed-runs (all_lowered store) (all_directed store) (record { code = λ g. refl; entries = refl })
+    statics memory n f arguments r run)

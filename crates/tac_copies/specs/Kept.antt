@@ -1,0 +1,68 @@
+-- What the code keeps while it works: which temporaries are read once, and the names by which temporaries are read.
+use Rattle.std.specs.Prelude.{◌≡◌, ℕ, zero, suc, Bool, false, not, ◌&&◌, if◌then◌else◌, nat_eq, List, ◌∷◌, ◌++◌, Option, Some, None, is_some, unwrap_or}
+use Rattle.std.specs.List.{flat_map}
+use Rattle.std.specs.Map.{lookup}
+use Rattle.tac_form.specs.declared.tac.Operand.TheVariants.{Temp}
+use Rattle.tac_form.specs.declared.tac.Instruction.{Instruction}
+use Rattle.tac_form.specs.declared.tac.Instruction.TheVariants.{Copy}
+use Rattle.tac_form.specs.declared.tac.Exit.{Exit}
+use Rattle.tac_form.specs.declared.tac.Block.{Block}
+use Rattle.tac_form.specs.declared.tac.Tac.{Tac}
+use Rattle.tac_form.specs.Graph.{instruction_reads, exit_reads}
+use Rattle.tac_copies.specs.Once.{times}
+use Rattle.tac_copies.specs.Directed.{makes}
+use Rattle.tac_copies.specs.Shortened.{Code, goes}
+
+-- ---- which temporaries are read once
+
+-- the temporaries that code reads, one for each operand
+abbrev pub instructions_reads : List Instruction → List ℕ
+instructions_reads is = flat_map instruction_reads is
+
+abbrev pub block_reads : Block → List ℕ
+block_reads b = instructions_reads b.instructions ++ exit_reads b.exit
+
+abbrev pub blocks_reads : List Block → List ℕ
+blocks_reads bs = flat_map block_reads bs
+
+abbrev pub code_reads : Tac → List ℕ
+code_reads code = blocks_reads code.blocks
+
+-- what is kept of a temporary that is read so often: whether that is once
+abbrev pub told : ℕ → Option Bool
+told zero = None
+told (suc n) = Some (nat_eq n 0)
+
+-- it is kept of each temporary how often the list has it
+pub record Told (entries : List (ℕ × Bool)) (reads : List ℕ) : Type 0 where
+  pub each : (t : ℕ) → lookup (nat_eq t) entries ≡ told (times t reads)
+
+-- the temporary is read once more
+pub record Notes (t : ℕ) (old new : List (ℕ × Bool)) : Type 0 where
+  pub each : (u : ℕ) → lookup (nat_eq u) new ≡
+      (if nat_eq t u then Some (not (is_some (lookup (nat_eq t) old))) else lookup (nat_eq u) old)
+
+abbrev pub told_once : List (ℕ × Bool) → ℕ → Bool
+told_once entries t = unwrap_or (lookup (nat_eq t) entries) false
+
+-- ---- names
+
+-- the name of a temporary, or the temporary itself
+abbrev pub name_in : List (ℕ × ℕ) → ℕ → ℕ
+name_in entries t = unwrap_or (lookup (nat_eq t) entries) t
+
+-- ---- one instruction at a time
+
+-- where the first of the instructions behind copies the result, if that is read there alone
+abbrev pub copied_to : (once : ℕ → Bool) → Instruction → List Instruction → Option ℕ
+copied_to once i (Copy x (Temp t) ∷ is) = if makes t i && once t then Some x else None
+copied_to once i _ = None
+
+-- the temporaries of an instruction that is a copy that goes
+abbrev pub gone : (once : ℕ → Bool) → Instruction → List Instruction → Exit → Option (ℕ × ℕ)
+gone once (Copy t (Temp s)) is e = if goes once t s is e then Some (t, s) else None
+gone once _ is e = None
+
+-- code with instructions before it
+abbrev pub behind : List Instruction → Code → Code
+behind is c = record { instructions = is ++ c.instructions; exit = c.exit }

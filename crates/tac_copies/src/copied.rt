@@ -1,0 +1,59 @@
+// Parts of code that stay as they are.
+
+ghost use Rattle.std.specs.Prelude.{◌≡◌, IfOk};
+
+use std::alloc::Global;
+use tac_form::{Block, BlockList, Destination, DestinationList, Signature, SizeList, Tac, TypeIds};
+use tl_base::{NoMemory, TypeId};
+
+/// The same code, with other blocks.
+pub(crate) fn with_blocks(alloc: Global, code: &Tac, blocks: Vec<Block>) -> Result<Tac, NoMemory>
+    ensures { IfOk result (λ made. made ≡ record code.now { blocks = blocks.items }) }
+{
+    Ok(Tac {
+        nodes: code.nodes,
+        signature: copied_signature(alloc, &code.signature)?,
+        place: code.place,
+        frame: code.frame,
+        temps: code.temps,
+        areas: copied_sizes(alloc, code.areas.as_slice())?,
+        parameters: copied_destinations(alloc, code.parameters.as_slice())?,
+        blocks: BlockList::from_vec(blocks),
+    })
+}
+
+pub(crate) fn copied_signature(alloc: Global, signature: &Signature) -> Result<Signature, NoMemory>
+    ensures { IfOk result (λ made. made ≡ signature.now) }
+{
+    Ok(Signature {
+        params: copied_types(alloc, signature.params.as_slice())?,
+        result: signature.result,
+    })
+}
+
+fn copied_types(alloc: Global, types: &[TypeId]) -> Result<TypeIds, NoMemory>
+    ensures { IfOk result (λ made. made ≡ types.now) }
+{
+    let mut items = Vec::new(alloc);
+    items.extend_from_slice(types)?;
+    Ok(TypeIds::from_vec(items))
+}
+
+fn copied_sizes(alloc: Global, sizes: &[u64]) -> Result<SizeList, NoMemory>
+    ensures { IfOk result (λ made. made ≡ sizes.now) }
+{
+    let mut items = Vec::new(alloc);
+    items.extend_from_slice(sizes)?;
+    Ok(SizeList::from_vec(items))
+}
+
+fn copied_destinations(
+    alloc: Global,
+    destinations: &[Destination],
+) -> Result<DestinationList, NoMemory>
+    ensures { IfOk result (λ made. made ≡ destinations.now) }
+{
+    let mut items = Vec::new(alloc);
+    items.extend_from_slice(destinations)?;
+    Ok(DestinationList::from_vec(items))
+}

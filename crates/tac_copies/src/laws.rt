@@ -1,0 +1,45 @@
+// What code without copies keeps. Each function does nothing, and its clause is a law.
+
+ghost use Rattle.tac_copies.specs.Directed.{directed_code};
+ghost use Rattle.tac_copies.specs.Laws.{KeepsCounted, KeepsFits, KeepsRuns, KeepsSized};
+ghost use Rattle.tac_copies.specs.Shortened.{shortened_code};
+
+/// Code whose results go at once to where they are copied runs as before, at every count.
+pub fn directing_keeps_runs()
+    ensures { KeepsRuns directed_code }
+{}
+
+/// Machine code can be made of it as before: what it names is there, and the same temporaries are live where it is entered.
+pub fn directing_keeps_fits()
+    ensures { KeepsFits directed_code }
+{}
+
+/// Each way round its flow graph counts as before.
+pub fn directing_keeps_counted()
+    ensures { KeepsCounted directed_code }
+{}
+
+/// It has no more words and private bytes than before.
+pub fn directing_keeps_sized()
+    ensures { KeepsSized directed_code }
+{}
+
+/// Code that reads what is copied where it was copied from runs as before, at every count.
+pub fn shortening_keeps_runs()
+    ensures { KeepsRuns shortened_code }
+{}
+
+/// Machine code can be made of it as before: what it names is there, and the same temporaries are live where it is entered.
+pub fn shortening_keeps_fits()
+    ensures { KeepsFits shortened_code }
+{}
+
+/// Each way round its flow graph counts as before.
+pub fn shortening_keeps_counted()
+    ensures { KeepsCounted shortened_code }
+{}
+
+/// It has no more words and private bytes than before.
+pub fn shortening_keeps_sized()
+    ensures { KeepsSized shortened_code }
+{}
