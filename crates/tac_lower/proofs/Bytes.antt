@@ -23,6 +23,7 @@ use Rattle.terra_term.specs.WellTyped.{Within, same, is_typed, are_typed, one_ty
 use Rattle.terra_meaning.specs.Values.{form_at, bytes_at, is_aggregate}
 use Rattle.terra_meaning.specs.Frames.{Home, by_value, in_frame, home_at, frame_of}
 use Rattle.terra_meaning.specs.Meaning.{Wanted, the_value, the_address, types_of, type_at, in_expression, in_list, in_statement, in_block}
+use Rattle.tac_form.specs.declared.tac.Operand.{Operand}
 use Rattle.tac_form.specs.declared.tac.Operand.TheVariants.{Temp, Constant}
 use Rattle.tac_form.specs.declared.tac.Address.TheVariants as addresses
 use Rattle.tac_form.specs.declared.tac.Destination.TheVariants as destinations
@@ -31,7 +32,7 @@ use Rattle.tac_form.specs.declared.tac.Spot.{Spot}
 use Rattle.tac_form.specs.declared.tac.Spot.TheVariants as spots
 use Rattle.tac_form.specs.Weights.{private_bytes}
 use Rattle.tac_lower.specs.Pieces.{Used, nothing_used, with_temp, with_area, Piece, known, doing, then_piece, taken, Result, a_word, an_area, an_offset, no_word, word_of, address_of, word_at, result_at, rest, whole_word, number_of, is_bool, given, compute, copied, located, loaded_bit, loaded_area, loaded_word, loaded, stored_part, stored, placed, Holder, in_temp, at_offset, Holders, holder_of, Around, declare_at, declare, declare_all, first_of}
-use Rattle.tac_lower.specs.Lowering.{reached, variable, entry, element, extracted, constructed, call, call_value, signature_in, operation, target_at, aimed, Target, to_temp, to_place, assigned, assigned_all, Counting, counting, is_one, either_way, runs, piece, pieces, targets, one, all, around, received, code_of, unreached, are_narrow, parameter_types, lowered}
+use Rattle.tac_lower.specs.Lowering.{cut, is_whole, reached, variable, entry, element, extracted, constructed, call, call_value, signature_in, operation, target_at, aimed, Target, to_temp, to_place, assigned, assigned_all, Counting, counting, is_one, either_way, runs, piece, pieces, targets, one, all, around, received, code_of, unreached, are_narrow, parameter_types, lowered}
 use Rattle.tac_lower.specs.Needs.{GoodHome}
 use Rattle.tac_lower.proofs.Homes.{Homes, homes-of, halves}
 use Rattle.tac_lower.proofs.Typing.{no, three, four, five, struct-aggregate, Asked}
@@ -200,12 +201,15 @@ module _ (store : Contents) (entries : List FnId) (homes : List Home) where
   operation-bytes at of operations.StepForward ts ks vs u m h s = let z = slack-small the_value types of m s in omega (arith, z)
   operation-bytes at of operations.StepBack ts ks vs u m h s = let z = slack-small the_value types of m s in omega (arith, z)
   operation-bytes at of operations.Difference ts ks vs u m h s = let z = slack-small the_value types of m s in omega (arith, z)
-  operation-bytes at of operations.Convert ts ks vs u m h s = by (nat_eq of.0 boolean.0) (slack-small the_value types of m s)
+  operation-bytes at of operations.Convert ts ks vs u m h s =
+      by (nat_eq of.0 boolean.0) (is_whole (number_of types of).size) (word_at vs 0) (slack-small the_value types of m s)
     where
-      by : (b : Bool) → m ≤ 24 → bytes (if b then compute operators.NotEqual whole_word (word_at vs 0) (Constant 0) u
-          else compute operators.Add (number_of types of) (word_at vs 0) (Constant 0) u).used + m ≤ bytes u + 128
-      by true z = omega (arith, z)
-      by false z = omega (arith, z)
+      by : (b whole : Bool) (x : Operand) → m ≤ 24 → bytes (if b then compute operators.NotEqual whole_word x (Constant 0) u
+          else (if whole then known (a_word x) u else cut (number_of types of) x u)).used + m ≤ bytes u + 128
+      by true whole x z = omega (arith, z)
+      by false true x z = omega (arith, z)
+      by false false (Temp t) z = omega (arith, z)
+      by false false (Constant k) z = omega (arith, z)
   operation-bytes at of (operations.Extract offset) ts ks vs u m h s = extracted-bytes types of offset (result_at vs 0) u m s
   operation-bytes at of (operations.Call f) ts ks vs u m h s = by (is_aggregate types of) refl
     where

@@ -273,6 +273,7 @@ abbrev all : List Body
 all = body_0 ∷ body_1 ∷ body_2 ∷ body_3 ∷ body_4 ∷ body_5 ∷ body_6 ∷ body_7 ∷ body_8 ∷ []
 
 pub good : list_all (λ b. is_good (code b)) all ≡ true
+unfolding wrapped
 good = refl
 
 -- the term of `keep`, whose variable has an address, has what lowering needs

@@ -7,7 +7,7 @@ use Rattle.tl_base.specs.declared.place.Place.{Place}
 use Rattle.tl_base.specs.declared.ids.TypeId.{TypeId}
 use Rattle.terra_words.specs.declared.words.BinaryOperator.{BinaryOperator}
 use Rattle.terra_words.specs.declared.words.BinaryOperator.TheVariants as operators
-use Rattle.terra_words.specs.Words.{divides}
+use Rattle.terra_words.specs.Words.{wrapped, divides}
 use Rattle.terra_types.specs.declared.types.TypeForm.{TypeForm}
 use Rattle.terra_types.specs.declared.types.TypeForm.TheVariants as forms
 use Rattle.tl_base.specs.declared.ids.FnId.{FnId}
@@ -31,11 +31,13 @@ use Rattle.tac_form.specs.declared.tac.Spot.TheVariants as spots
 use Rattle.tac_form.specs.declared.tac.Tac.{Tac}
 use Rattle.tac_form.specs.Flow.{area_size}
 use Rattle.tac_form.specs.Fits.{operand_fits, place_fits, area_there, part_fits, are_apart}
+use Rattle.tac_form.specs.Flow as flow
 use Rattle.tac_lower.specs.Items.{does}
 use Rattle.tac_lower.specs.Pieces.{Used, with_temp, with_area, Piece, known, doing, then_piece, Result, a_word, an_area, an_offset, no_word, word_of, whole_word, long, number_of, compute, stored, parts_of, word_at, result_at, rest, Around}
-use Rattle.tac_lower.specs.Lowering.{binary, difference, extracted, constructed, operation, call, call_value, signature_in}
+use Rattle.tac_lower.specs.Lowering.{cut, fitted, is_whole, binary, difference, extracted, constructed, operation, call, call_value, signature_in}
 use Rattle.terra_meaning.specs.Frames.{Home}
 use Rattle.tac_lower.specs.Needs.{HasNumber, IsWide, EntriesFit, NumberUnless, BinaryNeeds, is_comparison}
+use Rattle.tac_lower.proofs.Words.{number-small}
 use Rattle.tac_lower.proofs.Standing.{Grown}
 use Rattle.tac_lower.proofs.Simulates.{grown-none, grown-then}
 use Rattle.tac_lower.proofs.Writes.{grown-temp, grown-area}
@@ -223,13 +225,28 @@ module _ (types : List TypeForm) (tac : Tac) where
       convert-ok plain = by (nat_eq t.0 boolean.0)
         where
           by : (b : Bool) → pieces_fit.Ok types tac P u (if b then compute operators.NotEqual whole_word (word_at rs 0) (Constant 0) u
-              else compute operators.Add (number_of types t) (word_at rs 0) (Constant 0) u)
+              else fitted (number_of types t) (word_at rs 0) u)
               (pieces_fit.Gives types tac the_value t (if b then compute operators.NotEqual whole_word (word_at rs 0) (Constant 0) u
-              else compute operators.Add (number_of types t) (word_at rs 0) (Constant 0) u).used)
+              else fitted (number_of types t) (word_at rs 0) u).used)
           by true = pieces_fit.compute-ok types tac W operators.NotEqual whole_word (word_at rs 0) (Constant 0) u (word 0) (λ h. refl)
               (λ o f. (f, plain))
-          by false = pieces_fit.compute-ok types tac W operators.Add (number_of types t) (word_at rs 0) (Constant 0) u (word 0)
-              (λ h. refl) (λ o f. (f, plain))
+          by false = whole (is_whole (number_of types t).size)
+            where
+              fit : (x : Operand) → (P → operand_fits tac x ≡ true) → pieces_fit.Ok types tac P u (cut (number_of types t) x u)
+                  (pieces_fit.Gives types tac the_value t (cut (number_of types t) x u).used)
+              fit (Temp d) h = pieces_fit.compute-ok types tac W operators.Add (number_of types t) (Temp d) (Constant 0) u h (λ p. refl)
+                  (λ o f. (f, plain))
+              fit (Constant c) h =
+                  let w = wrapped (flow.width_of (number_of types t)) c in
+                  pieces_fit.known-ok types tac (pieces_fit.Gives types tac the_value t u) (a_word (Constant w)) u
+                  (λ p. (lt-ltb w (2 ^ 64) (number-small (number_of types t) c), plain))
+
+              whole : (b : Bool) → pieces_fit.Ok types tac P u (if b then known (a_word (word_at rs 0)) u
+                  else cut (number_of types t) (word_at rs 0) u) (pieces_fit.Gives types tac the_value t (if b
+                  then known (a_word (word_at rs 0)) u else cut (number_of types t) (word_at rs 0) u).used)
+              whole true = pieces_fit.known-ok types tac (pieces_fit.Gives types tac the_value t u) (a_word (word_at rs 0)) u
+                  (λ p. (word 0 p, plain))
+              whole false = fit (word_at rs 0) (word 0)
 
       abbrev goes : Bool → Piece Destination
       goes b = if b then known (destinations.Area (length u.areas)) (with_area (bytes_at types t) u)

@@ -11,7 +11,7 @@ use Rattle.tl_base.specs.declared.ids.FnId.{FnId}
 use Rattle.lua_value.specs.declared.primitive.Primitive.TheVariants as primitives
 use Rattle.terra_words.specs.declared.words.BinaryOperator.{BinaryOperator}
 use Rattle.terra_words.specs.declared.words.BinaryOperator.TheVariants as operators
-use Rattle.terra_words.specs.Words.{divides}
+use Rattle.terra_words.specs.Words.{wrapped, divides}
 use Rattle.terra_types.specs.declared.types.TypeForm.{TypeForm}
 use Rattle.terra_types.specs.Opening.{boolean}
 use Rattle.terra_term.specs.declared.operators.Operation.{Operation}
@@ -37,8 +37,9 @@ use Rattle.tac_form.specs.declared.graph.FlowBlock.{FlowBlock}
 use Rattle.tac_form.specs.Graph.{operand_reads, spot_reads, part_reads, parts_reads, instruction_reads, instruction_write, exit_reads, exit_next, step_of, steps_of, block_of}
 use Rattle.tac_form.specs.Live as live
 use Rattle.tac_form.specs.Live.{is_written, before_step, before_exit, at_step, at_place, read_within}
+use Rattle.tac_form.specs.Flow as flow
 use Rattle.tac_lower.specs.Pieces.{Used, with_temp, with_area, Piece, known, doing, following, then_piece, taken, Result, a_word, an_area, an_offset, no_word, word_of, part_of, parts_of, address_of, result_at, word_at, rest, long, whole_word, number_of, is_bool, compute, copied, located, loaded_bit, loaded_number, loaded_word, loaded, stored_part, stored, placed, Holder, in_temp, at_offset, Holders, holder_of, bound, Around, declare_at, declare, declare_all, first_of}
-use Rattle.tac_lower.specs.Lowering.{reached, variable, entry, element, binary, difference, extracted, constructed, signature_in, call, call_value, operation, Target, to_temp, to_place, target_at, aimed, assigned_all, Counting, is_one, either_way, runs}
+use Rattle.tac_lower.specs.Lowering.{cut, fitted, is_whole, reached, variable, entry, element, binary, difference, extracted, constructed, signature_in, call, call_value, operation, Target, to_temp, to_place, target_at, aimed, assigned_all, Counting, is_one, either_way, runs}
 use Rattle.tac_lower.proofs.Places.{Point, step_on, start_of, after, after-append, DoesAt, EndsAt, HasAt, has-front, has-back}
 
 abbrev pub before : ℕ → ℕ
@@ -232,6 +233,17 @@ module _ (blocks : List Block) (t : ℕ) where
       Clean P (compute op form a b u) FreeResult
   compute-clean op form a b u x y =
       doing-clean FreeResult (a_word (Temp u.temps)) (Compute u.temps op form a b) (with_temp u) (λ h. lacks-two a b (x h) (y h)) (λ h w. w)
+
+  fitted-clean : {P : Type 0} (form : Number) (a : Operand) (u : Used) → (P → Free a) → Clean P (fitted form a u) FreeResult
+  fitted-clean {P} form a u x = by (is_whole form.size)
+    where
+      less : (b : Operand) → (P → Free b) → Clean P (cut form b u) FreeResult
+      less (Temp d) y = compute-clean operators.Add form (Temp d) (Constant 0) u y (λ h. tt)
+      less (Constant c) y = known-clean FreeResult (a_word (Constant (wrapped (flow.width_of form) c))) u (λ h. tt)
+
+      by : (whole : Bool) → Clean P (if whole then known (a_word a) u else cut form a u) FreeResult
+      by true = known-clean FreeResult (a_word a) u x
+      by false = less a x
 
   copied-clean : {P : Type 0} (a : Operand) (u : Used) → (P → Free a) → Clean P (copied a u) FreeResult
   copied-clean a u x =
@@ -443,9 +455,9 @@ module _ (blocks : List Block) (t : ℕ) where
     convert-clean = by (nat_eq of.0 boolean.0)
       where
         by : (b : Bool) → Clean (FreeAll rs) (if b then compute operators.NotEqual whole_word (word_at rs 0) (Constant 0) u
-            else compute operators.Add (number_of forms_of of) (word_at rs 0) (Constant 0) u) FreeResult
+            else fitted (number_of forms_of of) (word_at rs 0) u) FreeResult
         by true = compute-clean operators.NotEqual whole_word (word_at rs 0) (Constant 0) u (word 0) (λ h. tt)
-        by false = compute-clean operators.Add (number_of forms_of of) (word_at rs 0) (Constant 0) u (word 0) (λ h. tt)
+        by false = fitted-clean (number_of forms_of of) (word_at rs 0) u (word 0)
 
     pub operation-clean : (op : Operation) → Fit op
     operation-clean operations.Negate =

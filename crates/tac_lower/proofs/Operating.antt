@@ -21,13 +21,13 @@ use Rattle.terra_meaning.specs.Running.{State, Got, Gives}
 use Rattle.terra_meaning.specs.Meaning.{Call, the_value, type_at, operated}
 use Rattle.tac_form.specs.declared.tac.Operand.TheVariants.{Constant}
 use Rattle.tac_lower.specs.Pieces.{Used, Piece, Result, a_word, an_area, an_offset, no_word, word_at, result_at, Holders, Around, whole_word, number_of, compute}
-use Rattle.tac_lower.specs.Lowering.{operation, extracted, are_narrow}
+use Rattle.tac_lower.specs.Lowering.{fitted, operation, extracted, are_narrow}
 pub use Rattle.tac_lower.specs.Needs.{NumberUnless, OperationNeeds}
 use Rattle.tac_lower.proofs.Standing.{Setting, Private, Means}
 use Rattle.tac_lower.proofs.Simulates.{Fact, one_of, all_of, AllMean, Sim}
 use Rattle.tac_lower.proofs.Words.{value-small}
 use Rattle.tac_lower.proofs.Writes.{grown-temp, known_sim}
-use Rattle.tac_lower.proofs.Operators.{negate_sim, convert_sim}
+use Rattle.tac_lower.proofs.Operators.{negate_sim, fitted_sim}
 use Rattle.tac_lower.proofs.Shorts.{bit-of-bool}
 use Rattle.tac_lower.proofs.Fors.{Begins, first-value}
 use Rattle.tac_lower.proofs.Targets.{first-mean}
@@ -90,14 +90,14 @@ module _ (z : Setting) (n : ℕ) (st : Contents) (entries : List FnId) (homes : 
     where
       code : Bool → Piece Result
       code b = if b then compute operators.NotEqual whole_word (word_at rs 0) (Constant 0) u
-          else compute operators.Add (number_of z.types of) (word_at rs 0) (Constant 0) u
+          else fitted (number_of z.types of) (word_at rs 0) u
 
       by : (b : Bool) → nat_eq of.0 boolean.0 ≡ b → NumberUnless z.types b of →
           Sim z n names scope (all_of ts rs vs ∷ facts) u (code b)
           (λ s. Gives (word (if b then flag (nat_lt 0 x0) else wrapped (width_of z.types of) x0)) s) names scope
           (λ v. one_of the_value of (code b).result v)
       by true e h = to_bool_sim z n names scope facts u of ts rs vs (is-boolean z of e)
-      by false e h = convert_sim u of ts rs vs h
+      by false e h = fitted_sim u of ts rs vs h
 
 module _ (z : Setting) (n : ℕ) (names : List TypedName) (scope : Holders) (facts : List Fact) (u : Used) (of t : TypeId)
     (ts : List TypeId) (vs : List Value) (offset : ℕ) where

@@ -1,6 +1,7 @@
 -- Operations on words.
-use Rattle.std.proofs.Common.{◌≡◌, ℕ, ◌+◌, Bool, true, false, List, [], ◌∷◌, refl, ap, ◌∙◌, arith}
-use Rattle.std.specs.Prelude.{◌^◌, ◌-◌, ◌&&◌, nat_eq, if◌then◌else◌}
+use Rattle.std.proofs.Common.{◌≡◌, ℕ, ◌+◌, ◌<◌, Bool, true, false, List, [], ◌∷◌, refl, ap, subst, sym, ◌∙◌, arith}
+use Rattle.std.proofs.lemmas.Bool.{false≢true}
+use Rattle.std.specs.Prelude.{◌^◌, ◌-◌, ◌%◌, ◌&&◌, nat_eq, nat_le, if◌then◌else◌}
 use Rattle.tl_base.specs.declared.place.Place.{Place}
 use Rattle.tl_base.specs.declared.ids.TypeId.{TypeId}
 use Rattle.terra_words.specs.declared.words.BinaryOperator.{BinaryOperator}
@@ -14,19 +15,21 @@ use Rattle.terra_meaning.specs.Values.{form_at, width_of}
 use Rattle.terra_meaning.specs.Running.{State, Got, Gives, fault}
 use Rattle.terra_meaning.specs.Meaning as meaning
 use Rattle.terra_meaning.specs.Meaning.{Wanted, the_value, the_address}
+use Rattle.tac_form.specs.declared.tac.Size.{Size}
+use Rattle.tac_form.specs.declared.tac.Size.TheVariants.{One, Two, Four, Eight}
 use Rattle.tac_form.specs.declared.tac.Number.{Number}
 use Rattle.tac_form.specs.declared.tac.Operand.{Operand}
 use Rattle.tac_form.specs.declared.tac.Operand.TheVariants.{Temp, Constant}
 use Rattle.tac_form.specs.declared.tac.Instruction.TheVariants.{TestDivisor}
 use Rattle.tac_form.specs.Flow as flow
 use Rattle.tac_form.specs.Flow.{Goes, Stops, act}
-use Rattle.tac_lower.specs.Pieces.{Used, Piece, known, doing, then_piece, Result, a_word, word_at, Holders, number_of, compute}
-use Rattle.tac_lower.specs.Lowering.{binary}
-use Rattle.tac_lower.proofs.Standing.{Setting, Private, stands, one-step, word_in, operand-is, Good}
+use Rattle.tac_lower.specs.Pieces.{Used, Piece, known, doing, then_piece, Result, a_word, an_area, an_offset, word_of, word_at, Holders, number_of, compute}
+use Rattle.tac_lower.specs.Lowering.{cut, fitted, is_whole, binary}
+use Rattle.tac_lower.proofs.Standing.{Setting, Private, stands, one-step, word_in, operand-is, Good, Own}
 use Rattle.tac_lower.proofs.Simulates.{Fact, nothing, one_of, all_of, AllMean, Sim, then_sim}
-use Rattle.tac_lower.proofs.Words.{wrapped-again, HasNumber, number-width}
-use Rattle.tac_lower.proofs.Writes.{grown-temp, same-self, passes_sim}
-use Rattle.tac_lower.proofs.Loads.{compute_sim, word-is, load-number, AreWords}
+use Rattle.tac_lower.proofs.Words.{wrapped-again, value-small, HasNumber, number-width}
+use Rattle.tac_lower.proofs.Writes.{grown-temp, same-self, passes_sim, known_sim}
+use Rattle.tac_lower.proofs.Loads.{compute_sim, word-is, is-value, load-number, AreWords}
 
 -- the words of operands by their positions
 pub first-word : (z : Setting) (scope : Holders) (u : Used) (ts : List TypeId) (rs : List Result) (vs : List Value) (k : Private) →
@@ -97,6 +100,86 @@ convert_sim {z} {n} {names} {scope} {facts} u of ts rs vs h =
     (ap word (plus-zero (flow.width_of (number_of z.types of)) (number (value_at vs 0)) ∙ ap (λ w. wrapped w (number (value_at vs 0)))
     (number-width_at z of h)))
     (good-number z of (Temp u.temps) (number (value_at vs 0)) h)
+
+-- the first value is a word of 64 bits, and what gives its word is kept
+first-small : (z : Setting) (scope : Holders) (u : Used) (ts : List TypeId) (rs : List Result) (vs : List Value) (k : Private) →
+    AllMean z scope u ts rs vs k → number (value_at vs 0) < 2 ^ 64
+first-small z scope u [] [] [] k h = omega arith
+first-small z scope u (t ∷ ts) (r ∷ rs) (v ∷ vs) k h = value-small z.types t v (is-value z t r v h.0.good)
+first-small z scope u [] [] (v ∷ vs) k h = absurd h
+first-small z scope u [] (r ∷ rs) vs k h = absurd h
+first-small z scope u (t ∷ ts) [] vs k h = absurd h
+first-small z scope u (t ∷ ts) (r ∷ rs) [] k h = absurd h
+
+word-own : (scope : Holders) (u : Used) (r : Result) → Own scope u r → Own scope u (a_word (word_of r))
+word-own scope u (a_word (Temp t)) h = h
+word-own scope u (a_word (Constant c)) h = tt
+word-own scope u (an_area n) h = tt
+word-own scope u (an_offset o) h = tt
+
+first-own : (z : Setting) (scope : Holders) (u : Used) (ts : List TypeId) (rs : List Result) (vs : List Value) (k : Private) →
+    AllMean z scope u ts rs vs k → Own scope u (a_word (word_at rs 0))
+first-own z scope u [] [] [] k h = tt
+first-own z scope u (t ∷ ts) (r ∷ rs) (v ∷ vs) k h = word-own scope u r h.0.own
+first-own z scope u [] [] (v ∷ vs) k h = absurd h
+first-own z scope u [] (r ∷ rs) vs k h = absurd h
+first-own z scope u (t ∷ ts) [] vs k h = absurd h
+first-own z scope u (t ∷ ts) (r ∷ rs) [] k h = absurd h
+
+-- a word is one of a form of eight bytes already
+stays-whole : (form : Number) (x : ℕ) → is_whole form.size ≡ true → x < 2 ^ 64 → x ≡ wrapped (flow.width_of form) x
+unfolding wrapped
+stays-whole form x e lt = by form.signed form.size e
+  where
+    by : (signed : Bool) (size : Size) → is_whole size ≡ true → x ≡ wrapped (flow.width_of (record { signed = signed; size = size })) x
+    by true Eight h = either (nat_le (2 ^ 63) (x % 2 ^ 64))
+      where
+        either : (b : Bool) → x ≡ (if b then x % 2 ^ 64 + 0 else x % 2 ^ 64)
+        either true = omega (arith, lt)
+        either false = omega (arith, lt)
+    by false Eight h = omega (arith, lt)
+    by signed One h = absurd (false≢true h)
+    by signed Two h = absurd (false≢true h)
+    by signed Four h = absurd (false≢true h)
+
+-- the same where the word may stay as it is, or be a constant
+pub fitted_sim : {z : Setting} {n : ℕ} {names : List TypedName} {scope : Holders} {facts : List Fact} (u : Used) (of : TypeId)
+    (ts : List TypeId) (rs : List Result) (vs : List Value) → HasNumber (form_at z.types of) →
+    Sim z n names scope (all_of ts rs vs ∷ facts) u (fitted (number_of z.types of) (word_at rs 0) u)
+    (λ s. Gives (word (wrapped (width_of z.types of) (number (value_at vs 0)))) s) names scope
+    (λ w. one_of the_value of (fitted (number_of z.types of) (word_at rs 0) u).result w)
+fitted_sim {z} {n} {names} {scope} {facts} u of ts rs vs h = whole (is_whole (number_of z.types of).size) refl
+  where
+    Fits : Piece Result → Type 0
+    Fits p = Sim z n names scope (all_of ts rs vs ∷ facts) u p
+        (λ s. Gives (word (wrapped (width_of z.types of) (number (value_at vs 0)))) s) names scope (λ w. one_of the_value of p.result w)
+
+    by : (x : Operand) → word_at rs 0 ≡ x → Fits (cut (number_of z.types of) x u)
+    by (Temp t) e = subst (λ x. Fits (compute operators.Add (number_of z.types of) x (Constant 0) u)) e (convert_sim u of ts rs vs h)
+    by (Constant c) e =
+        let w = wrapped (flow.width_of (number_of z.types of)) c in
+        known_sim u (a_word (Constant w)) (word (wrapped (width_of z.types of) (number (value_at vs 0))))
+        (λ k s fine knows.
+        let same : c ≡ number (value_at vs 0) = ap (word_in k) (sym e) ∙ first-word z scope u ts rs vs k knows.0 in
+        record {
+          is = ap word (ap (λ v. wrapped v c) (number-width_at z of h) ∙ ap (wrapped (width_of z.types of)) same);
+          own = tt;
+          good = good-number z of (Constant w) (number (value_at vs 0)) h;
+        })
+
+    whole : (b : Bool) → is_whole (number_of z.types of).size ≡ b →
+        Fits (if b then known (a_word (word_at rs 0)) u else cut (number_of z.types of) (word_at rs 0) u)
+    whole false e = by (word_at rs 0) refl
+    whole true e =
+        known_sim u (a_word (word_at rs 0)) (word (wrapped (width_of z.types of) (number (value_at vs 0))))
+        (λ k s fine knows.
+        let x = number (value_at vs 0) in
+        let stays = stays-whole (number_of z.types of) x e (first-small z scope u ts rs vs k knows.0) in
+        record {
+          is = ap word (first-word z scope u ts rs vs k knows.0 ∙ (stays ∙ ap (λ v. wrapped v x) (number-width_at z of h)));
+          own = first-own z scope u ts rs vs k knows.0;
+          good = good-number z of (word_at rs 0) x h;
+        })
 
 -- an operator on two words, whose divisor is tested before; `told` says that it means the same at the width of three-address code
 pub binary_sim : {z : Setting} {n : ℕ} {names : List TypedName} {scope : Holders} {facts : List Fact} (u : Used) (place : Place)

@@ -32,7 +32,7 @@ use Rattle.tac_form.specs.declared.tac.Block.{Block}
 use Rattle.tac_form.specs.Fits.{Counted, blocks_count}
 use Rattle.tac_lower.specs.Items.{Item, does, ends, Ending, skips, tests, repeats, repeats_unless, leaves, gives, fails, count_ends, loop_of, exit_of, Draft, empty_draft, with_item, with_items}
 use Rattle.tac_lower.specs.Pieces.{Used, with_temp, with_area, Piece, known, doing, then_piece, taken, Result, a_word, an_area, an_offset, no_word, word_of, part_of, address_of, word_at, result_at, rest, whole_word, number_of, is_bool, given, compute, copied, located, loaded_bit, loaded_area, loaded_word, loaded, stored_part, stored, placed, Holder, in_temp, at_offset, Holders, holder_of, Around, declare_at, declare, declare_all, first_of}
-use Rattle.tac_lower.specs.Lowering.{reached, variable, entry, element, extracted, constructed, call, call_value, signature_in, operation, target_at, aimed, Target, to_temp, to_place, assigned, assigned_all, passed_over, choice, counting, runs, counted_on, while_loop, piece, pieces, targets, one, all, around, ending, received, code_of, unreached, are_narrow, parameter_types, lowered}
+use Rattle.tac_lower.specs.Lowering.{cut, is_whole, reached, variable, entry, element, extracted, constructed, call, call_value, signature_in, operation, target_at, aimed, Target, to_temp, to_place, assigned, assigned_all, passed_over, choice, counting, runs, counted_on, while_loop, piece, pieces, targets, one, all, around, ending, received, code_of, unreached, are_narrow, parameter_types, lowered}
 use Rattle.tac_lower.specs.Needs.{Needs, NeedsAll, NeedsTargets, NeedsOne, NeedsBlock, BodyNeeds, in_let, declared_names, names_after, names_after_one, OperationNeeds, CallNeeds}
 
 -- code that doesn't leave a loop around it
@@ -194,12 +194,14 @@ operation-stays c at of (operations.Binary op) ts vs u = by (divides op)
 operation-stays c at of operations.StepForward ts vs u = tt
 operation-stays c at of operations.StepBack ts vs u = tt
 operation-stays c at of operations.Difference ts vs u = tt
-operation-stays c at of operations.Convert ts vs u = by (nat_eq of.0 boolean.0)
+operation-stays c at of operations.Convert ts vs u = by (nat_eq of.0 boolean.0) (is_whole (number_of c.types of).size) (word_at vs 0)
   where
-    by : (b : Bool) → Stays (if b then compute operators.NotEqual whole_word (word_at vs 0) (Constant 0) u
-        else compute operators.Add (number_of c.types of) (word_at vs 0) (Constant 0) u).code
-    by true = tt
-    by false = tt
+    by : (b whole : Bool) (x : Operand) → Stays (if b then compute operators.NotEqual whole_word x (Constant 0) u
+        else (if whole then known (a_word x) u else cut (number_of c.types of) x u)).code
+    by true whole x = tt
+    by false true x = tt
+    by false false (Temp t) = tt
+    by false false (Constant k) = tt
 operation-stays c at of (operations.Extract offset) ts vs u = extracted-stays c.types of offset (result_at vs 0) u
 operation-stays c at of (operations.Call f) ts vs u = by (is_aggregate c.types of)
   where

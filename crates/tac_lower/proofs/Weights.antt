@@ -34,7 +34,7 @@ use Rattle.tac_form.specs.declared.tac.Tac.{Tac}
 use Rattle.tac_form.specs.Weights as weights
 use Rattle.tac_lower.specs.Items.{Item, does, ends, Ending, skips, tests, repeats, repeats_unless, leaves, gives, fails, count_ends, loop_of, exit_of, Draft, empty_draft, with_item, with_items, blocks_of}
 use Rattle.tac_lower.specs.Pieces.{Used, nothing_used, with_temp, with_area, Piece, known, doing, then_piece, taken, Result, a_word, an_area, an_offset, no_word, word_of, part_of, parts_of, address_of, word_at, result_at, rest, whole_word, number_of, is_bool, given, compute, copied, located, loaded_bit, loaded_area, loaded_word, loaded, stored_part, stored, placed, Holder, in_temp, at_offset, Holders, holder_of, Around, declare_at, declare, declare_all, first_of}
-use Rattle.tac_lower.specs.Lowering.{reached, variable, entry, element, extracted, constructed, call, call_value, signature_in, operation, target_at, aimed, Target, to_temp, to_place, assigned, assigned_all, passed_over, choice, Counting, counting, is_one, either_way, runs, counted_on, while_loop, piece, pieces, targets, one, all, around, ending, received, code_of, unreached, are_narrow, parameter_types, lowered}
+use Rattle.tac_lower.specs.Lowering.{cut, is_whole, reached, variable, entry, element, extracted, constructed, call, call_value, signature_in, operation, target_at, aimed, Target, to_temp, to_place, assigned, assigned_all, passed_over, choice, Counting, counting, is_one, either_way, runs, counted_on, while_loop, piece, pieces, targets, one, all, around, ending, received, code_of, unreached, are_narrow, parameter_types, lowered}
 use Rattle.tac_lower.proofs.Heaviest.{words_of, exit_words, block_words, code_words, code-most}
 
 -- sums
@@ -265,12 +265,14 @@ operation-words c at of (operations.Binary op) ts vs u = by (divides op)
 operation-words c at of operations.StepForward ts vs u = omega arith
 operation-words c at of operations.StepBack ts vs u = omega arith
 operation-words c at of operations.Difference ts vs u = omega arith
-operation-words c at of operations.Convert ts vs u = by (nat_eq of.0 boolean.0)
+operation-words c at of operations.Convert ts vs u = by (nat_eq of.0 boolean.0) (is_whole (number_of c.types of).size) (word_at vs 0)
   where
-    by : (b : Bool) → weigh (if b then compute operators.NotEqual whole_word (word_at vs 0) (Constant 0) u
-        else compute operators.Add (number_of c.types of) (word_at vs 0) (Constant 0) u).code ≤ 98 + 63 * length vs
-    by true = omega arith
-    by false = omega arith
+    by : (b whole : Bool) (x : Operand) → weigh (if b then compute operators.NotEqual whole_word x (Constant 0) u
+        else (if whole then known (a_word x) u else cut (number_of c.types of) x u)).code ≤ 98 + 63 * length vs
+    by true whole x = omega arith
+    by false true x = omega arith
+    by false false (Temp t) = omega arith
+    by false false (Constant k) = omega arith
 operation-words c at of (operations.Extract offset) ts vs u =
     let h = extracted-words c.types of offset (result_at vs 0) u in omega (arith, h)
 operation-words c at of (operations.Call f) ts vs u = by (is_aggregate c.types of)

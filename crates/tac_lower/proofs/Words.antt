@@ -9,6 +9,9 @@ use Rattle.terra_types.specs.declared.types.Integer.TheVariants.{Int8, Int16, In
 use Rattle.terra_types.specs.declared.types.TypeForm.{TypeForm}
 use Rattle.terra_types.specs.declared.types.TypeForm.TheVariants as forms
 use Rattle.terra_meaning.specs.Values.{form_at, width_of, IsValue}
+use Rattle.tac_form.specs.declared.tac.Size.{Size}
+use Rattle.tac_form.specs.declared.tac.Size.TheVariants.{One, Two, Four, Eight}
+use Rattle.tac_form.specs.declared.tac.Number.{Number}
 use Rattle.tac_form.specs.Flow as flow
 use Rattle.tac_lower.specs.Pieces.{number_in}
 pub use Rattle.tac_lower.specs.Needs.{HasNumber}
@@ -70,6 +73,20 @@ wrapped-small (forms.Pointer t) n = omega arith
 wrapped-small (forms.Function params result) n = omega arith
 wrapped-small (forms.Array t m) n = omega arith
 wrapped-small (forms.Struct number place layout) n = omega arith
+
+-- a word of any form is one of 64 bits
+pub number-small : (form : Number) (n : ℕ) → wrapped (flow.width_of form) n < 2 ^ 64
+number-small form n = by form.signed form.size
+  where
+    by : (signed : Bool) (size : Size) → wrapped (flow.width_of (record { signed = signed; size = size })) n < 2 ^ 64
+    by true One = wrapped-small (forms.Integer Int8) n
+    by true Two = wrapped-small (forms.Integer Int16) n
+    by true Four = wrapped-small (forms.Integer Int32) n
+    by true Eight = wrapped-small (forms.Integer Int64) n
+    by false One = wrapped-small (forms.Integer Uint8) n
+    by false Two = wrapped-small (forms.Integer Uint16) n
+    by false Four = wrapped-small (forms.Integer Uint32) n
+    by false Eight = wrapped-small (forms.Integer Uint64) n
 
 pub wrapped-zero : (form : TypeForm) → wrapped (width_by form) 0 ≡ 0
 unfolding wrapped

@@ -6,7 +6,7 @@ use Rattle.tl_base.specs.declared.ids.FnId.{FnId}
 use Rattle.terra_words.specs.declared.words.FaultKind.TheVariants.{NoReturn}
 use Rattle.terra_words.specs.declared.words.BinaryOperator.{BinaryOperator}
 use Rattle.terra_words.specs.declared.words.BinaryOperator.TheVariants as operators
-use Rattle.terra_words.specs.Words.{divides}
+use Rattle.terra_words.specs.Words.{divides, wrapped}
 use Rattle.terra_types.specs.declared.types.TypeForm.{TypeForm}
 use Rattle.terra_types.specs.declared.types.TypeForm.TheVariants as forms
 use Rattle.terra_types.specs.Opening.{boolean, unit}
@@ -22,6 +22,8 @@ use Rattle.terra_term.specs.WellTyped.{widest}
 use Rattle.terra_meaning.specs.Values.{form_at, bytes_at, target_of}
 use Rattle.terra_meaning.specs.Frames.{frame_of}
 use Rattle.terra_meaning.specs.Meaning.{constant, types_of, type_at, in_expression, in_list, in_statement, in_block, Wanted, the_value, the_address}
+use Rattle.tac_form.specs.declared.tac.Size.{Size}
+use Rattle.tac_form.specs.declared.tac.Size.TheVariants.{Eight}
 use Rattle.tac_form.specs.declared.tac.Number.{Number}
 use Rattle.tac_form.specs.declared.tac.Operand.{Operand}
 use Rattle.tac_form.specs.declared.tac.Operand.TheVariants.{Temp, Constant}
@@ -31,6 +33,7 @@ use Rattle.tac_form.specs.declared.tac.Instruction.TheVariants.{Compute, TestDiv
 use Rattle.tac_form.specs.declared.tac.Exit.TheVariants.{Fail}
 use Rattle.tac_form.specs.declared.tac.Signature.{Signature}
 use Rattle.tac_form.specs.declared.tac.Tac.{Tac}
+use Rattle.tac_form.specs.Flow.{width_of}
 use Rattle.tac_lower.specs.Items.{Item, does, ends, skips, tests, repeats, repeats_unless, leaves, gives, fails, count_ends, loop_of, blocks_of}
 use Rattle.tac_lower.specs.Pieces.{Used, nothing_used, with_temp, with_area, Piece, known, doing, then_piece, taken, Result, a_word, an_area, an_offset, no_word, word_of, part_of, parts_of, address_of, result_at, word_at, rest, long, whole_word, number_of, given, destination, compute, copied, located, loaded, stored, Holder, in_temp, at_offset, Holders, holder_of, Around, declare, declare_all}
 
@@ -108,6 +111,19 @@ call at f vs to u = doing (given to) (Call to at f (parts_of vs)) u
 abbrev pub call_value : Place → Signature → List Result → Destination → Used → Piece Result
 call_value at sig vs to u = doing (given to) (CallValue to at sig (word_at vs 0) (parts_of (rest vs))) u
 
+-- a word as one of a form of fewer bytes than a word; a constant's is a constant
+abbrev pub cut : Number → Operand → Used → Piece Result
+cut number (Constant x) u = known (a_word (Constant (wrapped (width_of number) x))) u
+cut number (Temp t) u = compute operators.Add number (Temp t) (Constant 0) u
+
+abbrev pub is_whole : Size → Bool
+is_whole Eight = true
+is_whole _ = false
+
+-- a word as one of a form: one of eight bytes stays as it is
+abbrev pub fitted : Number → Operand → Used → Piece Result
+fitted number x u = if is_whole number.size then known (a_word x) u else cut number x u
+
 -- what an operation gives of operands of these types, which were evaluated
 abbrev pub operation : Around → Place → TypeId → Operation → List TypeId → List Result → Used → Piece Result
 operation c at of operations.Negate ts vs u =
@@ -125,7 +141,7 @@ operation c at of operations.Difference ts vs u =
     difference (bytes_at c.types (target_of c.types (type_at ts 0))) (word_at vs 0) (word_at vs 1) u
 operation c at of operations.Convert ts vs u =
     if nat_eq of.0 boolean.0 then compute operators.NotEqual whole_word (word_at vs 0) (Constant 0) u
-    else compute operators.Add (number_of c.types of) (word_at vs 0) (Constant 0) u
+    else fitted (number_of c.types of) (word_at vs 0) u
 operation c at of (operations.Extract offset) ts vs u = extracted c.types of offset (result_at vs 0) u
 operation c at of (operations.Call f) ts vs u =
     then_piece (destination c.types of u) (λ to u'. call at f vs to u')

@@ -14,7 +14,7 @@ use Rattle.tac_form.specs.declared.tac.Operand.TheVariants.{Constant}
 use Rattle.tac_form.specs.declared.tac.Signature.{Signature}
 use Rattle.tac_form.specs.declared.tac.Spot.{Spot}
 use Rattle.tac_lower.specs.Pieces.{Used, Piece, Result, Holders, known, taken, then_piece, compute, copied, destination, number_of, stored, whole_word, word_of}
-use Rattle.tac_lower.specs.Lowering.{to_temp, to_place, aimed, call, call_value, signature_in}
+use Rattle.tac_lower.specs.Lowering.{to_temp, to_place, aimed, call, call_value, fitted, signature_in}
 
 abbrev pub placed_word : List TypeForm → TypeId → Spot → Result → Used → Piece (Unit {0})
 placed_word types of to r u =
@@ -28,7 +28,7 @@ negated types of x u =
 abbrev pub converted : List TypeForm → TypeId → Operand → Used → Piece Result
 converted types of x u =
     if nat_eq of.0 boolean.0 then compute operators.NotEqual whole_word x (Constant 0) u
-    else compute operators.Add (number_of types of) x (Constant 0) u
+    else fitted (number_of types of) x u
 
 abbrev pub called : List TypeForm → Place → TypeId → FnId → List Result → Used → Piece Result
 called types at of f vs u = then_piece (destination types of u) (λ to u'. call at f vs to u')

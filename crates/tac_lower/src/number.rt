@@ -1,10 +1,12 @@
 // How words of types stand in memory.
 
-ghost use Rattle.std.specs.Prelude.{◌≡◌};
+ghost use Rattle.std.specs.Prelude.{◌≡◌, ◌≤◌};
+ghost use Rattle.tac_form.specs.Flow.{width_of};
 ghost use Rattle.tac_lower.specs.Pieces.{integer_number, is_bool, long, number_of, whole_word};
 
 use tac_form::{Number, Size};
 use terra_types::{Integer, TypeForm, Types};
+use terra_words::Width;
 use tl_base::TypeId;
 
 /// Addresses, and words as a whole.
@@ -21,6 +23,23 @@ pub(crate) fn long(signed: bool) -> Number
     Number {
         signed,
         size: Size::Eight,
+    }
+}
+
+/// The width of the words of a form, which has at most 64 bits.
+pub(crate) fn width_of(number: Number) -> Width
+    ensures width { result ≡ width_of number }
+    ensures within { result.bits ≤ 64 }
+{
+    let bits = match number.size {
+        Size::One => 8,
+        Size::Two => 16,
+        Size::Four => 32,
+        Size::Eight => 64,
+    };
+    Width {
+        signed: number.signed,
+        bits,
     }
 }
 

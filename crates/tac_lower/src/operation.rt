@@ -4,7 +4,7 @@ ghost use Rattle.std.specs.Prelude.{◌≡◌, map, IfOk};
 ghost use Rattle.terra_words.specs.Words.{divides};
 ghost use Rattle.terra_meaning.specs.Values.{form_at};
 ghost use Rattle.terra_meaning.specs.Meaning.{type_at};
-ghost use Rattle.tac_lower.specs.Lowering.{binary, construct, constructed, difference, extracted, operation, primitive, signature_in, step};
+ghost use Rattle.tac_lower.specs.Lowering.{binary, construct, constructed, cut, difference, extracted, fitted, operation, primitive, signature_in, step};
 ghost use Rattle.tac_lower.specs.Data.{result_of};
 ghost use Rattle.tac_lower.specs.Works.{Gave, Put};
 ghost use Rattle.tac_lower.specs.Parts.{called, called_value, converted, negated, no_signature};
@@ -12,17 +12,20 @@ ghost use Rattle.tac_lower.specs.Views.{around_of};
 
 use crate::around::Around;
 use crate::emit::{compute, destination, loaded, stored};
-use crate::number::{long, number_of, whole_word};
+use crate::number::{long, number_of, whole_word, width_of};
 use crate::value::{NO_WORD, Value, behind, given, parts, value_at, word_at};
 use crate::work::Work;
 use lua_value::Primitive;
 use std::alloc::{AllocError, Global};
-use tac_form::{Destination, Instruction, Number, Operand, PartList, Signature, Spot, TypeIds};
+use tac_form::{
+    Destination, Instruction, Number, Operand, PartList, Signature, Size, Spot, TypeIds,
+};
 use terra_eval::types::{bytes_at, target_of};
 use terra_term::Operation;
 use terra_types::{TypeForm, Types};
 use terra_words::BinaryOperator;
 use tl_base::{FnId, NoMemory, Place, TypeId};
+use word_ops::wrap;
 
 const BOOLEAN: TypeId = TypeId(8);
 
@@ -116,7 +119,32 @@ fn converted(types: &Types, of: TypeId, x: Operand, work: &mut Work) -> Result<V
     if of.0 == BOOLEAN.0 {
         return compute(BinaryOperator::NotEqual, whole_word(), x, zero, work);
     }
-    compute(BinaryOperator::Add, number_of(types, of), x, zero, work)
+    fitted(number_of(types, of), x, work)
+}
+
+/// A word as one of a form: one of eight bytes stays as it is.
+fn fitted(number: Number, x: Operand, work: &mut Work) -> Result<Value, NoMemory>
+    ensures { Gave result_of result work.old work.new (fitted number x work.old.used) }
+{
+    match number.size {
+        Size::Eight => Ok(Value::Word(x)),
+        Size::One => cut(number, x, work),
+        Size::Two => cut(number, x, work),
+        Size::Four => cut(number, x, work),
+    }
+}
+
+/// A word as one of a form of fewer bytes. A constant's is a constant.
+fn cut(number: Number, x: Operand, work: &mut Work) -> Result<Value, NoMemory>
+    ensures { Gave result_of result work.old work.new (cut number x work.old.used) }
+{
+    match x {
+        Operand::Constant(word) => {
+            let fitted = wrap(width_of(number), u128::from(word));
+            Ok(Value::Word(Operand::Constant(fitted)))
+        }
+        Operand::Temp(_) => compute(BinaryOperator::Add, number, x, Operand::Constant(0), work),
+    }
 }
 
 fn divides(operator: BinaryOperator) -> bool
