@@ -158,8 +158,14 @@ delivered_behind due status printed noted oo om on nb nm nn out_took notes_took 
       fault_part = c.fault_part;
       parts = ap (λ o. noted ++ o) c.parts ∙ sym (append_assoc noted c.due_part c.fault_part);
       due_front = subst (λ (o : List ℕ). IsFront (noted ++ c.due_part) o) all (front_behind noted c.due_part (all_notes due) c.due_front);
+      line_last = last c.line_last;
       fault_front = c.fault_front;
     })
+      where
+        last : (d.out ≡ due.out) ⊎ IsFront c.due_part due.noted
+            → (printed ++ d.out ≡ printed ++ due.out) ⊎ IsFront (noted ++ c.due_part) (noted ++ due.noted)
+        last (inl same) = inl (ap (λ o. printed ++ o) same)
+        last (inr front) = inr (front_behind noted c.due_part due.noted front)
 
 -- what the sinks took of which one failed, and then `notes` of the line
 pub delivered_stopped : (Is : Due → Type 0) (status : Status) (oo on nb nm nn : Option (List ℕ)) (o0 o1 n0 n1 : ℕ) (SameOut : Type 0)
@@ -175,6 +181,7 @@ delivered_stopped Is status oo on nb nm nn o0 o1 n0 n1 SameOut h is fault = reco
     fault_part = fault.part;
     parts = refl;
     due_front = front_longer h.notes_part h.due.noted h.due.notes h.notes_front;
+    line_last = inr h.notes_front;
     fault_front = fault.is_front;
   });
   out_took = h.out_took;
@@ -186,7 +193,7 @@ delivered_stopped Is status oo on nb nm nn o0 o1 n0 n1 SameOut h is fault = reco
 module _ (bytes : List ℕ) (due : Due) (found : due.status ≢ statuses.NoMemory) where
   of_cut : (Is : Due → Type 0) → IsDueOrCut Is due → Is due
   of_cut Is (IsWhole is) = is
-  of_cut Is (IsCut whole is front noted memory notes) = absurd (found memory)
+  of_cut Is (IsCut whole is front short noted memory notes) = absurd (found memory)
 
   -- where memory was found, what is owed is due
   due_of_owed : (job : Option Job) → IsOwed job bytes due → IsDue job bytes due

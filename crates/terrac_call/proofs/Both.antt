@@ -1,5 +1,6 @@
 -- How a command ends that may write to both sinks.
 use Rattle.std.proofs.Common.{◌≡◌, ◌≢◌, ◌⊎◌, inl, inr, ℕ, List, [], ◌++◌, Option, refl, sym, ap, subst, ◌∙◌, append_assoc, append-nil}
+use Rattle.std.proofs.lemmas.List.{append_cancel_left}
 use Rattle.tl_base.specs.Outside.{with_back, IsRisen, IsFront}
 use Rattle.terrac_call.specs.declared.status.Status.TheVariants as statuses
 use Rattle.terrac_call.specs.declared.due.Due.{Due as DueValue}
@@ -111,15 +112,16 @@ took_both old mid new a b first second = second ∙ ap (λ (o : Option (List ℕ
 pub cut_behind_out : (P Q : Due → Type 0) (printed : List ℕ) → ((due : Due) → P due → Q (after printed due)) → (due : Due)
     → IsDueOrCut P due → IsDueOrCut Q (after printed due)
 cut_behind_out P Q printed into due (IsWhole is) = IsWhole (into due is)
-cut_behind_out P Q printed into due (IsCut whole is front noted status notes) =
-    IsCut (after printed whole) (into whole is) (front_behind printed due.out whole.out front) noted status notes
+cut_behind_out P Q printed into due (IsCut whole is front short noted status notes) =
+    IsCut (after printed whole) (into whole is) (front_behind printed due.out whole.out front)
+    (λ ok same. short ok (append_cancel_left printed due.out whole.out same)) noted status notes
 
 -- and behind what `notes` took
 pub cut_behind_notes : (P Q : Due → Type 0) (file : List ℕ) → ((due : Due) → P due → Q (noting file due)) → (due : Due)
     → IsDueOrCut P due → IsDueOrCut Q (noting file due)
 cut_behind_notes P Q file into due (IsWhole is) = IsWhole (into due is)
-cut_behind_notes P Q file into due (IsCut whole is front noted status notes) =
-    IsCut (noting file whole) (into whole is) front (front_behind file due.noted whole.noted noted) status notes
+cut_behind_notes P Q file into due (IsCut whole is front short noted status notes) =
+    IsCut (noting file whole) (into whole is) front short (front_behind file due.noted whole.noted noted) status notes
 
 module _ (P Q : Due → Type 0) (printed : List ℕ) (into : (due : Due) → P due → Q (after printed due)) where
   -- a command whose `out` took this before

@@ -9,6 +9,7 @@ use Rattle.elf_image.specs.declared.image.Image.{Image}
 use Rattle.elf_image.specs.Calls.{symbol_named}
 use Rattle.elf_image.specs.Written as files
 use Rattle.exotype.specs.World.{StageState}
+use Rattle.spec_sound.specs.Sound.{ArePlaced}
 use Rattle.check_stage.specs.declared.staging.End.{End}
 use Rattle.check_stage.specs.declared.staging.End.TheVariants as staged
 use Rattle.check_stage.specs.declared.staging.Mode.TheVariants.{Exports}
@@ -203,9 +204,10 @@ module _ (limits : Limits) (items : Items) (finish : Place) (n : ℕ) (ending : 
 
 module _ (it : Asking) (items : Items) (finish : Place) (n : ℕ) (ending : Ending) (printed : List ℕ)
     (comes : outcome items finish Exports n (units_of it.running.limits.budget) (bytes_of it.running.limits.memory) ≡ Some ending)
-    (told : printed ≡ ending.left.world.stage.heap.printed) where
+    (told : printed ≡ ending.left.world.stage.heap.printed) (placed : ArePlaced items) where
   tree_due : (due : Due) → runs.IsPrintedDue it ending.left.world.stage ending.end printed due → runs.IsTreeDue it items finish due
   tree_due due is = record {
+    placed = placed;
     n = n;
     ending = ending;
     comes = comes;

@@ -58,6 +58,7 @@ result_short bytes status out_old out_new notes_old notes_new f0 f1 short is_fau
     fault_part = fault.part;
     parts = refl;
     due_front = none_front [];
+    line_last = inr (none_front []);
     fault_front = fault.is_front;
   });
   out_took = short.took;
@@ -92,6 +93,7 @@ refusal_short status after bytes out notes_old notes_mid notes_new f0 f1 other s
         fault_part = fault.part;
         parts = refl;
         due_front = short.is_front;
+        line_last = inl refl;
         fault_front = fault.is_front;
       });
       out_took = with_back-none out;

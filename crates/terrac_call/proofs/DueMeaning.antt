@@ -35,7 +35,7 @@ use Rattle.terrac_call.proofs.Headline.{runs_tell_meaning}
 -- ---- which export a name is
 
 -- the symbol of a name has a place, and the name
-named_at : (name : List ℕ) (symbols : List Symbol) (s : Symbol) → symbol_named name symbols ≡ Some s
+pub named_at : (name : List ℕ) (symbols : List Symbol) (s : Symbol) → symbol_named name symbols ≡ Some s
     → (i : ℕ) × (slice_get symbols i ≡ Some s) × (name ≡ s.name)
 named_at name [] s found = absurd cc
 named_at name (t ∷ ts) s found =
@@ -51,7 +51,7 @@ named_at name (t ∷ ts) s found =
     ]
 
 -- where a symbol stands an export stands, for which it is
-export_at : (store : Contents) (image : Image) (most : ℕ) (es : List Export) (ss : List Symbol) (i : ℕ) (s : Symbol)
+pub export_at : (store : Contents) (image : Image) (most : ℕ) (es : List Export) (ss : List Symbol) (i : ℕ) (s : Symbol)
     → AreExported store image most es ss → slice_get ss i ≡ Some s
     → (e : Export) × (slice_get es i ≡ Some e) × IsExported store image most e s
 export_at store image most [] [] i s all there = absurd cc
@@ -177,7 +177,7 @@ begins_good (Some value) position (Good rest) values is =
     record { value = value; rest = rest; good = refl; goods = refl; are = cc }
 
 -- the words of arguments for parameters of scalar types are values of these
-are_of_types : (types : List TypeForm) (xs : List TypedName) (position : ℕ) (texts : List (List ℕ)) (values : List ℕ)
+pub are_of_types : (types : List TypeForm) (xs : List TypedName) (position : ℕ) (texts : List (List ℕ)) (values : List ℕ)
     → list_all (allows param_rule) (codes_of types xs) ≡ true → arguments_of (codes_of types xs) position texts ≡ Good values
     → AreValues types xs (map word values)
 are_of_types types [] position [] [] scalar is = tt
@@ -196,7 +196,7 @@ are_of_types types (x ∷ xs) position (text ∷ texts) values scalar is =
 -- ---- the whole
 
 -- of a call whose name is a symbol's and whose arguments are good, the run of the image is due
-good_due : (image : Image) (it : Asking) (manner : Manner) (symbol : Symbol) (values : List ℕ) (due : Due)
+pub good_due : (image : Image) (it : Asking) (manner : Manner) (symbol : Symbol) (values : List ℕ) (due : Due)
     → symbol_named it.call.entry image.exports ≡ Some symbol → arguments_of symbol.params 1 it.call.arguments ≡ Good values
     → IsCallDue image it.call manner (symbol_named it.call.entry image.exports) due → IsGoodDue image symbol manner values due
 good_due image it manner symbol values due named read is =

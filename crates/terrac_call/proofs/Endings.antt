@@ -1,9 +1,11 @@
 -- How a command ends: what `out` took, and what remains.
 use Rattle.std.proofs.Common.{◌≡◌, ◌≢◌, ◌⊎◌, inl, inr, ℕ, List, [], ◌∷◌, ◌++◌, Option, refl, sym, ap, subst, ◌∙◌, append_assoc, append-nil}
 use Rattle.std.specs.Prelude.{codes}
+use Rattle.std.proofs.lemmas.List.{append_cancel_left}
 use Rattle.tl_base.specs.Outside.{with_back, IsRisen, IsFront}
 use Rattle.elf_image.specs.declared.image.Image.{Image}
 use Rattle.elf_image.specs.declared.image.Symbol.{Symbol}
+use Rattle.elf_image.specs.Calls.{result_text}
 use Rattle.rv_machine.specs.declared.stops.Stop.{Stop}
 use Rattle.rv_machine.specs.declared.stops.Stop.TheVariants as stops
 use Rattle.rv_machine.specs.ImageRun.{RanImage, RanImageToWrite, TookFrontOfRun}
@@ -15,7 +17,7 @@ use Rattle.terrac_call.specs.declared.due.Ended.{Ended}
 use Rattle.terrac_call.specs.declared.due.Ended.TheVariants as ends
 use Rattle.terrac_call.specs.Due.{Due, after, line, refused}
 use Rattle.terrac_call.specs.DueView.{shown_due}
-use Rattle.terrac_call.specs.Exec.{due_of_stop, plain, IsGoodDue}
+use Rattle.terrac_call.specs.Exec.{due_of_stop, fault_kind, place_of, plain, IsGoodDue}
 use Rattle.terrac_call.specs.Answer.{IsDueOrCut, IsWhole, IsCut}
 use Rattle.terrac_call.specs.Delivery.{StopsShort}
 use Rattle.terrac_call.specs.Ending.{Remains, Stopped, Ends}
@@ -107,7 +109,7 @@ ends_into P Q into ends.WriteFault out_old out_new f0 f1 Same h = record {
 
 pub cut_into : (P Q : Due → Type 0) → ((due : Due) → P due → Q due) → (due : Due) → IsDueOrCut P due → IsDueOrCut Q due
 cut_into P Q into due (IsWhole is) = IsWhole (into due is)
-cut_into P Q into due (IsCut whole is front noted status notes) = IsCut whole (into whole is) front noted status notes
+cut_into P Q into due (IsCut whole is front short noted status notes) = IsCut whole (into whole is) front short noted status notes
 
 -- ---- runs
 
@@ -120,6 +122,17 @@ counted_quiet stops.Unfinished f0 f1 h other = h
 
 pub counted_rose : (stop : Stop) (f0 f1 : ℕ) → Counted stop f0 f1 → stop ≡ stops.WriteFault → IsRisen f0 f1
 counted_rose stop f0 f1 h is = subst (λ (s : Stop). Counted s f0 f1) is h
+
+-- a result has a line
+stop_lacks : (front : List ℕ) (code : ℕ) (stop : Stop) → (due_of_stop front code stop).status ≡ statuses.Ok
+    → (due_of_stop front code stop).out ≡ [] → ⊥
+stop_lacks front code (stops.Returned value) ok none =
+    let end : ◌≡◌ {A = List ℕ} (10 ∷ []) [] = back_none (front ++ codes "result " ++ result_text code value) (10 ∷ []) none in absurd cc
+stop_lacks front code (stops.TerraFault kind place) ok none =
+    let other : statuses.Fault (fault_kind kind) (place_of place) ≡ statuses.Ok = ok in absurd cc
+stop_lacks front code (stops.MachineFault kind pc) ok none = let other : statuses.MachineFault kind pc ≡ statuses.Ok = ok in absurd cc
+stop_lacks front code stops.Unfinished ok none = let other : statuses.Unfinished ≡ statuses.Ok = ok in absurd cc
+stop_lacks front code stops.WriteFault ok none = let other : statuses.WriteFault ≡ statuses.Ok = ok in absurd cc
 
 module _ (image : Image) (symbol : Symbol) (values : List ℕ) (steps : ℕ) (front : List ℕ) (before now : Option (List ℕ)) (f0 f1 : ℕ) where
   -- a run that a sink stopped
@@ -164,5 +177,7 @@ module _ (image : Image) (symbol : Symbol) (values : List ℕ) (steps : ℕ) (fr
             whole.out,
             ap (λ (o : List ℕ). o ++ whole.out) (sym (append-nil h.ran.output) ∙ ap (λ (o : List ℕ). h.ran.output ++ o) (sym nothing)),
           )
+          (λ ok same. stop_lacks front symbol.result h.ran.stop ok
+          (sym (append_cancel_left h.ran.output (shown_due rest).out whole.out same) ∙ nothing))
           (whole.noted, ap (λ (o : List ℕ). o ++ whole.noted) (sym unnoted))
           (ap (λ (d : Due). d.status) e) (ap (λ (d : Due). d.notes) e)

@@ -104,7 +104,7 @@ of_emit_reading limits (IsTree tree finish) due is =
 
 of_cut : (Is : Due → Type 0) → ((due : Due) → Is due → EndsJob due) → (due : Due) → IsDueOrCut Is due → EndsJob due
 of_cut Is ends due (IsWhole is) = ends due is
-of_cut Is ends due (IsCut whole is front noted memory notes) = ap ends_job memory
+of_cut Is ends due (IsCut whole is front short noted memory notes) = ap ends_job memory
 
 of_owed : (job : Job) (bytes : List ℕ) (due : Due) → IsOwed (Some job) bytes due → EndsJob due
 of_owed (Run call running) bytes due (IsMade is) = of_cut _ (λ d i. of_run_reading (runs.of_run call running) i.0 d i.2) due is
@@ -136,7 +136,7 @@ job_no_usage (Some job) left Rose due some (OutOfMemory is) = λ e. let bad : st
 none_no_read_fault : (bytes : List ℕ) (due : Due) → IsDueOrCut (IsDue None bytes) due → due.status ≢ statuses.ReadFault
 none_no_read_fault bytes due (IsWhole is) = λ e. let bad : statuses.Usage ≡ statuses.ReadFault = sym (ap (λ (d : Due). d.status) is.1)
     ∙ e in absurd cc
-none_no_read_fault bytes due (IsCut whole is front noted memory notes) = λ e. let bad : statuses.NoMemory ≡ statuses.ReadFault =
+none_no_read_fault bytes due (IsCut whole is front short noted memory notes) = λ e. let bad : statuses.NoMemory ≡ statuses.ReadFault =
     sym memory ∙ e in absurd cc
 
 -- a read that failed is told only where the source's count of faults rose

@@ -1,5 +1,5 @@
 -- What a call answers, whatever the source and the sinks do.
-use Rattle.std.specs.Prelude.{ℕ, ◌≡◌, ◌+◌, ◌≤◌, List, [], ◌++◌, length, Option, Some, None, ◌⊎◌, IsSome}
+use Rattle.std.specs.Prelude.{ℕ, ◌≡◌, ◌≢◌, ◌+◌, ◌≤◌, List, [], ◌++◌, length, Option, Some, None, ◌⊎◌, IsSome}
 use Rattle.tl_base.specs.Outside.{with_front, with_back, IsFront}
 use Rattle.terrac_call.specs.declared.status.Status.{Status}
 use Rattle.terrac_call.specs.declared.status.Status.TheVariants as statuses
@@ -32,11 +32,12 @@ IsDue (Some (Check limits)) bytes due = IsCheckDue limits bytes due
 IsDue (Some (Terms limits)) bytes due = IsTermsDue limits bytes due
 IsDue (Some (Gen count running)) bytes due = IsGenDue count running due
 
--- what is due, unless memory runs out: then `out` takes a front of it, and `notes` a front of what comes before the line, and the line
--- that says so
+-- what is due, unless memory runs out: then `out` takes a front of it, of a result not all, and `notes` a front of what comes before the
+-- line, and the line that says so
 pub data IsDueOrCut (Is : Due → Type 0) (due : Due) : Type 0 where
   IsWhole : Is due → IsDueOrCut Is due
-  IsCut : (whole : Due) → Is whole → IsFront due.out whole.out → IsFront due.noted whole.noted
+  IsCut : (whole : Due) → Is whole → IsFront due.out whole.out → (whole.status ≡ statuses.Ok → due.out ≢ whole.out)
+      → IsFront due.noted whole.noted
       → due.status ≡ statuses.NoMemory → due.notes ≡ line (text_of statuses.NoMemory) → IsDueOrCut Is due
 
 -- One of two where a source is compiled: that; or memory ran out behind its staging, when what that printed is told already, to `out` or to
@@ -91,7 +92,8 @@ pub record IsWritten (due : Due) (status : Status) (out notes : List ℕ) : Type
   pub same_out : out ≡ due.out
   pub same_notes : notes ≡ all_notes due
 
--- A write failed: the sinks took fronts of what was due, and then `notes` a front of the line `write fault`, which is tried once.
+-- A write failed: the sinks took fronts of what was due, and then `notes` a front of the line `write fault`, which is tried once. The line
+-- of the status comes last: it is begun only where `out` took all.
 pub record IsCutOff (due : Due) (status : Status) (out notes : List ℕ) : Type 0 where
   pub write_fault : status ≡ statuses.WriteFault
   pub out_front : IsFront out due.out
@@ -99,6 +101,7 @@ pub record IsCutOff (due : Due) (status : Status) (out notes : List ℕ) : Type 
   pub fault_part : List ℕ
   pub parts : notes ≡ due_part ++ fault_part
   pub due_front : IsFront due_part (all_notes due)
+  pub line_last : (out ≡ due.out) ⊎ IsFront due_part due.noted
   pub fault_front : IsFront fault_part (line (text_of statuses.WriteFault))
 
 -- What the sinks took is what was due, or fronts of it where a write failed.

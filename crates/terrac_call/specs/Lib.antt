@@ -19,6 +19,10 @@ pub mod Emit
 pub mod Gen
 -- what a run tells of Terra's meaning
 pub mod Headline
+-- words and results as values of Terra's types
+pub mod Values
+-- what is due for a call of what a source exports, without the machine
+pub mod Meant
 -- what is due for `check`
 pub mod Check
 -- what is due for `terms`

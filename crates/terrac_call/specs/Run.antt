@@ -9,6 +9,7 @@ use Rattle.elf_image.specs.declared.image.Image.{Image}
 use Rattle.elf_image.specs.Calls.{symbol_named}
 use Rattle.terra_term.specs.Stores.{contents_of}
 use Rattle.exotype.specs.World.{StageState}
+use Rattle.spec_sound.specs.Sound.{ArePlaced}
 use Rattle.check_stage.specs.declared.staging.End.{End}
 use Rattle.check_stage.specs.declared.staging.End.TheVariants.{Done}
 use Rattle.check_stage.specs.declared.staging.Mode.TheVariants.{Exports}
@@ -58,8 +59,9 @@ pub record IsPrintedDue (it : Asking) (w : StageState) (end : End) (printed : Li
   pub rest_is : IsEndDue it w end rest
   pub is : due ≡ after printed rest
 
--- for a tree of these nodes, whose text ends at this place
+-- For a tree of these nodes, whose text ends at this place. The places of its nodes have numbers of 32 bits.
 pub record IsTreeDue (it : Asking) (items : Items) (finish : Place) (due : Due) : Type 0 where
+  pub placed : ArePlaced items
   pub n : ℕ
   pub ending : Ending
   pub comes : outcome items finish Exports n (units_of it.running.limits.budget) (bytes_of it.running.limits.memory) ≡ Some ending

@@ -1,6 +1,7 @@
 // What follows of the definitions.
 
 ghost use Rattle.terrac_call.specs.Headline.{DueTellsMeaning, RunsTellMeaning};
+ghost use Rattle.terrac_call.specs.Meant.{CallsAreMeant, SourcesAreMeant};
 
 /// The run of an export of a compiled image ends, prints and fails only as the function that it is means, and isn't over only where that
 /// isn't over in time.
@@ -12,4 +13,17 @@ pub fn runs_tell_meaning()
 /// ends, prints and fails only as the function does, so that no fault of the machine is due.
 pub fn due_tells_meaning()
     ensures { DueTellsMeaning }
+{}
+
+/// What is due for a call of what a source exports follows from the names of the exports, the types of their functions and what
+/// these mean: `no entry` where no export has the name, `bad argument` where the words are no values of the parameters' types,
+/// and else what the function prints and how it ends, with the text of the value that it returns, or the kind and the place of
+/// its fault.
+pub fn calls_are_meant()
+    ensures { CallsAreMeant }
+{}
+
+/// So it is for each source whose staging is done, behind what the staging printed.
+pub fn sources_are_meant()
+    ensures { SourcesAreMeant }
 {}

@@ -25,5 +25,5 @@ mod work;
 mod writing;
 
 pub use call::{one_due, refuse_unread, terrac};
-pub use laws::runs_tell_meaning;
+pub use laws::{calls_are_meant, runs_tell_meaning, sources_are_meant};
 pub use status::{FaultKind, ImageFault, Status};

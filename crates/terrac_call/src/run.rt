@@ -24,6 +24,7 @@ use crate::staged::staging_limits;
 use crate::words::{Call, Running};
 use crate::writing::write_piece;
 use elf_image::Image;
+use spec_sound::places_fit;
 use stage_image::{Emitted, Made, stage_exports};
 use std::alloc::Global;
 use tl_base::{Failed, NoMemory, Sink};
@@ -77,6 +78,7 @@ fn run_tree<K: Sink, N: Sink>(
         (out.new ≡ out.old) (notes.new ≡ notes.old)) }
     ensures err { OnErr result ((out.new ≡ out.old) × (notes.new ≡ notes.old)) }
 {
+    places_fit(tree);
     let emitted = stage_exports(alloc, tree, staging_limits(asking.running.limits))?;
     Ok(run_emitted(alloc, asking, emitted, out, notes))
 }

@@ -36,5 +36,5 @@ returns-clause-ends g c =
     subst (λ (m : ℕ). IsMade w m came.end emitted.end) given.memory are.end in
     both_into (IsMadeOrUnmade (IsDueOrCut (IsPrintedDue it w came.end emitted.printed)) (λ printed. printed ≡ emitted.printed) after)
     (IsMadeOrUnmade (IsDueOrCut (IsTreeDue it items finish)) (IsTreePrinted limits items finish) after)
-    (run_tree_of it items finish are.n came emitted.printed comes are.printed) c.run_emitted.result _ _ _ _ _ _ _ _ _ _
+    (run_tree_of it items finish are.n came emitted.printed comes are.printed c.places_fit.ensures) c.run_emitted.result _ _ _ _ _ _ _ _ _ _
     (c.run_emitted.ensures w came.end are.functions made)
