@@ -292,6 +292,7 @@ impl<'a> Parser<'a> {
     /// Name | "(" exp ")"
     #[cycle(parser)]
     #[tactic(auto, using(crate::proofs::Failing::failing), unfolding(crate::specs::Expressions::base_at))]
+    #[inline(always)]
     pub(crate) fn base(&mut self, mode: Mode, levels: u32) -> Result<Operand, SyntaxError>
         requires { Ready self.old }
         ensures ok { IfOk result (λ r. TookOperand self.old self.new (base_at levels mode (tokens_left self.old)) r) }
@@ -496,6 +497,7 @@ impl<'a> Parser<'a> {
     /// prefix = var | call | "(" exp ")"; where it is to be `bare`, brackets alone are none
     #[cycle(parser)]
     #[tactic(auto, using(crate::proofs::Turns::suffixes), unfolding(crate::specs::Expressions::applied_at))]
+    #[inline(always)]
     pub(crate) fn applied(
         &mut self,
         mode: Mode,
@@ -667,6 +669,7 @@ impl<'a> Parser<'a> {
     /// operator exp, of a precedence
     #[cycle(parser)]
     #[tactic(auto, using(crate::proofs::Taking::shorter), unfolding(crate::specs::Expressions::one_more_at))]
+    #[inline(never)]
     fn one_more(
         &mut self,
         precedence: Precedence,
@@ -686,6 +689,7 @@ impl<'a> Parser<'a> {
     /// exp {operator exp}, of a precedence
     #[cycle(parser)]
     #[tactic(auto, using(crate::proofs::Turns::operations), unfolding(crate::specs::Expressions::binary_at))]
+    #[inline(always)]
     fn binary(
         &mut self,
         precedence: Precedence,

@@ -128,6 +128,7 @@ pub(crate) struct Parser<'a> {
 
 impl<'a> Next<'a> {
     /// The answer of the lexer as a token.
+    #[inline(always)]
     fn new(answer: Result<tl_lex::Token<'a>, LexError>) -> Next<'a>
         ensures { IsNext answer.entry result }
     {
@@ -298,6 +299,7 @@ impl<'a> Parser<'a> {
 
     /// Takes the next token.
     #[tactic(auto, using(crate::proofs::Looking::advanced))]
+    #[inline(never)]
     fn next(&mut self) -> Next<'a>
         requires next { HasNext (tokens_left self.old) }
         requires ready { Ready self.old }
@@ -569,6 +571,7 @@ impl<'a> Parser<'a> {
     }
 
     /// Adds an operator with its operands, in a chain that so many tokens may continue.
+    #[inline(never)]
     pub(crate) fn operation(
         &mut self,
         token: Next<'a>,

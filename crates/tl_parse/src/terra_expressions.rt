@@ -544,6 +544,7 @@ impl<'a> Parser<'a> {
     /// operator texp, of a precedence
     #[cycle(parser)]
     #[tactic(auto, using(crate::proofs::Taking::shorter), unfolding(crate::specs::TerraExpressions::terra_one_more_at))]
+    #[inline(never)]
     fn terra_one_more(
         &mut self,
         precedence: TerraPrecedence,
@@ -562,6 +563,7 @@ impl<'a> Parser<'a> {
     /// texp {operator texp}, of a precedence
     #[cycle(parser)]
     #[tactic(auto, using(crate::proofs::TerraTurns::operations), unfolding(crate::specs::TerraExpressions::terra_binary_at))]
+    #[inline(always)]
     fn terra_binary(
         &mut self,
         precedence: TerraPrecedence,
