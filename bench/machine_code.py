@@ -125,6 +125,9 @@ class Guest:
         self.pc, value = pc + 4, None
         if opcode in (0x37, 0x17):
             value = signed(w & 0xFFFFF000, 32) + (pc if opcode == 0x17 else 0)
+        elif opcode == 0x6F:
+            to = (w >> 31 & 1) << 20 | (w >> 12 & 255) << 12 | (w >> 20 & 1) << 11 | (w >> 21 & 1023) << 1
+            self.pc, value = pc + signed(to, 21), pc + 4
         elif opcode == 0x67:
             self.pc, value = (a + i) % (1 << 64) & ~1, pc + 4
         elif opcode == 0x63:
