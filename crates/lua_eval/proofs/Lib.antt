@@ -16,6 +16,10 @@ pub mod Making
 pub mod Named
 pub mod Numbering
 pub mod Operands
+pub mod Passing
+pub mod Over
 pub mod Targeting
 pub mod Reading
+pub mod Reached
+pub mod Taking
 pub mod Turning

@@ -29,3 +29,7 @@ pub mod CallPlans
 pub mod Choices
 -- Where assignments store.
 pub mod Spots
+-- Stores that ask no handler.
+pub mod Storing
+-- What is left of statements, of which some were executed at once.
+pub mod Running

@@ -11,6 +11,7 @@ ghost use Rattle.lua_model.specs.Plans.{statements, raise};
 ghost use Rattle.std.specs.Bool.{OnTrue};
 ghost use Rattle.lua_model.specs.Calls.{most_calls, call, call_closure, call_library, call_handler};
 ghost use Rattle.lua_eval.specs.Calls.{entered_state, entered_scope, call_fault};
+ghost use Rattle.lua_eval.specs.Slots.{ArePaths};
 ghost use Rattle.lua_eval.specs.Steps.{Goes};
 ghost use Rattle.tl_base.specs.Plan.{Give};
 
@@ -18,12 +19,14 @@ use crate::cells::{declare_all, with_cells};
 use crate::code::{Parts, block_statements, function_parts};
 use crate::frame::LuaFrame;
 use crate::raise::{LuaStep, raise};
+use crate::running::proceed;
 use crate::values::with_first;
 use lua_model::{Caller, End, Job, LuaQuestion, Scope};
 use lua_ops::{Fault, handler_of};
 use lua_table::{Closure, Heap, LibCall};
 use lua_value::{Kind, Value, Values};
 use tl_base::{Budget, ClosureId, NoMemory, NodeId, Place, Step};
+use tl_rename::Slots;
 use tl_tree::Tree;
 
 /// Holds where one more call may be in progress.
@@ -112,6 +115,38 @@ pub fn call_closure<'a>(
         let none = Values::new(heap.allocator());
         let entered = statements(frames, block_statements(tree, parts.block), scope, none)?;
         Ok(entered)
+    } else {
+        let step = raise(heap, budget, place, Fault::StackOverflow)?;
+        Ok(step)
+    }
+}
+
+/// Calls a function of Lua code, and executes its statements at once, as far as that is possible.
+pub fn enter_closure<'a>(
+    tree: &'a Tree<'a>,
+    slots: &Slots,
+    frames: &mut Vec<LuaFrame<'a>>,
+    heap: &mut Heap,
+    budget: &mut Budget,
+    closure: ClosureId,
+    args: Values,
+    place: Place,
+) -> Result<LuaStep, NoMemory>
+    requires { ArePaths (items_of tree.now) slots.now }
+    ensures means { IfOk result (λ step.
+        Goes (items_of tree.now) frames.old.items (call_closure (items_of tree.now) closure args place Give)
+        heap.old budget.old frames.new.items step heap.new budget.new) }
+    ensures kept { OnOk result (KeepsHeap heap.old heap.new) }
+{
+    if may_call(heap) {
+        let code = heap.closure(closure);
+        let parts = function_parts(tree, code.function);
+        heap.begin_call();
+        let scope = enter_call(heap, &code, &parts, args.as_slice(), place)?;
+        frames.push(LuaFrame::Function)?;
+        let none = Values::new(heap.allocator());
+        let list = block_statements(tree, parts.block);
+        proceed(tree, slots, frames, heap, budget, list, scope, none)
     } else {
         let step = raise(heap, budget, place, Fault::StackOverflow)?;
         Ok(step)

@@ -58,7 +58,9 @@ pub mod machine;
 pub mod operators;
 pub mod quick;
 pub mod raise;
+pub mod running;
 pub mod statements;
+pub mod storing;
 pub mod tables;
 pub mod values;
 

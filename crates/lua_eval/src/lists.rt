@@ -16,7 +16,7 @@ ghost use Rattle.lua_eval.specs.AtOnce.{Becomes};
 ghost use Rattle.lua_eval.specs.Steps.{Goes};
 
 use crate::assignments::stores;
-use crate::calls::call;
+use crate::calls::{call, enter_closure};
 use crate::cells::declare_all;
 use crate::frame::{AllFrame, ListFrame, LuaFrame, OneFrame, Then};
 use crate::loops::list_next;
@@ -164,20 +164,25 @@ pub fn with_list<'a>(
     ensures kept { OnOk result (KeepsHeap heap.old heap.new) }
 {
     match then {
-        Then::Call(function, place) => {
-            let step = call(
-                tree,
-                frames,
-                heap,
-                budget,
-                Caller::ByNode,
-                function,
-                values,
-                place,
-                scope.call,
-            )?;
-            Ok(step)
-        }
+        Then::Call(function, place) => match function {
+            Value::Closure(closure) => enter_closure(
+                tree, slots, frames, heap, budget, closure, values, place,
+            ),
+            _ => {
+                let step = call(
+                    tree,
+                    frames,
+                    heap,
+                    budget,
+                    Caller::ByNode,
+                    function,
+                    values,
+                    place,
+                    scope.call,
+                )?;
+                Ok(step)
+            }
+        },
         Then::Return => Ok(Step::Return(End::Returned(values, Values::new(heap.allocator())))),
         Then::Local(names) => {
             declare_all(heap, names.len(), scope.env, values.as_slice())?;

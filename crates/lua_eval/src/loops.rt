@@ -13,19 +13,22 @@ ghost use Rattle.lua_model.specs.Plans.{within, value_of, statements};
 ghost use Rattle.lua_eval.specs.Numbers.{number_in, numbers_in};
 ghost use Rattle.lua_model.specs.Loops as plans;
 ghost use Rattle.lua_eval.specs.Frames.{first_count, next_turn, with_loop};
+ghost use Rattle.lua_eval.specs.Slots.{ArePaths};
 ghost use Rattle.lua_eval.specs.Steps.{Goes, Does};
 
-use crate::calls::{call, statements};
+use crate::calls::call;
 use crate::cells::{declare, declare_all};
 use crate::code::block_statements;
 use crate::frame::{AllFrame, LoopFrame, LuaFrame, OneFrame, TurnFrame};
 use crate::raise::{LuaStep, raise};
+use crate::running::proceed;
 use crate::values::{copy, split_values, two};
 use lua_model::{Caller, End, Job, Loop, Scope};
 use lua_ops::{Fault, operand};
 use lua_table::Heap;
 use lua_value::{Number, Value, Values};
 use tl_base::{Budget, EnvId, NoMemory, NodeId, Place, Step};
+use tl_rename::Slots;
 use tl_tree::{Node, Statement, Tree};
 
 /// A scope in another environment.
@@ -393,25 +396,27 @@ fn count_from(
 /// Does a turn of the loop that a statement is, and all later ones.
 pub fn turn<'a>(
     tree: &'a Tree<'a>,
+    slots: &Slots,
     frames: &mut Vec<LuaFrame<'a>>,
     heap: &mut Heap,
+    budget: &mut Budget,
     node: NodeId,
     scope: Scope,
     turn: Loop,
     out: Values,
 ) -> Result<LuaStep, NoMemory>
-    ensures means { IfOk result (λ step. (left : ℕ) →
+    requires { ArePaths (items_of tree.now) slots.now }
+    ensures means { IfOk result (λ step.
         Goes (items_of tree.now) frames.old.items
         (plans.turn_plan (items_of tree.now) (item_at (items_of tree.now) node) node scope turn out)
-        heap.old left frames.new.items step heap.new left) }
+        heap.old budget.old frames.new.items step heap.new budget.new) }
     ensures kept { OnOk result (KeepsHeap heap.old heap.new) }
 {
     match tree.node(node) {
         Node::Statement(place, statement) => {
-            let step = turn_of(
-                tree, frames, heap, statement, node, *place, scope, turn, out,
-            )?;
-            Ok(step)
+            turn_of(
+                tree, slots, frames, heap, budget, statement, node, *place, scope, turn, out,
+            )
         }
         _ => Ok(Step::Return(End::Fell(out))),
     }
@@ -420,8 +425,10 @@ pub fn turn<'a>(
 #[tactic(auto, using(tl_base::proofs::Steps::pushes))]
 fn turn_of<'a>(
     tree: &'a Tree<'a>,
+    slots: &Slots,
     frames: &mut Vec<LuaFrame<'a>>,
     heap: &mut Heap,
+    budget: &mut Budget,
     statement: &'a Statement,
     node: NodeId,
     place: Place,
@@ -429,32 +436,34 @@ fn turn_of<'a>(
     turn: Loop,
     out: Values,
 ) -> Result<LuaStep, NoMemory>
-    ensures means { IfOk result (λ step. (left : ℕ) →
+    requires { ArePaths (items_of tree.now) slots.now }
+    ensures means { IfOk result (λ step.
         Goes (items_of tree.now) frames.old.items
         (plans.turn_of (items_of tree.now) statement.now node place scope turn out)
-        heap.old left frames.new.items step heap.new left) }
+        heap.old budget.old frames.new.items step heap.new budget.new) }
     ensures kept { OnOk result (KeepsHeap heap.old heap.new) }
 {
     match turn {
         Loop::While => {
-            let step = while_turn(tree, frames, heap, statement, node, scope, out)?;
-            Ok(step)
+            while_turn(
+                tree, slots, frames, heap, budget, statement, node, scope, out,
+            )
         }
         Loop::Repeat => {
-            let step = repeat_turn(tree, frames, heap, statement, node, scope, out)?;
-            Ok(step)
+            repeat_turn(
+                tree, slots, frames, heap, budget, statement, node, scope, out,
+            )
         }
         Loop::Counted(at, limit, by) => {
-            let step = numeric_turn(
-                tree, frames, heap, statement, node, scope, at, limit, by, out,
-            )?;
-            Ok(step)
+            numeric_turn(
+                tree, slots, frames, heap, budget, statement, node, scope, at, limit, by, out,
+            )
         }
         Loop::Listed(env, function, state, control) => {
-            let step = generic_turn(
-                tree, frames, statement, node, place, scope, env, function, state, control, out,
-            )?;
-            Ok(step)
+            generic_turn(
+                tree, slots, frames, heap, budget, statement, node, place, scope, env, function,
+                state, control, out,
+            )
         }
     }
 }
@@ -462,7 +471,10 @@ fn turn_of<'a>(
 #[tactic(auto, using(tl_base::proofs::Steps::pushes))]
 fn generic_turn<'a>(
     tree: &'a Tree<'a>,
+    slots: &Slots,
     frames: &mut Vec<LuaFrame<'a>>,
+    heap: &mut Heap,
+    budget: &mut Budget,
     statement: &'a Statement,
     node: NodeId,
     place: Place,
@@ -473,17 +485,27 @@ fn generic_turn<'a>(
     control: Value,
     out: Values,
 ) -> Result<LuaStep, NoMemory>
-    ensures means { IfOk result (λ step. (s : LuaState) (left : ℕ) →
+    requires { ArePaths (items_of tree.now) slots.now }
+    ensures means { IfOk result (λ step.
         Goes (items_of tree.now) frames.old.items
         (plans.generic_turn (items_of tree.now) statement.now node place scope env function state control out)
-        s left frames.new.items step s left) }
+        heap.old budget.old frames.new.items step heap.new budget.new) }
+    ensures kept { OnOk result (KeepsHeap heap.old heap.new) }
 {
     match statement {
         Statement::GenericFor(names, _, block) => {
             let next = TurnFrame::Listed(names.as_slice(), place, function, state, control);
             frames.push(LuaFrame::Turn(node, scope, next))?;
-            let begun = turn_block(tree, frames, *block, within(scope, env), out)?;
-            Ok(begun)
+            turn_block(
+                tree,
+                slots,
+                frames,
+                heap,
+                budget,
+                *block,
+                within(scope, env),
+                out,
+            )
         }
         _ => Ok(Step::Return(End::Fell(out))),
     }
@@ -492,25 +514,36 @@ fn generic_turn<'a>(
 #[tactic(auto, using(tl_base::proofs::Steps::pushes))]
 fn while_turn<'a>(
     tree: &'a Tree<'a>,
+    slots: &Slots,
     frames: &mut Vec<LuaFrame<'a>>,
     heap: &mut Heap,
+    budget: &mut Budget,
     statement: &'a Statement,
     node: NodeId,
     scope: Scope,
     out: Values,
 ) -> Result<LuaStep, NoMemory>
-    ensures means { IfOk result (λ step. (left : ℕ) →
+    requires { ArePaths (items_of tree.now) slots.now }
+    ensures means { IfOk result (λ step.
         Goes (items_of tree.now) frames.old.items
         (plans.while_turn (items_of tree.now) statement.now node scope out)
-        heap.old left frames.new.items step heap.new left) }
+        heap.old budget.old frames.new.items step heap.new budget.new) }
     ensures kept { OnOk result (KeepsHeap heap.old heap.new) }
 {
     match statement {
         Statement::While(condition, block) => {
             let env = heap.new_env(*block, Some(scope.env))?;
             frames.push(LuaFrame::Turn(node, scope, TurnFrame::While(*condition)))?;
-            let begun = turn_block(tree, frames, *block, within(scope, env), out)?;
-            Ok(begun)
+            turn_block(
+                tree,
+                slots,
+                frames,
+                heap,
+                budget,
+                *block,
+                within(scope, env),
+                out,
+            )
         }
         _ => Ok(Step::Return(End::Fell(out))),
     }
@@ -519,17 +552,20 @@ fn while_turn<'a>(
 #[tactic(auto, using(tl_base::proofs::Steps::pushes))]
 fn repeat_turn<'a>(
     tree: &'a Tree<'a>,
+    slots: &Slots,
     frames: &mut Vec<LuaFrame<'a>>,
     heap: &mut Heap,
+    budget: &mut Budget,
     statement: &'a Statement,
     node: NodeId,
     scope: Scope,
     out: Values,
 ) -> Result<LuaStep, NoMemory>
-    ensures means { IfOk result (λ step. (left : ℕ) →
+    requires { ArePaths (items_of tree.now) slots.now }
+    ensures means { IfOk result (λ step.
         Goes (items_of tree.now) frames.old.items
         (plans.repeat_turn (items_of tree.now) statement.now node scope out)
-        heap.old left frames.new.items step heap.new left) }
+        heap.old budget.old frames.new.items step heap.new budget.new) }
     ensures kept { OnOk result (KeepsHeap heap.old heap.new) }
 {
     match statement {
@@ -537,8 +573,7 @@ fn repeat_turn<'a>(
             let env = heap.new_env(node, Some(scope.env))?;
             let inner = within(scope, env);
             frames.push(LuaFrame::Turn(node, scope, TurnFrame::Repeat(*condition, inner)))?;
-            let begun = turn_block(tree, frames, *block, inner, out)?;
-            Ok(begun)
+            turn_block(tree, slots, frames, heap, budget, *block, inner, out)
         }
         _ => Ok(Step::Return(End::Fell(out))),
     }
@@ -547,8 +582,10 @@ fn repeat_turn<'a>(
 #[tactic(auto, using(tl_base::proofs::Steps::pushes))]
 fn numeric_turn<'a>(
     tree: &'a Tree<'a>,
+    slots: &Slots,
     frames: &mut Vec<LuaFrame<'a>>,
     heap: &mut Heap,
+    budget: &mut Budget,
     statement: &'a Statement,
     node: NodeId,
     scope: Scope,
@@ -557,10 +594,11 @@ fn numeric_turn<'a>(
     by: Number,
     out: Values,
 ) -> Result<LuaStep, NoMemory>
-    ensures means { IfOk result (λ step. (left : ℕ) →
+    requires { ArePaths (items_of tree.now) slots.now }
+    ensures means { IfOk result (λ step.
         Goes (items_of tree.now) frames.old.items
         (plans.numeric_turn (items_of tree.now) statement.now node scope at limit by out)
-        heap.old left frames.new.items step heap.new left) }
+        heap.old budget.old frames.new.items step heap.new budget.new) }
     ensures kept { OnOk result (KeepsHeap heap.old heap.new) }
 {
     match statement {
@@ -568,8 +606,16 @@ fn numeric_turn<'a>(
             let env = heap.new_env(node, Some(scope.env))?;
             declare(heap, env, Value::Number(at))?;
             frames.push(LuaFrame::Turn(node, scope, TurnFrame::Counted(at, limit, by)))?;
-            let begun = turn_block(tree, frames, *block, within(scope, env), out)?;
-            Ok(begun)
+            turn_block(
+                tree,
+                slots,
+                frames,
+                heap,
+                budget,
+                *block,
+                within(scope, env),
+                out,
+            )
         }
         _ => Ok(Step::Return(End::Fell(out))),
     }
@@ -578,16 +624,21 @@ fn numeric_turn<'a>(
 /// Executes a block in a turn, of which so much was emitted before.
 fn turn_block<'a>(
     tree: &'a Tree<'a>,
+    slots: &Slots,
     frames: &mut Vec<LuaFrame<'a>>,
+    heap: &mut Heap,
+    budget: &mut Budget,
     block: NodeId,
     inner: Scope,
     out: Values,
 ) -> Result<LuaStep, NoMemory>
-    ensures means { IfOk result (λ step. (s : LuaState) (left : ℕ) →
+    requires { ArePaths (items_of tree.now) slots.now }
+    ensures means { IfOk result (λ step.
         Goes (items_of tree.now) frames.old.items
         (statements (statements_at (items_of tree.now) block) inner out Give)
-        s left frames.new.items step s left) }
+        heap.old budget.old frames.new.items step heap.new budget.new) }
+    ensures kept { OnOk result (KeepsHeap heap.old heap.new) }
 {
-    let step = statements(frames, block_statements(tree, block), inner, out)?;
-    Ok(step)
+    let list = block_statements(tree, block);
+    proceed(tree, slots, frames, heap, budget, list, inner, out)
 }

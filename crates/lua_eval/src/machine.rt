@@ -24,6 +24,7 @@ use crate::frame::{AllFrame, LuaFrame, OneFrame, TurnFrame, ValueFrame};
 use crate::lists::{list, with_list};
 use crate::loops::{listed, next_turn, turn, with_loop};
 use crate::raise::LuaStep;
+use crate::running::proceed;
 use crate::statements::{block, statement, target, with_statement};
 use crate::tables::{store_values, with_field};
 use crate::values::{append, one, split_values};
@@ -297,22 +298,27 @@ fn after_turn<'a>(
 #[tactic(auto, using(tl_base::proofs::Steps::pushes))]
 /// Goes on with a block, of which a statement ended so.
 fn after_statement<'a>(
+    tree: &'a Tree<'a>,
+    slots: &Slots,
     frames: &mut Vec<LuaFrame<'a>>,
+    heap: &mut Heap,
+    budget: &mut Budget,
     rest: &'a [NodeId],
     scope: Scope,
     before: Values,
     end: End,
 ) -> Result<LuaStep, NoMemory>
-    ensures means { IfOk result (λ step. (items : Items) (s : LuaState) (left : ℕ) →
-        Goes items frames.old.items (on_fell end before Give (λ all. statements rest.now scope all Give)) s left
-        frames.new.items step s left) }
+    requires { ArePaths (items_of tree.now) slots.now }
+    ensures means { IfOk result (λ step.
+        Goes (items_of tree.now) frames.old.items (on_fell end before Give (λ all. statements rest.now scope all Give))
+        heap.old budget.old frames.new.items step heap.new budget.new) }
+    ensures kept { OnOk result (KeepsHeap heap.old heap.new) }
 {
     let mut out = before;
     match end {
         End::Fell(more) => {
             append(&mut out, more.as_slice())?;
-            let step = statements(frames, rest, scope, out)?;
-            Ok(step)
+            proceed(tree, slots, frames, heap, budget, rest, scope, out)
         }
         End::Broke(more) => {
             append(&mut out, more.as_slice())?;
@@ -323,10 +329,7 @@ fn after_statement<'a>(
             Ok(Step::Return(End::Returned(values, out)))
         }
         End::Raised(value, place) => Ok(Step::Return(End::Raised(value, place))),
-        _ => {
-            let step = statements(frames, rest, scope, out)?;
-            Ok(step)
-        }
+        _ => { proceed(tree, slots, frames, heap, budget, rest, scope, out) }
     }
 }
 
@@ -472,32 +475,25 @@ impl<'a> Machine for Steps<'a> {
     ) -> Result<LuaStep, NoMemory> {
         match job {
             Job::Expression(id, scope) => {
-                let step = node(self.tree, self.slots, frames, heap, budget, id, scope)?;
-                Ok(step)
+                node(self.tree, self.slots, frames, heap, budget, id, scope)
             }
             Job::Statement(id, scope) => {
-                let step = statement(self.tree, self.slots, frames, heap, budget, id, scope)?;
-                Ok(step)
+                statement(self.tree, self.slots, frames, heap, budget, id, scope)
             }
-            Job::Target(id, scope) => {
-                let step = target(self.tree, frames, heap, id, scope)?;
-                Ok(step)
-            }
+            Job::Target(id, scope) => { target(self.tree, frames, heap, id, scope) }
             Job::Turn(id, scope, kind, out) => {
-                let step = turn(self.tree, frames, heap, id, scope, kind, out)?;
-                Ok(step)
+                turn(
+                    self.tree, self.slots, frames, heap, budget, id, scope, kind, out,
+                )
             }
             Job::Callback(closure, args, place) => {
-                let step = call_closure(self.tree, frames, heap, budget, closure, args, place)?;
-                Ok(step)
+                call_closure(self.tree, frames, heap, budget, closure, args, place)
             }
             Job::Read(object, key, place, outer) => {
-                let step = read(frames, heap, budget, object, key, place, outer)?;
-                Ok(step)
+                read(frames, heap, budget, object, key, place, outer)
             }
             Job::Store(object, key, value, place, outer) => {
-                let step = store(frames, heap, budget, object, key, value, place, outer)?;
-                Ok(step)
+                store(frames, heap, budget, object, key, value, place, outer)
             }
         }
     }
@@ -513,12 +509,10 @@ impl<'a> Machine for Steps<'a> {
     ) -> Result<LuaStep, NoMemory> {
         match frame {
             LuaFrame::One(frame) => {
-                let step = after_one(self.tree, self.slots, frames, heap, budget, frame, end)?;
-                Ok(step)
+                after_one(self.tree, self.slots, frames, heap, budget, frame, end)
             }
             LuaFrame::All(frame) => {
-                let step = after_all(self.tree, self.slots, frames, heap, budget, frame, end)?;
-                Ok(step)
+                after_all(self.tree, self.slots, frames, heap, budget, frame, end)
             }
             LuaFrame::Library => {
                 heap.end_call();
@@ -529,12 +523,12 @@ impl<'a> Machine for Steps<'a> {
                 Ok(Step::Return(returned(heap, end)))
             }
             LuaFrame::Turn(node, scope, kind) => {
-                let step = after_turn(self.tree, frames, heap, budget, node, scope, &kind, end)?;
-                Ok(step)
+                after_turn(self.tree, frames, heap, budget, node, scope, &kind, end)
             }
             LuaFrame::Block(rest, scope, out) => {
-                let step = after_statement(frames, rest, scope, out, end)?;
-                Ok(step)
+                after_statement(
+                    self.tree, self.slots, frames, heap, budget, rest, scope, out, end,
+                )
             }
         }
     }

@@ -113,7 +113,7 @@ fn otherwise_block<'a>(
 }
 
 /// The condition and the block of an arm.
-fn arm(tree: &Tree<'_>, node: NodeId) -> (NodeId, NodeId)
+pub fn arm(tree: &Tree<'_>, node: NodeId) -> (NodeId, NodeId)
     ensures condition { result.0 ≡ arm_condition (item_at (items_of tree.now) node) }
     ensures block { result.1 ≡ arm_block (item_at (items_of tree.now) node) }
 {
