@@ -82,21 +82,17 @@ entering_passes items n scope inner env ns ms s t u left mid inner_is env_is hea
     ∙ ap (λ (sc : Scope). run (jobs_of items) (statements ms sc [] Give) (state u mid) later) inner_is
 
 -- a statement that returns, with what stands behind it
-pub statement_returns : (items : Items) (n : NodeId) (ns : List NodeId) (scope : Scope) (out vs : List Value) (s t : LuaState) (left mid : ℕ)
+pub statement_returns : (items : Items) (n : NodeId) (ns : List NodeId) (scope : Scope) (out vs : List Value) (go : End → LuaPlan)
+    (s t : LuaState) (left mid : ℕ)
     → EndsAtOnce items (jobs.Statement n scope) (Returned vs []) s left t mid
-    → Becomes items (statements (n ∷ ns) scope out Give) s left (Give (Returned vs out)) t mid
-statement_returns items n ns scope out vs s t left mid h = λ later.
+    → Becomes items (statements (n ∷ ns) scope out go) s left (go (Returned vs out)) t mid
+statement_returns items n ns scope out vs go s t left mid h = λ later.
     ap (λ (o : Run LuaState LuaQuestion LuaAnswer End).
-    then_do o (λ r. run (jobs_of items) (on_fell r out Give (λ all. statements ns scope all Give)))) (h later)
-    ∙ ap (λ (more : List Value). run (jobs_of items) (Give (Returned vs more)) (state t mid) later) (append-nil out)
+    then_do o (λ r. run (jobs_of items) (on_fell r out go (λ all. statements ns scope all go)))) (h later)
+    ∙ ap (λ (more : List Value). run (jobs_of items) (go (Returned vs more)) (state t mid) later) (append-nil out)
 
--- the same in a block inside
-pub inner_returns : (items : Items) (m : NodeId) (ms ns : List NodeId) (inner scope : Scope) (out vs : List Value) (s t : LuaState) (left mid : ℕ)
-    → EndsAtOnce items (jobs.Statement m inner) (Returned vs []) s left t mid
-    → Becomes items (statements (m ∷ ms) inner [] (λ r. on_fell r out Give (λ all. statements ns scope all Give))) s left
-    (Give (Returned vs out)) t mid
-inner_returns items m ms ns inner scope out vs s t left mid h = λ later.
-    let k : End → LuaPlan = λ r. on_fell r out Give (λ all. statements ns scope all Give) in
-    ap (λ (o : Run LuaState LuaQuestion LuaAnswer End).
-    then_do o (λ r. run (jobs_of items) (on_fell r [] k (λ all. statements ms inner all k)))) (h later)
-    ∙ ap (λ (more : List Value). run (jobs_of items) (Give (Returned vs more)) (state t mid) later) (append-nil out)
+-- what returns in a block inside returns from the statements around it
+pub returned_outwards : (items : Items) (ns : List NodeId) (scope : Scope) (out vs : List Value) (s : LuaState) (left : ℕ)
+    → Becomes items (on_fell (Returned vs []) out Give (λ all. statements ns scope all Give)) s left (Give (Returned vs out)) s left
+returned_outwards items ns scope out vs s left = λ later.
+    ap (λ (more : List Value). run (jobs_of items) (Give (Returned vs more)) (state s left) later) (append-nil out)

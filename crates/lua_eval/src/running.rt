@@ -116,8 +116,7 @@ fn flat<'a>(
         match rest.split_first() {
             None => return Ok(rest),
             Some((first, behind)) => {
-                let done = assigned(tree, slots, heap, budget, *first, scope)?;
-                if !done {
+                if !assigned(tree, slots, heap, budget, *first, scope)? {
                     return Ok(rest);
                 }
                 rest = behind;
@@ -347,15 +346,18 @@ fn run<'a>(
         let left = flat(tree, slots, heap, budget, rest, scope)?;
         match left.split_first() {
             None => return Ok(Halt::At(left)),
-            Some((first, behind)) => match chosen(tree, slots, heap, budget, *first, scope)? {
-                None => return Ok(Halt::At(left)),
-                Some(entered) => {
-                    if !entered.list.is_empty() {
-                        return Ok(Halt::Within(entered.list, entered.env, behind));
+            Some((first, behind)) => {
+                let entered = chosen(tree, slots, heap, budget, *first, scope)?;
+                match entered {
+                    None => return Ok(Halt::At(left)),
+                    Some(inside) => {
+                        if !inside.list.is_empty() {
+                            return Ok(Halt::Within(inside.list, inside.env, behind));
+                        }
+                        rest = behind;
                     }
-                    rest = behind;
                 }
-            },
+            }
         }
     }
     Ok(Halt::At(rest))
@@ -435,6 +437,28 @@ fn returned<'a>(
     }
 }
 
+/// The value that statements return at once, where the first of them does.
+fn first_returned<'a>(
+    tree: &'a Tree<'a>,
+    slots: &Slots,
+    heap: &mut Heap,
+    budget: &mut Budget,
+    list: &'a [NodeId],
+    scope: &Scope,
+) -> Option<Value>
+    requires { ArePaths (items_of tree.now) slots.now }
+    ensures found { IfSome result (λ value. (out : List value_types.Value) (go : ends.End → LuaPlan) →
+        Becomes (items_of tree.now) (model.statements list.now scope.now out go) heap.old budget.old
+        (go (Returned (value ∷ []) out)) heap.old budget.new) }
+    ensures none { IfNone result (budget.new ≡ budget.old) }
+    ensures same { heap.new ≡ heap.old }
+{
+    match list.split_first() {
+        Some((first, _)) => returned(tree, slots, heap, budget, *first, scope),
+        None => None,
+    }
+}
+
 /// The value that statements return at once, of which this is left.
 fn ending<'a>(
     tree: &'a Tree<'a>,
@@ -452,17 +476,11 @@ fn ending<'a>(
     ensures same { heap.new ≡ heap.old }
 {
     match halt {
-        Halt::At(list) => match list.split_first() {
-            Some((first, _)) => returned(tree, slots, heap, budget, *first, scope),
-            None => None,
-        },
-        Halt::Within(list, env, _) => match list.split_first() {
-            Some((first, _)) => {
-                let inner = within(*scope, *env);
-                returned(tree, slots, heap, budget, *first, &inner)
-            }
-            None => None,
-        },
+        Halt::At(list) => first_returned(tree, slots, heap, budget, list, scope),
+        Halt::Within(list, env, _) => {
+            let inner = within(*scope, *env);
+            first_returned(tree, slots, heap, budget, list, &inner)
+        }
     }
 }
 
