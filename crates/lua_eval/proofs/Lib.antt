@@ -2,6 +2,7 @@ pub mod AtOnce
 pub mod Below
 pub mod Calling
 pub mod Choosing
+pub mod Counted
 pub mod Counting
 pub mod Declaring
 pub mod Doing

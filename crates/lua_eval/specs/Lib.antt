@@ -33,3 +33,5 @@ pub mod Spots
 pub mod Storing
 -- What is left of statements, of which some were executed at once.
 pub mod Running
+-- What is left of a numeric `for`, of which some turns were done at once.
+pub mod Turns

@@ -62,6 +62,7 @@ pub mod running;
 pub mod statements;
 pub mod storing;
 pub mod tables;
+pub mod turns;
 pub mod values;
 
 pub use frame::LuaFrame;

@@ -61,10 +61,7 @@ pub fn list<'a>(
     let mut values = values;
     let rest = values_at_once(tree, slots, heap, budget, nodes, &scope, &mut values)?;
     match rest.split_first() {
-        None => {
-            let step = with_list(tree, slots, frames, heap, budget, scope, values, then)?;
-            Ok(step)
-        }
+        None => { with_list(tree, slots, frames, heap, budget, scope, values, then) }
         Some((first, behind)) => {
             let frame = ListFrame {
                 rest: behind,
@@ -72,8 +69,7 @@ pub fn list<'a>(
                 values,
                 then,
             };
-            let entered = item(frames, *first, frame)?;
-            Ok(entered)
+            item(frames, *first, frame)
         }
     }
 }
@@ -168,20 +164,17 @@ pub fn with_list<'a>(
             Value::Closure(closure) => enter_closure(
                 tree, slots, frames, heap, budget, closure, values, place,
             ),
-            _ => {
-                let step = call(
-                    tree,
-                    frames,
-                    heap,
-                    budget,
-                    Caller::ByNode,
-                    function,
-                    values,
-                    place,
-                    scope.call,
-                )?;
-                Ok(step)
-            }
+            _ => call(
+                tree,
+                frames,
+                heap,
+                budget,
+                Caller::ByNode,
+                function,
+                values,
+                place,
+                scope.call,
+            ),
         },
         Then::Return => Ok(Step::Return(End::Returned(values, Values::new(heap.allocator())))),
         Then::Local(names) => {
@@ -190,17 +183,15 @@ pub fn with_list<'a>(
         }
         Then::Assign(targets, held) => {
             let left = targets.len() as u64;
-            let step = stores(
+            stores(
                 tree, slots, frames, heap, budget, targets, scope, held, values, left,
-            )?;
-            Ok(step)
+            )
         }
         Then::Listed(node, names, place) => {
             let values = values.as_slice();
-            let step = first_listed(
+            first_listed(
                 tree, frames, heap, budget, node, names, place, scope, values,
-            )?;
-            Ok(step)
+            )
         }
     }
 }

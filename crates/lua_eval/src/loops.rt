@@ -156,7 +156,7 @@ pub fn first_count(
 
 /// Holds where a numeric `for` has a turn with this number: a step above zero runs up to the limit, and any other one down
 /// to it.
-fn runs(at: Number, limit: Number, step: Number) -> bool
+pub fn runs(at: Number, limit: Number, step: Number) -> bool
     ensures { result ≡ plans.runs at limit step }
 {
     if step.get() > 0 {
@@ -344,13 +344,9 @@ pub fn next_turn<'a>(
     ensures kept { OnOk result (KeepsHeap heap.old heap.new) }
 {
     match frame {
-        TurnFrame::While(condition) => {
-            let step = while_test(frames, node, *condition, scope, out)?;
-            Ok(step)
-        }
+        TurnFrame::While(condition) => { while_test(frames, node, *condition, scope, out) }
         TurnFrame::Repeat(condition, inner) => {
-            let step = repeat_test(frames, node, *condition, scope, *inner, out)?;
-            Ok(step)
+            repeat_test(frames, node, *condition, scope, *inner, out)
         }
         TurnFrame::Counted(at, limit, step) => {
             let next = following(at, step);
@@ -358,17 +354,16 @@ pub fn next_turn<'a>(
         }
         TurnFrame::Listed(names, place, function, state, control) => {
             let (function, state, control) = (copy(function), copy(state), copy(control));
-            let step = list_next(
+            list_next(
                 tree, frames, heap, budget, node, names, *place, scope, function, state, control,
                 out,
-            )?;
-            Ok(step)
+            )
         }
     }
 }
 
 /// The next number of a `for`, or `None` where it is out of the profile.
-fn following(at: &Number, step: &Number) -> Option<Number>
+pub fn following(at: &Number, step: &Number) -> Option<Number>
     ensures { result ≡ number_from (at.now +ℤ step.now) }
 {
     Number::new(at.get() + step.get())

@@ -22,11 +22,12 @@ use crate::expressions::{node, with_call, with_value};
 use crate::fields::{read, store};
 use crate::frame::{AllFrame, LuaFrame, OneFrame, TurnFrame, ValueFrame};
 use crate::lists::{list, with_list};
-use crate::loops::{listed, next_turn, turn, with_loop};
+use crate::loops::{listed, next_turn, with_loop};
 use crate::raise::LuaStep;
 use crate::running::proceed;
 use crate::statements::{block, statement, target, with_statement};
 use crate::tables::{store_values, with_field};
+use crate::turns::begin_turn;
 use crate::values::{append, one, split_values};
 use lua_model::{Caller, End, Job, LuaAnswer, LuaEnd, LuaJob, LuaQuestion, Scope};
 use lua_table::Heap;
@@ -75,14 +76,11 @@ fn with_one<'a>(
     ensures kept { OnOk result (KeepsHeap heap.old heap.new) }
 {
     match frame {
-        OneFrame::Value(frame) => {
-            let step = with_value(tree, frames, heap, budget, frame, value)?;
-            Ok(step)
-        }
+        OneFrame::Value(frame) => { with_value(tree, frames, heap, budget, frame, value) }
         OneFrame::Item(frame) => {
             let mut values = frame.values;
             values.push(value)?;
-            let step = list(
+            list(
                 tree,
                 slots,
                 frames,
@@ -92,29 +90,15 @@ fn with_one<'a>(
                 frame.scope,
                 values,
                 frame.then,
-            )?;
-            Ok(step)
+            )
         }
-        OneFrame::Call(frame) => {
-            let step = with_call(tree, slots, frames, heap, budget, &frame, value)?;
-            Ok(step)
-        }
+        OneFrame::Call(frame) => { with_call(tree, slots, frames, heap, budget, &frame, value) }
         OneFrame::Field(frame, wait) => {
-            let step = with_field(tree, frames, heap, budget, frame, wait, value)?;
-            Ok(step)
+            with_field(tree, frames, heap, budget, frame, wait, value)
         }
-        OneFrame::Target(frame) => {
-            let step = with_target(tree, frames, heap, budget, &frame, value)?;
-            Ok(step)
-        }
-        OneFrame::Loop(frame) => {
-            let step = with_loop(frames, heap, budget, frame, value)?;
-            Ok(step)
-        }
-        OneFrame::Statement(frame) => {
-            let step = with_statement(tree, frames, heap, frame, value)?;
-            Ok(step)
-        }
+        OneFrame::Target(frame) => { with_target(tree, frames, heap, budget, &frame, value) }
+        OneFrame::Loop(frame) => { with_loop(frames, heap, budget, frame, value) }
+        OneFrame::Statement(frame) => { with_statement(tree, frames, heap, frame, value) }
     }
 }
 
@@ -139,7 +123,7 @@ fn with_all<'a>(
         AllFrame::Last(frame) => {
             let mut values = frame.values;
             append(&mut values, more.as_slice())?;
-            let step = with_list(
+            with_list(
                 tree,
                 slots,
                 frames,
@@ -148,8 +132,7 @@ fn with_all<'a>(
                 frame.scope,
                 values,
                 frame.then,
-            )?;
-            Ok(step)
+            )
         }
         AllFrame::LastField(frame) => {
             store_values(heap, frame.table, frame.next, more.as_slice())?;
@@ -158,23 +141,20 @@ fn with_all<'a>(
         AllFrame::Target(rest, all, values, scope, before) => {
             let mut held = before;
             append(&mut held, more.as_slice())?;
-            let step = targets(
+            targets(
                 tree, slots, frames, heap, budget, rest, all, values, scope, held,
-            )?;
-            Ok(step)
+            )
         }
         AllFrame::Stores(all, scope, held, values, left) => {
-            let step = stores(
+            stores(
                 tree, slots, frames, heap, budget, all, scope, held, values, left,
-            )?;
-            Ok(step)
+            )
         }
         AllFrame::Name(name, function, scope) => {
-            let step = define_name(tree, slots, frames, heap, budget, name, function, scope)?;
-            Ok(step)
+            define_name(tree, slots, frames, heap, budget, name, function, scope)
         }
         AllFrame::Listed(node, names, scope, function, state, out) => {
-            let step = listed(
+            listed(
                 heap,
                 node,
                 names,
@@ -183,8 +163,7 @@ fn with_all<'a>(
                 state,
                 more.as_slice(),
                 out,
-            )?;
-            Ok(step)
+            )
         }
         AllFrame::Done => Ok(Step::Return(End::Fell(Values::new(heap.allocator())))),
     }
@@ -208,18 +187,13 @@ fn after_one<'a>(
     ensures kept { OnOk result (KeepsHeap heap.old heap.new) }
 {
     match end {
-        End::One(value) => {
-            let step = with_one(tree, slots, frames, heap, budget, frame, value)?;
-            Ok(step)
-        }
+        End::One(value) => { with_one(tree, slots, frames, heap, budget, frame, value) }
         End::Many(values) => {
             let (value, _) = split_values(values.as_slice());
-            let step = with_one(tree, slots, frames, heap, budget, frame, value)?;
-            Ok(step)
+            with_one(tree, slots, frames, heap, budget, frame, value)
         }
         End::Fell(_) | End::Broke(_) | End::Returned(_, _) => {
-            let step = with_one(tree, slots, frames, heap, budget, frame, Value::Nil)?;
-            Ok(step)
+            with_one(tree, slots, frames, heap, budget, frame, Value::Nil)
         }
         End::Raised(value, place) => Ok(Step::Return(End::Raised(value, place))),
     }
@@ -245,17 +219,12 @@ fn after_all<'a>(
     match end {
         End::One(value) => {
             let values = one(heap.allocator(), value)?;
-            let step = with_all(tree, slots, frames, heap, budget, frame, values)?;
-            Ok(step)
+            with_all(tree, slots, frames, heap, budget, frame, values)
         }
-        End::Many(values) => {
-            let step = with_all(tree, slots, frames, heap, budget, frame, values)?;
-            Ok(step)
-        }
+        End::Many(values) => { with_all(tree, slots, frames, heap, budget, frame, values) }
         End::Fell(_) | End::Broke(_) | End::Returned(_, _) => {
             let none = Values::new(heap.allocator());
-            let step = with_all(tree, slots, frames, heap, budget, frame, none)?;
-            Ok(step)
+            with_all(tree, slots, frames, heap, budget, frame, none)
         }
         End::Raised(value, place) => Ok(Step::Return(End::Raised(value, place))),
     }
@@ -280,17 +249,13 @@ fn after_turn<'a>(
     ensures kept { OnOk result (KeepsHeap heap.old heap.new) }
 {
     match end {
-        End::Fell(out) => {
-            let step = next_turn(tree, frames, heap, budget, node, scope, frame, out)?;
-            Ok(step)
-        }
+        End::Fell(out) => { next_turn(tree, frames, heap, budget, node, scope, frame, out) }
         End::Broke(out) => Ok(Step::Return(End::Fell(out))),
         End::Returned(values, out) => Ok(Step::Return(End::Returned(values, out))),
         End::Raised(value, place) => Ok(Step::Return(End::Raised(value, place))),
         End::One(_) | End::Many(_) => {
             let none = Values::new(heap.allocator());
-            let step = next_turn(tree, frames, heap, budget, node, scope, frame, none)?;
-            Ok(step)
+            next_turn(tree, frames, heap, budget, node, scope, frame, none)
         }
     }
 }
@@ -482,7 +447,7 @@ impl<'a> Machine for Steps<'a> {
             }
             Job::Target(id, scope) => { target(self.tree, frames, heap, id, scope) }
             Job::Turn(id, scope, kind, out) => {
-                turn(
+                begin_turn(
                     self.tree, self.slots, frames, heap, budget, id, scope, kind, out,
                 )
             }

@@ -327,7 +327,7 @@ pub enum Halt<'a> {
 }
 
 /// Executes statements at once, as far as that is possible, and pays for them.
-fn run<'a>(
+pub fn run<'a>(
     tree: &'a Tree<'a>,
     slots: &Slots,
     heap: &mut Heap,
@@ -365,7 +365,7 @@ fn run<'a>(
 
 #[tactic(auto, using(tl_base::proofs::Steps::pushes))]
 /// Goes on with what is left of statements, of which so much was emitted before.
-fn go_on<'a>(
+pub fn go_on<'a>(
     frames: &mut Vec<LuaFrame<'a>>,
     heap: &Heap,
     halt: Halt<'a>,

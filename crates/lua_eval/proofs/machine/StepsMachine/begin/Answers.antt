@@ -7,7 +7,7 @@ returns-in-Target-clause-means c =
     rw c.in-Target.is (if-ok c.target.result c.target.ensures.means (λ v it. it c.args.heap.now c.args.budget.now))
 
 pub returns-in-Turn-clause-means : goal.returns-in-Turn-clause-means
-returns-in-Turn-clause-means c = rw c.in-Turn.is (if-ok c.turn.result c.turn.ensures.means (λ v it. it))
+returns-in-Turn-clause-means c = rw c.in-Turn.is (if-ok c.begin_turn.result c.begin_turn.ensures.means (λ v it. it))
 
 pub returns-in-Read-clause-means : goal.returns-in-Read-clause-means
 returns-in-Read-clause-means c =
