@@ -1,50 +1,39 @@
 #!/usr/bin/env python3
-"""land.py SOURCE: clean commits on top of main with the tree of SOURCE (a commit of /work/clones/int)."""
-import subprocess, sys, os
-src = sys.argv[1]
-main = "a0b61186"
+"""land.py: clean commits on top of main with the tree of /work/clones/int."""
+import subprocess
 L = "/work/clones/land"
 def git(*a, **k):
     return subprocess.run(["git", "-C", L, *a], check=True, capture_output=True, text=True, **k).stdout
 subprocess.run(["rm", "-rf", L]); subprocess.run(["git", "clone", "-q", "/work/main", L], check=True)
 git("config", "user.name", "Limesatin maintainers"); git("config", "user.email", "maintainers@users.noreply.limesatin.example")
-git("fetch", "-q", "/work/clones/int", src)
-new = git("rev-parse", "FETCH_HEAD").strip()
-changed = [l.split("\t") for l in git("diff", "--no-renames", "--name-status", main, new).splitlines()]
+git("fetch", "-q", "/work/clones/int", "main"); new = git("rev-parse", "FETCH_HEAD").strip()
+git("fetch", "-q", "/work/clones/sel", "main"); sel = git("rev-parse", "FETCH_HEAD").strip()
+git("merge", "-q", "--ff-only", "2c4d7ca0")
+base = "2c4d7ca0"
+changed = [l.split("\t") for l in git("diff", "--no-renames", "--name-status", base, new).splitlines()]
 done = set()
-def commit(message, *prefixes):
-    paths = [(s, p) for s, p in changed if p not in done and any(p == x or p.startswith(x) for x in prefixes)]
+def commit(message, *prefixes, tree=None, keep=False):
+    t = tree or new
+    rows = [l.split("\t") for l in git("diff", "--no-renames", "--name-status", "HEAD", t).splitlines()]
+    paths = [(s, p) for s, p in rows if any(p == x or p.startswith(x) for x in prefixes)]
     for s, p in paths:
-        done.add(p)
         if s == "D": git("rm", "-q", "--", p)
-        else: git("checkout", new, "--", p)
-    if paths:
+        else: git("checkout", t, "--", p)
+    if git("status", "--short"):
         git("commit", "-q", "-m", message); print(len(paths), message.split("\n")[0])
-def crates_txt(names):
-    """the lines of these crates as they are in the new tree, and of the others as they were"""
-    old = git("show", main + ":crates.txt").splitlines(); fresh = git("show", new + ":crates.txt").splitlines()
-    lines = {l.split(":")[0]: l for l in fresh if ":" in l and not l.startswith("#")}
-    out = []
-    for l in old:
-        n = l.split(":")[0]
-        if n == "library_sound" and "export_count" in names: out.append(lines["export_count"])
-        out.append(lines[n] if n in names and n in lines else l)
-    open(L + "/crates.txt", "w").write("\n".join(out) + "\n"); git("add", "crates.txt")
-commit("Share the lemma on growing trees, and drop what nothing cites\n\nThe same lemma stood in three crates; definitions of what answers follow, and some imports,\nhad no user left.",
-       "crates/terra_term/", "crates/terra_eval/", "crates/check_flow/", "crates/check_model/", "crates/check_stage/")
-commit("Export no more than a budget buys, and test parameters behind the check\n\nNo staging meets either: each export pays for its check, and a function that is checked is\ndefined. With them it follows from the definitions alone that an image's names fit, and that an\nexport has the parameters that were tested.",
-       "crates/terra_lib/", "crates/check_library/", "bench/further-edits/check_library/")
-commit("Keep exports fine, bodies small and statics in half of the memory\n\nThat is what compiling asks of a staging beside typed terms: each world that a layer leaves has\nexports with names of their own, words alone in their types, and a count that was right.",
-       "crates/check_sound/", "crates/spec_sound/")
-crates_txt(["export_count", "library_sound", "stage_sound"])
-commit("Count exports right, and keep them fine in library and stage\n\nThe count of an export waits while its check runs, so it is proved right in the world in which it\nwas made and carried to the one in which the answer comes.",
-       "crates/export_count/", "crates/library_sound/", "crates/stage_sound/")
-commit("Compile what a staging exports, and run, emit and generate by it\n\n`run`, `emit` and `gen` take every source that stages. The first form and its code generator are\ngone, and with them the status `not built`. What compiling asks is proved of each staging that is\ndone; what is due for a run tells what the exported function means.",
-       "crates/stage_image/", "crates/terrac_call/", "crates/terrac_rows/", "crates/terrac/", "crates/first_form/", "crates/first_meaning/", "crates.txt",
-       "examples/", "bench/further-edits/first_form/", "bench/further-edits/first_meaning/", "bench/further-edits/terrac_call/", "bench/generated", "bench/allocations", "bin/")
-commit("Compare the code of ten kernels with gcc's\n\nWords and steps beside those of -O0 and -O1 say where the most is lost.", "bench/")
-commit("Say what run, emit and gen promise, with the headline as it stands", "docs/", "README.md")
-rest = [p for s, p in changed if p not in done]
+commit("Jump by one word within short functions\n\nA function whose code weighs less than 2^17 words has all its blocks within reach of one instruction, and by far the most\nfunctions are short. What kind of jump a function has is said once for it, so no length depends on an address.",
+       "crates/rv_select/", "crates/rv_link/", "bench/further-edits/rv_select/", tree=sel)
+commit("Enter and leave functions with an empty frame without a test\n\nWhere the frame in the region is empty there is nothing to test and nothing to move: ten of some forty steps of a call.",
+       "crates/rv_select/", "crates/rv_link/", "bench/further-edits/rv_select/")
+commit("Take copies out of three-address code\n\nLowering copies each variable that is read and each word that is assigned. Two passes take out what nothing else reads; both\nkeep all runs, at every count, and what machine code asks of code.",
+       "crates/tac_copies/", "crates/back_end/src/", "crates/back_end/specs/", "crates/back_end/proofs/", "bench/further-edits/tac_copies/", "crates.txt")
+commit("Convert constants where they are lowered, and leave words of eight bytes as they are\n\nNeither needs an instruction.", "crates/tac_lower/")
+commit("Say what is due for a call by the exports, their types and their meaning\n\nNo machine is in it: which export has the name, which values the words say, and the text of the value or the place of the\nterm at which the run ends.", "crates/terrac_call/", "bench/further-edits/terrac_call/")
+commit("Inline the reading of a precedence\n\nThe operators of a precedence are constants where it is read, and not a list that is searched.", "crates/tl_parse/")
+commit("Measure reading alone in bench/parsing\n\nA source that ends with a token that no text has there is refused when all of it is read, and nothing of it is staged.", "bench/parsing")
+commit("Mend wrong bodies that were refused for another reason than their own", "bench/further-edits/")
+commit("Follow smaller images in rows and benches", "crates/terrac_rows/", "bench/")
+commit("Say what compiled code takes, and what is claimed of it", "docs/", "README.md")
+rest = git("diff", "--name-only", "HEAD", new)
 print("rest", rest)
-if rest: commit("Rest", *rest)
 print("same tree:", git("diff", "--stat", new, "HEAD") == "", git("rev-parse", "HEAD").strip())

@@ -6,7 +6,7 @@ while true; do
     pid=""
     for p in $(ps -eo pid,rss,etimes,args --sort=etimes | awk '$2>700000 && /rattle/ {print $1}'); do
       d=$(readlink /proc/$p/cwd 2>/dev/null)
-      case $d in /work/clones/*) pid=$p; break;; esac
+      case $d in /work/clones/meas*) ;; /work/clones/*|/tmp/rt-plant*) pid=$p; break;; esac
     done
     if [ -n "$pid" ]; then
       echo "$(date +%T) available $a MB: ended $pid $(readlink /proc/$pid/cwd) $(ps -o rss= -p $pid)" >> /work/clones/tools/watch.log
